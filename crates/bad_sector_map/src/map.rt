@@ -1,8 +1,8 @@
 //! The bad sector map of a cartridge.
 
 ghost use Rattle.std.specs.Prelude.{◌≡◌, ◌*◌, ◌^◌, ◌<◌, ◌≤◌, [], ℕ, length, replicate, slice_index, slice_set, bit_or, IfOk};
-ghost use Rattle.cartridge_spec.specs.Shape.{sectors_of, mask_at, capacity, marked_sectors};
-ghost use Rattle.cartridge_spec.specs.Header.{byte_in, words_in, IsInMap};
+ghost use Rattle.cartridge_laws.specs.Terms.{sectors_of, byte_in, words_in, IsInMap};
+ghost use Rattle.cartridge_spec.specs.Shape.{mask_at, capacity, marked_sectors};
 
 use crate::words::{SEGMENTS, clear_words, read_words, write_words};
 use qic_base::{LONGEST, NoMemory};

@@ -2,7 +2,8 @@
 
 ghost use Rattle.std.specs.Prelude.{◌≡◌, ◌+◌, ◌*◌, ◌<◌, ◌≤◌, ℕ, length, replicate};
 ghost use Rattle.std.specs.Vec.{vec_len, vec_capacity};
-ghost use Rattle.cartridge_spec.specs.Header.{byte_in, word_in, words_in, IsInMap};
+ghost use Rattle.cartridge_laws.specs.Terms.{byte_in, words_in, IsInMap};
+ghost use Rattle.cartridge_spec.specs.Header.{word_in};
 
 use qic_base::{LONGEST, push_within, read_u32, write_u32};
 

@@ -2,9 +2,9 @@
 use Rattle.std.proofs.Common.{◌≡◌, ℕ, ◌≤◌, ◌⊎◌, inl, inr, List, [], ◌∷◌, refl, sym, ◌∙◌, ap, arith, Option, Some, None, is_some, subst, Result, Ok, Err}
 use Rattle.std.specs.Option.{option_map}
 use Rattle.qic_base.specs.Cartridge.{Cartridge}
-use Rattle.qic_base.specs.Step.{Step, effects}
-use Rattle.qic_base.specs.Stop.{Torn}
-use Rattle.qic_base.specs.Tape.{Does, Done, Broke, Stops}
+use Rattle.qic_base.specs.Step.{Step, effects, Torn}
+use Rattle.qic_base.specs.TapeCalls.{Does}
+use Rattle.qic_base.specs.Tape.{Done, Broke, Stops}
 use Rattle.qic_base.specs.Disk.{Meaning, DiskStep, Look, IsSettled, Failed}
 use Rattle.cart_image.specs.Image.{cartridge_of}
 use Rattle.cart_image.specs.Run.{Looks, Ran, Halted, Carried, after_steps, Crashed}

@@ -4,7 +4,7 @@ use Rattle.std.specs.Prelude.{IfOk}
 use Rattle.qic_base.specs.declared.tape.SectorRead.{SectorRead}
 use Rattle.qic_base.specs.declared.tape.SectorView.{SectorView}
 use Rattle.qic_base.specs.Disk.{Meaning, Look, IsSettled, Failed}
-use Rattle.qic_base.specs.Tape.{Reads}
+use Rattle.qic_base.specs.TapeCalls.{Reads}
 use Rattle.cart_image.specs.declared.layout.Layout.{Layout}
 use Rattle.cart_image.specs.declared.reading.SectorState.{SectorState}
 use Rattle.cart_image.specs.Image.{view_in}

@@ -8,8 +8,7 @@ use Rattle.std.proofs.lemmas.List.Edits.{length-between, get_or-between}
 use Rattle.qic_base.specs.declared.tape.SectorView.{SectorView}
 use Rattle.qic_base.specs.Cartridge.{Cartridge}
 use Rattle.qic_base.specs.Field.{little_endian, number_at}
-use Rattle.qic_base.specs.Step.{SetProtected, SetReferenced, effect}
-use Rattle.qic_base.specs.Stop.{Torn}
+use Rattle.qic_base.specs.Step.{SetProtected, SetReferenced, effect, Torn}
 use Rattle.cart_image.specs.declared.layout.Head.{Head}
 use Rattle.cart_image.specs.declared.layout.Kind.TheVariants.{Planes}
 use Rattle.cart_image.specs.declared.layout.Layout.{Layout}

@@ -10,7 +10,8 @@ use Rattle.std.proofs.lemmas.Option.{unwrap_or-slice_get, same_Some}
 use Rattle.qic_base.specs.declared.disk.Disk.{Ghosts}
 use Rattle.qic_base.specs.declared.tape.SectorView.{SectorView}
 use Rattle.qic_base.specs.declared.tape.SectorView.TheVariants.{Blank}
-use Rattle.qic_base.specs.Cartridge.{Cartridge, IsPlace, place_of, view_at, with_view}
+use Rattle.qic_base.specs.Cartridge.{Cartridge, IsPlace, view_at, with_view}
+use Rattle.qic_base.specs.Terms.{place_of}
 use Rattle.qic_base.specs.Step.{Step, changed, effects}
 use Rattle.qic_base.specs.Tape.{Done}
 use Rattle.cart_image.specs.declared.layout.Head.{Head}

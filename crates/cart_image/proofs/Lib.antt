@@ -1,6 +1,6 @@
-mod Bytes
+pub mod Bytes
 mod Carries
-mod Changes
+pub mod Changes
 mod Copies
 mod Exits
 mod FailedLooks
@@ -12,8 +12,8 @@ mod Known
 mod Laid
 mod Layouts
 mod Loops
-mod Renews
-mod Runs
+pub mod Renews
+pub mod Runs
 mod Sectors
 mod States
 mod Tapes

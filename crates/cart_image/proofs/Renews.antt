@@ -12,8 +12,7 @@ use Rattle.qic_base.specs.declared.TheConstants.{LONGEST}
 use Rattle.qic_base.specs.Cartridge.{Cartridge, IsLength, new_cartridge}
 use Rattle.qic_base.specs.Disk.{DiskStep, TornRange, TornLength, resized}
 use Rattle.qic_base.specs.Field.{little_endian_bytes, number_at, overwritten}
-use Rattle.qic_base.specs.Step.{Renew, effect}
-use Rattle.qic_base.specs.Stop.{Torn}
+use Rattle.qic_base.specs.Step.{Renew, effect, Torn}
 use Rattle.qic_base.proofs.FieldLaws.{get_or-overwritten, length-overwritten}
 use Rattle.cart_image.specs.declared.layout.Head.{Head}
 use Rattle.cart_image.specs.declared.layout.Kind.TheVariants.{Cells}

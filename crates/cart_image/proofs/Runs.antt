@@ -1,7 +1,7 @@
 -- What runs of disk steps leave, told and after a crash.
 use Rattle.std.proofs.Common.{◌≡◌, ℕ, ◌≤◌, ◌⊎◌, inl, inr, List, [], ◌∷◌, ◌++◌, refl, sym, ◌∙◌, ap, arith, Option, Some, None, is_some, subst}
 use Rattle.std.specs.Option.{option_map}
-use Rattle.qic_base.specs.Cause.{Rose}
+use Rattle.qic_base.specs.Tape.{Rose}
 use Rattle.qic_base.specs.Disk.{Meaning, DiskStep, Look, WriteAt, SetLen, Sync, stored, Unsynced, Inside, IsSettled, Stored, Failed}
 use Rattle.cart_image.specs.Run.{Looks, Ran, Halted, after_steps, Pending, Crashed}
 

@@ -3,11 +3,11 @@ use Rattle.std.proofs.Common.{◌≡◌, ◌≢◌, ℕ, ◌+◌, ◌<◌, ◌�
 use Rattle.std.specs.Prelude.{slice_index, ◌==◌, if◌then◌else◌}
 use Rattle.qic_base.specs.declared.tape.SectorView.{SectorView}
 use Rattle.qic_base.specs.declared.tape.SectorView.TheVariants.{Blank, Defect, Lost, Holds}
-use Rattle.qic_base.specs.Cartridge.{Cartridge, with_view, view_at, place_of}
+use Rattle.qic_base.specs.Cartridge.{Cartridge, with_view, view_at}
+use Rattle.qic_base.specs.Terms.{place_of}
 use Rattle.qic_base.specs.Disk.{DiskStep, TornRange}
 use Rattle.qic_base.specs.Field.{overwritten}
-use Rattle.qic_base.specs.Step.{Step, WriteSector, Wear, Spoil, effect, written_view, worn_view, spoiled_view}
-use Rattle.qic_base.specs.Stop.{Torn}
+use Rattle.qic_base.specs.Step.{Step, WriteSector, Wear, Spoil, effect, written_view, worn_view, spoiled_view, Torn}
 use Rattle.qic_base.proofs.FieldLaws.{get_or-overwritten, slice_range-overwritten}
 use Rattle.cart_image.specs.declared.layout.Head.{Head}
 use Rattle.cart_image.specs.declared.layout.Layout.{Layout}

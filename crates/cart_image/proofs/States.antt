@@ -9,7 +9,8 @@ use Rattle.qic_base.specs.declared.tape.SectorView.TheVariants.{Blank, Defect, L
 use Rattle.qic_base.specs.declared.tape.SectorRead.{SectorRead}
 use Rattle.qic_base.specs.declared.tape.SectorRead.TheVariants as read
 use Rattle.qic_base.specs.declared.tape.SectorWrite.TheVariants as write
-use Rattle.qic_base.specs.Tape.{Reads, write_answer, spoil_answer}
+use Rattle.qic_base.specs.TapeCalls.{Reads, write_answer}
+use Rattle.qic_base.specs.Tape.{spoil_answer}
 use Rattle.cart_image.specs.declared.reading.SectorState.{SectorState}
 use Rattle.cart_image.specs.declared.reading.SectorState.TheVariants as state
 use Rattle.cart_image.specs.declared.layout.Kind.{Kind}

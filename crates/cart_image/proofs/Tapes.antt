@@ -7,11 +7,13 @@ use Rattle.qic_base.specs.declared.disk.Disk.{Ghosts}
 use Rattle.qic_base.specs.declared.tape.SectorView.{SectorView}
 use Rattle.qic_base.specs.declared.tape.TapeInfo.{TapeInfo}
 use Rattle.qic_base.specs.declared.TheConstants.{LONGEST}
-use Rattle.qic_base.specs.Cartridge.{Cartridge, IsPlace, IsLength, place_of, view_at}
+use Rattle.qic_base.specs.Cartridge.{Cartridge, IsPlace, IsLength, view_at}
+use Rattle.qic_base.specs.Terms.{place_of}
 use Rattle.qic_base.specs.Disk as disk
 use Rattle.qic_base.specs.Disk.{DiskStep, Look, Failed, IsSettled}
 use Rattle.qic_base.specs.Step.{Step, WriteSector, FormatSegment, SetReferenced, SetProtected, Renew, Wear, Spoil, Upgrade, effect}
-use Rattle.qic_base.specs.Tape.{Does, Done, Broke, Stops, Tells}
+use Rattle.qic_base.specs.TapeCalls.{Does, Tells}
+use Rattle.qic_base.specs.Tape.{Done, Broke, Stops}
 use Rattle.cart_image.specs.declared.layout.Head.{Head}
 use Rattle.cart_image.specs.declared.layout.Kind.TheVariants.{Planes, Cells, CellsBehind}
 use Rattle.cart_image.specs.declared.layout.Kind.{Kind}

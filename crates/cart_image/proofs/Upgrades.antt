@@ -9,8 +9,7 @@ use Rattle.qic_base.specs.declared.tape.SectorView.{SectorView}
 use Rattle.qic_base.specs.declared.TheConstants.{LONGEST}
 use Rattle.qic_base.specs.Disk.{DiskStep, WriteAt, Sync, resized}
 use Rattle.qic_base.specs.Field.{little_endian, little_endian_bytes, number_at, overwritten}
-use Rattle.qic_base.specs.Step.{Upgrade, effect}
-use Rattle.qic_base.specs.Stop.{Torn}
+use Rattle.qic_base.specs.Step.{Upgrade, effect, Torn}
 use Rattle.qic_base.proofs.FieldLaws.{length-little_endian_bytes, number_at-overwritten}
 use Rattle.cart_image.specs.declared.layout.Kind.{Kind}
 use Rattle.cart_image.specs.declared.layout.Kind.TheVariants.{Planes, Cells, CellsBehind}

@@ -6,7 +6,8 @@ use Rattle.qic_base.specs.declared.disk.Disk.{Ghosts}
 use Rattle.qic_base.specs.declared.TheConstants.{LONGEST}
 use Rattle.qic_base.specs.Cartridge.{Cartridge, IsLength}
 use Rattle.qic_base.specs.Disk as disk
-use Rattle.qic_base.specs.Tape.{Meaning, IsToldRight, IsLeftNow}
+use Rattle.qic_base.specs.Tape.{Meaning}
+use Rattle.qic_base.specs.TapeCalls.{IsToldRight, IsLeftNow}
 use Rattle.cart_image.specs.declared.tape.ImageTape.{ImageTape}
 use Rattle.cart_image.specs.declared.layout.Layout.{Layout}
 use Rattle.cart_image.specs.declared.segment.SegmentStates.{SegmentStates}

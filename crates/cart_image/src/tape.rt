@@ -2,10 +2,12 @@
 
 ghost use Rattle.std.specs.Prelude.{◌≡◌, ◌≢◌, ◌<◌, ◌≤◌, ℕ, List, [], ◌∷◌, true, Some, None, length, slice_index, IsSome, IfOk, IfSome, OnOk, OnErr};
 ghost use Rattle.std.specs.Option.{option_map};
-ghost use Rattle.qic_base.specs.Cartridge.{Cartridge, IsLength, IsVersion, view_at, place_of};
+ghost use Rattle.qic_base.specs.Cartridge.{Cartridge, IsLength, view_at};
+ghost use Rattle.qic_base.specs.Terms.{IsVersion, place_of};
 ghost use Rattle.qic_base.specs.Disk.{IsSettled};
 ghost use Rattle.qic_base.specs.Step.{WriteSector, FormatSegment, SetReferenced, SetProtected, Renew, Wear, Spoil, Upgrade};
-ghost use Rattle.qic_base.specs.Tape.{Does, Tells, IsPlaceOf, Reads, write_answer, spoil_answer};
+ghost use Rattle.qic_base.specs.TapeCalls.{Does, Tells, IsPlaceOf, Reads, write_answer};
+ghost use Rattle.qic_base.specs.Tape.{spoil_answer};
 ghost use Rattle.qic_base.specs.declared.TheConstants.{LONGEST};
 ghost use Rattle.cart_image.specs.Image.{cartridge_of, layout_of, view_in, info_by as info_told};
 ghost use Rattle.cart_image.specs.Layout.{end_of, touches};

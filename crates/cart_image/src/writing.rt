@@ -1,7 +1,8 @@
 //! One sector of an image file written, made unreadable or made a defect, and a mark set or cleared.
 ghost use Rattle.std.specs.Prelude.{◌≡◌, ◌<◌, ◌≤◌, [], ◌∷◌, true, false, slice_index, IfOk, IfSome};
 ghost use Rattle.qic_base.specs.Disk.{IsSettled};
-ghost use Rattle.qic_base.specs.Tape.{write_answer, spoil_answer};
+ghost use Rattle.qic_base.specs.TapeCalls.{write_answer};
+ghost use Rattle.qic_base.specs.Tape.{spoil_answer};
 ghost use Rattle.cart_image.specs.Image.{view_in};
 ghost use Rattle.cart_image.specs.Layout.{sectors, place as place_at, end_of, overwrite_steps, write_sector_steps, wear_steps, spoil_steps, mark_steps, put as put_steps};
 ghost use Rattle.cart_image.specs.Run.{Runs, Carried};

@@ -21,17 +21,17 @@ use Rattle.cartridge_laws.specs.AppendLaws.{IsReadyFor, StoppedList, AppendedIsW
 use Rattle.cartridge_laws.specs.AppendSettled.{MayAppendTo, IsSettledFor, DoneIsSettledFor, DoneStands}
 use Rattle.cartridge_laws.specs.AppendSteps.{volume_writes, list_writes, append_steps}
 use Rattle.cartridge_laws.specs.Shape.{Carries}
-use Rattle.cartridge_spec.specs.Appending.{new_segments, appended_volume, last_end, with_bytes}
+use Rattle.cartridge_laws.specs.Terms.{new_segments, last_end, slot_sector, PartStands, sectors_in}
+use Rattle.cartridge_spec.specs.Appending.{appended_volume, with_bytes}
 use Rattle.cartridge_spec.specs.HeaderAndTable.{last_segment, table_cells, TableIs, IsArea}
 use Rattle.cartridge_spec.specs.Says.{Written, ReadsAll}
 use Rattle.cartridge_spec.specs.Settling.{changed_by}
 use Rattle.cartridge_spec.specs.Shape.{mask_at}
-use Rattle.cartridge_spec.specs.Table.{slot_bytes, slot_sector}
-use Rattle.cartridge_spec.specs.Volumes.{carrying, Plain, Volume, VolumeStands, PartStands, entries_of, parts_of, sectors_in, carrying_segments, Stands}
+use Rattle.cartridge_spec.specs.Table.{slot_bytes}
+use Rattle.cartridge_spec.specs.Volumes.{carrying, Plain, Volume, VolumeStands, entries_of, parts_of, carrying_segments, Stands}
 use Rattle.qic_base.proofs.Steps.{Torn-append}
 use Rattle.qic_base.specs.Cartridge.{Cartridge, IsSector}
-use Rattle.qic_base.specs.Step.{Step}
-use Rattle.qic_base.specs.Stop.{Torn}
+use Rattle.qic_base.specs.Step.{Step, Torn}
 
 -- ---- the new volume
 

@@ -12,8 +12,7 @@ use Rattle.cartridge_spec.specs.Settling.{changed_by, writes_of}
 use Rattle.cartridge_spec.specs.Shape.{mask_at, usable_places, data_count}
 use Rattle.cartridge_spec.specs.Volumes.{Part, parts_of}
 use Rattle.qic_base.specs.Cartridge.{Cartridge, view_at, with_view}
-use Rattle.qic_base.specs.Step.{Step, WriteSector, FormatSegment, SetReferenced, SetProtected, Renew, Wear, Spoil, Upgrade, changed, written_view, worn_view}
-use Rattle.qic_base.specs.Stop.{Halfway, Torn}
+use Rattle.qic_base.specs.Step.{Step, WriteSector, FormatSegment, SetReferenced, SetProtected, Renew, Wear, Spoil, Upgrade, changed, written_view, worn_view, Halfway, Torn}
 use Rattle.qic_base.specs.declared.tape.SectorView.{SectorView}
 
 -- ---- steps

@@ -14,17 +14,17 @@ use Rattle.cartridge_laws.specs.AppendLaws.{AppendedMounts, StoppedAppendMounts,
 use Rattle.cartridge_laws.specs.AppendSettled.{DoneMounts, MayAppendTo, DoneIsClean, DoneTouchesOnly, FreeWritesLeaveSettled}
 use Rattle.cartridge_laws.specs.AppendSteps.{append_steps, volume_writes, list_writes, IsNamed}
 use Rattle.cartridge_laws.specs.AppendWrites.{KeepsTo, AreWrites, IsFree, IsOfSector}
-use Rattle.cartridge_spec.specs.Appending.{appended_volume, new_segments, last_end, table_places, with_bytes}
+use Rattle.cartridge_spec.specs.Appending.{appended_volume, with_bytes}
+use Rattle.cartridge_laws.specs.Terms.{new_segments, last_end, table_places, slot_sector}
 use Rattle.cartridge_spec.specs.Formatting.{IsCleanCopy, StandsCleanly}
 use Rattle.cartridge_spec.specs.HeaderAndTable.{last_segment, copy_cells}
 use Rattle.cartridge_spec.specs.Mounting.{Mounts, mounted_as}
 use Rattle.cartridge_spec.specs.Says.{whole_mask, Written, Zero}
 use Rattle.cartridge_spec.specs.Settling.{changed_by}
-use Rattle.cartridge_spec.specs.Table.{slot_sector}
 use Rattle.cartridge_spec.specs.Volumes.{Plain, Volume, entries_of, Stands}
-use Rattle.qic_base.specs.Cartridge.{Cartridge, IsCartridge}
-use Rattle.qic_base.specs.Step.{Step}
-use Rattle.qic_base.specs.Stop.{Torn}
+use Rattle.qic_base.specs.Cartridge.{Cartridge}
+use Rattle.qic_base.specs.Terms.{IsCartridge}
+use Rattle.qic_base.specs.Step.{Step, Torn}
 use Rattle.qic_base.specs.declared.tape.SectorView.{SectorView}
 
 -- ---- mounting

@@ -14,8 +14,7 @@ use Rattle.cartridge_spec.specs.Mounting.{settled}
 use Rattle.cartridge_spec.specs.Settling.{settling_steps}
 use Rattle.qic_base.proofs.Steps.{Torn-append}
 use Rattle.qic_base.specs.Cartridge.{Cartridge}
-use Rattle.qic_base.specs.Step.{Step}
-use Rattle.qic_base.specs.Stop.{Torn}
+use Rattle.qic_base.specs.Step.{Step, Torn}
 
 pub settled_may_append_to : SettledMayAppendTo
 settled_may_append_to c plain name date bytes may table = record {

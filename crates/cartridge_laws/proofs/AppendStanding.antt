@@ -10,7 +10,8 @@ use Rattle.cartridge_spec.specs.HeaderAndTable.{IsArea, table_cells, copy_cells,
 use Rattle.cartridge_spec.specs.Says.{Written, ReadsAll, whole_mask}
 use Rattle.cartridge_spec.specs.Shape.{mask_at, data_count, usable_count}
 use Rattle.cartridge_spec.specs.Table.{Shows, HasNoFault, slot_fault}
-use Rattle.cartridge_spec.specs.Volumes.{Part, PartStands, parts_of, Volume, VolumeStands, carrying, Plain, Stands}
+use Rattle.cartridge_spec.specs.Volumes.{Part, parts_of, Volume, VolumeStands, carrying, Plain, Stands}
+use Rattle.cartridge_laws.specs.Terms.{PartStands}
 use Rattle.qic_base.specs.Cartridge.{Cartridge, view_at, IsSector}
 use Rattle.qic_base.specs.declared.tape.SectorView.{SectorView}
 use Rattle.qic_base.specs.declared.tape.TapeInfo.{TapeInfo}

@@ -7,26 +7,25 @@ use Rattle.cartridge_laws.proofs.AppendTable.{done_table_shows, ready_count}
 use Rattle.cartridge_laws.proofs.AppendVolume.{may_append}
 use Rattle.cartridge_laws.proofs.FormatWriting.{some_and, effects-some}
 use Rattle.cartridge_laws.proofs.MountParts.{length-block}
-use Rattle.cartridge_laws.proofs.Sayings.{cartridge_sectors, code_sectors}
 use Rattle.cartridge_laws.proofs.Segments.{view_of_cartridge}
 use Rattle.cartridge_laws.proofs.Whole.{with_view_whole, written_is_view, worn_is_view}
 use Rattle.cartridge_laws.specs.AppendLaws.{SectorWritesAreCartridge, StoppedAppendIsCartridge, AppendedIsCartridge, new_table}
 use Rattle.cartridge_laws.specs.AppendSettled.{MayAppendTo, DoneIsCartridge}
 use Rattle.cartridge_laws.specs.AppendSteps.{parts_writes, volume_writes, list_writes, append_steps}
 use Rattle.cartridge_laws.specs.AppendWrites.{AreWrites, IsOfSector, IsWrite}
-use Rattle.cartridge_spec.specs.Appending.{part_writes, new_segments, appended_volume}
+use Rattle.cartridge_spec.specs.Appending.{part_writes, appended_volume}
+use Rattle.cartridge_laws.specs.Terms.{new_segments, slot_sector, sectors_in}
 use Rattle.cartridge_spec.specs.Code.{parity_sectors}
 use Rattle.cartridge_spec.specs.HeaderAndTable.{IsArea, last_segment}
 use Rattle.cartridge_spec.specs.Says.{with_parity}
 use Rattle.cartridge_spec.specs.Settling.{writes_of}
 use Rattle.cartridge_spec.specs.Shape.{mask_at, usable_places, data_count, sector_at}
-use Rattle.cartridge_spec.specs.Table.{slot_sector}
-use Rattle.cartridge_spec.specs.Volumes.{Part, parts_of, Plain, Volume, sectors_in}
+use Rattle.cartridge_spec.specs.Volumes.{Part, parts_of, Plain, Volume}
 use Rattle.gf256_qic.proofs.Parities.{parity_sectors-are_sectors}
 use Rattle.qic_base.proofs.Steps.{Torn-all}
-use Rattle.qic_base.specs.Cartridge.{Cartridge, IsCartridge, view_at, IsSector}
-use Rattle.qic_base.specs.Step.{Step, WriteSector, FormatSegment, SetReferenced, SetProtected, Renew, Wear, Spoil, Upgrade, changed, written_view, worn_view, effects}
-use Rattle.qic_base.specs.Stop.{Halfway, Torn}
+use Rattle.qic_base.specs.Cartridge.{Cartridge, view_at, IsSector}
+use Rattle.qic_base.specs.Terms.{IsCartridge}
+use Rattle.qic_base.specs.Step.{Step, WriteSector, FormatSegment, SetReferenced, SetProtected, Renew, Wear, Spoil, Upgrade, changed, written_view, worn_view, effects, Halfway, Torn}
 
 -- ---- writes of whole sectors
 
@@ -75,7 +74,7 @@ sector_writes_are_cartridge c steps left whole are torn = steps_stopped steps c 
 block_sectors : (sectors : List (List ℕ)) → All IsSector sectors → All IsSector (with_parity sectors)
 block_sectors sectors are =
     All-append IsSector sectors (parity_sectors sectors) are
-    (cartridge_sectors (parity_sectors sectors) (parity_sectors-are_sectors sectors (code_sectors sectors are)))
+    (parity_sectors-are_sectors sectors are)
 
 writes_whole : (segment : ℕ) (places : List ℕ) (sectors : List (List ℕ)) → All IsSector sectors → AreWrites IsOfSector (writes_of segment places sectors)
 writes_whole segment [] sectors are = tt

@@ -10,13 +10,14 @@ use Rattle.std.proofs.lemmas.List.FromFn.{length-map-range_with_len, get_or-map-
 use Rattle.std.proofs.lemmas.Bool.{cases_lt}
 use Rattle.cartridge_laws.proofs.Search.{FitsKnown, Filled, Decided, decide_filled, decide_codeword, length-fits, known_byte, decide_each_below}
 use Rattle.cartridge_laws.specs.SayingLaws.{SaysAlways}
-use Rattle.cartridge_spec.specs.Code.{IsSector, column, IsCodeword, IsCodeBlock}
-use Rattle.cartridge_spec.specs.Says.{Agrees, HasNoBlock, Data, LostSectors, Mismatch, unreadable_count, data_of}
+use Rattle.qic_base.specs.Cartridge.{IsSector}
+use Rattle.cartridge_spec.specs.Code.{column, IsCodeword, IsCodeBlock}
+use Rattle.cartridge_spec.specs.Says.{Agrees, HasNoBlock, Data, LostSectors, Mismatch, unreadable_count}
+use Rattle.cartridge_laws.specs.Terms.{data_of}
 use Rattle.gf256_qic.proofs.Agreement.{length-column, get_or-column}
-use Rattle.qic_base.specs.Cartridge.{IsView}
+use Rattle.qic_base.specs.Terms.{IsView}
 use Rattle.qic_base.specs.declared.tape.SectorView.{SectorView}
 use Rattle.qic_base.specs.declared.tape.SectorView.TheVariants.{Blank, Defect, Lost, Holds}
-use Rattle.qic_base.specs.Cartridge as cartridges
 
 -- ---- columns of cells
 
@@ -44,7 +45,7 @@ slice_get-known j cells i bytes held =
 byte_below : (s : List ℕ) (j : ℕ) → j < 1024 → IsSector s → slice_index s j < 256
 byte_below s j h sector =
     let size : length s ≡ 1024 = sector.size in
-    All-get_or (λ b. b < 256) s j 0 (omega arith) sector.bytes
+    All-get_or (λ b. b < 256) s j 0 (omega arith) sector.each
 
 -- sectors that agree with the cells have columns that fit
 columns_fit : (j : ℕ) (cells : List SectorView) (ss : List (List ℕ)) → j < 1024 → All IsSector ss → length ss ≡ length cells →
@@ -139,7 +140,7 @@ HasColumns cells = (j : ℕ) → j < 1024 → HasColumn cells j
 sector_found-is_sector : (cells : List SectorView) (i : ℕ) → HasColumns cells → i < length cells → IsSector (sector_found cells i)
 sector_found-is_sector cells i all inside = record {
   size = length-sector_found cells i;
-  bytes = All-from_get_or (λ b. b < 256) (sector_found cells i) 0 (λ j lt.
+  each = All-from_get_or (λ b. b < 256) (sector_found cells i) 0 (λ j lt.
       let size : length (sector_found cells i) ≡ 1024 = length-sector_found cells i in
       let within : j < 1024 = omega arith in
       let long : length (found cells j) ≡ length cells = length-found cells j (all j within) in
@@ -171,7 +172,7 @@ block_found-is_code_block cells all = record {
 
 -- what a cell holds is a sector
 pub held_sector : (cells : List SectorView) (i : ℕ) (bytes : List ℕ) → All IsView cells → slice_get cells i ≡ Some (Holds bytes) →
-    cartridges.IsSector bytes
+    IsSector bytes
 held_sector cells i bytes views held =
     let view : IsView (get_or cells i Blank) =
     All-get_or IsView cells i Blank (slice_get_within cells i (Holds bytes) held) views in

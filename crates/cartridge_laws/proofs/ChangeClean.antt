@@ -3,11 +3,11 @@ use Rattle.std.proofs.Common.{ℕ, inl, inr, List, ◌≤◌, arith, refl}
 use Rattle.cartridge_laws.proofs.ChangeStanding.{written_less, zero_less, count_grows, worn_stands, spoiled_stands, marks_read_no_more, protected_stands, referenced_stands}
 use Rattle.cartridge_laws.proofs.ChangeViews.{ReadsNoMore, worn_reads_no_more, spoiled_alike}
 use Rattle.cartridge_laws.specs.ChangeLaws.{WornIsClean, WornIsBare, SpoiledIsClean, SpoiledIsBare, ProtectedIsClean, ProtectedIsBare, ReferencedIsClean, ReferencedIsBare}
-use Rattle.cartridge_spec.specs.Formatting.{IsCleanCopy, IsBareCopy, StandsCleanly, HasNoHeader}
+use Rattle.cartridge_spec.specs.Formatting.{IsCleanCopy, StandsCleanly, HasNoHeader}
+use Rattle.cartridge_laws.specs.Terms.{IsBareCopy}
 use Rattle.cartridge_spec.specs.HeaderAndTable.{copy_cells}
 use Rattle.cartridge_spec.specs.Says.{whole_mask, unreadable_count}
-use Rattle.cartridge_spec.specs.Volumes.{Plain, Stands}
-use Rattle.cartridge_spec.specs.Wear.{worn}
+use Rattle.cartridge_spec.specs.Volumes.{Plain, Stands, worn}
 use Rattle.qic_base.specs.Cartridge.{Cartridge}
 use Rattle.qic_base.specs.Step.{Spoil, changed, SetProtected, SetReferenced}
 

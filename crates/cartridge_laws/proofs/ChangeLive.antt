@@ -11,9 +11,9 @@ use Rattle.cartridge_laws.specs.ChangeLaws.{StepsKeepLive}
 use Rattle.cartridge_laws.specs.ChangeSteps.{IsNoRenew}
 use Rattle.cartridge_spec.specs.Mounting.{IsTableLive}
 use Rattle.cartridge_spec.specs.Shape.{IsLive}
-use Rattle.qic_base.specs.Cartridge.{Cartridge, view_at, with_view, with_segment}
-use Rattle.qic_base.specs.Step.{Step, WriteSector, FormatSegment, SetReferenced, SetProtected, Renew, Wear, Spoil, Upgrade, changed, written_view, formatted_view, worn_view, spoiled_view}
-use Rattle.qic_base.specs.Stop.{ClosingView, OpeningView, SegmentBecame, HalfFormatted, Halfway}
+use Rattle.qic_base.specs.Cartridge.{Cartridge, view_at, with_view}
+use Rattle.qic_base.specs.Terms.{with_segment, HalfFormatted}
+use Rattle.qic_base.specs.Step.{Step, WriteSector, FormatSegment, SetReferenced, SetProtected, Renew, Wear, Spoil, Upgrade, changed, written_view, formatted_view, worn_view, spoiled_view, ClosingView, OpeningView, SegmentBecame, Halfway}
 use Rattle.qic_base.specs.declared.tape.SectorView.{SectorView}
 use Rattle.qic_base.specs.declared.tape.SectorView.TheVariants.{Blank, Defect, Lost, Holds}
 

@@ -9,7 +9,7 @@ use Rattle.cartridge_spec.specs.HeaderAndTable.{HasHeader, TableIs}
 use Rattle.cartridge_spec.specs.Mounting.{IsMounted}
 use Rattle.cartridge_spec.specs.Says.{TableSays, AsRead, ByCode, Data}
 use Rattle.cartridge_spec.specs.Table.{Entry}
-use Rattle.cartridge_spec.specs.Wear.{worn}
+use Rattle.cartridge_spec.specs.Volumes.{worn}
 use Rattle.qic_base.specs.Cartridge.{Cartridge}
 use Rattle.qic_base.specs.Step.{SetProtected, changed, SetReferenced}
 use Rattle.qic_base.specs.declared.tape.SectorView.{SectorView}

@@ -9,7 +9,8 @@ use Rattle.cartridge_laws.specs.FormatMarks.{IsClearedFrom}
 use Rattle.cartridge_laws.specs.Segment.{IsUnreadable}
 use Rattle.cartridge_spec.specs.Formatting.{clearing_steps, IsDefect}
 use Rattle.cartridge_spec.specs.Settling.{changed_by}
-use Rattle.qic_base.specs.Cartridge.{Cartridge, view_at, IsCartridge, zero_sector}
+use Rattle.qic_base.specs.Cartridge.{Cartridge, view_at, zero_sector}
+use Rattle.qic_base.specs.Terms.{IsCartridge}
 use Rattle.qic_base.specs.Step.{formatted_view, SetReferenced, changed, FormatSegment, Step}
 use Rattle.qic_base.specs.declared.tape.SectorView.{SectorView}
 use Rattle.qic_base.specs.declared.tape.SectorView.TheVariants.{Blank, Defect, Lost, Holds}

@@ -4,10 +4,11 @@ use Rattle.std.proofs.lemmas.Option.{slice_get_within, unwrap_or-slice_get, slic
 use Rattle.std.proofs.lemmas.Bool.{cases_lt, false≢true}
 use Rattle.std.proofs.lemmas.List.{get_or-replicate, get_or_past, length-replicate, take_all, get_or-take}
 use Rattle.cartridge_laws.proofs.Cells.{unreadable_count-first, IsReadable, count_of_readable}
-use Rattle.cartridge_laws.proofs.Sayings.{written_is_said, code_sectors}
+use Rattle.cartridge_laws.proofs.Sayings.{written_is_said}
 use Rattle.cartridge_laws.proofs.Segments.{cells_of_whole, length-whole_cells, zero_does_not_read}
 use Rattle.cartridge_laws.specs.FormatLaws.{NewHasNoHeader}
-use Rattle.cartridge_spec.specs.Formatting.{IsBareCopy, HasNoHeader}
+use Rattle.cartridge_laws.specs.Terms.{IsBareCopy}
+use Rattle.cartridge_spec.specs.Formatting.{HasNoHeader}
 use Rattle.cartridge_spec.specs.Header.{has_signature}
 use Rattle.cartridge_spec.specs.HeaderAndTable.{IsArea, copy_cells, CopyReads, CopyDoesNotRead, IsUnformatted}
 use Rattle.cartridge_spec.specs.Says.{whole_mask, cells_of, Zero, Written, unreadable_count, with_parity, HasBlock}
@@ -72,7 +73,7 @@ pub written_reads : (c : Cartridge) (copy : ℕ) (area : List (List ℕ)) → Is
 written_reads c copy area is_area signature written few =
     let size : length area ≡ 29 = is_area.size in
     record {
-      says = written_is_said (copy_cells c copy) area (omega arith) (omega arith) (code_sectors area is_area.sectors) written few;
+      says = written_is_said (copy_cells c copy) area (omega arith) (omega arith) is_area.sectors written few;
       signature = signature;
     }
 

@@ -17,7 +17,8 @@ use Rattle.cartridge_spec.specs.Settling.{changed_by}
 use Rattle.cartridge_spec.specs.Shape.{sector_at, IsLive}
 use Rattle.cartridge_spec.specs.Volumes.{Stands}
 use Rattle.gf256_qic.proofs.Parities.{length-parity_sectors}
-use Rattle.qic_base.specs.Cartridge.{zero_sector, Cartridge, IsCartridge, view_at}
+use Rattle.qic_base.specs.Cartridge.{zero_sector, Cartridge, view_at}
+use Rattle.qic_base.specs.Terms.{IsCartridge}
 use Rattle.qic_base.specs.Step.{formatted_view, written_view, Step}
 use Rattle.qic_base.specs.declared.tape.SectorView.{SectorView}
 use Rattle.qic_base.specs.declared.tape.SectorView.TheVariants.{Blank, Defect, Lost, Holds}
@@ -118,10 +119,10 @@ pub copy_stands : (c d : Cartridge) (label : List ℕ) (date : ℕ) (words : Lis
     IsFreshFor c label date words area → d.info ≡ record c.info { referenced = true } → IsCopyOf d 0 (with_parity area) → HoldsZeros d 2 →
     Stands d (fresh_plain c label date words area)
 copy_stands c d label date words area whole for info copy zeros =
-    let written = copy_is_written d 0 area (length-with_parity area for.fresh.fresh.size) copy in
+    let written = copy_is_written d 0 area (length-with_parity area for.fresh.size) copy in
     let sound = fresh_are_sound c label date words area whole for in
     empty_stands c d label date words area whole for info written
-    (written_reads d 0 area for.fresh.fresh.size sound.signature written (copy_is_readable d 0 (with_parity area) copy)) zeros
+    (written_reads d 0 area for.fresh.size sound.signature written (copy_is_readable d 0 (with_parity area) copy)) zeros
 
 formatted_copy : (old new : Cartridge) (copy : ℕ) (area : List (List ℕ)) → IsFormattedFrom old new area → copy < 2 →
     IsCopyOf new copy (with_parity area)
@@ -142,7 +143,7 @@ formatted_table old new area whole formatted =
 
 pub formatted_stands : FormattedStands
 formatted_stands old new label date words area whole for formatted =
-    let long : length (with_parity area) ≡ 32 = length-with_parity area for.fresh.fresh.size in
+    let long : length (with_parity area) ≡ 32 = length-with_parity area for.fresh.size in
     let first = formatted_copy old new 0 area formatted (omega arith) in
     let second = formatted_copy old new 1 area formatted (omega arith) in
     record {

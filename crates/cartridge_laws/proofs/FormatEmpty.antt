@@ -5,7 +5,6 @@ use Rattle.std.proofs.lemmas.Option.{unwrap_or-slice_get}
 use Rattle.std.proofs.lemmas.List.Elements.{All-nil, All-replicate}
 use Rattle.cartridge_laws.proofs.FormatCopies.{HoldsZeros, zero_from_views}
 use Rattle.cartridge_laws.proofs.FormatFresh.{fresh_are_sound}
-use Rattle.cartridge_laws.proofs.Sayings.{cartridge_sector}
 use Rattle.cartridge_laws.proofs.Segments.{length-whole_cells}
 use Rattle.cartridge_laws.proofs.Zeros.{zero_sector-is_sector, zero_is_written}
 use Rattle.cartridge_spec.specs.Formatting.{IsFreshFor, fresh_plain}
@@ -15,7 +14,8 @@ use Rattle.cartridge_spec.specs.Says.{whole_mask, cells_of, Written}
 use Rattle.cartridge_spec.specs.Shape.{sector_at}
 use Rattle.cartridge_spec.specs.Table.{slot, is_free, slot_fault, HasNoFault}
 use Rattle.cartridge_spec.specs.Volumes.{Volume, IsPlain, VolumeStands, Stands}
-use Rattle.qic_base.specs.Cartridge.{zero_sector, Cartridge, IsSector, IsCartridge}
+use Rattle.qic_base.specs.Cartridge.{zero_sector, Cartridge, IsSector}
+use Rattle.qic_base.specs.Terms.{IsCartridge}
 use Rattle.qic_base.specs.Field.{number_at, little_endian}
 use Rattle.qic_base.specs.declared.tape.TapeInfo.{TapeInfo}
 use Rattle.cartridge_spec.specs.Table as tables
@@ -64,11 +64,11 @@ empty_shows = record {
 empty_is_plain : (c : Cartridge) (label : List ℕ) (date : ℕ) (words : List ℕ) (area : List (List ℕ)) → IsFreshFor c label date words area →
     IsPlain (fresh_plain c label date words area)
 empty_is_plain c label date words area for = record {
-  header_area = for.fresh.fresh.size;
-  shown = for.fresh.fresh.spells.shows;
+  header_area = for.fresh.size;
+  shown = for.fresh.spells.shows;
   table_area = record {
     size = length-replicate 29 zero_sector;
-    sectors = All-replicate IsSector 29 zero_sector (cartridge_sector zero_sector zero_sector-is_sector);
+    sectors = All-replicate IsSector 29 zero_sector zero_sector-is_sector;
   };
   areas = All-nil (λ (volume : Volume). All IsSector volume.area);
 }

@@ -9,11 +9,12 @@ use Rattle.std.proofs.lemmas.Option.{unwrap_or-slice_get}
 use Rattle.std.proofs.lemmas.Nat.Bits.{same_from_bits_below, bit_at-zero}
 use Rattle.std.proofs.lemmas.List.FromFn.{get_or-map-range_with_len}
 use Rattle.cartridge_spec.specs.Formatting.{IsFreshFor}
-use Rattle.cartridge_spec.specs.Header.{Value, Number, Text, number_in, HoldsValue, value_fault, Field, HeaderFault, Holds, field_fault, first_fault, word_in, map_fault, header_fault, has_signature, number, words_in, profile_fields}
+use Rattle.cartridge_spec.specs.Header.{Value, Number, Text, number_in, HoldsValue, value_fault, Field, HeaderFault, Holds, first_fault, word_in, header_fault, has_signature, number, profile_fields}
+use Rattle.cartridge_laws.specs.Terms.{field_fault, map_fault, words_in}
 use Rattle.cartridge_spec.specs.Shape.{sector_at}
-use Rattle.qic_base.specs.Cartridge.{IsSector, Cartridge, IsCartridge}
+use Rattle.qic_base.specs.Cartridge.{IsSector, Cartridge}
+use Rattle.qic_base.specs.Terms.{IsCartridge, IsLost}
 use Rattle.qic_base.specs.Field.{little_endian, number_at}
-use Rattle.qic_base.specs.LostSet.{IsLost}
 use Rattle.qic_base.specs.declared.foreign.ForeignField.{ForeignField}
 
 -- ---- the fields
@@ -94,12 +95,12 @@ front_words : (c : Cartridge) (label : List ℕ) (date : ℕ) (words : List ℕ)
 front_words c label date words area s whole for below =
     let least : 3 ≤ c.info.segments_per_track = whole.long.shortest in
     let on : s < 28 * c.info.segments_per_track = omega arith in
-    let is : words ≡ words_in area (28 * c.info.segments_per_track) = for.fresh.fresh.spells.shows.map in
+    let is : words ≡ words_in area (28 * c.info.segments_per_track) = for.fresh.spells.shows.map in
     let read : get_or words s 0 ≡ word_in area s =
     ap (λ (xs : List ℕ). get_or xs s 0) is ∙ get_or-map-range_with_len (word_in area) 0 (28 * c.info.segments_per_track) s s 0 on (omega arith) in
     let offset : ℕ = 2048 + 4 * s in
     let small : word_in area s < 2 ^ 32 =
-    number_at-below (sector_at area (offset / 1024)) (offset % 1024) (λ i. small_bytes area (offset / 1024) i for.fresh.fresh.size.sectors) in
+    number_at-below (sector_at area (offset / 1024)) (offset % 1024) (λ i. small_bytes area (offset / 1024) i for.fresh.size.sectors) in
     word_without_bits (word_in area s) small (λ i h lost.
     for.front s below i h ((for.fresh.marks.each s i on h).0 (rw read lost)))
 
@@ -107,8 +108,8 @@ pub fresh_are_sound : (c : Cartridge) (label : List ℕ) (date : ℕ) (words : L
     IsFreshFor c label date words area → AreSound area c.info.segments_per_track
 fresh_are_sound c label date words area whole for =
     let n : ℕ = c.info.segments_per_track in
-    let signature : number_in area 0 4 ≡ 0xAA55_AA55 = for.fresh.fresh.spells.profile 0 any (omega arith) in
-    let fields : first_fault area (profile_fields n) ≡ None = first_fault-holds (profile_fields n) area for.fresh.fresh.spells.profile in
+    let signature : number_in area 0 4 ≡ 0xAA55_AA55 = for.fresh.spells.profile 0 any (omega arith) in
+    let fields : first_fault area (profile_fields n) ≡ None = first_fault-holds (profile_fields n) area for.fresh.spells.profile in
     let marks : map_fault area ≡ None = map_fault-none area (λ s below. front_words c label date words area s whole for below) in
     record {
       signature = eq-eqb _ _ signature;

@@ -5,9 +5,9 @@ use Rattle.cartridge_laws.proofs.FormatCopies.{HoldsZeros, Shrank, zero_from_vie
 use Rattle.cartridge_laws.proofs.FormatViews.{view_of_other_stopped}
 use Rattle.cartridge_laws.proofs.FormatWriting.{some_and}
 use Rattle.cartridge_spec.specs.Formatting.{HasNoHeader, clearing_steps}
-use Rattle.qic_base.specs.Cartridge.{Cartridge, view_at, zero_sector, IsCartridge}
-use Rattle.qic_base.specs.Step.{formatted_view, FormatSegment, changed, SetReferenced}
-use Rattle.qic_base.specs.Stop.{ClosingView, OpeningView, SegmentBecame, HalfFormatted, Torn}
+use Rattle.qic_base.specs.Cartridge.{Cartridge, view_at, zero_sector}
+use Rattle.qic_base.specs.Terms.{IsCartridge, HalfFormatted}
+use Rattle.qic_base.specs.Step.{formatted_view, FormatSegment, changed, SetReferenced, ClosingView, OpeningView, SegmentBecame, Torn}
 use Rattle.qic_base.specs.declared.tape.SectorView.{SectorView}
 use Rattle.qic_base.specs.declared.tape.SectorView.TheVariants.{Blank, Defect, Lost, Holds}
 use Rattle.qic_base.specs.declared.tape.TapeInfo.{TapeInfo}

@@ -8,16 +8,16 @@ use Rattle.std.specs.List.{range_with_len}
 use Rattle.cartridge_laws.proofs.FormatCopies.{zero_from_views, zero_shrank, written_shrank, written_reads, lost_does_not_read}
 use Rattle.cartridge_laws.proofs.FormatHalfway.{IsKeptCopy, IsKept}
 use Rattle.cartridge_laws.proofs.Segments.{zero_does_not_read}
-use Rattle.cartridge_spec.specs.Formatting.{HasNoHeader, IsBareCopy, IsCleanCopy, StandsCleanly}
+use Rattle.cartridge_spec.specs.Formatting.{HasNoHeader, IsCleanCopy, StandsCleanly}
+use Rattle.cartridge_laws.specs.Terms.{IsBareCopy, IsInForce, overlaps_before, PartStands, CopiesAre, ForeignSlot, BadRange}
 use Rattle.cartridge_spec.specs.Header.{has_signature, header_fault}
-use Rattle.cartridge_spec.specs.HeaderAndTable.{IsInForce, CopyDoesNotRead, IsArea, CopyReads, copy_cells, last_segment}
+use Rattle.cartridge_spec.specs.HeaderAndTable.{CopyDoesNotRead, IsArea, CopyReads, copy_cells, last_segment}
 use Rattle.cartridge_spec.specs.Says.{cells_of, Written, unreadable_count, ReadsAll, whole_mask}
 use Rattle.cartridge_spec.specs.Shape.{usable_places, mask_at, data_count, usable_count}
-use Rattle.cartridge_spec.specs.Table.{is_used, is_free, ForeignSlot, BadRange, slot, slot_fault, some_free_below, has_bad_range, entry_in, overlaps_before, Entry, HasNoFault}
-use Rattle.cartridge_spec.specs.Volumes.{Volume, Part, PartStands, parts_of, VolumeStands, carrying, CopiesAre, Plain, Stands, entries_of}
-use Rattle.qic_base.specs.Cartridge.{Cartridge, view_at}
+use Rattle.cartridge_spec.specs.Table.{is_used, is_free, slot, slot_fault, some_free_below, has_bad_range, entry_in, Entry, HasNoFault}
+use Rattle.cartridge_spec.specs.Volumes.{Volume, Part, parts_of, VolumeStands, carrying, Plain, Stands, entries_of}
+use Rattle.qic_base.specs.Cartridge.{Cartridge, view_at, lost_places}
 use Rattle.qic_base.specs.Field.{number_at, little_endian}
-use Rattle.qic_base.specs.LostSet.{lost_places}
 use Rattle.qic_base.specs.declared.tape.SectorView.{SectorView}
 use Rattle.cartridge_spec.specs.Table as tables
 

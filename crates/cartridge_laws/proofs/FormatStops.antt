@@ -8,16 +8,17 @@ use Rattle.cartridge_laws.proofs.FormatStanding.{kept_stands}
 use Rattle.cartridge_laws.proofs.FormatWriting.{some_weaker, IsUntouched, IsAlmostWritten, IsPartlyWritten, changed_by-append, effects-some, copy_stopped}
 use Rattle.cartridge_laws.proofs.Segments.{zero_does_not_read}
 use Rattle.cartridge_laws.specs.FormatLaws.{StoppedClearing, StoppedClearingNew, StoppedFormat, StoppedFormatNew}
-use Rattle.cartridge_spec.specs.Formatting.{StandsCleanly, IsBareCopy, HasNoHeader, HasNoDefectInFront, IsFreshFor, fresh_plain, clearing_steps, copy_writes, format_steps}
+use Rattle.cartridge_spec.specs.Formatting.{StandsCleanly, HasNoHeader, HasNoDefectInFront, IsFreshFor, fresh_plain, clearing_steps, copy_writes, format_steps}
+use Rattle.cartridge_laws.specs.Terms.{IsBareCopy}
 use Rattle.cartridge_spec.specs.HeaderAndTable.{IsUnformatted}
 use Rattle.cartridge_spec.specs.Mounting.{IsTableLive}
 use Rattle.cartridge_spec.specs.Says.{with_parity}
 use Rattle.cartridge_spec.specs.Shape.{IsLive}
 use Rattle.cartridge_spec.specs.Volumes.{Plain, Stands}
 use Rattle.qic_base.proofs.Steps.{Torn-append}
-use Rattle.qic_base.specs.Cartridge.{Cartridge, IsCartridge, view_at, zero_sector}
-use Rattle.qic_base.specs.Step.{Step, effects}
-use Rattle.qic_base.specs.Stop.{Torn}
+use Rattle.qic_base.specs.Cartridge.{Cartridge, view_at, zero_sector}
+use Rattle.qic_base.specs.Terms.{IsCartridge}
+use Rattle.qic_base.specs.Step.{Step, effects, Torn}
 use Rattle.qic_base.specs.declared.tape.SectorView.TheVariants.{Holds}
 
 -- ---- among the steps that clear
@@ -104,7 +105,7 @@ second_left : (c d : Cartridge) (label : List ℕ) (date : ℕ) (words : List �
     IsFreshFor c label date words area → IsPartlyWritten 1 (with_parity area) (with_first c (with_parity area)) d →
     LeftByFormat c (fresh_plain c label date words area) d
 second_left c d label date words area whole for partly =
-    let first = first_written c (with_parity area) whole for.front (length-with_parity area for.fresh.fresh.size) in
+    let first = first_written c (with_parity area) whole for.front (length-with_parity area for.fresh.size) in
     let left = others_left partly in
     let copy : IsCopyOf d 0 (with_parity area) = record {
       first = λ bytes view.
@@ -124,7 +125,7 @@ format_stopped : (c : Cartridge) (label : List ℕ) (date : ℕ) (words : List �
     IsSomeAnd left (LeftByFormat c (fresh_plain c label date words area))
 format_stopped c label date words area left whole for torn =
     let block : List (List ℕ) = with_parity area in
-    let long : length block ≡ 32 = length-with_parity area for.fresh.fresh.size in
+    let long : length block ≡ 32 = length-with_parity area for.fresh.size in
     let clearing : List Step = clearing_steps c.info.segments_per_track in
     let first : List Step = copy_writes 0 block in
     let second : List Step = copy_writes 1 block in

@@ -4,8 +4,9 @@ use Rattle.std.proofs.lemmas.Option.{unwrap_or-slice_get}
 use Rattle.std.proofs.lemmas.List.{length-map, get_or-take, get_or_append_left, get_or-drop, get_or-append_right, get_or-map, get_or-set_same, get_or_past, set_past, get_or-set_other}
 use Rattle.std.proofs.lemmas.Bool.{cases_lt}
 use Rattle.std.specs.Prelude.{unwrap_or}
-use Rattle.qic_base.specs.Cartridge.{Cartridge, view_at, with_segment, with_view, place_of}
-use Rattle.qic_base.specs.Stop.{SegmentBecame}
+use Rattle.qic_base.specs.Cartridge.{Cartridge, view_at, with_view}
+use Rattle.qic_base.specs.Terms.{with_segment, place_of}
+use Rattle.qic_base.specs.Step.{SegmentBecame}
 use Rattle.qic_base.specs.declared.tape.SectorView.{SectorView}
 use Rattle.qic_base.specs.declared.tape.SectorView.TheVariants.{Blank}
 

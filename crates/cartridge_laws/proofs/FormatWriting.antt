@@ -8,8 +8,7 @@ use Rattle.cartridge_spec.specs.Settling.{changed_by, writes_of}
 use Rattle.cartridge_spec.specs.Shape.{sector_at}
 use Rattle.qic_base.proofs.Steps.{Torn-append}
 use Rattle.qic_base.specs.Cartridge.{Cartridge, view_at}
-use Rattle.qic_base.specs.Step.{Step, changed, effects, WriteSector, written_view, Wear, worn_view}
-use Rattle.qic_base.specs.Stop.{Torn}
+use Rattle.qic_base.specs.Step.{Step, changed, effects, WriteSector, written_view, Wear, worn_view, Torn}
 use Rattle.qic_base.specs.declared.tape.SectorView.{SectorView}
 use Rattle.qic_base.specs.declared.tape.SectorView.TheVariants.{Holds, Blank, Defect, Lost}
 

@@ -10,10 +10,12 @@ use Rattle.cartridge_laws.proofs.FreshBuilding.{zero_area, with_words, zero_area
 use Rattle.cartridge_laws.proofs.HeaderSpellingLaws.{all_fields, IsEncoded, encoded_spells}
 use Rattle.cartridge_laws.specs.FreshLaws.{FreshAreaExists}
 use Rattle.cartridge_laws.specs.HeaderWriting.{with_fields, FieldFits, told_fields}
-use Rattle.cartridge_spec.specs.Formatting.{IsDefect, MarksDefects, IsLabel, fresh_header, IsFreshArea}
-use Rattle.cartridge_spec.specs.Header.{Header, word_in, words_in}
+use Rattle.cartridge_spec.specs.Formatting.{IsDefect, MarksDefects, IsLabel, fresh_header}
+use Rattle.cartridge_laws.specs.Terms.{IsFreshArea, words_in}
+use Rattle.cartridge_spec.specs.Header.{Header, word_in}
 use Rattle.cartridge_spec.specs.HeaderAndTable.{IsArea}
-use Rattle.qic_base.specs.Cartridge.{Cartridge, view_at, IsCartridge, IsSector}
+use Rattle.qic_base.specs.Cartridge.{Cartridge, view_at, IsSector}
+use Rattle.qic_base.specs.Terms.{IsCartridge}
 use Rattle.qic_base.specs.declared.tape.SectorView.{SectorView}
 use Rattle.qic_base.specs.declared.tape.SectorView.TheVariants.{Blank, Defect, Lost, Holds}
 
@@ -206,8 +208,10 @@ is_fresh c label date whole is_label small = record {
 }
 
 pub fresh_area_exists : FreshAreaExists
-fresh_area_exists c label date whole is_label small = record {
-  words = defect_words c;
-  area = fresh_area c (fresh_header c.info.segments_per_track label date);
-  is_fresh = record { fresh = is_fresh c label date whole is_label small; marks = marks_defects c };
-}
+fresh_area_exists c label date whole is_label small =
+    let fresh = is_fresh c label date whole is_label small in
+    record {
+      words = defect_words c;
+      area = fresh_area c (fresh_header c.info.segments_per_track label date);
+      is_fresh = record { size = fresh.size; spells = fresh.spells; marks = marks_defects c };
+    }

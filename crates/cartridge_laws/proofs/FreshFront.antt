@@ -2,7 +2,7 @@
 use Rattle.std.proofs.Common.{ℕ, ◌<◌, suc, arith, ◌≡◌, ◌⊎◌, inl, inr, ◌≤◌, zero}
 use Rattle.std.proofs.lemmas.Bool.{cases_lt}
 use Rattle.cartridge_laws.specs.FreshLaws.{HasDefectInFront, FirstDefectOrNone, FirstDefectIsNone, FirstDefectIsOne}
-use Rattle.cartridge_spec.specs.Formatting.{IsDefect, HasDefectIn, HasNoDefectIn, HasNoDefectInFront, IsFirstDefectInFront}
+use Rattle.cartridge_spec.specs.Formatting.{IsDefect, HasNoDefectInFront, IsFirstDefectInFront}
 use Rattle.qic_base.specs.Cartridge.{Cartridge, view_at}
 use Rattle.qic_base.specs.declared.tape.SectorView.{SectorView}
 use Rattle.qic_base.specs.declared.tape.SectorView.TheVariants.{Blank, Defect, Lost, Holds}
@@ -52,6 +52,15 @@ defect_or_not Defect = inl tt
 defect_or_not Lost = inr (λ h. h)
 defect_or_not (Holds bytes) = inr (λ h. h)
 
+-- a sector of the segment is a defect
+record HasDefectIn (c : Cartridge) (segment : ℕ) : Type 0 where
+  pub index : ℕ
+  pub within : index < 32
+  pub is_defect : IsDefect (view_at c segment index)
+
+abbrev HasNoDefectIn : Cartridge → (segment : ℕ) → Type 0
+HasNoDefectIn c segment = (index : ℕ) → index < 32 → ¬ (IsDefect (view_at c segment index))
+
 abbrev DefectAt : Cartridge → (segment index : ℕ) → Type 0
 DefectAt c segment index = IsDefect (view_at c segment index)
 
@@ -65,9 +74,6 @@ segment_or_not c segment = by_case (first_or_none (DefectAt c segment) (λ index
 no_defect : {c : Cartridge} {segment : ℕ} → (HasDefectIn c segment → ⊥) → HasNoDefectIn c segment
 no_defect not index within defect = not (record { index = index; within = within; is_defect = defect })
 
-has_not_both : (c : Cartridge) (segment : ℕ) → HasDefectIn c segment → HasNoDefectIn c segment → ⊥
-has_not_both c segment has none = none has.index has.within has.is_defect
-
 -- ---- the segments in front
 
 pub first_defect_or_none : FirstDefectOrNone
@@ -78,7 +84,9 @@ first_defect_or_none c = by_case (first_or_none (HasDefectIn c) (segment_or_not 
       segment = first.place;
       is_first = record {
         in_front = first.within;
-        here = first.here;
+        index = first.here.index;
+        within = first.here.within;
+        is_defect = first.here.is_defect;
         before = λ t below. no_defect (first.before t below);
       };
     })
@@ -87,10 +95,11 @@ first_defect_or_none c = by_case (first_or_none (HasDefectIn c) (segment_or_not 
 pub first_defect_is_none : FirstDefectIsNone
 first_defect_is_none c has none =
     let first : IsFirstDefectInFront c has.segment = has.is_first in
-    has_not_both c has.segment first.here (none has.segment first.in_front)
+    none has.segment first.in_front first.index first.within first.is_defect
 
 not_before : (c : Cartridge) (one other : ℕ) → IsFirstDefectInFront c one → IsFirstDefectInFront c other → one < other → ⊥
-not_before c one other first next below = has_not_both c one first.here (next.before one below)
+not_before c one other first next below =
+    next.before one below first.index first.within first.is_defect
 
 pub first_defect_is_one : FirstDefectIsOne
 first_defect_is_one c one other first next = by_order (cases_lt one other) (cases_lt other one)

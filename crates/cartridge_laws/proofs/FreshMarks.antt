@@ -9,8 +9,9 @@ use Rattle.std.proofs.lemmas.List.FromFn.{length-map-range_with_len}
 use Rattle.std.proofs.lemmas.Nat.Bits.{same_from_bits_below}
 use Rattle.cartridge_laws.proofs.FreshSpelled.{sector_is, word_of, spelled_is_one}
 use Rattle.cartridge_laws.specs.FreshLaws.{AreWords, ShownAreWords, MarksAreOne, FreshAreaIsOne}
-use Rattle.cartridge_spec.specs.Formatting.{MarksDefects, fresh_header, IsFreshWith, IsFreshArea}
-use Rattle.cartridge_spec.specs.Header.{word_in, words_in}
+use Rattle.cartridge_spec.specs.Formatting.{MarksDefects, fresh_header, IsFreshWith}
+use Rattle.cartridge_laws.specs.Terms.{IsFreshArea, words_in}
+use Rattle.cartridge_spec.specs.Header.{word_in}
 use Rattle.cartridge_spec.specs.HeaderAndTable.{IsArea}
 use Rattle.cartridge_spec.specs.Shape.{sector_at}
 use Rattle.qic_base.specs.Cartridge.{Cartridge}
@@ -98,10 +99,11 @@ marks_are_one c one other small less marks marked =
 fresh_words : (c : Cartridge) (label : List ℕ) (date : ℕ) (words : List ℕ) (area : List (List ℕ)) → IsFreshWith c label date words area →
     AreWords words
 fresh_words c label date words area for =
-    shown_are_words (fresh_header c.info.segments_per_track label date) words area for.fresh.size for.fresh.spells.shows
+    shown_are_words (fresh_header c.info.segments_per_track label date) words area for.size for.spells.shows
 
 pub fresh_area_is_one : FreshAreaIsOne
 fresh_area_is_one c label date words others area other for fro =
     let same : words ≡ others = marks_are_one c words others (fresh_words c label date words area for) (fresh_words c label date others other fro) for.marks fro.marks in
-    let moved : IsFreshArea c.info.segments_per_track label date words other = rw same fro.fresh in
-    (same, spelled_is_one (fresh_header c.info.segments_per_track label date) words area other for.fresh.size moved.size for.fresh.spells moved.spells)
+    let before : IsFreshArea c.info.segments_per_track label date others other = record { size = fro.size; spells = fro.spells } in
+    let moved : IsFreshArea c.info.segments_per_track label date words other = rw same before in
+    (same, spelled_is_one (fresh_header c.info.segments_per_track label date) words area other for.size moved.size for.spells moved.spells)

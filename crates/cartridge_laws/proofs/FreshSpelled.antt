@@ -9,7 +9,8 @@ use Rattle.std.proofs.lemmas.List.FromFn.{get_or-map-range_with_len}
 use Rattle.std.proofs.lemmas.List.{same_lists, get_or_default}
 use Rattle.cartridge_laws.proofs.FreshFields.{are_first, first-head, first-tail}
 use Rattle.cartridge_laws.specs.FreshLaws.{SpelledIsOne}
-use Rattle.cartridge_spec.specs.Header.{Value, Number, Text, HoldsValue, byte_in, Field, IsInField, Holds, IsInMap, word_in, words_in, Header, SpellsHeader, profile_fields, header_fields}
+use Rattle.cartridge_spec.specs.Header.{Value, Number, Text, HoldsValue, Field, Holds, word_in, Header, SpellsHeader, profile_fields, header_fields}
+use Rattle.cartridge_laws.specs.Terms.{byte_in, IsInField, IsInMap, words_in}
 use Rattle.cartridge_spec.specs.HeaderAndTable.{IsArea}
 use Rattle.cartridge_spec.specs.Shape.{sector_at}
 use Rattle.qic_base.specs.Cartridge.{IsSector}
@@ -90,9 +91,9 @@ field_or_not : (k : ℕ) (f : Field) → IsInField k f ⊎ ¬ (IsInField k f)
 field_or_not k f = by_ends (cases_lt k f.offset) (cases_lt k (f.offset + f.width))
   where
     by_ends : (k < f.offset) ⊎ (f.offset ≤ k) → (k < f.offset + f.width) ⊎ (f.offset + f.width ≤ k) → IsInField k f ⊎ ¬ (IsInField k f)
-    by_ends (inl before) end = inr (λ (h : IsInField k f). let from = h.from in omega arith)
-    by_ends (inr from) (inl below) = inl (record { from = from; below = below })
-    by_ends (inr from) (inr past) = inr (λ (h : IsInField k f). let below = h.below in omega arith)
+    by_ends (inl before) end = inr (λ (h : IsInField k f). let from = h.0 in omega arith)
+    by_ends (inr from) (inl below) = inl (from, below)
+    by_ends (inr from) (inr past) = inr (λ (h : IsInField k f). let below = h.1 in omega arith)
 
 -- a byte is the same in both areas, or lies in none of the fields
 same_or_outside : (fs : List Field) (one other : List (List ℕ)) (k : ℕ) → IsArea one → IsArea other → are_first fs ≡ true →
@@ -112,7 +113,7 @@ same_or_outside (f ∷ fs) one other k whole all first holds held =
     by_rest (inl same) here = inl same
     by_rest (inr outside) (inl here) = inl
         (same_byte one other f.offset f.width k f.value whole all placed
-        (All-head (Holds one) f fs holds) (All-head (Holds other) f fs held) here.from here.below)
+        (All-head (Holds one) f fs holds) (All-head (Holds other) f fs held) here.0 here.1)
     by_rest (inr outside) (inr not) = inr (All-cons (λ (field : Field). ¬ (IsInField k field)) f fs not outside)
 
 -- ---- the map
@@ -121,9 +122,9 @@ map_or_not : (segments k : ℕ) → IsInMap segments k ⊎ ¬ (IsInMap segments 
 map_or_not segments k = by_ends (cases_lt k 2048) (cases_lt k (2048 + 4 * segments))
   where
     by_ends : (k < 2048) ⊎ (2048 ≤ k) → (k < 2048 + 4 * segments) ⊎ (2048 + 4 * segments ≤ k) → IsInMap segments k ⊎ ¬ (IsInMap segments k)
-    by_ends (inl before) end = inr (λ (h : IsInMap segments k). let from = h.from in omega arith)
-    by_ends (inr from) (inl below) = inl (record { from = from; below = below })
-    by_ends (inr from) (inr past) = inr (λ (h : IsInMap segments k). let below = h.below in omega arith)
+    by_ends (inl before) end = inr (λ (h : IsInMap segments k). let from = h.0 in omega arith)
+    by_ends (inr from) (inl below) = inl (from, below)
+    by_ends (inr from) (inr past) = inr (λ (h : IsInMap segments k). let below = h.1 in omega arith)
 
 -- a word that is shown
 pub word_of : (area : List (List ℕ)) (words : List ℕ) (n s : ℕ) → words ≡ words_in area n → s < n → word_in area s ≡ get_or words s 0
@@ -133,8 +134,8 @@ word_of area words n s is below =
 same_in_map : (one other : List (List ℕ)) (words : List ℕ) (n k : ℕ) → IsArea one → IsArea other → words ≡ words_in one n →
     words ≡ words_in other n → k < 29696 → IsInMap n k → byte_in one k ≡ byte_in other k
 same_in_map one other words n k whole all is are within in_map =
-    let from : 2048 ≤ k = in_map.from in
-    let below : k < 2048 + 4 * n = in_map.below in
+    let from : 2048 ≤ k = in_map.0 in
+    let below : k < 2048 + 4 * n = in_map.1 in
     let s : ℕ = (k - 2048) / 4 in
     let on : (k - 2048) / 4 < n = omega arith in
     same_byte one other (2048 + 4 * ((k - 2048) / 4)) 4 k (Number (get_or words ((k - 2048) / 4) 0)) whole all

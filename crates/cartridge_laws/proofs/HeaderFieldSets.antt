@@ -5,7 +5,8 @@ use Rattle.std.proofs.lemmas.Bool.Decides.{nat_tests}
 use Rattle.std.proofs.lemmas.List.Elements.{All-head, All-tail, All-nil, All-cons}
 use Rattle.std.proofs.lemmas.Bool.{cases_lt}
 use Rattle.cartridge_laws.specs.HeaderWriting.{HasRoom, value_bytes, FieldFits, with_fields}
-use Rattle.cartridge_spec.specs.Header.{Value, Number, Text, Field, IsInField}
+use Rattle.cartridge_spec.specs.Header.{Value, Number, Text, Field}
+use Rattle.cartridge_laws.specs.Terms.{IsInField}
 use Rattle.qic_base.proofs.FieldLaws.{length-little_endian_bytes, number_at-overwritten, slice_range-overwritten, number_at-overwritten_below, number_at-overwritten_above, slice_range-overwritten_below, slice_range-overwritten_above, length-overwritten, get_or-overwritten_below, get_or-overwritten_above}
 use Rattle.qic_base.specs.Field.{number_at, overwritten}
 
@@ -114,7 +115,7 @@ get_or-with_fields (f ∷ fs) sector k placed fits l outside =
     ∙ by_side inside size (cases_lt k f.offset)
   where
     not_in : f.offset ≤ k → k < f.offset + f.width → ⊥
-    not_in from below = All-head (λ (field : Field). ¬ (IsInField k field)) f fs outside (record { from = from; below = below })
+    not_in from below = All-head (λ (field : Field). ¬ (IsInField k field)) f fs outside (from, below)
 
     by_end : f.offset + f.width ≤ length sector → length (value_bytes f.width f.value) ≡ f.width → f.offset ≤ k → (k < f.offset + f.width) ⊎ (f.offset + f.width ≤ k) → get_or (overwritten sector f.offset (value_bytes f.width f.value)) k 0 ≡ get_or sector k 0
     by_end inside size from (inl below) = absurd (not_in from below)

@@ -3,7 +3,8 @@ use Rattle.std.proofs.Common.{ℕ, List, ◌≡◌, refl, arith, ◌*◌, sym, a
 use Rattle.std.specs.Option.{option_or}
 use Rattle.cartridge_laws.proofs.HeaderRefusals.{first_fault-holds, map_fault-none, word_in-read}
 use Rattle.cartridge_laws.specs.HeaderLaws.{HeaderIsDetermined, SpelledIsRead}
-use Rattle.cartridge_spec.specs.Header.{Field, number, Header, number_in, text_in, Shows, words_in, HeaderFault, first_fault, map_fault, profile_fields}
+use Rattle.cartridge_spec.specs.Header.{Field, number, Header, number_in, Shows, HeaderFault, first_fault, profile_fields}
+use Rattle.cartridge_laws.specs.Terms.{text_in, words_in, map_fault}
 
 any : Field
 any = number 0 0 0

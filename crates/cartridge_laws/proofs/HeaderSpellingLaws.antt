@@ -8,7 +8,8 @@ use Rattle.std.proofs.lemmas.List.Elements.{All-from_recursion, All-append, All-
 use Rattle.std.proofs.lemmas.Bool.Decides.{nat_tests}
 use Rattle.cartridge_laws.proofs.HeaderFieldSets.{are_placed, HoldsHere, HoldsIn, HoldsIn-with_fields, get_or-with_fields}
 use Rattle.cartridge_laws.specs.HeaderWriting.{told_fields, FieldFits, with_fields}
-use Rattle.cartridge_spec.specs.Header.{byte_in, Header, Field, profile_fields, Value, Number, Text, HoldsValue, Holds, words_in, IsInMap, number, header_fields, IsInField, word_in, SpellsHeader}
+use Rattle.cartridge_laws.specs.Terms.{byte_in, words_in, IsInMap, IsInField}
+use Rattle.cartridge_spec.specs.Header.{Header, Field, profile_fields, Value, Number, Text, HoldsValue, Holds, number, header_fields, word_in, SpellsHeader}
 use Rattle.cartridge_spec.specs.Shape.{sector_at}
 use Rattle.qic_base.specs.Cartridge.{IsLength}
 use Rattle.qic_base.specs.Field.{number_at}

@@ -2,6 +2,7 @@
 use Rattle.std.proofs.Common.{◌≡◌, ℕ, ◌/◌, ◌%◌, ◌^◌, arith, false, suc, refl, ◌∙◌, ap, Bool, List, [], ◌∷◌, inl, inr, subst, sym}
 use Rattle.std.specs.Prelude.{◌==◌, if◌then◌else◌}
 use Rattle.std.proofs.lemmas.Bool.{ne_eqb}
+use Rattle.std.proofs.lemmas.List.Elements.{All-nil, All-cons, All-head}
 use Rattle.std.proofs.lemmas.Nat.Bits.{bit_at-zero}
 use Rattle.cartridge_laws.specs.ReadingLaws.{NothingIsHidden, SaysByNone}
 use Rattle.cartridge_spec.specs.Says.{hidden_from, HasBlock, HasFirstBlock, Data, LostSectors, Mismatch, HasNoBlock}
@@ -35,6 +36,15 @@ says_by_none cells (Data sectors) = (
 )
 says_by_none cells (LostSectors n) = (λ says. says, λ says. says)
 says_by_none cells Mismatch = (
-  λ says. (says.0, subst (λ (cs : List SectorView). HasNoBlock cs) (nothing_is_hidden cells) says.1.0),
-  λ says. (says.0, (subst (λ (cs : List SectorView). HasNoBlock cs) (sym (nothing_is_hidden cells)) says.1, tt)),
+  λ says. (
+    says.0,
+    subst (λ (cs : List SectorView). HasNoBlock cs) (nothing_is_hidden cells)
+    (All-head (λ (set : ℕ). HasNoBlock (hidden_from set 0 cells)) 0 [] says.1),
+  ),
+  λ says. (
+    says.0,
+    All-cons (λ (set : ℕ). HasNoBlock (hidden_from set 0 cells)) 0 []
+    (subst (λ (cs : List SectorView). HasNoBlock cs) (sym (nothing_is_hidden cells)) says.1)
+    (All-nil (λ (set : ℕ). HasNoBlock (hidden_from set 0 cells))),
+  ),
 )

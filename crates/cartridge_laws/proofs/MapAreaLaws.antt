@@ -2,7 +2,8 @@
 use Rattle.std.proofs.Common.{◌≡◌, ℕ, ◌-◌, ◌<◌, List, [], length, set, ◌∙◌, get_or-set_same, ◌≢◌, sym, get_or-set_other, ◌⊎◌, inl, inr, ◌+◌, ◌*◌, ◌/◌, ◌%◌, ◌≤◌, get_or, ap, arith, zero, suc, take, drop, refl, ◌∷◌}
 use Rattle.std.proofs.lemmas.Option.{unwrap_or-slice_get}
 use Rattle.std.proofs.lemmas.Bool.{cases_eq, cases_lt}
-use Rattle.cartridge_spec.specs.Header.{byte_in, IsInMap, number_in, word_in}
+use Rattle.cartridge_laws.specs.Terms.{byte_in, IsInMap}
+use Rattle.cartridge_spec.specs.Header.{number_in, word_in}
 use Rattle.cartridge_spec.specs.Shape.{sector_at}
 use Rattle.qic_base.proofs.FieldLaws.{get_or-overwritten_below, get_or-overwritten_above, length-little_endian_bytes}
 use Rattle.qic_base.specs.Field.{little_endian_bytes, overwritten, little_endian, number_at}
@@ -39,8 +40,8 @@ byte_in-other_word area bytes sector segment word k there is long written outsid
         by_end : (k % 1024 < 4 * (segment % 256) + 4) ⊎ (4 * (segment % 256) + 4 ≤ k % 1024) → 4 * (segment % 256) + 4 ≤ k % 1024
         by_end (inr past) = past
         by_end (inl before) =
-            let within = outside (record { from = omega arith; below = omega arith }) in
-            let below : k < 2048 + 4 * segment = within.below in
+            let within = outside (omega arith, omega arith) in
+            let below : k < 2048 + 4 * segment = within.1 in
             absurd (omega arith)
 
     by_place : k / 1024 ≡ 2 + segment / 256 → (k % 1024 < 4 * (segment % 256)) ⊎ (4 * (segment % 256) ≤ k % 1024) → get_or bytes (k % 1024) 0 ≡ get_or sector (k % 1024) 0
@@ -101,7 +102,7 @@ number_in-same area other offset width within same =
         rw (quotient, rest) at here
 
 pub IsInMap-more : (n k : ℕ) → IsInMap n k → IsInMap (n + 1) k
-IsInMap-more n k h = record { from = h.from; below = let b = h.below in omega arith }
+IsInMap-more n k h = (h.0, let b = h.1 in omega arith)
 
 -- the words before a word that is written stay
 pub word_in-others : (area other : List (List ℕ)) (segment s : ℕ) →
@@ -109,4 +110,4 @@ pub word_in-others : (area other : List (List ℕ)) (segment s : ℕ) →
     s < segment → word_in other s ≡ word_in area s
 word_in-others area other segment s same below =
     number_in-same area other (2048 + 4 * s) 4 (omega arith)
-    (λ k from before. same k (λ within. record { from = omega arith; below = omega arith }))
+    (λ k from before. same k (λ within. (omega arith, omega arith)))

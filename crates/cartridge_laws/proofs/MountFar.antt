@@ -11,7 +11,7 @@ use Rattle.cartridge_laws.proofs.MountSeen.{not_both, gone_there, HoldsOutside, 
 use Rattle.cartridge_laws.proofs.MountSoFar.{IsBase}
 use Rattle.cartridge_laws.proofs.MountStanding.{said_area}
 use Rattle.cartridge_laws.proofs.Readings.{AreAmong}
-use Rattle.cartridge_laws.proofs.Sayings.{said_are_sectors, said_is_written, cartridge_sectors}
+use Rattle.cartridge_laws.proofs.Sayings.{said_are_sectors, said_is_written}
 use Rattle.cartridge_laws.proofs.Segments.{length-whole_cells}
 use Rattle.cartridge_laws.proofs.Sets.{IsOneOf, none_is_unnamed, one_is_named, length-hidden, seen_outside, few_outside, unreadable_is_named}
 use Rattle.cartridge_laws.specs.MountBlocks.{HoldsPart}
@@ -19,9 +19,9 @@ use Rattle.cartridge_laws.specs.Segment.{IsUnreadable}
 use Rattle.cartridge_spec.specs.Code.{parity_sectors}
 use Rattle.cartridge_spec.specs.HeaderAndTable.{table_cells, IsArea, TableIs}
 use Rattle.cartridge_spec.specs.Mounting.{ReadsPlainly}
-use Rattle.cartridge_spec.specs.Says.{Says, Data, Agrees, HasBlock, hidden, unreadable_count, with_parity, HasFirstBlock}
+use Rattle.cartridge_spec.specs.Says.{Says, Data, Agrees, HasBlock, unreadable_count, with_parity, HasFirstBlock, unreadable_from, set_of, shows_used_slot, last_used_below, with_used, sets_by}
+use Rattle.cartridge_laws.specs.Terms.{hidden, unreadable_places, last_used, sets_by_one, sets_by_two}
 use Rattle.cartridge_spec.specs.Shape.{is_unreadable}
-use Rattle.cartridge_spec.specs.TableSets.{unreadable_from, unreadable_places, set_of, shows_used_slot, last_used_below, last_used, with_used, sets_by_one, sets_by_two, sets_by}
 use Rattle.gf256_qic.proofs.Parities.{length-parity_sectors}
 use Rattle.qic_base.specs.Cartridge.{Cartridge, view_at}
 use Rattle.qic_base.specs.declared.tape.SectorView.{SectorView}
@@ -84,7 +84,7 @@ outside c area ps few among has =
     let size : length area + 3 ≡ length cells = are.size in
     let long : length cells ≡ 32 = length-hidden (set_of ps) 0 (table_cells c) ∙ length-whole_cells c 2 in
     let written : Agrees cells (with_parity area) = said_is_written cells area says in (
-      record { size = omega arith; sectors = cartridge_sectors area are.each },
+      record { size = omega arith; sectors = are.each },
       λ i h none.
           let read = read_there c ps i among h (λ one.
           true≢false (sym (one_is_named ps i one) ∙ none_is_unnamed ps i none)) in

@@ -16,7 +16,8 @@ use Rattle.cartridge_laws.specs.MountBlocks.{HoldsPart}
 use Rattle.cartridge_laws.specs.Segment.{IsUnreadable}
 use Rattle.cartridge_spec.specs.Mounting.{ReadsPlainly}
 use Rattle.cartridge_spec.specs.Says.{with_parity}
-use Rattle.cartridge_spec.specs.Settling.{holds_other, is_left_out, is_unsettled, places_where, settling_places, holds}
+use Rattle.cartridge_spec.specs.Settling.{holds_other, settling_places, holds}
+use Rattle.cartridge_laws.specs.Terms.{places_where, is_left_out, is_unsettled}
 use Rattle.cartridge_spec.specs.Shape.{sector_at}
 use Rattle.qic_base.specs.Cartridge.{Cartridge, view_at}
 use Rattle.qic_base.specs.declared.tape.SectorView.{SectorView}

@@ -9,12 +9,14 @@ use Rattle.cartridge_laws.proofs.TableLists.{volumes_are_determined}
 use Rattle.cartridge_laws.proofs.TableSayings.{table_says_is_function, table_says_always}
 use Rattle.cartridge_laws.proofs.TableTotals.{sound_data_show_volumes, data_are_sound_or_faulty}
 use Rattle.cartridge_laws.specs.MountLaws.{MountsIsFunction, MountsAlways}
-use Rattle.cartridge_spec.specs.Header.{HeaderFault, header_fault, Header, number_in, text_in, words_in, Field, Holds, number, text, has_signature}
-use Rattle.cartridge_spec.specs.HeaderAndTable.{CopyReads, copy_cells, IsInForce, HasHeader, CopyDoesNotRead, IsUnformatted, table_cells, TableIs, last_segment, slot_refusal, IsFormatted}
+use Rattle.cartridge_spec.specs.Header.{HeaderFault, header_fault, Header, number_in, Field, Holds, number, has_signature}
+use Rattle.cartridge_laws.specs.Terms.{text_in, words_in, text, IsInForce, TableFault}
+use Rattle.cartridge_spec.specs.HeaderAndTable.{CopyReads, copy_cells, HasHeader, CopyDoesNotRead, IsUnformatted, table_cells, TableIs, last_segment, IsFormatted}
 use Rattle.cartridge_spec.specs.Mounting.{IsSoundlyFormatted, RefusesHeader, RefusesTable, Mounting, NotFormatted, Foreign, TableLost, TableMismatch, Mounted, Mounts, IsMounted}
 use Rattle.cartridge_spec.specs.Says.{Data, AsRead, ByCode, Saying, TableSays, LostSectors, Mismatch, Says, whole_mask, TableSaying}
-use Rattle.cartridge_spec.specs.Table.{TableFault, IsFirstFault, slot_fault, HasNoFault, Entry}
-use Rattle.qic_base.specs.Cartridge.{Cartridge, IsCartridge}
+use Rattle.cartridge_spec.specs.Table.{IsFirstFault, slot_fault, HasNoFault, Entry}
+use Rattle.qic_base.specs.Cartridge.{Cartridge}
+use Rattle.qic_base.specs.Terms.{IsCartridge}
 use Rattle.cartridge_spec.specs.Header as headers
 use Rattle.cartridge_spec.specs.Table as tables
 
@@ -125,17 +127,16 @@ not_at_fault area last f first sound =
 one_slot_refusal : (c : Cartridge) (f g : HeaderFault) → RefusesTable c f → RefusesTable c g → f ≡ g
 one_slot_refusal c f g hf hg =
     let area : hf.area ≡ hg.area = one_table c hf.area hg.area hf.table hg.table in
-    let first : IsFirstFault hg.area (last_segment c) hf.slot =
-    subst (λ (xs : List (List ℕ)). IsFirstFault xs (last_segment c) hf.slot) area hf.first in
-    let slot : hf.slot ≡ hg.slot = one_first_fault hg.area (last_segment c) hf.slot hg.slot first hg.first in
-    sym hf.named ∙ ap (λ (s : TableFault). slot_refusal s) slot ∙ hg.named
+    let first : IsFirstFault hg.area (last_segment c) f =
+    subst (λ (xs : List (List ℕ)). IsFirstFault xs (last_segment c) f) area hf.first in
+    one_first_fault hg.area (last_segment c) f g first hg.first
 
 slots_not_at_fault : (c : Cartridge) (fault : HeaderFault) (area : List (List ℕ)) → RefusesTable c fault → TableIs c area →
     HasNoFault area (last_segment c) → ⊥
 slots_not_at_fault c fault area refuses table sound =
     let same : refuses.area ≡ area = one_table c refuses.area area refuses.table table in
-    not_at_fault area (last_segment c) refuses.slot
-    (subst (λ (xs : List (List ℕ)). IsFirstFault xs (last_segment c) refuses.slot) same refuses.first) sound
+    not_at_fault area (last_segment c) fault
+    (subst (λ (xs : List (List ℕ)). IsFirstFault xs (last_segment c) fault) same refuses.first) sound
 
 -- ---- what mounting gives, beside each thing that it may give
 
@@ -290,13 +291,11 @@ outcome c m is = record { mounting = m; is = is }
 with_table : (c : Cartridge) (area table : List (List ℕ)) → IsFormatted c area (header_in area) (words_shown area) → TableIs c table →
     ((fault : TableFault) × IsFirstFault table (last_segment c) fault) ⊎ HasNoFault table (last_segment c) → Given c
 with_table c area table formatted reads (inl faulty) =
-    outcome c (Foreign (slot_refusal faulty.0)) (inr (record {
+    outcome c (Foreign faulty.0) (inr (record {
       formatted = record { area = area; header = header_in area; words = words_shown area; formatted = formatted };
       area = table;
       table = reads;
-      slot = faulty.0;
       first = faulty.1;
-      named = refl;
     }))
 with_table c area table formatted reads (inr sound) =
     let shown = sound_data_show_volumes table (last_segment c) sound in

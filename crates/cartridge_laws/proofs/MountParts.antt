@@ -4,14 +4,12 @@ use Rattle.std.proofs.lemmas.List.{get_or_append_left}
 use Rattle.std.proofs.lemmas.Option.{unwrap_or-slice_get, slice_get-get_or}
 use Rattle.cartridge_laws.proofs.Cells.{IsReadable}
 use Rattle.cartridge_laws.proofs.FormatCopies.{view_held}
-use Rattle.cartridge_laws.proofs.Sayings.{code_sectors}
 use Rattle.cartridge_laws.proofs.Sets.{names, named_is_one, few_lost, IsNoneOf, unnamed_is_none}
 use Rattle.cartridge_laws.specs.MountBlocks.{HoldsPart}
 use Rattle.cartridge_spec.specs.Code.{parity_sectors, IsCodeBlock}
 use Rattle.cartridge_spec.specs.HeaderAndTable.{IsArea, table_cells}
-use Rattle.cartridge_spec.specs.Says.{with_parity, ReadsAll}
+use Rattle.cartridge_spec.specs.Says.{with_parity, ReadsAll, set_of}
 use Rattle.cartridge_spec.specs.Shape.{sector_at, is_unreadable}
-use Rattle.cartridge_spec.specs.TableSets.{set_of}
 use Rattle.gf256_qic.proofs.Agreement.{one_block}
 use Rattle.gf256_qic.proofs.Parities.{length-parity_sectors, parity_block}
 use Rattle.gf256_qic.specs.Code.{lost_below}
@@ -65,7 +63,7 @@ front_sector area is i h =
 pub code_block : (area : List (List ℕ)) → IsArea area → IsCodeBlock (with_parity area)
 code_block area is =
     let size : length area ≡ 29 = is.size in
-    parity_block area (omega arith) (omega arith) (code_sectors area is.sectors)
+    parity_block area (omega arith) (omega arith) is.sectors
 
 -- ---- blocks that differ at few places
 

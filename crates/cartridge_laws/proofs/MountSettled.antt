@@ -17,7 +17,8 @@ use Rattle.cartridge_laws.specs.MountLaws.{SettledKeepsTable, SettledMounts, Set
 use Rattle.cartridge_spec.specs.HeaderAndTable.{TableIs}
 use Rattle.cartridge_spec.specs.Mounting.{settled, ReadsPlainly, IsTableLive}
 use Rattle.cartridge_spec.specs.Says.{whole_mask, with_parity}
-use Rattle.cartridge_spec.specs.Settling.{settling_steps, writes_of, changed_by, holds, is_unsettled, is_left_out, places_where, block_writes}
+use Rattle.cartridge_spec.specs.Settling.{settling_steps, writes_of, changed_by, holds, block_writes}
+use Rattle.cartridge_laws.specs.Terms.{places_where, is_unsettled, is_left_out}
 use Rattle.cartridge_spec.specs.Shape.{usable_places, sector_at, IsLive, is_unreadable}
 use Rattle.qic_base.proofs.Steps.{Torn-all}
 use Rattle.qic_base.specs.Cartridge.{Cartridge, view_at}

@@ -17,11 +17,11 @@ use Rattle.cartridge_laws.specs.Segment.{IsUnreadable}
 use Rattle.cartridge_spec.specs.HeaderAndTable.{TableIs}
 use Rattle.cartridge_spec.specs.Mounting.{ReadsPlainly}
 use Rattle.cartridge_spec.specs.Says.{with_parity}
-use Rattle.cartridge_spec.specs.Settling.{block_writes, settling_places, is_unsettled, is_left_out, places_where, settling_steps}
+use Rattle.cartridge_spec.specs.Settling.{block_writes, settling_places, settling_steps}
+use Rattle.cartridge_laws.specs.Terms.{places_where, is_unsettled, is_left_out}
 use Rattle.cartridge_spec.specs.Shape.{is_unreadable, sector_at}
 use Rattle.qic_base.specs.Cartridge.{Cartridge, view_at}
-use Rattle.qic_base.specs.Step.{Step, WriteSector, changed, written_view, Wear, worn_view}
-use Rattle.qic_base.specs.Stop.{Torn}
+use Rattle.qic_base.specs.Step.{Step, WriteSector, changed, written_view, Wear, worn_view, Torn}
 
 -- ---- where a sector of data is unreadable
 

@@ -11,8 +11,7 @@ use Rattle.cartridge_spec.specs.HeaderAndTable.{IsArea, TableIs}
 use Rattle.cartridge_spec.specs.Says.{with_parity}
 use Rattle.cartridge_spec.specs.Shape.{sector_at, is_unreadable}
 use Rattle.qic_base.specs.Cartridge.{Cartridge, view_at}
-use Rattle.qic_base.specs.Step.{WriteSector, changed, written_view, Wear, worn_view, Step}
-use Rattle.qic_base.specs.Stop.{Torn}
+use Rattle.qic_base.specs.Step.{WriteSector, changed, written_view, Wear, worn_view, Step, Torn}
 use Rattle.qic_base.specs.declared.tape.SectorView.{SectorView}
 use Rattle.qic_base.specs.declared.tape.SectorView.TheVariants.{Blank, Defect, Lost, Holds}
 

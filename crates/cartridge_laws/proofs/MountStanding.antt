@@ -5,14 +5,15 @@ use Rattle.std.proofs.lemmas.Option.{slice_get-get_or, get_or_from_slice_get}
 use Rattle.std.proofs.lemmas.Bool.{cases_lt}
 use Rattle.cartridge_laws.proofs.Cells.{IsReadable, readable_from_count, count_of_readable}
 use Rattle.cartridge_laws.proofs.MountOnce.{one_table, mounts_is_function}
-use Rattle.cartridge_laws.proofs.Sayings.{said_are_sectors, cartridge_sectors, written_is_said, code_sectors, said_is_written, written_is_lost}
+use Rattle.cartridge_laws.proofs.Sayings.{said_are_sectors, written_is_said, said_is_written, written_is_lost}
 use Rattle.cartridge_laws.proofs.Segments.{length-whole_cells}
 use Rattle.cartridge_laws.proofs.TableSayings.{says_data}
 use Rattle.cartridge_laws.specs.MountLaws.{StandingMounts, StandingMountsOnlySo}
 use Rattle.cartridge_spec.specs.Code.{parity_sectors}
 use Rattle.cartridge_spec.specs.HeaderAndTable.{IsArea, table_cells, TableIs}
 use Rattle.cartridge_spec.specs.Mounting.{CanBeRead, ReadsPlainly, IsSoundlyFormatted, TableLost, mounted_as}
-use Rattle.cartridge_spec.specs.Says.{Says, Data, unreadable_data, Written, ReadsAll, unreadable_count}
+use Rattle.cartridge_spec.specs.Says.{Says, Data, Written, ReadsAll, unreadable_count}
+use Rattle.cartridge_laws.specs.Terms.{unreadable_data}
 use Rattle.cartridge_spec.specs.Volumes.{Plain, Stands}
 use Rattle.qic_base.specs.Cartridge.{Cartridge}
 use Rattle.qic_base.specs.declared.tape.SectorView.{SectorView}
@@ -25,7 +26,7 @@ said_area c area says =
     let are = said_are_sectors (table_cells c) area says in
     let size : length area + 3 ≡ length (table_cells c) = are.size in
     let cells : length (table_cells c) ≡ 32 = length-whole_cells c 2 in
-    record { size = omega arith; sectors = cartridge_sectors area are.each }
+    record { size = omega arith; sectors = are.each }
 
 front_at : (xs ys : List (List ℕ)) (i : ℕ) (x : List ℕ) → i < length xs → slice_get (xs ++ ys) i ≡ Some x → slice_get xs i ≡ Some x
 front_at xs ys i x h at =
@@ -47,7 +48,7 @@ few_read c area is_area written few =
     let size : length area ≡ 29 = is_area.size in
     elim (cases_lt 0 (unreadable_data (table_cells c))) [
       | inl some ↦ inr (says_data (table_cells c) area some
-          (written_is_said (table_cells c) area (omega arith) (omega arith) (code_sectors area is_area.sectors) written few))
+          (written_is_said (table_cells c) area (omega arith) (omega arith) is_area.sectors written few))
       | inr none ↦ inl (written_is_read (table_cells c) area size (length-whole_cells c 2) written (omega arith))
     ]
 
@@ -63,7 +64,7 @@ plainly_read c area is_area (inl written) (inl none) =
     inl (written_is_read (table_cells c) area is_area.size (length-whole_cells c 2) written none)
 plainly_read c area is_area (inl written) (inr few) =
     let size : length area ≡ 29 = is_area.size in
-    inr (written_is_said (table_cells c) area (omega arith) (omega arith) (code_sectors area is_area.sectors) written few)
+    inr (written_is_said (table_cells c) area (omega arith) (omega arith) is_area.sectors written few)
 plainly_read c area is_area (inr reads) read = inl reads
 
 pub plain_is_table : (c : Cartridge) (area : List (List ℕ)) → ReadsPlainly c area → TableIs c area

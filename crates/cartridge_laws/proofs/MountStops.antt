@@ -10,16 +10,16 @@ use Rattle.cartridge_laws.proofs.FormatWriting.{some_and, some_weaker}
 use Rattle.cartridge_laws.proofs.MountParts.{length-block}
 use Rattle.cartridge_laws.proofs.MountStanding.{said_area}
 use Rattle.cartridge_laws.proofs.MountWriting.{steps_that, steps_none, steps_passes, steps_fails, table_block, unsettled_data, unsettled_parity, solved_agree, IsAllWritten, all_written, same_written}
-use Rattle.cartridge_laws.proofs.Sayings.{written_is_said, code_sectors}
+use Rattle.cartridge_laws.proofs.Sayings.{written_is_said}
 use Rattle.cartridge_laws.proofs.Segments.{cells_of_whole, length-whole_cells}
 use Rattle.cartridge_spec.specs.HeaderAndTable.{table_cells, IsArea}
 use Rattle.cartridge_spec.specs.Mounting.{ReadsPlainly}
 use Rattle.cartridge_spec.specs.Says.{ReadsAll, Says, Data, Written, unreadable_count, whole_mask}
-use Rattle.cartridge_spec.specs.Settling.{holds, is_unsettled, writes_of, changed_by}
+use Rattle.cartridge_spec.specs.Settling.{holds, writes_of, changed_by}
+use Rattle.cartridge_laws.specs.Terms.{is_unsettled}
 use Rattle.cartridge_spec.specs.Shape.{sector_at, is_unreadable, usable_places}
 use Rattle.qic_base.specs.Cartridge.{Cartridge, view_at, with_view}
-use Rattle.qic_base.specs.Step.{WriteSector, Wear, changed, Step, written_view, worn_view}
-use Rattle.qic_base.specs.Stop.{Torn}
+use Rattle.qic_base.specs.Step.{WriteSector, Wear, changed, Step, written_view, worn_view, Torn}
 use Rattle.qic_base.specs.declared.tape.SectorView.{SectorView}
 use Rattle.qic_base.specs.declared.tape.SectorView.TheVariants.{Blank, Defect, Lost, Holds}
 
@@ -261,7 +261,7 @@ solved_still c d area says long way =
     view_held d 2 i held is.within (way.kept i held is.within is.view)) in
     let is_area : IsArea area = said_area c area says in
     let size : length area ≡ 29 = is_area.size in
-    written_is_said (table_cells d) area (omega arith) (omega arith) (code_sectors area is_area.sectors) (block_written d area long way.agrees)
+    written_is_said (table_cells d) area (omega arith) (omega arith) is_area.sectors (block_written d area long way.agrees)
     (omega arith)
 
 -- ---- a stop

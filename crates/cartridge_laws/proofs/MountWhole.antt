@@ -7,7 +7,6 @@ use Rattle.cartridge_laws.proofs.MountFar.{is_far, far_area, length-table_block}
 use Rattle.cartridge_laws.proofs.MountSettles.{settling_settles}
 use Rattle.cartridge_laws.proofs.MountSettling.{IsKeptBy, stopped_keeps}
 use Rattle.cartridge_laws.proofs.MountStanding.{said_area}
-use Rattle.cartridge_laws.proofs.Sayings.{cartridge_sectors, code_sectors}
 use Rattle.cartridge_laws.proofs.Segments.{cells_are_views, view_of_cartridge}
 use Rattle.cartridge_laws.proofs.TableSayings.{read_are_sectors}
 use Rattle.cartridge_laws.proofs.Whole.{with_view_whole, written_is_view, worn_is_view}
@@ -19,7 +18,8 @@ use Rattle.cartridge_spec.specs.Settling.{settling_steps}
 use Rattle.cartridge_spec.specs.Shape.{sector_at}
 use Rattle.gf256_qic.proofs.Parities.{parity_block}
 use Rattle.qic_base.proofs.Steps.{Torn-all}
-use Rattle.qic_base.specs.Cartridge.{Cartridge, IsCartridge, IsSector, view_at}
+use Rattle.qic_base.specs.Cartridge.{Cartridge, IsSector, view_at}
+use Rattle.qic_base.specs.Terms.{IsCartridge}
 use Rattle.qic_base.specs.Step.{written_view, worn_view, Step, effects}
 
 -- ---- the data
@@ -27,7 +27,7 @@ use Rattle.qic_base.specs.Step.{written_view, worn_view, Step, effects}
 plain_area : (c : Cartridge) (area : List (List ℕ)) → IsCartridge c → ReadsPlainly c area → IsArea area
 plain_area c area whole (inl reads) = record {
   size = reads.size;
-  sectors = cartridge_sectors area (read_are_sectors (table_cells c) area (cells_are_views c 2 whole_mask whole) reads);
+  sectors = (read_are_sectors (table_cells c) area (cells_are_views c 2 whole_mask whole) reads);
 }
 plain_area c area whole (inr says) = said_area c area says
 
@@ -38,7 +38,7 @@ table_is_area c area whole table =
 block_sectors : (area : List (List ℕ)) → IsArea area → All IsSector (with_parity area)
 block_sectors area is_area =
     let size : length area ≡ 29 = is_area.size in
-    cartridge_sectors (with_parity area) (parity_block area (omega arith) (omega arith) (code_sectors area is_area.sectors)).sectors
+    (parity_block area (omega arith) (omega arith) is_area.sectors).sectors
 
 block_sector : (c : Cartridge) (area : List (List ℕ)) (i : ℕ) → IsCartridge c → TableIs c area → i < 32 → IsSector (sector_at (with_parity area) i)
 block_sector c area i whole table h =

@@ -12,7 +12,8 @@ use Rattle.cartridge_laws.proofs.Sayings.{said_is_written}
 use Rattle.cartridge_laws.proofs.Segments.{places_of_whole}
 use Rattle.cartridge_spec.specs.HeaderAndTable.{table_cells}
 use Rattle.cartridge_spec.specs.Says.{with_parity, whole_mask, Written, Says, Data}
-use Rattle.cartridge_spec.specs.Settling.{block_writes, places_where, writes_of, changed_by, holds, is_unsettled}
+use Rattle.cartridge_spec.specs.Settling.{block_writes, writes_of, changed_by, holds}
+use Rattle.cartridge_laws.specs.Terms.{places_where, is_unsettled}
 use Rattle.cartridge_spec.specs.Shape.{sector_at, usable_places, is_unreadable}
 use Rattle.qic_base.specs.Cartridge.{Cartridge, view_at}
 use Rattle.qic_base.specs.Step.{Step, WriteSector, written_view, changed}
@@ -58,7 +59,7 @@ pub steps_fails : (test : ℕ → Bool) (block : List (List ℕ)) (from m : ℕ)
 steps_fails test block from m fails = ap (λ (ps : List ℕ). block_writes block ps) (places_fails test from m fails)
 
 pub places_are : (test : ℕ → Bool) → places_where test ≡ places_that test 0 32
-unfolding places_where places_that
+unfolding places_that
 places_are test = refl
 
 -- ---- cartridges by their views

@@ -19,11 +19,11 @@ use Rattle.cartridge_laws.specs.OneLossLaws.{TableAloneComesBack, TableAloneIsCl
 use Rattle.cartridge_spec.specs.Appending.{with_bytes, appended_volume}
 use Rattle.cartridge_spec.specs.Header.{header_fault}
 use Rattle.cartridge_spec.specs.HeaderAndTable.{TableIs, copy_cells, HasHeader, last_segment, table_cells, IsArea}
-use Rattle.cartridge_spec.specs.Mounting.{settled, IsMounted}
-use Rattle.cartridge_spec.specs.OneLoss.{ChangesTableAlone, LosesOne, LosesOneAlone, ComesBackAs}
+use Rattle.cartridge_spec.specs.Mounting.{settled, IsMounted, ChangesTableAlone, LosesOne, LosesOneAlone, ComesBackAs}
 use Rattle.cartridge_spec.specs.Says.{whole_mask, Written, Zero}
 use Rattle.cartridge_spec.specs.Settling.{changed_by}
-use Rattle.cartridge_spec.specs.Table.{HasNoFault, slot_fault, slot_sector}
+use Rattle.cartridge_spec.specs.Table.{HasNoFault, slot_fault}
+use Rattle.cartridge_laws.specs.Terms.{slot_sector}
 use Rattle.cartridge_spec.specs.Volumes.{Plain, Stands, entries_of, Volume}
 use Rattle.qic_base.proofs.Steps.{Torn-all}
 use Rattle.qic_base.specs.Cartridge.{Cartridge}

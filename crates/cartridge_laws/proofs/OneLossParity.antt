@@ -7,9 +7,8 @@ use Rattle.cartridge_laws.proofs.Sets.{names, IsNoneOf, unnamed_is_none}
 use Rattle.cartridge_laws.specs.OneLossLaws.{NearBlockIsTables, ParityBytesDiffer, ParityDiffers}
 use Rattle.cartridge_laws.specs.OneLossTables.{DifferInOne}
 use Rattle.cartridge_spec.specs.Code.{column, IsCodeBlock}
-use Rattle.cartridge_spec.specs.Says.{with_parity}
+use Rattle.cartridge_spec.specs.Says.{with_parity, set_of}
 use Rattle.cartridge_spec.specs.Shape.{sector_at}
-use Rattle.cartridge_spec.specs.TableSets.{set_of}
 use Rattle.gf256_qic.proofs.Agreement.{slice_get-column, one_codeword, length-column}
 
 -- ---- a code block near a table's

@@ -2,14 +2,15 @@
 use Rattle.std.proofs.Common.{ℕ, ◌≤◌, List, [], ◌∷◌, ◌≡◌, true, arith, length, Bool, false, ◌++◌, inr, Option, Some, None, inl, refl, subst, nat_lt, sym, ◌∙◌, ap, ◌⊎◌, All}
 use Rattle.std.specs.Prelude.{if◌then◌else◌, ◌==◌}
 use Rattle.std.proofs.lemmas.Bool.{eqb-true, cases_lt}
+use Rattle.std.proofs.lemmas.List.Elements.{All-nil, All-cons, All-head, All-tail}
 use Rattle.cartridge_laws.proofs.Blocks.{says_always}
 use Rattle.cartridge_laws.proofs.Cells.{unreadable_at}
 use Rattle.cartridge_laws.proofs.Hiding.{nothing_is_hidden}
 use Rattle.cartridge_laws.proofs.Sayings.{says_is_function}
 use Rattle.cartridge_laws.proofs.Sets.{IsOneOf, few_outside, unreadable_is_named, views_hidden}
-use Rattle.cartridge_spec.specs.Says.{hidden, unreadable_count, Data, HasBlock, HasNoBlock, HasFirstBlock, HasNoBlocks, Saying, LostSectors, Mismatch, SaysBy, Says}
-use Rattle.cartridge_spec.specs.TableSets.{set_of, with_used, sets_by_one, sets_by_two, sets_by, table_sets, last_used, unreadable_places}
-use Rattle.qic_base.specs.Cartridge.{IsView}
+use Rattle.cartridge_laws.specs.Terms.{hidden, sets_by_one, sets_by_two, last_used, unreadable_places, HasNoBlocks, table_sets}
+use Rattle.cartridge_spec.specs.Says.{unreadable_count, Data, HasBlock, HasNoBlock, HasFirstBlock, Saying, LostSectors, Mismatch, SaysBy, Says, set_of, with_used, sets_by}
+use Rattle.qic_base.specs.Terms.{IsView}
 use Rattle.qic_base.specs.declared.tape.SectorView.{SectorView}
 
 -- ---- sets that leave enough sectors
@@ -112,8 +113,10 @@ first_is_one (set ∷ sets) cells xs ys small (inr hx) (inr hy) = first_is_one s
 first_or_none : {P : Type 0} (sets : List ℕ) (cells : List SectorView) (xs : List (List ℕ)) → HasFirstBlock sets cells xs →
     HasNoBlocks sets cells → P
 first_or_none [] cells xs has none = absurd has
-first_or_none (set ∷ sets) cells xs (inl has) none = block_or_none (hidden set cells) xs has none.0
-first_or_none (set ∷ sets) cells xs (inr has) none = first_or_none sets cells xs has.1 none.1
+first_or_none (set ∷ sets) cells xs (inl has) none =
+    block_or_none (hidden set cells) xs has (All-head (λ (s : ℕ). HasNoBlock (hidden s cells)) set sets none)
+first_or_none (set ∷ sets) cells xs (inr has) none =
+    first_or_none sets cells xs has.1 (All-tail (λ (s : ℕ). HasNoBlock (hidden s cells)) set sets none)
 
 pub one_answer : (sets : List ℕ) (cells : List SectorView) (a b : Saying) → (unreadable_count cells ≤ 3 → AreSmall cells sets) →
     SaysBy sets cells a → SaysBy sets cells b → a ≡ b
@@ -137,14 +140,14 @@ block_by cells Mismatch few says = inr says.1
 
 find_first : (sets : List ℕ) (cells : List SectorView) → All IsView cells → AreSmall cells sets →
     ((xs : List (List ℕ)) × HasFirstBlock sets cells xs) ⊎ HasNoBlocks sets cells
-find_first [] cells views small = inr tt
+find_first [] cells views small = inr (All-nil (λ (s : ℕ). HasNoBlock (hidden s cells)))
 find_first (set ∷ sets) cells views small =
     let here = says_always (hidden set cells) (views_hidden set 0 cells views) in
     elim (block_by (hidden set cells) here.0 small.0 here.1) [
       | inl has ↦ inl (has.0, inl has.1)
       | inr none ↦ elim (find_first sets cells views small.1) [
         | inl has ↦ inl (has.0, inr (none, has.1))
-        | inr others ↦ inr (none, others)
+        | inr others ↦ inr (All-cons (λ (s : ℕ). HasNoBlock (hidden s cells)) set sets none others)
       ]
     ]
 

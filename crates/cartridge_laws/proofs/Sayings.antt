@@ -2,14 +2,15 @@
 use Rattle.std.proofs.Common.{◌≡◌, ℕ, ◌≤◌, sym, ◌∙◌, ap, List, refl, arith, ◌+◌, ◌-◌, length, take, drop, ◌++◌, All, subst}
 use Rattle.std.proofs.Math.ListN.{drop_of_length-le}
 use Rattle.std.proofs.lemmas.List.{append-nil, length-append, take_at, length-drop, take-append-drop, length-take-le}
-use Rattle.std.proofs.lemmas.List.Elements.{All-weaker, All-take}
+use Rattle.std.proofs.lemmas.List.Elements.{All-take}
 use Rattle.cartridge_laws.proofs.Cells.{one_agreeing_block}
-use Rattle.cartridge_laws.specs.SayingLaws.{SaysIsFunction, SectorNotionsAgree, WrittenIsSaid, WrittenIsLost, SaidIsWritten, SaidAreSectors}
-use Rattle.cartridge_spec.specs.Code.{parity_sectors, IsSector, IsCodeBlock}
-use Rattle.cartridge_spec.specs.Says.{HasBlock, unreadable_count, data_of, Data, LostSectors, Mismatch, with_parity, Agrees}
+use Rattle.cartridge_laws.specs.SayingLaws.{SaysIsFunction, WrittenIsSaid, WrittenIsLost, SaidIsWritten, SaidAreSectors}
+use Rattle.cartridge_spec.specs.Code.{parity_sectors, IsCodeBlock}
+use Rattle.qic_base.specs.Cartridge.{IsSector}
+use Rattle.cartridge_spec.specs.Says.{HasBlock, unreadable_count, Data, LostSectors, Mismatch, with_parity, Agrees}
+use Rattle.cartridge_laws.specs.Terms.{data_of}
 use Rattle.gf256_qic.proofs.Parities.{length-parity_sectors, parity_block, block_count, parity_block_only}
 use Rattle.qic_base.specs.declared.tape.SectorView.{SectorView}
-use Rattle.qic_base.specs.Cartridge as cartridges
 
 -- ---- a segment says at most one thing
 
@@ -41,23 +42,6 @@ parity_put old new long is =
     is
     ∙ ap (λ (l : List (List ℕ)). take 29 old ++ parity_sectors (take 29 old) ++ l) (drop_of_length-le old {i = 32} (omega (arith, long)))
     ∙ append-nil (take 29 old ++ parity_sectors (take 29 old))
-
--- ---- the two notions of a sector
-
-pub cartridge_sector : (bytes : List ℕ) → IsSector bytes → cartridges.IsSector bytes
-cartridge_sector bytes h = record { size = h.size; each = h.bytes }
-
-pub code_sector : (bytes : List ℕ) → cartridges.IsSector bytes → IsSector bytes
-code_sector bytes h = record { size = h.size; bytes = h.each }
-
-pub cartridge_sectors : (ss : List (List ℕ)) → All IsSector ss → All cartridges.IsSector ss
-cartridge_sectors ss all = All-weaker IsSector cartridges.IsSector cartridge_sector ss all
-
-pub code_sectors : (ss : List (List ℕ)) → All cartridges.IsSector ss → All IsSector ss
-code_sectors ss all = All-weaker cartridges.IsSector IsSector code_sector ss all
-
-pub sector_notions_agree : SectorNotionsAgree
-sector_notions_agree bytes = (cartridge_sector bytes, code_sector bytes)
 
 -- ---- what was written is said
 

@@ -11,8 +11,8 @@ use Rattle.cartridge_laws.specs.SayingLaws.{PlacesOfWhole, CountOfCells, CellsOf
 use Rattle.cartridge_spec.specs.HeaderAndTable.{copy_cells}
 use Rattle.cartridge_spec.specs.Says.{whole_mask, cells_of}
 use Rattle.cartridge_spec.specs.Shape.{usable_places, usable_count}
-use Rattle.qic_base.specs.Cartridge.{view_at, Cartridge, IsCartridge, IsView, place_of}
-use Rattle.qic_base.specs.LostSet.{lost_places}
+use Rattle.qic_base.specs.Cartridge.{view_at, Cartridge, lost_places}
+use Rattle.qic_base.specs.Terms.{IsCartridge, IsView, place_of}
 use Rattle.qic_base.specs.declared.tape.SectorView.TheVariants.{Blank}
 
 pub places_of_whole : PlacesOfWhole

@@ -6,11 +6,11 @@ use Rattle.std.proofs.lemmas.Bool.{cases_eq, eq-eqb, eqb-true, cases_Bool, ne_eq
 use Rattle.std.proofs.lemmas.Nat.Bits.{bit_at-zero, bit_at_or, bit_at-pow_other, bit_at-lt, bit_at-pow_same}
 use Rattle.std.proofs.lemmas.List.Elements.{All-nil, All-cons, All-head, All-tail}
 use Rattle.cartridge_laws.proofs.Cells.{unreadable_at, lost_below-cells}
-use Rattle.cartridge_spec.specs.Says.{hidden_from, hidden, unreadable_count}
+use Rattle.cartridge_spec.specs.Says.{hidden_from, unreadable_count, set_of, unreadable_from}
+use Rattle.cartridge_laws.specs.Terms.{hidden, unreadable_places}
 use Rattle.cartridge_spec.specs.Shape.{is_unreadable}
-use Rattle.cartridge_spec.specs.TableSets.{set_of, unreadable_from, unreadable_places}
 use Rattle.gf256_qic.specs.Code.{lost_below}
-use Rattle.qic_base.specs.Cartridge.{IsView}
+use Rattle.qic_base.specs.Terms.{IsView}
 use Rattle.qic_base.specs.declared.tape.SectorView.{SectorView}
 use Rattle.qic_base.specs.declared.tape.SectorView.TheVariants.{Lost, Holds}
 

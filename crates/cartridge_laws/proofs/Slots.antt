@@ -10,7 +10,8 @@ use Rattle.std.proofs.lemmas.Bool.{cases_lt, cases_eq}
 use Rattle.cartridge_laws.proofs.Writing.{slice_get-set_same, slice_get-set_other}
 use Rattle.cartridge_spec.specs.HeaderAndTable.{IsArea}
 use Rattle.cartridge_spec.specs.Shape.{sector_at}
-use Rattle.cartridge_spec.specs.Table.{slot_sector, with_slot, slot, Entry, Shows, entry_in, is_used, is_free}
+use Rattle.cartridge_laws.specs.Terms.{slot_sector, with_slot}
+use Rattle.cartridge_spec.specs.Table.{slot, Entry, Shows, entry_in, is_used, is_free}
 use Rattle.qic_base.proofs.FieldLaws.{length-overwritten, slice_range-overwritten, slice_range-overwritten_below, slice_range-overwritten_above}
 use Rattle.qic_base.specs.Cartridge.{IsSector}
 use Rattle.qic_base.specs.Field.{overwritten}

@@ -7,7 +7,8 @@ use Rattle.cartridge_laws.proofs.TableSlotLaws.{used_not_free, has_bad_range-tak
 use Rattle.cartridge_laws.specs.Table.{LieBehind}
 use Rattle.cartridge_laws.specs.TableLaws.{FaultlessIsSound, SoundIsFaultless}
 use Rattle.cartridge_laws.specs.TableReading.{IsTakenBefore}
-use Rattle.cartridge_spec.specs.Table.{Entry, ForeignSlot, BadRange, is_used, slot, is_free, some_free_below, slot_fault, has_bad_range, entry_in, Shows}
+use Rattle.cartridge_spec.specs.Table.{Entry, is_used, slot, is_free, some_free_below, slot_fault, has_bad_range, entry_in, Shows}
+use Rattle.cartridge_laws.specs.Terms.{ForeignSlot, BadRange}
 
 -- ---- a slot without fault
 

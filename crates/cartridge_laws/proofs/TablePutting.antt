@@ -6,7 +6,8 @@ use Rattle.cartridge_laws.proofs.TableLists.{volumes_are_determined}
 use Rattle.cartridge_laws.proofs.TableOrders.{sound_is_faultless}
 use Rattle.cartridge_laws.specs.Slots.{FitsSlot}
 use Rattle.cartridge_laws.specs.TableLaws.{PutEntryIsShown, PutEntryAloneIsShown, PutEntryIsFaultless}
-use Rattle.cartridge_spec.specs.Table.{slot_bytes, with_slot, Entry, Shows}
+use Rattle.cartridge_spec.specs.Table.{slot_bytes, Entry, Shows}
+use Rattle.cartridge_laws.specs.Terms.{with_slot}
 
 -- ---- the list
 

@@ -9,11 +9,10 @@ use Rattle.cartridge_laws.proofs.Blocks.{held_sector}
 use Rattle.cartridge_laws.proofs.Cells.{count_of_readable, IsReadable, readable_from_count}
 use Rattle.cartridge_laws.proofs.Hiding.{nothing_is_hidden}
 use Rattle.cartridge_laws.proofs.Readings.{table_sets_are_small, one_answer, code_always}
-use Rattle.cartridge_laws.proofs.Sayings.{code_sector}
 use Rattle.cartridge_laws.specs.SayingLaws.{SaidIsTable, TableSaysIsFunction, TableSaysAlways, ReadAreSectors}
-use Rattle.cartridge_spec.specs.Code.{IsSector}
-use Rattle.cartridge_spec.specs.Says.{unreadable_data, ReadsAll, Says, Data, HasBlock, ByCode, TableSays, LostSectors, Mismatch, Saying, AsRead}
-use Rattle.cartridge_spec.specs.TableSets.{table_sets}
+use Rattle.qic_base.specs.Cartridge.{IsSector}
+use Rattle.cartridge_laws.specs.Terms.{unreadable_data, table_sets}
+use Rattle.cartridge_spec.specs.Says.{ReadsAll, Says, Data, HasBlock, ByCode, TableSays, LostSectors, Mismatch, Saying, AsRead}
 use Rattle.qic_base.specs.declared.tape.SectorView.{SectorView}
 use Rattle.qic_base.specs.declared.tape.SectorView.TheVariants.{Holds, Blank, Defect, Lost}
 
@@ -103,4 +102,4 @@ read_are_sectors cells sectors views reads = All-from_get_or IsSector sectors []
     let within : i < 29 = omega arith in
     let here = reads.each i within in
     subst IsSector (sym (get_or_from_slice_get sectors i here.0 [] here.2))
-    (code_sector here.0 (held_sector cells i here.0 views here.1)))
+    (held_sector cells i here.0 views here.1))

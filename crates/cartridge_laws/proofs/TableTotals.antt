@@ -4,7 +4,8 @@ use Rattle.std.proofs.lemmas.List.{get_or_append_left}
 use Rattle.std.proofs.lemmas.Option.{slice_get-get_or, slice_get_within, get_or_from_slice_get}
 use Rattle.std.proofs.Math.Seq.{get_or-append_seam}
 use Rattle.cartridge_laws.specs.TableLaws.{SoundDataShowVolumes, DataAreSoundOrFaulty}
-use Rattle.cartridge_spec.specs.Table.{slot_fault, TableFault, IsFirstFault, ForeignSlot, BadRange, slot, is_free, is_used, some_free_below, has_bad_range, Entry, entry_in, HasNoFault}
+use Rattle.cartridge_spec.specs.Table.{slot_fault, IsFirstFault, slot, is_free, is_used, some_free_below, has_bad_range, Entry, entry_in, HasNoFault}
+use Rattle.cartridge_laws.specs.Terms.{TableFault, ForeignSlot, BadRange}
 
 -- an index below n + 1 is below n or is n
 pub last_or_before : (i n : ℕ) → i < n + 1 → (i < n) ⊎ (i ≡ n)

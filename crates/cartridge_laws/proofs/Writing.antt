@@ -15,7 +15,8 @@ use Rattle.cartridge_spec.specs.Says.{cells_of, unreadable_count}
 use Rattle.cartridge_spec.specs.Settling.{writes_of, changed_by}
 use Rattle.cartridge_spec.specs.Shape.{usable_count, data_count, usable_places, IsLive}
 use Rattle.gf256_qic.proofs.Parities.{length-parity_sectors}
-use Rattle.qic_base.specs.Cartridge.{Cartridge, view_at, place_of}
+use Rattle.qic_base.specs.Cartridge.{Cartridge, view_at}
+use Rattle.qic_base.specs.Terms.{place_of}
 use Rattle.qic_base.specs.Step.{WriteSector, changed, written_view}
 use Rattle.qic_base.specs.declared.tape.SectorView.{SectorView}
 use Rattle.qic_base.specs.declared.tape.SectorView.TheVariants.{Blank, Defect, Lost, Holds}

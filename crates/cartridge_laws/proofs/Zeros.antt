@@ -6,14 +6,13 @@ use Rattle.std.proofs.lemmas.List.Elements.{All-replicate}
 use Rattle.std.proofs.lemmas.Option.{slice_get-get_or, slice_get_within}
 use Rattle.cartridge_laws.proofs.Sayings.{says_is_function, written_is_said}
 use Rattle.cartridge_laws.specs.SayingLaws.{ZeroIsWritten, ZeroSaysZero, ZeroHasNoSignature}
-use Rattle.cartridge_spec.specs.Code.{value_at, IsCodeword, IsSector, column, IsCodeBlock, parity_sectors}
-use Rattle.cartridge_spec.specs.Field.{power}
+use Rattle.cartridge_spec.specs.Code.{value_at, IsCodeword, column, IsCodeBlock, parity_sectors, power}
+use Rattle.qic_base.specs.Cartridge.{IsSector, zero_sector}
 use Rattle.cartridge_spec.specs.Header.{has_signature}
 use Rattle.cartridge_spec.specs.Says.{Data, Written}
 use Rattle.gf256_qic.proofs.Parities.{parity_block_only}
 use Rattle.gf256_qic.proofs.Products.{product_zero_left}
 use Rattle.gf256_qic.proofs.Values.{value_at-none, value_at-first}
-use Rattle.qic_base.specs.Cartridge.{zero_sector}
 use Rattle.qic_base.specs.Field.{number_at}
 use Rattle.qic_base.specs.declared.tape.SectorView.TheVariants.{Holds}
 
@@ -41,7 +40,7 @@ zeros_codeword n least most =
 
 pub zero_sector-is_sector : IsSector zero_sector
 unfolding zero_sector
-zero_sector-is_sector = record { size = length-replicate {A = ℕ} 1024 0; bytes = All-replicate (λ b. b < 256) 1024 0 (omega arith) }
+zero_sector-is_sector = record { size = length-replicate {A = ℕ} 1024 0; each = All-replicate (λ b. b < 256) 1024 0 (omega arith) }
 
 zero_byte : (j : ℕ) → j < 1024 → slice_index zero_sector j ≡ 0
 unfolding zero_sector

@@ -5,17 +5,18 @@ use Rattle.cartridge_laws.specs.AppendSteps.{volume_writes, list_writes, append_
 use Rattle.cartridge_laws.specs.AppendWrites.{AreWrites, IsFree, KeepsTo, IsOfSector}
 use Rattle.cartridge_laws.specs.Shape.{Carries}
 use Rattle.cartridge_laws.specs.Table.{IsSoundList}
-use Rattle.cartridge_spec.specs.Appending.{has_room, volume_bytes, free_segments, part_writes, in_sectors, last_end, with_bytes, appended_volume}
+use Rattle.cartridge_spec.specs.Appending.{has_room, volume_bytes, free_segments, part_writes, in_sectors, with_bytes, appended_volume}
+use Rattle.cartridge_laws.specs.Terms.{last_end, slot_sector}
 use Rattle.cartridge_spec.specs.Formatting.{IsLabel, StandsCleanly}
 use Rattle.cartridge_spec.specs.HeaderAndTable.{last_segment, TableIs, IsArea}
 use Rattle.cartridge_spec.specs.Mounting.{IsTableLive, settled, Mounts, mounted_as}
 use Rattle.cartridge_spec.specs.Settling.{changed_by, settling_steps}
 use Rattle.cartridge_spec.specs.Shape.{mask_at, data_count, capacity}
-use Rattle.cartridge_spec.specs.Table.{Shows, slot_sector}
+use Rattle.cartridge_spec.specs.Table.{Shows}
 use Rattle.cartridge_spec.specs.Volumes.{Plain, Stands, entries_of, volume_length}
-use Rattle.qic_base.specs.Cartridge.{Cartridge, IsCartridge, view_at}
-use Rattle.qic_base.specs.Step.{Step}
-use Rattle.qic_base.specs.Stop.{Torn}
+use Rattle.qic_base.specs.Cartridge.{Cartridge, view_at}
+use Rattle.qic_base.specs.Terms.{IsCartridge}
+use Rattle.qic_base.specs.Step.{Step, Torn}
 
 abbrev pub new_table : Plain → (name : List ℕ) → (date : ℕ) → (bytes : List ℕ) → List (List ℕ)
 new_table plain name date bytes = (with_bytes plain name date bytes).table_area

@@ -5,7 +5,8 @@ use Rattle.cartridge_laws.specs.AppendSteps.{IsNamed}
 use Rattle.cartridge_laws.specs.AppendWrites.{AreWrites, IsFree, IsOfSector}
 use Rattle.cartridge_laws.specs.MountBlocks.{HoldsPart}
 use Rattle.cartridge_laws.specs.Table.{IsSoundList}
-use Rattle.cartridge_spec.specs.Appending.{has_room, last_end, volume_bytes, with_bytes, appended_volume}
+use Rattle.cartridge_spec.specs.Appending.{has_room, volume_bytes, with_bytes, appended_volume}
+use Rattle.cartridge_laws.specs.Terms.{last_end}
 use Rattle.cartridge_spec.specs.Formatting.{IsLabel, StandsCleanly}
 use Rattle.cartridge_spec.specs.HeaderAndTable.{last_segment, TableIs, IsArea}
 use Rattle.cartridge_spec.specs.Mounting.{settled, Mounts, mounted_as}
@@ -13,9 +14,9 @@ use Rattle.cartridge_spec.specs.Settling.{changed_by}
 use Rattle.cartridge_spec.specs.Shape.{IsLive}
 use Rattle.cartridge_spec.specs.Table.{Shows}
 use Rattle.cartridge_spec.specs.Volumes.{Plain, Stands, entries_of, volume_length}
-use Rattle.qic_base.specs.Cartridge.{Cartridge, IsCartridge, view_at}
-use Rattle.qic_base.specs.Step.{Step}
-use Rattle.qic_base.specs.Stop.{Torn}
+use Rattle.qic_base.specs.Cartridge.{Cartridge, view_at}
+use Rattle.qic_base.specs.Terms.{IsCartridge}
+use Rattle.qic_base.specs.Step.{Step, Torn}
 
 -- ---- before an append
 

@@ -1,10 +1,11 @@
 -- The steps of an append: the writes of the new volume's segments, and then those of the table; and the sectors
 -- that they name (this project's profile).
 use Rattle.std.specs.Prelude.{ℕ, List, [], ◌∷◌, ◌++◌, length, ◌≡◌, ◌⊎◌, Contains}
-use Rattle.cartridge_spec.specs.Appending.{part_writes, in_sectors, taken_by, new_segments, table_writes, table_places}
+use Rattle.cartridge_spec.specs.Appending.{part_writes, in_sectors, taken_by, table_writes}
+use Rattle.cartridge_laws.specs.Terms.{new_segments, table_places, slot_sector, sectors_in}
 use Rattle.cartridge_spec.specs.Shape.{mask_at, usable_places}
-use Rattle.cartridge_spec.specs.Table.{slot_sector, table_with}
-use Rattle.cartridge_spec.specs.Volumes.{Part, parts_of, sectors_in, Plain, Volume}
+use Rattle.cartridge_spec.specs.Table.{table_with}
+use Rattle.cartridge_spec.specs.Volumes.{Part, parts_of, Plain, Volume}
 use Rattle.qic_base.specs.Step.{Step}
 
 abbrev pub parts_writes : (words : List ℕ) → List Part → List Step

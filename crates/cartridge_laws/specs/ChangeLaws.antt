@@ -8,11 +8,9 @@ use Rattle.cartridge_spec.specs.Header.{Header}
 use Rattle.cartridge_spec.specs.HeaderAndTable.{HasHeader}
 use Rattle.cartridge_spec.specs.Mounting.{Mounted, Mounts, IsTableLive}
 use Rattle.cartridge_spec.specs.Table.{Entry}
-use Rattle.cartridge_spec.specs.Volumes.{Plain, Stands}
-use Rattle.cartridge_spec.specs.Wear.{worn, WearSpares}
+use Rattle.cartridge_spec.specs.Volumes.{Plain, Stands, worn, WearSpares}
 use Rattle.qic_base.specs.Cartridge.{Cartridge}
-use Rattle.qic_base.specs.Step.{Step, Spoil, changed, SetProtected, SetReferenced}
-use Rattle.qic_base.specs.Stop.{Torn}
+use Rattle.qic_base.specs.Step.{Step, Spoil, changed, SetProtected, SetReferenced, Torn}
 
 -- ---- a worn sector
 

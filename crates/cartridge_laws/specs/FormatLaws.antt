@@ -9,8 +9,9 @@ use Rattle.cartridge_spec.specs.Mounting.{IsTableLive}
 use Rattle.cartridge_spec.specs.Says.{whole_mask, Zero}
 use Rattle.cartridge_spec.specs.Settling.{changed_by}
 use Rattle.cartridge_spec.specs.Volumes.{Plain, Stands}
-use Rattle.qic_base.specs.Cartridge.{new_cartridge, Cartridge, IsCartridge, view_at}
-use Rattle.qic_base.specs.Stop.{Torn}
+use Rattle.qic_base.specs.Cartridge.{new_cartridge, Cartridge, view_at}
+use Rattle.qic_base.specs.Terms.{IsCartridge}
+use Rattle.qic_base.specs.Step.{Torn}
 
 -- ---- a new cartridge
 

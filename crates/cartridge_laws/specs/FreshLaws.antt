@@ -3,7 +3,8 @@ use Rattle.std.specs.Prelude.{ℕ, ◌⊎◌, ◌≡◌, List, ◌^◌, ◌<◌,
 use Rattle.cartridge_spec.specs.Formatting.{IsFirstDefectInFront, HasNoDefectInFront, MarksDefects, IsFreshWith, IsLabel}
 use Rattle.cartridge_spec.specs.Header.{Header, SpellsHeader, Shows}
 use Rattle.cartridge_spec.specs.HeaderAndTable.{IsArea}
-use Rattle.qic_base.specs.Cartridge.{Cartridge, IsCartridge}
+use Rattle.qic_base.specs.Cartridge.{Cartridge}
+use Rattle.qic_base.specs.Terms.{IsCartridge}
 
 -- ---- defects in front
 

@@ -25,6 +25,7 @@ pub mod Slots
 pub mod Table
 pub mod TableLaws
 pub mod TableReading
+pub mod Terms
 pub mod WorkedValues
 pub mod Writes
 pub mod WritingLaws

@@ -9,15 +9,15 @@ use Rattle.cartridge_spec.specs.Appending.{with_bytes}
 use Rattle.cartridge_spec.specs.Code.{IsCodeBlock}
 use Rattle.cartridge_spec.specs.Formatting.{StandsCleanly}
 use Rattle.cartridge_spec.specs.HeaderAndTable.{IsArea, TableIs}
-use Rattle.cartridge_spec.specs.Mounting.{settled, IsTableLive}
-use Rattle.cartridge_spec.specs.OneLoss.{LosesOne, ChangesTableAlone, ComesBackAs, LosesOneAlone}
+use Rattle.cartridge_spec.specs.Mounting.{settled, IsTableLive, LosesOne, ChangesTableAlone, ComesBackAs, LosesOneAlone}
 use Rattle.cartridge_spec.specs.Says.{with_parity}
 use Rattle.cartridge_spec.specs.Settling.{changed_by}
 use Rattle.cartridge_spec.specs.Shape.{sector_at}
-use Rattle.cartridge_spec.specs.Table.{slot_sector}
+use Rattle.cartridge_laws.specs.Terms.{slot_sector}
 use Rattle.cartridge_spec.specs.Volumes.{Plain, Stands}
-use Rattle.qic_base.specs.Cartridge.{Cartridge, IsCartridge}
-use Rattle.qic_base.specs.Stop.{Torn}
+use Rattle.qic_base.specs.Cartridge.{Cartridge}
+use Rattle.qic_base.specs.Terms.{IsCartridge}
+use Rattle.qic_base.specs.Step.{Torn}
 
 -- ---- two tables that differ in one sector of data
 

@@ -2,7 +2,7 @@
 use Rattle.std.specs.Prelude.{◌≡◌, ◌≢◌, ℕ, ◌<◌, List, true, false}
 use Rattle.cartridge_spec.specs.HeaderAndTable.{IsArea}
 use Rattle.cartridge_spec.specs.Shape.{sector_at}
-use Rattle.cartridge_spec.specs.TableSets.{has_used_slot}
+use Rattle.cartridge_laws.specs.Terms.{has_used_slot}
 
 -- the data of two tables, which differ in one sector alone
 pub record DifferInOne (old new : List (List ℕ)) (changed : ℕ) : Type 0 where

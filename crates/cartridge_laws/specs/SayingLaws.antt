@@ -1,14 +1,14 @@
 -- The laws of what segments say, as facts.
-use Rattle.std.specs.Prelude.{◌≡◌, List, All, ◌≤◌, length, ◌≢◌, ◌<◌, ℕ, Some, slice_get, ◌↔◌, ◌+◌, replicate, false}
+use Rattle.std.specs.Prelude.{◌≡◌, List, All, ◌≤◌, length, ◌≢◌, ◌<◌, ℕ, Some, slice_get, ◌+◌, replicate, false}
 use Rattle.std.specs.List.{range_with_len}
-use Rattle.cartridge_spec.specs.Code.{IsSector}
 use Rattle.cartridge_spec.specs.Header.{has_signature}
 use Rattle.cartridge_spec.specs.HeaderAndTable.{copy_cells, CopyDoesNotRead}
-use Rattle.cartridge_spec.specs.Says.{Saying, Says, TableSaying, TableSays, Mismatch, unreadable_data, ByCode, ReadsAll, cells_of, whole_mask, Data, Written, unreadable_count, LostSectors, Zero}
+use Rattle.cartridge_spec.specs.Says.{Saying, Says, TableSaying, TableSays, Mismatch, ByCode, ReadsAll, cells_of, whole_mask, Data, Written, unreadable_count, LostSectors, Zero}
+use Rattle.cartridge_laws.specs.Terms.{unreadable_data}
 use Rattle.cartridge_spec.specs.Shape.{usable_count, usable_places}
-use Rattle.qic_base.specs.Cartridge.{IsView, Cartridge, IsCartridge, view_at, zero_sector}
+use Rattle.qic_base.specs.Terms.{IsView, IsCartridge}
+use Rattle.qic_base.specs.Cartridge.{Cartridge, view_at, zero_sector, IsSector}
 use Rattle.qic_base.specs.declared.tape.SectorView.{SectorView}
-use Rattle.qic_base.specs.Cartridge as cartridges
 
 -- ---- what a segment says
 
@@ -59,12 +59,6 @@ PlacesOfWhole = usable_places whole_mask ≡ range_with_len 0 32
 abbrev pub CellsOfWhole : Type 0
 CellsOfWhole =
     (c : Cartridge) (segment i : ℕ) → i < 32 → slice_get (cells_of c segment whole_mask) i ≡ Some (view_at c segment i)
-
--- ---- sectors
-
--- the two notions of a sector of 1,024 bytes are one
-abbrev pub SectorNotionsAgree : Type 0
-SectorNotionsAgree = (bytes : List ℕ) → IsSector bytes ↔ cartridges.IsSector bytes
 
 -- ---- what was written
 

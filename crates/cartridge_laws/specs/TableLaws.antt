@@ -3,7 +3,8 @@ use Rattle.std.specs.Prelude.{◌≡◌, ℕ, List, ◌⊎◌, ◌<◌, [], ◌�
 use Rattle.cartridge_laws.specs.Slots.{FitsSlot}
 use Rattle.cartridge_laws.specs.Table.{IsSoundList}
 use Rattle.cartridge_spec.specs.HeaderAndTable.{IsArea}
-use Rattle.cartridge_spec.specs.Table.{Entry, Shows, HasNoFault, TableFault, IsFirstFault, slot_bytes, with_slot}
+use Rattle.cartridge_spec.specs.Table.{Entry, Shows, HasNoFault, IsFirstFault, slot_bytes}
+use Rattle.cartridge_laws.specs.Terms.{TableFault, with_slot}
 
 -- two lists that the same data show are equal
 abbrev pub VolumesAreDetermined : Type 0

@@ -2,19 +2,19 @@
 -- formats that the definitions are of; none comes of evaluating a definition.
 use Rattle.std.specs.Prelude.{ℕ, ◌≡◌, List, [], ◌∷◌, ◌++◌, replicate, length, Some, None, codes, take, slice_range, slice_get, All, map}
 use Rattle.std.specs.List.{range_with_len}
-use Rattle.cartridge_spec.specs.Appending.{free_segments, room, taken_by, new_entry, table_places}
-use Rattle.cartridge_spec.specs.Code.{parity, value_at}
-use Rattle.cartridge_spec.specs.Field.{product, power, inverse}
-use Rattle.cartridge_spec.specs.Header.{Holds, profile_fields, header_fields, header_fault, fault_as, number}
+use Rattle.cartridge_spec.specs.Appending.{free_segments, room, taken_by, new_entry}
+use Rattle.cartridge_laws.specs.Terms.{table_places, fault_as, mask_of, slot_sector, BadRange, ForeignSlot, table_sets}
+use Rattle.cartridge_spec.specs.Code.{parity, value_at, product, power}
+use Rattle.gf256_qic.specs.Code.{inverse}
+use Rattle.cartridge_spec.specs.Header.{Holds, profile_fields, header_fields, header_fault, number}
 use Rattle.cartridge_spec.specs.Formatting.{fresh_header, copy_writes, clearing_steps}
 use Rattle.cartridge_spec.specs.Says.{whole_mask}
-use Rattle.cartridge_spec.specs.Shape.{capacity, mask_of, usable_places, marked_sectors}
-use Rattle.cartridge_spec.specs.Table.{slot_bytes, slot_sector, entry_in, slot_fault, BadRange, ForeignSlot, Entry}
-use Rattle.cartridge_spec.specs.TableSets.{table_sets}
+use Rattle.cartridge_spec.specs.Shape.{capacity, usable_places, marked_sectors}
+use Rattle.cartridge_spec.specs.Table.{slot_bytes, entry_in, slot_fault, Entry}
 use Rattle.cartridge_spec.specs.Volumes.{volume_length}
 use Rattle.qic_base.specs.Cartridge.{new_cartridge, IsPlace, IsLength}
-use Rattle.qic_base.specs.Date.{date_word, ShowsDate, IsDate}
-use Rattle.qic_base.specs.Name.{filled, IsNameText}
+use Rattle.qic_base.specs.Field.{date_word, IsDate, filled, IsNameText}
+use Rattle.qic_base.specs.Terms.{ShowsDate}
 use Rattle.qic_base.specs.Step.{WriteSector, FormatSegment, SetReferenced}
 use Rattle.qic_base.specs.declared.foreign.ForeignField.TheVariants.{FormatCode}
 use Rattle.qic_base.specs.declared.tape.SectorView.{SectorView}

@@ -1,7 +1,7 @@
 //! The laws of what segments say, and of what writes leave of them. Each is the contract of a function that does nothing, so that other crates can
 //! rest on it; their proofs import the lemmas of this crate's `proofs`.
 
-ghost use Rattle.cartridge_laws.specs.SayingLaws.{SaysIsFunction, SaysAlways, TableSaysIsFunction, TableSaysAlways, SaidIsTable, ReadAreSectors, CountOfCells, CellsAreViews, PlacesOfWhole, CellsOfWhole, SectorNotionsAgree, WrittenIsSaid, WrittenIsLost, SaidIsWritten, SaidAreSectors, ZeroIsWritten, ZeroSaysZero, ZeroHasNoSignature, ZeroDoesNotRead};
+ghost use Rattle.cartridge_laws.specs.SayingLaws.{SaysIsFunction, SaysAlways, TableSaysIsFunction, TableSaysAlways, SaidIsTable, ReadAreSectors, CountOfCells, CellsAreViews, PlacesOfWhole, CellsOfWhole, WrittenIsSaid, WrittenIsLost, SaidIsWritten, SaidAreSectors, ZeroIsWritten, ZeroSaysZero, ZeroHasNoSignature, ZeroDoesNotRead};
 ghost use Rattle.cartridge_laws.specs.ReadingLaws.{NothingIsHidden, SaysByNone, PlacesAreDataAndParity};
 ghost use Rattle.cartridge_laws.specs.WritingLaws.{WritesLeaveData, WritesMakeReadable, WritesTouchOnly};
 
@@ -46,11 +46,6 @@ pub fn cells_of_segment()
 pub fn cells_of_whole_segment()
     ensures places { PlacesOfWhole }
     ensures cells { CellsOfWhole }
-{}
-
-/// The code's notion of a sector and the cartridge's are the same.
-pub fn sector_notions_agree()
-    ensures { SectorNotionsAgree }
 {}
 
 /// What was written is what is said, or else the number of unreadable cells is.

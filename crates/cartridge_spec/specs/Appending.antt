@@ -1,10 +1,11 @@
--- Volumes more: the room for one, its segments, its bytes in sectors, its entry, and the writes (this project's profile).
-use Rattle.std.specs.Prelude.{ℕ, List, [], ◌∷◌, ◌+◌, length, if◌then◌else◌, nat_lt, ◌-◌, nat_le, ◌&&◌, Bool, ◌++◌, replicate, zero, suc, take, drop, slice_index}
+-- Volumes more: the room for one, its segments, its bytes in sectors, its entry, and the writes (this project's
+-- profile).
+use Rattle.std.specs.Prelude.{ℕ, List, [], ◌∷◌, ◌+◌, length, if◌then◌else◌, nat_lt, ◌-◌, nat_le, ◌&&◌, Bool, ◌++◌, replicate, zero, suc, take, drop, slice_index, sum_by}
 use Rattle.cartridge_spec.specs.Says.{with_parity}
 use Rattle.cartridge_spec.specs.Settling.{block_writes, writes_of}
-use Rattle.cartridge_spec.specs.Shape.{mask_at, capacity, usable_places}
+use Rattle.cartridge_spec.specs.Shape.{mask_at, capacity, data_count, usable_places}
 use Rattle.cartridge_spec.specs.Table.{Entry, table_with}
-use Rattle.cartridge_spec.specs.Volumes.{carrying, capacity_between, Volume, sectors_in, volume_length, Part, Plain, entries_of}
+use Rattle.cartridge_spec.specs.Volumes.{carrying, capacity_between, Volume, volume_length, Part, Plain, entries_of}
 use Rattle.qic_base.specs.Step.{Step}
 
 -- the end of the last of some volumes behind a segment, or that segment where there is none
@@ -12,37 +13,30 @@ abbrev pub end_behind : (before : ℕ) → List Entry → ℕ
 end_behind before [] = before
 end_behind before (e ∷ es) = end_behind e.end es
 
--- the last segment that is taken: the end of the last volume, or the table's segment
-abbrev pub last_end : List Entry → ℕ
-last_end entries = end_behind 2 entries
-
--- the carrying segments behind it, ascending: up to the last one of the map
+-- the carrying segments behind the last volume, or behind the table's segment, ascending: up to the last one of the map
 abbrev pub free_segments : (words : List ℕ) → List Entry → List ℕ
-free_segments words entries = carrying words (last_end entries + 1) (length words - 1)
+free_segments words entries = carrying words (end_behind 2 entries + 1) (length words - 1)
 
 -- the bytes that a new volume may have: those that these segments carry, and none where the table is full
 abbrev pub room : (words : List ℕ) → List Entry → ℕ
 room words entries =
-    if nat_lt (length entries) 232 then capacity_between words (last_end entries + 1) (length words - 1) else 0
+    if nat_lt (length entries) 232 then capacity_between words (end_behind 2 entries + 1) (length words - 1) else 0
 
--- those of some carrying segments that a volume of so many bytes takes, in their order: it ends with the one that takes its
--- last byte, and takes one for no byte
+-- those of some carrying segments that a volume of so many bytes takes, in their order: it ends with the one that takes
+-- its last byte, and takes one for no byte
 abbrev pub taken_by : (words : List ℕ) (bytes : ℕ) (segments : List ℕ) → List ℕ
 taken_by words bytes [] = []
 taken_by words bytes (s ∷ ss) =
     s ∷ (if nat_le bytes (capacity (mask_at words s)) then [] else taken_by words (bytes - capacity (mask_at words s)) ss)
 
--- bytes of one sector, with zero bytes behind them
-abbrev pub filled_up : List ℕ → List ℕ
-filled_up bytes = bytes ++ replicate (1024 - length bytes) 0
-
 -- bytes in so many sectors, one after the other, with zero bytes behind them
 abbrev pub in_sectors : (count : ℕ) → (bytes : List ℕ) → List (List ℕ)
 in_sectors zero bytes = []
-in_sectors (suc count) bytes = filled_up (take 1024 bytes) ∷ in_sectors count (drop 1024 bytes)
+in_sectors (suc count) bytes =
+    (take 1024 bytes ++ replicate (1024 - length (take 1024 bytes)) 0) ∷ in_sectors count (drop 1024 bytes)
 
--- what a slot says of a volume that was appended: its first and its last segment, its name of 44 bytes, its date word, and
--- how many bytes it has
+-- what a slot says of a volume that was appended: its first and its last segment, its name of 44 bytes, its date word,
+-- and how many bytes it has
 abbrev pub new_entry : (segments : List ℕ) → (name : List ℕ) → (date bytes : ℕ) → Entry
 new_entry segments name date bytes = record {
   start = slice_index segments 0;
@@ -55,8 +49,6 @@ new_entry segments name date bytes = record {
   size = bytes;
 }
 
--- ---- the bytes of a volume
-
 -- the bytes of some sectors, one after the other
 abbrev pub bytes_in : List (List ℕ) → List ℕ
 bytes_in [] = []
@@ -66,13 +58,9 @@ bytes_in (sector ∷ sectors) = sector ++ bytes_in sectors
 abbrev pub volume_bytes : (words : List ℕ) → Volume → List ℕ
 volume_bytes words volume = take (volume_length words volume.entry) (bytes_in volume.area)
 
--- the sectors that an append writes, in their order: the changed sector of data, and those of parity
-abbrev pub table_places : (changed : ℕ) → List ℕ
-table_places changed = changed ∷ 29 ∷ 30 ∷ 31 ∷ []
-
--- the writes of the table's new data
+-- the writes of the table's new data: the changed sector of data, and those of parity
 abbrev pub table_writes : (changed : ℕ) → (new : List (List ℕ)) → List Step
-table_writes changed new = block_writes (with_parity new) (table_places changed)
+table_writes changed new = block_writes (with_parity new) (changed ∷ 29 ∷ 30 ∷ 31 ∷ [])
 
 -- all usable sectors of a segment, ascending: its part of an area, and the parity of it
 abbrev pub part_writes : (words : List ℕ) → Part → List Step
@@ -86,17 +74,14 @@ abbrev pub has_room : Plain → (bytes : ℕ) → Bool
 has_room plain bytes =
     let have : ℕ = room plain.words (entries_of plain) in nat_le 1 have && nat_le bytes have
 
--- the segments that a new volume of these bytes takes
-abbrev pub new_segments : Plain → (bytes : List ℕ) → List ℕ
-new_segments plain bytes =
-    taken_by plain.words (length bytes) (free_segments plain.words (entries_of plain))
-
 -- the new volume: of a name of 44 bytes, a date word, and bytes
 abbrev pub appended_volume : Plain → (name : List ℕ) → (date : ℕ) → (bytes : List ℕ) → Volume
-appended_volume plain name date bytes = record {
-  entry = new_entry (new_segments plain bytes) name date (length bytes);
-  area = in_sectors (sectors_in plain.words (new_segments plain bytes)) bytes;
-}
+appended_volume plain name date bytes =
+    let free : List ℕ = free_segments plain.words (entries_of plain) in
+    let segments : List ℕ = taken_by plain.words (length bytes) free in record {
+      entry = new_entry segments name date (length bytes);
+      area = in_sectors (sum_by (λ s. data_count (mask_at plain.words s)) segments) bytes;
+    }
 
 -- the plain cartridge with it behind the others, and with its entry in the table
 abbrev pub with_bytes : Plain → (name : List ℕ) → (date : ℕ) → (bytes : List ℕ) → Plain

@@ -1,13 +1,13 @@
--- A cartridge formatted: its defects, its header, the steps in their order, and header copies that it may begin over (this project's profile).
-use Rattle.std.specs.Prelude.{ℕ, List, slice_index, ◌≡◌, ◌↔◌, ◌*◌, ◌<◌, length, ◌⊎◌, All, map, ◌∷◌, [], ◌++◌, take, drop}
+-- A cartridge formatted: its defects, its header, the steps in their order, and header copies that it may begin over
+-- (this project's profile).
+use Rattle.std.specs.Prelude.{ℕ, List, slice_index, ◌≡◌, ◌↔◌, ◌*◌, ◌/◌, ◌%◌, ◌^◌, ◌<◌, length, ◌⊎◌, All, map, ◌∷◌, [], ◌++◌, take, drop, replicate}
 use Rattle.std.specs.List.{range_with_len}
 use Rattle.cartridge_spec.specs.Header.{Header, SpellsHeader}
 use Rattle.cartridge_spec.specs.HeaderAndTable.{copy_cells, IsArea}
 use Rattle.cartridge_spec.specs.Says.{Written, Zero, unreadable_count, with_parity}
 use Rattle.cartridge_spec.specs.Settling.{writes_of}
-use Rattle.cartridge_spec.specs.Volumes.{Plain, Stands, empty_plain}
-use Rattle.qic_base.specs.Cartridge.{Cartridge, view_at}
-use Rattle.qic_base.specs.LostSet.{IsLost}
+use Rattle.cartridge_spec.specs.Volumes.{Plain, Stands}
+use Rattle.qic_base.specs.Cartridge.{Cartridge, view_at, zero_sector}
 use Rattle.qic_base.specs.Step.{Step, FormatSegment, SetReferenced}
 use Rattle.qic_base.specs.declared.tape.SectorView.{SectorView}
 use Rattle.qic_base.specs.declared.tape.SectorView.TheVariants.{Blank, Defect, Lost, Holds}
@@ -18,18 +18,14 @@ IsDefect Defect = Unit {0}
 IsDefect Lost = ⊥
 IsDefect (Holds bytes) = ⊥
 
--- the map has the sector's bit
-abbrev pub IsMarked : (words : List ℕ) (segment sector : ℕ) → Type 0
-IsMarked words segment sector = IsLost (slice_index words segment) sector
-
--- the words mark exactly the defects
+-- the words mark exactly the defects: they have their bits
 pub record MarksDefects (c : Cartridge) (words : List ℕ) : Type 0 where
   pub size : length words ≡ 28 * c.info.segments_per_track
   pub each : (segment sector : ℕ) → segment < 28 * c.info.segments_per_track → sector < 32 →
-      IsMarked words segment sector ↔ IsDefect (view_at c segment sector)
+      slice_index words segment / 2 ^ sector % 2 ≡ 1 ↔ IsDefect (view_at c segment sector)
 
--- a header copy was written with these data, or holds zero bytes; so does each one of a new cartridge, and of one that was
--- formatted to the end
+-- a header copy was written with these data, or holds zero bytes; so does each one of a new cartridge, and of one that
+-- was formatted to the end
 abbrev pub IsCleanCopy : Cartridge → (copy : ℕ) → (area : List (List ℕ)) → Type 0
 IsCleanCopy c copy area = Written (copy_cells c copy) area ⊎ Zero (copy_cells c copy)
 
@@ -44,14 +40,11 @@ pub record StandsCleanly (c : Cartridge) (plain : Plain) : Type 0 where
   pub first : IsCleanCopy c 0 plain.header_area
   pub second : IsCleanCopy c 1 plain.header_area
 
--- a header copy holds nothing but zero bytes, as one of a new cartridge, or has lost more sectors than the code finds again
-abbrev pub IsBareCopy : Cartridge → (copy : ℕ) → Type 0
-IsBareCopy c copy = Zero (copy_cells c copy) ⊎ 3 < unreadable_count (copy_cells c copy)
-
--- both are so
+-- each header copy holds nothing but zero bytes, as one of a new cartridge, or has lost more sectors than the code
+-- finds again
 pub record HasNoHeader (c : Cartridge) : Type 0 where
-  pub first : IsBareCopy c 0
-  pub second : IsBareCopy c 1
+  pub first : Zero (copy_cells c 0) ⊎ 3 < unreadable_count (copy_cells c 0)
+  pub second : Zero (copy_cells c 1) ⊎ 3 < unreadable_count (copy_cells c 1)
 
 -- a label has 44 bytes
 pub record IsLabel (label : List ℕ) : Type 0 where
@@ -68,41 +61,37 @@ fresh_header n label date = record {
   label_date = date;
 }
 
--- header data for it, with the words of this map
-pub record IsFreshArea (n : ℕ) (label : List ℕ) (date : ℕ) (words : List ℕ) (area : List (List ℕ)) : Type 0 where
-  pub size : IsArea area
-  pub spells : SpellsHeader (fresh_header n label date) words area
-
--- fresh header data whose map marks the cartridge's defects
+-- header data for it, whose map marks the cartridge's defects
 pub record IsFreshWith (c : Cartridge) (label : List ℕ) (date : ℕ) (words : List ℕ) (area : List (List ℕ)) : Type 0 where
-  pub fresh : IsFreshArea c.info.segments_per_track label date words area
+  pub size : IsArea area
+  pub spells : SpellsHeader (fresh_header c.info.segments_per_track label date) words area
   pub marks : MarksDefects c words
-
-abbrev pub HasNoDefectIn : Cartridge → (segment : ℕ) → Type 0
-HasNoDefectIn c segment = (index : ℕ) → index < 32 → ¬ (IsDefect (view_at c segment index))
 
 -- the segments of the header copies and of the volume table have none
 abbrev pub HasNoDefectInFront : Cartridge → Type 0
-HasNoDefectInFront c = (segment : ℕ) → segment < 3 → HasNoDefectIn c segment
+HasNoDefectInFront c =
+    (segment : ℕ) → segment < 3 → (index : ℕ) → index < 32 → ¬ (IsDefect (view_at c segment index))
 
 -- and none of them lies in front
 pub record IsFreshFor (c : Cartridge) (label : List ℕ) (date : ℕ) (words : List ℕ) (area : List (List ℕ)) : Type 0 where
   pub fresh : IsFreshWith c label date words area
   pub front : HasNoDefectInFront c
 
--- the plain cartridge that it stands for then
+-- the plain cartridge that it stands for then: without a volume, and the table's data are zero bytes
 abbrev pub fresh_plain : Cartridge → (label : List ℕ) → (date : ℕ) → (words : List ℕ) → (area : List (List ℕ)) → Plain
-fresh_plain c label date words area = empty_plain area (fresh_header c.info.segments_per_track label date) words
+fresh_plain c label date words area = record {
+  header_area = area;
+  header = fresh_header c.info.segments_per_track label date;
+  words = words;
+  table_area = replicate 29 zero_sector;
+  volumes = [];
+}
 
 -- ---- the steps
 
--- the first segments, ascending
-abbrev pub segment_formats : (count : ℕ) → List Step
-segment_formats count = map (λ s. FormatSegment s) (range_with_len 0 count)
-
--- the reference bursts, and all segments of a cartridge with this many segments per track
+-- the reference bursts, and all segments of a cartridge with this many segments per track, ascending
 abbrev pub clearing_steps : ℕ → List Step
-clearing_steps n = SetReferenced ∷ segment_formats (28 * n)
+clearing_steps n = SetReferenced ∷ map (λ s. FormatSegment s) (range_with_len 0 (28 * n))
 
 -- a header copy: sectors 1 to 31, ascending, and then sector 0, without which it can't be read
 abbrev pub copy_writes : (copy : ℕ) → (block : List (List ℕ)) → List Step
@@ -112,16 +101,10 @@ copy_writes copy block = writes_of copy (range_with_len 1 31) (drop 1 block) ++ 
 abbrev pub format_steps : (n : ℕ) → (area : List (List ℕ)) → List Step
 format_steps n area = clearing_steps n ++ copy_writes 0 (with_parity area) ++ copy_writes 1 (with_parity area)
 
--- ---- defects in front
-
--- a sector of the segment is a defect
-pub record HasDefectIn (c : Cartridge) (segment : ℕ) : Type 0 where
-  pub index : ℕ
-  pub within : index < 32
-  pub is_defect : IsDefect (view_at c segment index)
-
 -- this is the first of them that has one
 pub record IsFirstDefectInFront (c : Cartridge) (segment : ℕ) : Type 0 where
   pub in_front : segment < 3
-  pub here : HasDefectIn c segment
-  pub before : (t : ℕ) → t < segment → HasNoDefectIn c t
+  pub index : ℕ
+  pub within : index < 32
+  pub is_defect : IsDefect (view_at c segment index)
+  pub before : (t : ℕ) → t < segment → (i : ℕ) → i < 32 → ¬ (IsDefect (view_at c t i))

@@ -8,34 +8,13 @@ use Rattle.qic_base.specs.Field.{number_at}
 use Rattle.qic_base.specs.declared.foreign.ForeignField.{ForeignField}
 use Rattle.qic_base.specs.declared.foreign.ForeignField.TheVariants.{FormatCode, FirstHeader, SecondHeader, FirstData, LastData, SegmentsPerTrack, Tracks, TrackMaximum, SectorMaximum, Map}
 
--- byte k of the area's 29,696 bytes
-abbrev pub byte_in : List (List ℕ) → ℕ → ℕ
-byte_in area k = slice_index (sector_at area (k / 1024)) (k % 1024)
-
 -- the number in the field of this many bytes that begins at an offset; no field lies in two sectors
 abbrev pub number_in : List (List ℕ) → (offset width : ℕ) → ℕ
 number_in area offset width = number_at (sector_at area (offset / 1024)) (offset % 1024) width
 
--- the bytes in such a field
-abbrev pub text_in : List (List ℕ) → (offset width : ℕ) → List ℕ
-text_in area offset width = slice_range (sector_at area (offset / 1024)) (offset % 1024) (offset % 1024 + width)
-
--- ---- the bad sector map
-
--- the word of a segment
+-- the word of a segment in the bad sector map
 abbrev pub word_in : List (List ℕ) → ℕ → ℕ
 word_in area segment = number_in area (2048 + 4 * segment) 4
-
--- the words of the first segments
-abbrev pub words_in : List (List ℕ) → ℕ → List ℕ
-words_in area segments = map (word_in area) (range_with_len 0 segments)
-
--- the byte belongs to the word of one of the first segments
-pub record IsInMap (segments k : ℕ) : Type 0 where
-  pub from : 2048 ≤ k
-  pub below : k < 2048 + 4 * segments
-
--- ---- the table of fields
 
 -- what a header tells
 pub record Header : Type 0 where
@@ -63,9 +42,6 @@ pub record Field : Type 0 where
 abbrev pub number : (offset width value : ℕ) → Field
 number offset width value = record { offset = offset; width = width; value = Number value; test = None }
 
-abbrev pub text : (offset width : ℕ) → List ℕ → Field
-text offset width bytes = record { offset = offset; width = width; value = Text bytes; test = None }
-
 abbrev pub tested : ForeignField → (offset width value : ℕ) → Field
 tested name offset width value = record { offset = offset; width = width; value = Number value; test = Some name }
 
@@ -92,7 +68,7 @@ header_fields h =
     number 14 4 h.format_date
     ∷ number 18 4 h.write_date
     ∷ number 24 2 h.segments_per_track
-    ∷ text 30 44 h.label
+    ∷ record { offset = 30; width = 44; value = Text h.label; test = None }
     ∷ number 74 4 h.label_date
     ∷ []
 
@@ -100,30 +76,28 @@ header_fields h =
 
 abbrev pub HoldsValue : List (List ℕ) → (offset width : ℕ) → Value → Type 0
 HoldsValue area offset width (Number value) = number_in area offset width ≡ value
-HoldsValue area offset width (Text bytes) = text_in area offset width ≡ bytes
+HoldsValue area offset width (Text bytes) =
+    slice_range (sector_at area (offset / 1024)) (offset % 1024) (offset % 1024 + width) ≡ bytes
 
 -- the data have the field's value in its place
 abbrev pub Holds : List (List ℕ) → Field → Type 0
 Holds area field = HoldsValue area field.offset field.width field.value
 
--- the byte belongs to the field
-pub record IsInField (k : ℕ) (field : Field) : Type 0 where
-  pub from : field.offset ≤ k
-  pub below : k < field.offset + field.width
-
 -- the data show this header and the words of this map
 pub record Shows (area : List (List ℕ)) (h : Header) (words : List ℕ) : Type 0 where
   pub header : All (Holds area) (header_fields h)
-  pub map : words ≡ words_in area (28 * h.segments_per_track)
+  pub map : words ≡ map (word_in area) (range_with_len 0 (28 * h.segments_per_track))
 
--- the data spell them: all fields hold their values, and all other bytes are 0
+-- the data spell them: all fields hold their values, and those of the 29,696 bytes are 0 that lie in no field and not
+-- in the map
 pub record SpellsHeader (h : Header) (words : List ℕ) (area : List (List ℕ)) : Type 0 where
   pub profile : All (Holds area) (profile_fields h.segments_per_track)
   pub shows : Shows area h words
   pub rest : (k : ℕ) → k < 29696 →
-      All (λ field. ¬ (IsInField k field)) (profile_fields h.segments_per_track ++ header_fields h) →
-      ¬ (IsInMap (28 * h.segments_per_track) k) →
-      byte_in area k ≡ 0
+      All (λ field. ¬ ((field.offset ≤ k) × (k < field.offset + field.width)))
+        (profile_fields h.segments_per_track ++ header_fields h) →
+      ¬ ((2048 ≤ k) × (k < 2048 + 4 * (28 * h.segments_per_track))) →
+      slice_index (sector_at area (k / 1024)) (k % 1024) ≡ 0
 
 -- ---- what is refused
 
@@ -131,37 +105,29 @@ pub record SpellsHeader (h : Header) (words : List ℕ) (area : List (List ℕ))
 abbrev pub has_signature : List (List ℕ) → Bool
 has_signature area = number_in area 0 4 == 0xAA55_AA55
 
--- a test that fails, and the value that stands there
+-- a test that fails, and the value that stands there, or the number of a segment or of a slot
 pub record HeaderFault : Type 0 where
   pub field : ForeignField
   pub value : ℕ
-
-abbrev pub fault_as : ForeignField → ℕ → HeaderFault
-fault_as field value = record { field = field; value = value }
 
 -- a number that stands in a field with a test, in place of its value
 abbrev pub value_fault : List (List ℕ) → (offset width : ℕ) → Value → Option ForeignField → Option HeaderFault
 value_fault area offset width (Number value) test =
     if number_in area offset width == value then None
-    else option_map (λ name. fault_as name (number_in area offset width)) test
+    else option_map (λ name. record { field = name; value = number_in area offset width }) test
 value_fault area offset width (Text bytes) test = None
-
-abbrev pub field_fault : List (List ℕ) → Field → Option HeaderFault
-field_fault area field = value_fault area field.offset field.width field.value field.test
 
 -- the first field of a list that is at fault
 abbrev pub first_fault : List (List ℕ) → List Field → Option HeaderFault
 first_fault area [] = None
-first_fault area (field ∷ fields) = option_or (field_fault area field) (first_fault area fields)
+first_fault area (field ∷ fields) =
+    option_or (value_fault area field.offset field.width field.value field.test) (first_fault area fields)
 
--- the header copies and the volume table have no bad sector: the first of segments 0 to 2 whose word is not 0
-abbrev pub map_fault : List (List ℕ) → Option HeaderFault
-map_fault area =
-    if not (word_in area 0 == 0) then Some (fault_as Map 0)
-    else if not (word_in area 1 == 0) then Some (fault_as Map 1)
-    else if not (word_in area 2 == 0) then Some (fault_as Map 2)
-    else None
-
--- the first test that fails, for a drive that reports this many segments per track
+-- The first test that fails, for a drive that reports this many segments per track; behind the fields, the header
+-- copies and the volume table have no bad sector: the words of segments 0 to 2 are 0.
 abbrev pub header_fault : List (List ℕ) → ℕ → Option HeaderFault
-header_fault area n = option_or (first_fault area (profile_fields n)) (map_fault area)
+header_fault area n = option_or (first_fault area (profile_fields n)) (
+    if not (word_in area 0 == 0) then Some (record { field = Map; value = 0 })
+    else if not (word_in area 1 == 0) then Some (record { field = Map; value = 1 })
+    else if not (word_in area 2 == 0) then Some (record { field = Map; value = 2 })
+    else None)

@@ -1,11 +1,9 @@
--- The header and the volume table of a cartridge: the header copies, the one in force, and the table's data (the places of
--- header and table are this project's profile).
+-- The header and the volume table of a cartridge: the header copies, the one in force, and the table's data (the places
+-- of header and table are this project's profile).
 use Rattle.std.specs.Prelude.{◌≡◌, ℕ, List, length, All, true, ◌⊎◌, false, None, ◌-◌, ◌*◌}
-use Rattle.cartridge_spec.specs.Header.{has_signature, Header, header_fault, HeaderFault}
+use Rattle.cartridge_spec.specs.Header.{has_signature, Header, header_fault}
 use Rattle.cartridge_spec.specs.Says.{whole_mask, cells_of, Says, Data, TableSays, AsRead, ByCode}
-use Rattle.cartridge_spec.specs.Table.{TableFault, ForeignSlot, BadRange}
 use Rattle.qic_base.specs.Cartridge.{IsSector, Cartridge}
-use Rattle.qic_base.specs.declared.foreign.ForeignField.TheVariants.{Slot, Range}
 use Rattle.qic_base.specs.declared.tape.SectorView.{SectorView}
 use Rattle.cartridge_spec.specs.Header as headers
 
@@ -13,8 +11,6 @@ use Rattle.cartridge_spec.specs.Header as headers
 pub record IsArea (area : List (List ℕ)) : Type 0 where
   pub size : length area ≡ 29
   pub sectors : All IsSector area
-
--- ---- the header
 
 -- the cells of a header copy, 0 or 1
 abbrev pub copy_cells : Cartridge → ℕ → List SectorView
@@ -28,14 +24,10 @@ pub record CopyReads (c : Cartridge) (copy : ℕ) (area : List (List ℕ)) : Typ
 abbrev pub CopyDoesNotRead : Cartridge → ℕ → Type 0
 CopyDoesNotRead c copy = (area : List (List ℕ)) → CopyReads c copy area → ⊥
 
--- the header in force is that of copy 0 where it reads, and else that of copy 1
-abbrev pub IsInForce : Cartridge → List (List ℕ) → Type 0
-IsInForce c area = CopyReads c 0 area ⊎ (CopyDoesNotRead c 0 × CopyReads c 1 area)
-
--- a cartridge with its reference bursts, and a header in force
+-- a cartridge with its reference bursts, and a header in force: that of copy 0 where it reads, and else that of copy 1
 pub record HasHeader (c : Cartridge) (area : List (List ℕ)) : Type 0 where
   pub referenced : c.info.referenced ≡ true
-  pub in_force : IsInForce c area
+  pub in_force : CopyReads c 0 area ⊎ (CopyDoesNotRead c 0 × CopyReads c 1 area)
 
 -- no header is in force, or the reference bursts are missing
 abbrev pub IsUnformatted : Cartridge → Type 0
@@ -47,8 +39,6 @@ pub record IsFormatted (c : Cartridge) (area : List (List ℕ)) (header : Header
   pub sound : header_fault area c.info.segments_per_track ≡ None
   pub shown : headers.Shows area header words
 
--- ---- the volume table
-
 abbrev pub table_cells : Cartridge → List SectorView
 table_cells c = cells_of c 2 whole_mask
 
@@ -59,8 +49,3 @@ last_segment c = 28 * c.info.segments_per_track - 1
 -- the table's segment says these data, read as they are or found by the code
 abbrev pub TableIs : Cartridge → List (List ℕ) → Type 0
 TableIs c area = TableSays (table_cells c) (AsRead area) ⊎ TableSays (table_cells c) (ByCode (Data area))
-
--- under which name a slot at fault is refused, and its number
-abbrev pub slot_refusal : TableFault → HeaderFault
-slot_refusal (ForeignSlot slot) = record { field = Slot; value = slot }
-slot_refusal (BadRange slot) = record { field = Range; value = slot }

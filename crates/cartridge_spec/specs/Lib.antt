@@ -1,15 +1,11 @@
 pub mod Appending
 pub mod Code
-pub mod Field
 pub mod Formatting
 pub mod Header
 pub mod HeaderAndTable
 pub mod Mounting
-pub mod OneLoss
 pub mod Says
 pub mod Settling
 pub mod Shape
 pub mod Table
-pub mod TableSets
 pub mod Volumes
-pub mod Wear

@@ -1,14 +1,15 @@
 -- What the mounting of a cartridge gives, and the cartridge as it leaves it (this project's profile).
-use Rattle.std.specs.Prelude.{ℕ, List, ◌≡◌, Some, ◌⊎◌, if◌then◌else◌, ◌≤◌, ◌<◌}
-use Rattle.cartridge_spec.specs.Code.{IsCodeBlock}
+use Rattle.std.specs.Prelude.{ℕ, List, ◌≡◌, Some, ◌⊎◌, if◌then◌else◌, take, ◌≤◌, ◌<◌, ◌≢◌, false, Option, IsSomeAnd}
 use Rattle.cartridge_spec.specs.Header.{Header, HeaderFault, header_fault}
-use Rattle.cartridge_spec.specs.HeaderAndTable.{IsFormatted, HasHeader, TableIs, last_segment, slot_refusal, IsUnformatted, table_cells}
-use Rattle.cartridge_spec.specs.Says.{LostSectors, Mismatch, TableSays, ByCode, whole_mask, with_parity, unreadable_count, unreadable_data, Says, Data, ReadsAll, Agrees, data_of}
-use Rattle.cartridge_spec.specs.Settling.{writes_of, changed_by}
+use Rattle.cartridge_spec.specs.HeaderAndTable.{IsFormatted, HasHeader, TableIs, last_segment, IsUnformatted, table_cells}
+use Rattle.cartridge_spec.specs.Says.{LostSectors, Mismatch, TableSays, ByCode, whole_mask, with_parity, unreadable_count, Says, Data, ReadsAll}
+use Rattle.cartridge_spec.specs.Settling.{writes_of, changed_by, settling_steps}
 use Rattle.cartridge_spec.specs.Shape.{usable_places, IsLive}
-use Rattle.cartridge_spec.specs.Table.{Entry, TableFault, IsFirstFault, HasNoFault}
-use Rattle.cartridge_spec.specs.Volumes.{Plain, entries_of}
+use Rattle.cartridge_spec.specs.Table.{Entry, IsFirstFault, HasNoFault}
+use Rattle.cartridge_spec.specs.Volumes.{Plain, entries_of, Stands}
 use Rattle.qic_base.specs.Cartridge.{Cartridge, view_at}
+use Rattle.qic_base.specs.Step.{Torn}
+use Rattle.qic_base.specs.declared.tape.SectorView.TheVariants.{Lost}
 use Rattle.cartridge_spec.specs.Table as tables
 
 -- what the mounting of a cartridge gives: its first refusal, or the header in force, the words of its map, the table's
@@ -37,9 +38,7 @@ pub record RefusesTable (c : Cartridge) (fault : HeaderFault) : Type 0 where
   pub formatted : IsSoundlyFormatted c
   pub area : List (List ℕ)
   pub table : TableIs c area
-  pub slot : TableFault
-  pub first : IsFirstFault area (last_segment c) slot
-  pub named : slot_refusal slot ≡ fault
+  pub first : IsFirstFault area (last_segment c) fault
 
 -- the cartridge mounts, and lists these entries
 pub record IsMounted (c : Cartridge) (header : Header) (words : List ℕ) (table : List (List ℕ)) (entries : List Entry) : Type 0 where
@@ -71,10 +70,10 @@ mounted_as plain = Mounted plain.header plain.words plain.table_area (entries_of
 
 -- the data of its table can be read, or be found by the code
 abbrev pub CanBeRead : Cartridge → Type 0
-CanBeRead c = (unreadable_data (table_cells c) ≡ 0) ⊎ (unreadable_count (table_cells c) ≤ 3)
+CanBeRead c = (unreadable_count (take 29 (table_cells c)) ≡ 0) ⊎ (unreadable_count (table_cells c) ≤ 3)
 
--- no readable sector is left out of account: the data are read as they are, or are those of the code block that agrees with all
--- readable sectors
+-- no readable sector is left out of account: the data are read as they are, or are those of the code block that agrees
+-- with all readable sectors
 abbrev pub ReadsPlainly : Cartridge → (area : List (List ℕ)) → Type 0
 ReadsPlainly c area = ReadsAll (table_cells c) area ⊎ Says (table_cells c) (Data area)
 
@@ -86,9 +85,31 @@ IsTableLive c = (i : ℕ) → i < 32 → IsLive (view_at c 2 i)
 abbrev pub Lists : Cartridge → Header → (words : List ℕ) → List Entry → Type 0
 Lists d header words entries = (table : List (List ℕ)) × Mounts d (Mounted header words table entries)
 
--- the sectors of segment 2 that can be read are those of one code block whose data show these volumes
-pub record HasList (c : Cartridge) (entries : List Entry) : Type 0 where
-  pub block : List (List ℕ)
-  pub code : IsCodeBlock block
-  pub agrees : Agrees (table_cells c) block
-  pub shown : tables.Shows (data_of block) entries
+-- ---- A table's segment of which one sector more is lost, where an append wrote it (this project's profile).
+
+-- one sector of the table's segment is lost, and the others are as they were
+pub record LosesOne (c d : Cartridge) (lost : ℕ) : Type 0 where
+  pub within : lost < 32
+  pub here : view_at d 2 lost ≡ Lost
+  pub others : (i : ℕ) → i < 32 → i ≢ lost → view_at d 2 i ≡ view_at c 2 i
+
+-- nothing but the table's segment has changed: neither a mark nor a sector of another segment
+pub record ChangesTableAlone (c d : Cartridge) : Type 0 where
+  pub info : d.info ≡ c.info
+  pub others : (segment sector : ℕ) → sector < 32 → segment ≢ 2 → view_at d segment sector ≡ view_at c segment sector
+
+-- one sector of the table's segment is lost, and nothing else has changed
+pub record LosesOneAlone (c d : Cartridge) (lost : ℕ) : Type 0 where
+  pub loses : LosesOne c d lost
+  pub alone : ChangesTableAlone c d
+
+-- ---- mounting and settling
+
+-- The cartridge is mounted as a plain one, and so is what a stop among the writes that settle its table leaves. Once it is settled,
+-- where it is not protected, it stands for that one, and its table is read without leaving a readable sector out of account.
+pub record ComesBackAs (c : Cartridge) (plain : Plain) : Type 0 where
+  pub mounts : Mounts c (mounted_as plain)
+  pub stopped : (left : Option Cartridge) → Torn (settling_steps plain.table_area c) (Some c) left →
+      IsSomeAnd left (λ d. Mounts d (mounted_as plain))
+  pub stands : c.info.protected ≡ false → Stands (settled plain.table_area c) plain
+  pub plainly : c.info.protected ≡ false → ReadsPlainly (settled plain.table_area c) plain.table_area

@@ -20,12 +20,6 @@ abbrev pub changed_by : List Step → Cartridge → Cartridge
 changed_by [] c = c
 changed_by (s ∷ ss) c = changed_by ss (changed s c)
 
--- the places 0 to 31 where a test is true, ascending
-unfoldable pub places_where : (ℕ → Bool) → List ℕ
-places_where test = filter test (range_with_len 0 32)
-
--- ---- on a cartridge
-
 -- the sector can be read, and holds these bytes
 abbrev pub holds : SectorView → List ℕ → Bool
 holds Blank bytes = false
@@ -40,25 +34,19 @@ holds_other Defect bytes = false
 holds_other Lost bytes = false
 holds_other (Holds held) bytes = not (bytes_eq held bytes)
 
--- a sector of data of segment 2 can be read and differs from its part of a block: it was left out of account
-abbrev pub is_left_out : Cartridge → (block : List (List ℕ)) (sector : ℕ) → Bool
-is_left_out c block sector = if nat_lt sector 29 then holds_other (view_at c 2 sector) (sector_at block sector) else false
-
--- another sector of segment 2 is to be written: one of data where it is unreadable, one of parity where it is unreadable or
--- differs from the parity of the data
-abbrev pub is_unsettled : Cartridge → (block : List (List ℕ)) (sector : ℕ) → Bool
-is_unsettled c block sector =
-    if nat_lt sector 29 then is_unreadable (view_at c 2 sector)
-    else not (holds (view_at c 2 sector) (sector_at block sector))
-
 -- some sectors of segment 2, with their parts of a block
 abbrev pub block_writes : List (List ℕ) → (places : List ℕ) → List Step
 block_writes block places = writes_of 2 places (map (sector_at block) places)
 
--- the sectors that are written where the table's data are these: first those of data that were left out of account, then those
--- of data that are unreadable, and then those of parity that are unreadable or differ, each ascending
+-- the sectors that are written where the table's data are these: first those of data that were left out of account,
+-- then those of data that are unreadable, and then those of parity that are unreadable or differ, each ascending
 abbrev pub settling_places : Cartridge → (area : List (List ℕ)) → List ℕ
-settling_places c area = places_where (is_left_out c (with_parity area)) ++ places_where (is_unsettled c (with_parity area))
+settling_places c area =
+    filter (λ i. if nat_lt i 29 then holds_other (view_at c 2 i) (sector_at (with_parity area) i) else false)
+      (range_with_len 0 32)
+    ++ filter (λ i.
+        if nat_lt i 29 then is_unreadable (view_at c 2 i)
+        else not (holds (view_at c 2 i) (sector_at (with_parity area) i))) (range_with_len 0 32)
 
 -- the writes that settle the volume table, whose data are these: none on a protected cartridge
 abbrev pub settling_steps : (area : List (List ℕ)) → Cartridge → List Step

@@ -1,24 +1,17 @@
--- The shape of a segment: which of its sectors are usable, and which of these are parity (QIC-80-MC); the views of sectors.
+-- The shape of a segment: which of its sectors are usable, and which of these are parity (QIC-80-MC); the views of
+-- sectors.
 use Rattle.std.specs.Prelude.{ℕ, List, ◌-◌, ◌^◌, slice_index, length, ◌*◌, nat_le, if◌then◌else◌, sum_by, Bool, true, false, [], slice_get, unwrap_or}
-use Rattle.qic_base.specs.LostSet.{lost_places}
+use Rattle.qic_base.specs.Cartridge.{lost_places}
 use Rattle.qic_base.specs.declared.tape.SectorView.{SectorView}
 use Rattle.qic_base.specs.declared.tape.SectorView.TheVariants.{Blank, Defect, Lost, Holds}
 
--- the sectors 0 to 31 whose bits are 1, in ascending order
-abbrev pub sectors_of : ℕ → List ℕ
-sectors_of bits = lost_places bits 32
-
--- the mask of a segment, by its word in the bad sector map
-abbrev pub mask_of : ℕ → ℕ
-mask_of word = 2 ^ 32 - 1 - word
-
--- the mask of a segment, by all words of the bad sector map
+-- the mask of a segment, by the words of the bad sector map
 abbrev pub mask_at : List ℕ → ℕ → ℕ
-mask_at words segment = mask_of (slice_index words segment)
+mask_at words segment = 2 ^ 32 - 1 - slice_index words segment
 
--- the usable sectors
+-- the usable sectors: those of 0 to 31 whose bits are 1, ascending
 abbrev pub usable_places : ℕ → List ℕ
-usable_places mask = sectors_of mask
+usable_places mask = lost_places mask 32
 
 abbrev pub usable_count : ℕ → ℕ
 usable_count mask = length (usable_places mask)
@@ -33,7 +26,7 @@ capacity mask = if nat_le 4 (usable_count mask) then 1024 * data_count mask else
 
 -- the number of bad sectors that the words of a map mark
 abbrev pub marked_sectors : List ℕ → ℕ
-marked_sectors words = sum_by (λ word. length (sectors_of word)) words
+marked_sectors words = sum_by (λ word. length (lost_places word 32)) words
 
 -- every sector that does not hold bytes is unreadable
 abbrev pub is_unreadable : SectorView → Bool

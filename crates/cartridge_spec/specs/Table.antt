@@ -1,7 +1,9 @@
 -- The volume table: its slots and entries, and the first slot at fault (QIC-80-MC, the ftape headers).
 use Rattle.std.specs.Prelude.{ℕ, List, [], ◌∷◌, ◌++◌, codes, replicate, ◌/◌, ◌*◌, ◌%◌, slice_set, take, drop, ◌==◌, Bool, slice_index, slice_range, ◌≡◌, ◌<◌, ◌≤◌, true, length, Some, slice_get, ◌||◌, false, zero, suc, ◌-◌, ◌&&◌, nat_lt, nat_le, not, Option, None, if◌then◌else◌}
+use Rattle.cartridge_spec.specs.Header.{HeaderFault}
 use Rattle.cartridge_spec.specs.Shape.{sector_at}
 use Rattle.qic_base.specs.Field.{little_endian_bytes, overwritten, number_at, little_endian}
+use Rattle.qic_base.specs.declared.foreign.ForeignField.TheVariants.{Slot, Range}
 
 -- what a used slot says of a volume
 pub record Entry : Type 0 where
@@ -32,32 +34,21 @@ slot_bytes e =
     ++ little_endian_bytes 8 e.size
     ++ replicate 24 0
 
--- the sector of the table's data that has slot i
-abbrev pub slot_sector : ℕ → ℕ
-slot_sector i = i / 8
-
--- the table's data with these bytes in slot i; every other byte is as it was
-abbrev pub with_slot : (area : List (List ℕ)) → (i : ℕ) → (bytes : List ℕ) → List (List ℕ)
-with_slot area i bytes =
-    slice_set area (slot_sector i) (overwritten (sector_at area (slot_sector i)) (128 * (i % 8)) bytes)
-
--- the data of a table of so many entries, with one more in the slot behind the last one
+-- the data of a table of so many entries, with one more in the slot behind the last one; every other byte is as it was
 abbrev pub table_with : (area : List (List ℕ)) → (count : ℕ) → Entry → List (List ℕ)
-table_with area count entry = with_slot area count (slot_bytes entry)
+table_with area count entry =
+    slice_set area (count / 8) (overwritten (sector_at area (count / 8)) (128 * (count % 8)) (slot_bytes entry))
 
 -- slot i of the table's 29 data sectors, 0 to 231
 unfoldable pub slot : List (List ℕ) → ℕ → List ℕ
 slot area i = take 128 (drop (128 * (i % 8)) (sector_at area (i / 8)))
 
--- the four signature bytes of a slot, as a number
-abbrev pub signature : List ℕ → ℕ
-signature bytes = number_at bytes 0 4
-
+-- a slot is free, or used, by its signature of four bytes
 abbrev pub is_free : List ℕ → Bool
-is_free bytes = signature bytes == 0
+is_free bytes = number_at bytes 0 4 == 0
 
 abbrev pub is_used : List ℕ → Bool
-is_used bytes = signature bytes == little_endian (codes "VTBL")
+is_used bytes = number_at bytes 0 4 == little_endian (codes "VTBL")
 
 -- the fields of a used slot
 abbrev pub entry_in : List ℕ → Entry
@@ -79,19 +70,10 @@ pub record Shows (area : List (List ℕ)) (entries : List Entry) : Type 0 where
   pub shown : (i : ℕ) → i < length entries → slice_get entries i ≡ Some (entry_in (slot area i))
   pub free : (i : ℕ) → length entries ≤ i → i < 232 → is_free (slot area i) ≡ true
 
--- the two ways in which a slot is at fault
-pub data TableFault : Type 0 where
-  ForeignSlot : ℕ → TableFault
-  BadRange : ℕ → TableFault
-
 -- some slot below i is free
 unfoldable pub some_free_below : List (List ℕ) → ℕ → Bool
 some_free_below area zero = false
 some_free_below area (suc i) = is_free (slot area i) || some_free_below area i
-
--- the end of the slot before this one lies at or behind its start
-abbrev pub overlaps_before : List (List ℕ) → ℕ → Bool
-overlaps_before area i = nat_lt 0 i && nat_le (entry_in (slot area i)).start (entry_in (slot area (i - 1))).end
 
 -- a volume does not lie behind the table, forwards, on the cartridge and behind the volume before it
 abbrev pub has_bad_range : List (List ℕ) → (last i : ℕ) → Bool
@@ -99,18 +81,18 @@ has_bad_range area last i =
     nat_lt (entry_in (slot area i)).start 3
     || nat_lt (entry_in (slot area i)).end (entry_in (slot area i)).start
     || nat_lt last (entry_in (slot area i)).end
-    || overlaps_before area i
+    || (nat_lt 0 i && nat_le (entry_in (slot area i)).start (entry_in (slot area (i - 1))).end)
 
--- the fault of slot i, on a cartridge whose last segment is this
-unfoldable pub slot_fault : List (List ℕ) → (last i : ℕ) → Option TableFault
+-- the fault of slot i, on a cartridge whose last segment is this: no slot of a volume behind the others, or a bad range
+unfoldable pub slot_fault : List (List ℕ) → (last i : ℕ) → Option HeaderFault
 slot_fault area last i =
     if is_free (slot area i) then None
-    else if not (is_used (slot area i)) || some_free_below area i then Some (ForeignSlot i)
-    else if has_bad_range area last i then Some (BadRange i)
+    else if not (is_used (slot area i)) || some_free_below area i then Some (record { field = Slot; value = i })
+    else if has_bad_range area last i then Some (record { field = Range; value = i })
     else None
 
 -- the first slot at fault
-pub record IsFirstFault (area : List (List ℕ)) (last : ℕ) (fault : TableFault) : Type 0 where
+pub record IsFirstFault (area : List (List ℕ)) (last : ℕ) (fault : HeaderFault) : Type 0 where
   pub place : ℕ
   pub within : place < 232
   pub here : slot_fault area last place ≡ Some fault

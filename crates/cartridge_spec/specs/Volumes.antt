@@ -1,17 +1,16 @@
 -- Volumes, and the plain cartridge that a cartridge stands for: its header, its table and its volumes (the rules of a
 -- volume's segments and of its length are this project's profile).
-use Rattle.std.specs.Prelude.{ℕ, ◌+◌, ◌-◌, List, filter, nat_le, sum_by, ◌==◌, ◌&&◌, if◌then◌else◌, [], ◌∷◌, take, drop, ◌≡◌, length, All, map, replicate, ◌⊎◌, None}
+use Rattle.std.specs.Prelude.{ℕ, ◌+◌, ◌-◌, List, filter, nat_le, sum_by, ◌==◌, ◌&&◌, if◌then◌else◌, [], ◌∷◌, take, drop, ◌≡◌, length, All, map, ◌⊎◌, None, ◌<◌, ◌≤◌}
 use Rattle.std.specs.List.{range_with_len}
 use Rattle.cartridge_spec.specs.Header.{Header, header_fault}
 use Rattle.cartridge_spec.specs.HeaderAndTable.{IsArea, copy_cells, HasHeader, table_cells, last_segment}
 use Rattle.cartridge_spec.specs.Says.{cells_of, Written, Zero, ReadsAll}
 use Rattle.cartridge_spec.specs.Shape.{mask_at, usable_count, capacity, data_count}
 use Rattle.cartridge_spec.specs.Table.{Entry, HasNoFault}
-use Rattle.qic_base.specs.Cartridge.{Cartridge, IsSector, zero_sector}
+use Rattle.qic_base.specs.Cartridge.{Cartridge, IsSector}
+use Rattle.qic_base.specs.Step.{Wear, changed}
 use Rattle.cartridge_spec.specs.Header as headers
 use Rattle.cartridge_spec.specs.Table as tables
-
--- ---- volumes
 
 -- the segments from one to another that carry data
 abbrev pub carrying : List ℕ → (start end : ℕ) → List ℕ
@@ -27,10 +26,6 @@ abbrev pub volume_length : List ℕ → Entry → ℕ
 volume_length words e =
     if e.directory == 0 && nat_le e.size (capacity_between words e.start e.end) then e.size
     else capacity_between words e.start e.end
-
--- the sectors of data that these segments carry
-abbrev pub sectors_in : (words segments : List ℕ) → ℕ
-sectors_in words segments = sum_by (λ s. data_count (mask_at words s)) segments
 
 -- an entry, and the data sectors of its carrying segments, one after the other
 pub record Volume : Type 0 where
@@ -53,16 +48,11 @@ parts_of words (s ∷ ss) area =
     record { segment = s; sectors = take (data_count (mask_at words s)) area }
     ∷ parts_of words ss (drop (data_count (mask_at words s)) area)
 
--- the segment was written with its part
-abbrev pub PartStands : Cartridge → (words : List ℕ) → Part → Type 0
-PartStands c words part = Written (cells_of c part.segment (mask_at words part.segment)) part.sectors
-
 -- each carrying segment of a volume was written with its part of the area, which has no sector more
 pub record VolumeStands (c : Cartridge) (words : List ℕ) (volume : Volume) : Type 0 where
-  pub parts : All (PartStands c words) (parts_of words (carrying_segments words volume.entry) volume.area)
-  pub size : length volume.area ≡ sectors_in words (carrying_segments words volume.entry)
-
--- ---- the plain cartridge
+  pub parts : All (λ part. Written (cells_of c part.segment (mask_at words part.segment)) part.sectors)
+      (parts_of words (carrying_segments words volume.entry) volume.area)
+  pub size : length volume.area ≡ sum_by (λ s. data_count (mask_at words s)) (carrying_segments words volume.entry)
 
 pub record Plain : Type 0 where
   pub header_area : List (List ℕ)
@@ -81,29 +71,30 @@ pub record IsPlain (plain : Plain) : Type 0 where
   pub table_area : IsArea plain.table_area
   pub areas : All (λ volume. All IsSector volume.area) plain.volumes
 
--- the plain cartridge with these header data and no volume: its table's data are zero bytes
-abbrev pub empty_plain : (header_area : List (List ℕ)) → Header → (words : List ℕ) → Plain
-empty_plain header_area header words = record {
-  header_area = header_area;
-  header = header;
-  words = words;
-  table_area = replicate 29 zero_sector;
-  volumes = [];
-}
-
--- Copy 0 was written with the header data, whatever copy 1 holds; or copy 0 holds zero bytes and copy 1 was written with
--- them.
-abbrev pub CopiesAre : Cartridge → List (List ℕ) → Type 0
-CopiesAre c area =
-    Written (copy_cells c 0) area ⊎ (Zero (copy_cells c 0) × Written (copy_cells c 1) area)
-
--- a cartridge stands for a plain one
+-- A cartridge stands for a plain one. Its header copy 0 was written with the header data, whatever copy 1 holds; or
+-- copy 0 holds zero bytes and copy 1 was written with them.
 pub record Stands (c : Cartridge) (plain : Plain) : Type 0 where
   pub whole : IsPlain plain
   pub header : HasHeader c plain.header_area
   pub sound_header : header_fault plain.header_area c.info.segments_per_track ≡ None
-  pub copies : CopiesAre c plain.header_area
+  pub copies : Written (copy_cells c 0) plain.header_area
+      ⊎ (Zero (copy_cells c 0) × Written (copy_cells c 1) plain.header_area)
   pub sound_table : HasNoFault plain.table_area (last_segment c)
   pub shown : tables.Shows plain.table_area (entries_of plain)
   pub volumes : All (VolumeStands c plain.words) plain.volumes
   pub table : Written (table_cells c) plain.table_area ⊎ ReadsAll (table_cells c) plain.table_area
+
+-- ---- A worn sector, and when it takes neither header nor table away (this project's profile).
+
+-- the cartridge with a sector worn
+abbrev pub worn : (segment sector : ℕ) → Cartridge → Cartridge
+worn segment sector c = changed (Wear segment sector) c
+
+-- A worn sector takes neither the header nor the table away: it lies behind them; or it is one of a header copy, and
+-- the header in force is the same without it; or it is one of the table's segment, whose readable sectors are those
+-- that were written with their parity.
+abbrev pub WearSpares : (c : Cartridge) (plain : Plain) (segment sector : ℕ) → Type 0
+WearSpares c plain segment sector =
+    (3 ≤ segment)
+    ⊎ ((segment < 2) × HasHeader (worn segment sector c) plain.header_area)
+    ⊎ ((segment ≡ 2) × Written (table_cells c) plain.table_area)

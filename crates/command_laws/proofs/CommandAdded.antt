@@ -3,7 +3,8 @@ use Rattle.std.proofs.Common.{◌≡◌, ℕ, Bool, true, false, List, [], Optio
 use Rattle.std.specs.Prelude.{is_some, if◌then◌else◌}
 use Rattle.cartridge_spec.specs.Table.{Entry}
 use Rattle.command_laws.proofs.InputActLaws.{input_prints_nothing}
-use Rattle.command_spec.specs.Append.{input_acts, Kept, room_in, free_in, has_promised_room, most_written, input_writes, Taking, Fits, taking, entry_for, entry_acts, append_acts, TooLong, append_status}
+use Rattle.command_spec.specs.Append.{input_acts, Kept, room_in, has_promised_room, input_writes, Taking, Fits, taking, entry_acts, append_acts, TooLong}
+use Rattle.command_laws.specs.CommandTerms.{entry_for, free_in, most_written, append_status}
 use Rattle.qic_base.proofs.Joins.{text_of-append}
 use Rattle.qic_base.specs.Acts.{text_of, Act}
 use Rattle.command_spec.specs.declared.status.Status.TheVariants as status

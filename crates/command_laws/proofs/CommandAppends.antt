@@ -18,25 +18,27 @@ use Rattle.cartridge_laws.specs.AppendSettled.{MayAppendTo}
 use Rattle.cartridge_laws.specs.AppendSteps.{writes_into}
 use Rattle.cartridge_laws.specs.AppendWrites.{AreWrites, IsFree}
 use Rattle.cartridge_laws.specs.Shape.{Carries}
-use Rattle.cartridge_spec.specs.Appending.{has_room, last_end, table_writes, with_bytes}
+use Rattle.cartridge_spec.specs.Appending.{has_room, table_writes, with_bytes}
+use Rattle.cartridge_laws.specs.Terms.{last_end, slot_sector, with_slot}
 use Rattle.cartridge_spec.specs.Formatting.{IsLabel}
 use Rattle.cartridge_spec.specs.HeaderAndTable.{TableIs}
 use Rattle.cartridge_spec.specs.Mounting.{Mounting, Mounts, settled, IsTableLive}
 use Rattle.cartridge_spec.specs.Settling.{settling_steps, changed_by}
 use Rattle.cartridge_spec.specs.Shape.{mask_at}
-use Rattle.cartridge_spec.specs.Table.{slot_bytes, slot_sector, with_slot, Entry}
+use Rattle.cartridge_spec.specs.Table.{slot_bytes, Entry}
 use Rattle.cartridge_spec.specs.Volumes.{Plain, entries_of, Stands, Volume}
 use Rattle.command_laws.proofs.InputActLaws.{volume_is_free, volume_is_writes}
-use Rattle.command_spec.specs.Append.{appended, Appends, AppendOutcome, Kept, input_writes, entry_acts, room_in, taking, free_in, volume_acts, Fits, TooLong, entry_for, kept_over}
+use Rattle.command_spec.specs.Append.{appended, AppendOutcome, Kept, input_writes, entry_acts, room_in, taking, volume_acts, Fits, TooLong, kept_over}
+use Rattle.command_laws.specs.CommandTerms.{entry_for, Appends, free_in}
 use Rattle.command_spec.specs.Lines.{reply_behind, appended_line}
 use Rattle.command_spec.specs.Outcome.{CommandOutcome, refused, Opened, settling_act}
 use Rattle.command_spec.specs.declared.status.Status.{Status}
 use Rattle.qic_base.proofs.Joins.{steps_of-append}
 use Rattle.qic_base.proofs.Steps.{Torn-append, effects-append, Torn-all, Torn-front}
 use Rattle.qic_base.specs.Acts.{Act, steps_of, text_of}
-use Rattle.qic_base.specs.Cartridge.{Cartridge, IsCartridge}
-use Rattle.qic_base.specs.Step.{Step, effects}
-use Rattle.qic_base.specs.Stop.{Torn}
+use Rattle.qic_base.specs.Cartridge.{Cartridge}
+use Rattle.qic_base.specs.Terms.{IsCartridge}
+use Rattle.qic_base.specs.Step.{Step, effects, Torn}
 use Rattle.command_spec.specs.declared.status.Status.TheVariants as status
 use Rattle.cartridge_laws.specs.AppendLaws as appends
 

@@ -17,14 +17,15 @@ use Rattle.cartridge_laws.proofs.MountPlaces.{AreSmall, rest_small}
 use Rattle.cartridge_laws.proofs.MountSettles.{settling_settles}
 use Rattle.cartridge_laws.proofs.MountSettling.{settling_small}
 use Rattle.cartridge_laws.specs.Table.{IsSoundList}
-use Rattle.cartridge_spec.specs.Appending.{last_end, room, table_writes}
+use Rattle.cartridge_laws.specs.Terms.{last_end, slot_sector}
+use Rattle.cartridge_spec.specs.Appending.{room, table_writes}
 use Rattle.cartridge_spec.specs.Formatting.{HasCleanCopies, HasNoHeader, IsCleanCopy}
 use Rattle.cartridge_spec.specs.Header.{Header}
 use Rattle.cartridge_spec.specs.HeaderAndTable.{IsArea, last_segment}
 use Rattle.cartridge_spec.specs.Mounting.{Mounts, settled}
 use Rattle.cartridge_spec.specs.Says.{Written, Zero, with_parity, whole_mask}
 use Rattle.cartridge_spec.specs.Settling.{block_writes, changed_by, settling_places, settling_steps}
-use Rattle.cartridge_spec.specs.Table.{Entry, slot_sector, table_with}
+use Rattle.cartridge_spec.specs.Table.{Entry, table_with}
 use Rattle.cartridge_spec.specs.Volumes.{volume_length}
 use Rattle.command_laws.proofs.CommandPlainLaws.{SectorLeaves, defect_leaves, lose_leaves, sent_leaves}
 use Rattle.command_laws.proofs.InputActLaws.{input_is_free}
@@ -40,26 +41,24 @@ use Rattle.command_laws.proofs.ScrubStanding.{looks_in_front}
 use Rattle.command_laws.proofs.StoreEnding.{list_more, took_fits}
 use Rattle.command_laws.proofs.StoreTaking.{both_true}
 use Rattle.command_laws.specs.MountedListed.{listed_behind}
-use Rattle.command_spec.specs.Append.{Appends, Kept, Taking, Fits, TooLong, TooShort, append_acts, entry_acts, entry_for, free_in, has_promised_room, input_acts, input_writes, kept_over, most_written, room_in, silently, taking}
-use Rattle.command_spec.specs.Commands.Defect.{DefectOutcome}
-use Rattle.command_spec.specs.Commands.Format.{FormatOutcome}
-use Rattle.command_spec.specs.Generator.{made_bytes, made_length}
+use Rattle.command_laws.specs.CommandTerms.{Appends, free_in, most_written, silently, made_acts, entry_for}
+use Rattle.command_spec.specs.Append.{Kept, Taking, Fits, TooLong, TooShort, append_acts, entry_acts, has_promised_room, input_acts, input_writes, kept_over, room_in, taking}
+use Rattle.command_spec.specs.Single.{DefectOutcome, FormatOutcome, LoseOutcome}
+use Rattle.command_spec.specs.Make.{made_bytes, made_length, Making, MakeStep, AppendMade, WearSector, ScrubAll, SumVolume, StepDoes, Runs, Answer, after_item, made_answer, made_name, making}
 use Rattle.command_spec.specs.Input.{Item, Ending, AtEnd, AtStop, AtFault}
 use Rattle.command_spec.specs.Lines.{reply_behind}
-use Rattle.command_spec.specs.Commands.Lose.{LoseOutcome}
-use Rattle.command_spec.specs.Make.{Making, MakeStep, AppendMade, WearSector, ScrubAll, SumVolume, StepDoes, Runs, Answer, after_item, made_acts, made_answer, made_name, making}
-use Rattle.command_spec.specs.Outcome.{CommandOutcome, Going, OpenOutcome, WritableOutcome, Printing, Shows, settling_act}
+use Rattle.command_spec.specs.Outcome.{CommandOutcome, Going, OpenOutcome, WritableOutcome, Shows, settling_act}
+use Rattle.command_laws.specs.Terms.{Printing, Mends}
 use Rattle.command_spec.specs.Pulses.{SentOutcome}
 use Rattle.command_spec.specs.Restore.{Gives, pieces, framed}
-use Rattle.command_spec.specs.Script.{reply, refusal_line, Scripting, ScriptRun, Did, Meeting, Refuses, Finds, acts_on, append_did, taken_as, LineDoes, acts_of, ItemsDo, EndDoes, cartridge_behind, entries_behind, place_behind}
-use Rattle.command_spec.specs.Scrub.{Mends, Scrubs, Looked, looked_at}
+use Rattle.command_spec.specs.Script.{reply, refusal_line, Scripting, Did, Meeting, Refuses, Finds, acts_on, append_did, taken_as, LineDoes, acts_of, ItemsDo, EndDoes, cartridge_behind, entries_behind, place_behind}
+use Rattle.command_spec.specs.Scrub.{Scrubs, Looked, looked_at}
 use Rattle.command_spec.specs.declared.line.Line.{Line}
 use Rattle.qic_base.proofs.Joins.{steps_of-append}
 use Rattle.qic_base.proofs.Steps.{Torn-all, Torn-append}
 use Rattle.qic_base.specs.Acts.{Act, steps_of, text_of}
 use Rattle.qic_base.specs.Cartridge.{Cartridge}
-use Rattle.qic_base.specs.Step.{Step, SetReferenced, Spoil, Wear, changed, effects}
-use Rattle.qic_base.specs.Stop.{Torn}
+use Rattle.qic_base.specs.Step.{Step, SetReferenced, Spoil, Wear, changed, effects, Torn}
 use Rattle.qic_base.specs.declared.tape.SectorView.{SectorView}
 use Rattle.cartridge_spec.specs.Mounting as mounting
 use Rattle.command_spec.specs.declared.refusal.Refusal.TheVariants as why
@@ -465,7 +464,7 @@ module _ (area : List (List ℕ)) (is_area : IsArea area) where
   scripting_leaves input c header ws table entries outcome mounts found clean =
       let does = found.does in
       by_outcome c outcome _ found.is (settled_leaves c header ws table entries found.came.acts mounts clean (λ still.
-      leaves_by Clean (settled table c) (steps_of found.came.acts) (steps_of (acts_of does.dids ++ does.last)) (ap (λ (r : ScriptRun). steps_of r.acts) does.is)
+      leaves_by Clean (settled table c) (steps_of found.came.acts) (steps_of (acts_of does.dids ++ does.last)) (ap (λ (r : CommandOutcome). steps_of r.acts) does.is)
       (items_leave (settled table c) ws entries does.items does.dids (drop (place_behind 1 0 input does.items does.ending does.read) input) does.ending does.last
       (map_order c header ws table entries mounts) does.did does.ends still)))
 
@@ -481,12 +480,12 @@ module _ (area : List (List ℕ)) (is_area : IsArea area) where
       (settling_behind appended.table c)) clean)
   step_leaves seed c ws entries (AppendMade volume) acts answer order (inr (free, inr lost)) clean = none_leaves Clean c (steps_of acts) clean (ap steps_of lost.does)
   step_leaves seed c ws entries (WearSector segment sector) acts answer order worn clean =
-      leaves_by Clean c (steps_of acts) (Wear segment sector ∷ []) (ap steps_of worn.does) (worn_leaves segment sector c clean)
+      leaves_by Clean c (steps_of acts) (Wear segment sector ∷ []) (ap steps_of worn.0) (worn_leaves segment sector c clean)
   step_leaves seed c ws entries ScrubAll acts answer order (inl refused) clean = none_leaves Clean c (steps_of acts) clean (ap steps_of refused.does)
-  step_leaves seed c ws entries ScrubAll acts answer order (inr (free, scrubbed)) clean = scrub_leaves c ws entries (length ws - 1) acts order scrubbed.does clean
+  step_leaves seed c ws entries ScrubAll acts answer order (inr (free, scrubbed)) clean = scrub_leaves c ws entries (length ws - 1) acts order scrubbed.0 clean
   step_leaves seed c ws entries (SumVolume number) acts answer order summed clean =
       none_leaves Clean c (steps_of acts) clean
-      (ap steps_of summed.does ∙ sum_in_no_step number (volume_length ws summed.entry) (text_of summed.given) summed.ending)
+      (ap steps_of summed.is.0 ∙ sum_in_no_step number (volume_length ws summed.entry) (text_of summed.acts) summed.ending)
 
   runs_leave : (seed : ℕ) (c : Cartridge) (ws : List ℕ) (entries : List Entry) (items : List MakeStep) (acts : List Act) (answer : Answer) → IsSoundList (length ws - 1) entries →
       Runs seed c ws entries items acts answer → Clean c → Leaves Clean c (steps_of acts)

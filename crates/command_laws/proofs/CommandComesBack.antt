@@ -1,39 +1,33 @@
 -- What a generated run and a script leave comes back where one sector more of the table's segment is lost.
-use Rattle.std.proofs.Common.{◌≡◌, ◌∙◌, ◌⊎◌, ◌≤◌, ℕ, List, ◌∷◌, Option, Some, IfSome, IsSomeAnd, inl, inr, ap, sym, subst, false, length, take}
-use Rattle.cartridge_laws.proofs.FormatWriting.{some_and}
+use Rattle.std.proofs.Common.{◌≡◌, ◌∙◌, ◌⊎◌, ◌≤◌, ℕ, List, ◌∷◌, Option, Some, inl, inr, ap, sym, subst, false, length, take, ◌≢◌, ◌<◌, zero, suc, [], refl, arith}
 use Rattle.cartridge_laws.proofs.MountWhole.{settling_effects}
-use Rattle.cartridge_spec.specs.Appending.{with_all}
 use Rattle.cartridge_spec.specs.Mounting.{IsTableLive, Mounts, mounted_as, settled}
 use Rattle.cartridge_spec.specs.Settling.{changed_by, settling_steps}
 use Rattle.cartridge_spec.specs.Volumes.{Plain, Stands, entries_of}
 use Rattle.command_laws.proofs.CommandOneLoss.{nothing_torn}
 use Rattle.command_laws.proofs.CommandOpened.{quiet}
-use Rattle.command_laws.proofs.CommandSeveral.{MakeRan, WasTurned, behind_front, make_course, same_input, script_course}
-use Rattle.command_laws.proofs.CommandVolumes.{whole_of}
-use Rattle.command_laws.proofs.IntactKeeping.{intact_comes_back, settled_is_intact}
-use Rattle.command_laws.proofs.IntactMade.{done_make_is_intact, stopped_make_comes_back}
-use Rattle.command_laws.proofs.IntactScript.{stopped_script_comes_back}
-use Rattle.command_laws.proofs.TextWords.{one_command}
+use Rattle.command_laws.proofs.CommandSeveral.{WasTurned, behind_front, make_course, script_course, ScriptRan, left_then, make_has_printed, turned_left, MakeRan}
+use Rattle.command_laws.proofs.IntactKeeping.{settled_is_intact, intact_is_one, one_comes}
+use Rattle.command_laws.proofs.IntactMade.{done_make_is_intact, stopped_make_comes_back, printed_make_comes_back}
+use Rattle.command_laws.proofs.IntactScript.{stopped_script_comes_back, answered_script_comes_back, done_script_comes_back}
+use Rattle.command_laws.proofs.ScriptReached.{first_prints}
+use Rattle.command_laws.proofs.ScriptSpeaking.{as_many, script_speaks}
+use Rattle.command_laws.specs.ActStops.{Behind, IsLeftBy}
 use Rattle.command_laws.specs.Intact.{IsIntact}
-use Rattle.command_laws.specs.ScriptStanding.{plain_behind}
-use Rattle.command_spec.specs.Headline.{StopLeaves, WordsLeave}
-use Rattle.command_spec.specs.Machine.{HasValues, Spells}
-use Rattle.command_spec.specs.MadeVolumes.{made_contents}
-use Rattle.command_spec.specs.Make.{Answer, Done, Full, Lost, MakeOutcome, Makes, Mismatch, Protected, TableMismatch, make_status}
-use Rattle.command_spec.specs.OneLoss.{ComesBackOnly, SomeComeBack, StoppedMakeComesBack, StoppedScriptComesBack}
-use Rattle.command_spec.specs.Outcome.{CommandOutcome, refused}
-use Rattle.command_spec.specs.Script.{ScriptOutcome}
-use Rattle.command_spec.specs.ScriptLists.{CameFurther, ItemsWearBehind}
-use Rattle.command_spec.specs.Several.{Generated, Scripted}
-use Rattle.command_spec.specs.declared.status.Status.{Status}
-use Rattle.command_spec.specs.declared.words.Words.{Words}
+use Rattle.command_spec.specs.Several.{IsHeard, Scripted}
+use Rattle.command_spec.specs.Make.{Answer, Done, Full, Lost, MakeOutcome, Mismatch, Protected, TableMismatch, make_status}
+use Rattle.command_laws.specs.CommandTerms.{Makes}
+use Rattle.command_spec.specs.OneLoss.{SomeComeBack, LeftComesBack, with_items, with_made}
+use Rattle.command_spec.specs.Outcome.{CommandOutcome}
+use Rattle.command_spec.specs.Script.{ScriptOutcome, Did, ScriptDoes}
+use Rattle.command_spec.specs.ScriptLists.{CameFurther, ItemsWearBehind, GoesNoFurther, printed_by}
 use Rattle.qic_base.proofs.Steps.{Torn-append}
 use Rattle.qic_base.specs.Acts.{Act, steps_of}
-use Rattle.qic_base.specs.Cartridge.{Cartridge, IsCartridge}
-use Rattle.qic_base.specs.Step.{effects, Step}
-use Rattle.qic_base.specs.Stop.{Torn}
+use Rattle.qic_base.specs.Cartridge.{Cartridge}
+use Rattle.qic_base.specs.Terms.{IsCartridge}
+use Rattle.qic_base.specs.Step.{effects, Torn}
+use Rattle.command_spec.specs.Input.{Item}
 use Rattle.command_spec.specs.declared.status.Status.TheVariants as status
-use Rattle.command_spec.specs.declared.words.Words.TheVariants as commands
 
 -- ---- the settling comes first
 
@@ -76,79 +70,115 @@ answer_done (Lost segment lost) is = absurd (cc)
 answer_done (Mismatch segment) is = absurd (cc)
 
 module _ (seed count : ℕ) (few : count ≤ 200) (c : Cartridge) (plain : Plain) (whole : IsCartridge c) (stood : Stands c plain) (live : IsTableLive c) where
-  abbrev With : ℕ → Plain
-  With n = with_all plain (made_contents seed 1 n)
+  ran_intact : (outcome : CommandOutcome) → MakeRan seed count few c plain whole stood outcome → IsIntact (settled plain.table_area c) plain
+  ran_intact outcome run = settled_intact c plain whole stood run.mounts live run.free
 
-  make_comes_back : (outcome : CommandOutcome) (left : Option Cartridge) → MakeOutcome seed count (Some c) outcome → Torn (steps_of outcome.acts) (Some c) left →
-      Torn (settling_steps plain.table_area c) (Some c) left ⊎ SomeComeBack With count left
+  pub make_comes_back : (outcome : CommandOutcome) (left : Option Cartridge) → MakeOutcome seed count (Some c) outcome → Torn (steps_of outcome.acts) (Some c) left →
+      LeftComesBack c (with_made plain seed) 0 count left
   make_comes_back outcome left does torn =
       elim (make_course seed count few c plain whole stood outcome does) [
-        | inl turned ↦ inl (turned_torn c plain outcome left turned torn)
+        | inl turned ↦ inl (refl, turned_torn c plain outcome left turned torn)
         | inr run ↦
             elim (settled_first c plain whole stood run.mounts run.acts left (subst (λ (o : CommandOutcome). Torn (steps_of o.acts) (Some c) left) run.is torn)) [
-              | inl settling ↦ inl settling
-              | inr behind ↦ inr (stopped_make_comes_back seed count (settled plain.table_area c) plain run.acts run.answer left few
-                  (settled_intact c plain whole stood run.mounts live run.free) run.makes behind)
+              | inl settling ↦ inl (refl, settling)
+              | inr behind ↦ inr (stopped_make_comes_back seed count (settled plain.table_area c) plain run.acts run.answer left few (ran_intact outcome run) run.makes behind)
             ]
       ]
 
-  pub make_comes_with_all : (outcome : CommandOutcome) → MakeOutcome seed count (Some c) outcome → outcome.status ≡ status.Done →
-      IsSomeAnd (effects (steps_of outcome.acts) (Some c)) (ComesBackOnly (With count))
-  make_comes_with_all outcome does is_done =
+  -- with all volumes, where it has printed anything, or the sink failed; ..
+  pub make_comes_printed : (outcome : CommandOutcome) (text : List ℕ) (left : Option Cartridge) → MakeOutcome seed count (Some c) outcome →
+      ((text ≢ []) × IsLeftBy c outcome.acts text left) ⊎ Behind c outcome.acts text left → SomeComeBack (with_made plain seed) count count left
+  make_comes_printed outcome text left does which =
+      let (run, at) = make_has_printed seed count few c plain whole stood outcome text left does which in
+      printed_make_comes_back seed count (settled plain.table_area c) plain run.acts at.front at.rest run.answer left few (ran_intact outcome run) run.makes at.parts at.some at.torn
+
+  -- .. and where it was carried out
+  pub make_comes_done : (outcome : CommandOutcome) → MakeOutcome seed count (Some c) outcome → outcome.status ≡ status.Done →
+      SomeComeBack (with_made plain seed) count count (effects (steps_of outcome.acts) (Some c))
+  make_comes_done outcome does is_done =
       elim (make_course seed count few c plain whole stood outcome does) [
         | inl turned ↦ absurd (turned.unheard (inl (sym (ap (λ (o : CommandOutcome). o.status) turned.is) ∙ is_done)))
         | inr run ↦
+            let still : Cartridge = settled plain.table_area c in
             let all : run.answer ≡ Done = answer_done run.answer (sym (ap (λ (o : CommandOutcome). o.status) run.is) ∙ is_done) in
-            let made : IsIntact (changed_by (steps_of run.acts) (settled plain.table_area c)) (With count) =
-            done_make_is_intact seed count (settled plain.table_area c) plain run.acts few (settled_intact c plain whole stood run.mounts live run.free)
-            (subst (λ (a : Answer). Makes seed count (settled plain.table_area c) plain.words (entries_of plain) run.acts a) all run.makes) in
-            some_and (ComesBackOnly (With count)) (changed_by (steps_of run.acts) (settled plain.table_area c)) (effects (steps_of outcome.acts) (Some c))
-            (λ f lost loses. intact_comes_back (changed_by (steps_of run.acts) (settled plain.table_area c)) (With count) f lost made loses)
-            (ap (λ (o : CommandOutcome). effects (steps_of o.acts) (Some c)) run.is ∙ behind_front c plain whole stood run.mounts run.acts)
+            let made : IsIntact (changed_by (steps_of run.acts) still) (with_made plain seed count) =
+            done_make_is_intact seed count still plain run.acts few (ran_intact outcome run)
+            (subst (λ (a : Answer). Makes seed count still plain.words (entries_of plain) run.acts a) all run.makes) in
+            one_comes (with_made plain seed) count (effects (steps_of outcome.acts) (Some c))
+            (intact_is_one (changed_by (steps_of run.acts) still) (with_made plain seed count) (with_made plain seed count) (effects (steps_of outcome.acts) (Some c)) made
+            (ap (λ (o : CommandOutcome). effects (steps_of o.acts) (Some c)) run.is ∙ behind_front c plain whole stood run.mounts run.acts))
       ]
-
--- what is left by words of a generated run
-pub words_make_comes_back : (told : Option (List ℕ)) (words : List (List ℕ)) (held left : Option Cartridge) → ((command : Words) → Spells words command → HasValues command) → IfSome held IsCartridge →
-    WordsLeave told words held left → StoppedMakeComesBack words held left
-words_make_comes_back told words held left values whole (inl same) seed count c plain is run live =
-    inl (nothing_torn c (settling_steps plain.table_area c) left (same ∙ is))
-words_make_comes_back told words held left values whole (inr (command, spelled, leaves)) seed count c plain is run live =
-    let other : Words = commands.Make seed count in
-    let same : command ≡ other = one_command words command other spelled run.spelled in
-    let l : StopLeaves told other (Some c) left =
-    subst (λ (w : Words). StopLeaves told w (Some c) left) same (subst (λ (h : Option Cartridge). StopLeaves told command h left) is leaves) in
-    make_comes_back seed count (values other run.spelled) c plain (whole_of held c whole is) run.stands live l.outcome left l.plain l.torn
 
 -- ---- a script
 
-module _ (told : Option (List ℕ)) (words : List (List ℕ)) (c : Cartridge) (plain : Plain) (whole : IsCartridge c) (script : Scripted told words c plain) (live : IsTableLive c) (free : c.info.protected ≡ false) where
-  script_comes_back : (input : List ℕ) (outcome : CommandOutcome) (left : Option Cartridge) → input ≡ script.input → ScriptOutcome (Some c) input outcome →
-      (count : ℕ) → count ≤ length script.does.items → ItemsWearBehind (take count script.does.items) → Torn (steps_of outcome.acts) (Some c) left →
-      CameFurther (settled plain.table_area c) script.does.items script.does.dids script.does.last count left
-      ⊎ Torn (settling_steps plain.table_area c) (Some c) left
-      ⊎ SomeComeBack (λ n. plain_behind plain (take n script.does.items) (take n script.does.dids)) count left
-  script_comes_back input outcome left same does count some behind torn =
+-- where nothing was printed no line was answered
+pub none_answered : (c : Cartridge) (plain : Plain) (input : List ℕ) (outcome : CommandOutcome) (does : ScriptDoes c plain.words (entries_of plain) input outcome) (answered : ℕ) (text : List ℕ) →
+    answered ≤ length does.items → printed_by does.dids answered ≤ length text → text ≡ [] → answered ≡ 0
+none_answered c plain input outcome does zero text known written none = refl
+none_answered c plain input outcome does (suc n) text known written none =
+    let some : 0 < printed_by does.dids (suc n) =
+    first_prints does.dids (script_speaks c plain.words (entries_of plain) input outcome does)
+    (let long = as_many does.items does.dids c plain.words (entries_of plain) does.did in omega arith) n in
+    let nothing = ap (λ (t : List ℕ). length t) none in
+    absurd (omega arith)
+
+module _ (told : Option (List ℕ)) (words : List (List ℕ)) (c : Cartridge) (plain : Plain) (whole : IsCartridge c) (script : Scripted told words c plain) (live : IsTableLive c) (free : c.info.protected ≡ false)
+    (input : List ℕ) (outcome : CommandOutcome) (same : input ≡ script.input) (does : ScriptOutcome (Some c) input outcome) where
+  abbrev items : List Item
+  items = script.does.items
+
+  abbrev dids : List Did
+  dids = script.does.dids
+
+  abbrev standing : ℕ → Plain
+  standing = with_items plain items dids
+
+  no_line : (answered : ℕ) (text : List ℕ) → answered ≤ length items → printed_by dids answered ≤ length text → text ≡ [] → answered ≡ 0
+  no_line answered text known written none = none_answered (settled plain.table_area c) plain script.input script.outcome script.does answered text known written none
+
+  script_intact : ScriptRan told words c plain whole script outcome → IsIntact (settled plain.table_area c) plain
+  script_intact run = settled_intact c plain whole script.stands run.mounts live free
+
+  pub script_comes_back : (left : Option Cartridge) (count : ℕ) → count ≤ length items → ItemsWearBehind (take count items) → Torn (steps_of outcome.acts) (Some c) left →
+      CameFurther (settled plain.table_area c) items dids script.does.last count left ⊎ LeftComesBack c standing 0 count left
+  script_comes_back left count some behind torn =
       elim (script_course told words c plain whole script input outcome same does) [
-        | inl turned ↦ inr (inl (turned_torn c plain outcome left turned torn))
+        | inl turned ↦ inr (inl (refl, turned_torn c plain outcome left turned torn))
         | inr run ↦
             elim (settled_first c plain whole script.stands run.mounts script.outcome.acts left (subst (λ (acts : List Act). Torn (steps_of acts) (Some c) left) run.acts torn)) [
-              | inl settling ↦ inr (inl settling)
+              | inl settling ↦ inr (inl (refl, settling))
               | inr rest ↦
-                  elim (stopped_script_comes_back (settled plain.table_area c) plain script.input script.outcome left
-                  (settled_intact c plain whole script.stands run.mounts live free) script.does script.bytes count some behind rest) [
+                  elim (stopped_script_comes_back (settled plain.table_area c) plain script.input script.outcome left (script_intact run) script.does script.bytes count some behind rest) [
                     | inl further ↦ inl further
                     | inr comes ↦ inr (inr comes)
                   ]
             ]
       ]
 
--- what is left by words of a script
-pub words_script_comes_back : (told : Option (List ℕ)) (words : List (List ℕ)) (held left : Option Cartridge) → IfSome held IsCartridge → WordsLeave told words held left →
-    StoppedScriptComesBack told words held left
-words_script_comes_back told words held left whole (inl same) c plain is script live free count some behind =
-    inr (inl (nothing_torn c (settling_steps plain.table_area c) left (same ∙ is)))
-words_script_comes_back told words held left whole (inr (command, spelled, leaves)) c plain is script live free count some behind =
-    let same : command ≡ commands.Script = one_command words command commands.Script spelled script.spelled in
-    let l : StopLeaves told commands.Script (Some c) left =
-    subst (λ (w : Words). StopLeaves told w (Some c) left) same (subst (λ (h : Option Cartridge). StopLeaves told command h left) is leaves) in
-    script_comes_back told words c plain (whole_of held c whole is) script live free l.input l.outcome left (same_input told script.input l.input script.is_told l.is_told) l.plain count some behind l.torn
+  -- by what was printed
+  pub script_comes_answered : (text : List ℕ) (left : Option Cartridge) (answered count : ℕ) → answered ≤ length items → printed_by dids answered ≤ length text →
+      count ≤ length items → GoesNoFurther items dids count (length text) → ItemsWearBehind (take count items) → IsLeftBy c outcome.acts text left →
+      LeftComesBack c standing answered count left
+  script_comes_answered text left answered count known written some further behind so =
+      elim (script_course told words c plain whole script input outcome same does) [
+        | inl turned ↦
+            let was = turned_left c outcome text left turned so in
+            inl (no_line answered text known written was.0, nothing_torn c (settling_steps plain.table_area c) left was.1)
+        | inr run ↦
+            elim (left_then c plain whole script.stands run.mounts script.outcome.acts text left (subst (λ (acts : List Act). IsLeftBy c acts text left) run.acts so)) [
+              | inl (none, torn) ↦ inl (no_line answered text known written none, torn)
+              | inr at ↦ inr (answered_script_comes_back (settled plain.table_area c) plain script.input script.outcome text left (script_intact run) script.does script.bytes
+                  answered count known written some further behind at)
+            ]
+      ]
+
+  -- once its input was carried out
+  pub script_comes_heard : IsHeard outcome.status → ItemsWearBehind items → SomeComeBack standing (length items) (length items) (effects (steps_of outcome.acts) (Some c))
+  script_comes_heard heard behind =
+      elim (script_course told words c plain whole script input outcome same does) [
+        | inl turned ↦ absurd (turned.unheard (subst (λ (o : CommandOutcome). IsHeard o.status) turned.is heard))
+        | inr run ↦
+            subst (λ (left : Option Cartridge). SomeComeBack standing (length items) (length items) left)
+            (sym (ap (λ (acts : List Act). effects (steps_of acts) (Some c)) run.acts ∙ behind_front c plain whole script.stands run.mounts script.outcome.acts))
+            (done_script_comes_back (settled plain.table_area c) plain script.input script.outcome (script_intact run) script.does script.bytes behind)
+      ]

@@ -9,30 +9,23 @@ use Rattle.cartridge_spec.specs.Volumes.{Plain, entries_of}
 use Rattle.command_laws.proofs.MadeComplete.{made_where_there_is_room}
 use Rattle.command_laws.proofs.MountedHeld.{mounted_open}
 use Rattle.command_laws.proofs.RestoreGivenBack.{given, given_whole}
-use Rattle.command_spec.specs.Append.{room_in, Appends, AppendOutcome, kept_in}
-use Rattle.command_spec.specs.Commands.AppendCommand.{CanTake}
-use Rattle.command_spec.specs.Complete.{ReadsAs, IsUnprotected}
-use Rattle.command_spec.specs.Commands.Defect.{DefectOutcome}
-use Rattle.command_spec.specs.Commands.Format.{FormatOutcome}
-use Rattle.command_spec.specs.Input.{Ending, AtEnd, AtStop, IsPulse, IsPulses, Item, IsItem, IsScript}
-use Rattle.command_spec.specs.Commands.Lose.{LoseOutcome}
-use Rattle.command_spec.specs.Make.{Making, MakeOutcome, make_status}
-use Rattle.command_spec.specs.Commands.MakeCommand.{CanMake}
-use Rattle.command_spec.specs.Outcome.{Going, CommandOutcome, Opened, OpenOutcome, WritableOutcome, HasPlace, Printing, Shows}
-use Rattle.command_spec.specs.Pulses.{SentOutcome, sent_status}
-use Rattle.command_spec.specs.Commands.PulsesCommand.{IsOfTrains}
+use Rattle.command_spec.specs.Append.{room_in, AppendOutcome}
+use Rattle.command_laws.specs.Terms.{CanTake, Printing, IsOfTrains, IsOfLines, Mends, ScrubOutcome, CanGive}
+use Rattle.command_spec.specs.Command.{ReadsAs, IsUnprotected}
+use Rattle.command_spec.specs.Single.{DefectOutcome, FormatOutcome, LoseOutcome}
+use Rattle.command_laws.specs.CommandTerms.{kept_in, Appends}
+use Rattle.command_spec.specs.Input.{Ending, AtEnd, AtStop, IsPulse, IsPulses, Item, IsItem, IsScript, input_status}
+use Rattle.command_spec.specs.Make.{Making, MakeOutcome, make_status, CanMake}
+use Rattle.command_spec.specs.Outcome.{Going, CommandOutcome, Opened, OpenOutcome, WritableOutcome, HasPlace, Shows}
+use Rattle.command_spec.specs.Pulses.{SentOutcome}
 use Rattle.command_spec.specs.Restore.{RestoreOutcome}
-use Rattle.command_spec.specs.Commands.RestoreCommand.{CanGive}
-use Rattle.command_spec.specs.Script.{Scripting, ScriptOutcome, script_status}
-use Rattle.command_spec.specs.Commands.ScriptCommand.{IsOfLines}
-use Rattle.command_spec.specs.Scrub.{Mends, ScrubOutcome}
+use Rattle.command_spec.specs.Script.{Scripting, ScriptOutcome}
 use Rattle.command_spec.specs.declared.status.Status.{Status}
-use Rattle.qic_base.specs.Cartridge.{Cartridge, view_at, IsCartridge}
+use Rattle.qic_base.specs.Cartridge.{Cartridge, view_at}
+use Rattle.qic_base.specs.Terms.{IsCartridge}
 use Rattle.qic_base.specs.Tape.{spoil_answer}
 use Rattle.command_spec.specs.declared.status.Status.TheVariants as status
-use Rattle.command_spec.specs.Pulses as pulses
 use Rattle.command_laws.proofs.TextInputs as inputs
-use Rattle.command_spec.specs.Script as scripts
 
 -- ---- a cartridge that is mounted
 
@@ -86,14 +79,15 @@ shows_done prints c plain outcome there opened = ap status_of (goes_on (Shows pr
 pub append_goes : (name : List ℕ) (date : ℕ) (input : List ℕ) (c : Cartridge) (outcome : CommandOutcome) → IsUnprotected c → CanTake c input → AppendOutcome name date (Some c) input outcome → outcome.status ≡ status.Done
 append_goes name date input c outcome free can does =
     let goes : Going = Appends name date input in
-    let plain : Plain = can.plain in
-    let on = goes_on goes c plain outcome can.mounts (is_opened goes c outcome free does) in
+    let plain : Plain = can.0 in
+    let on = goes_on goes c plain outcome can.1 (is_opened goes c outcome free does) in
     let have : ℕ = room_in (kept_in plain.words (entries_of plain)) in
-    ap status_of on.did ∙ ap (λ (b : Bool). cond b status.Done (status.Full (min (length input) (have + 1)) have)) can.room
+    ap status_of on.did ∙ ap (λ (b : Bool). cond b status.Done (status.Full (min (length input) (have + 1)) have)) can.2
 
 pub restore_goes : (number : ℕ) (c : Cartridge) (outcome : CommandOutcome) → CanGive c number → RestoreOutcome number (Some c) outcome → outcome.status ≡ status.Done
 restore_goes number c outcome can does =
-    (given_whole number c can.plain can.volume outcome can.has (given number c can.plain can.volume outcome can.has does) can.few).0
+    let has = can.1.1 in
+    (given_whole number c can.0 can.1.0 outcome has (given number c can.0 can.1.0 outcome has does) can.1.2).0
 
 pub scrub_goes : (c : Cartridge) (plain : Plain) (outcome : CommandOutcome) → IsUnprotected c → ReadsAs c plain → ScrubOutcome (Some c) outcome → outcome.status ≡ status.Done
 scrub_goes c plain outcome free there does =
@@ -112,25 +106,25 @@ make_goes seed count c outcome small whole free can does =
 -- ---- commands that read lines
 
 pub pulses_go : (held : Option Cartridge) (input : List ℕ) (outcome : CommandOutcome) → IsOfTrains input → SentOutcome held input outcome → outcome.status ≡ status.Done
-pulses_go held input outcome (trains, reads) (came, plain, is) =
-    ap status_of is ∙ ap (λ (o : pulses.PulseRun). sent_status o.answer) plain.comes ∙ by_ending reads
+pulses_go held input outcome (trains, reads) plain =
+    ap status_of plain.is ∙ by_ending reads
   where
-    by_ending : IsPulses input trains AtEnd ⊎ IsPulses input trains AtStop → sent_status (pulses.pulses_answer plain.ending) ≡ status.Done
+    by_ending : IsPulses input trains AtEnd ⊎ IsPulses input trains AtStop → input_status plain.ending ≡ status.Done
     by_ending (inl read) =
-        ap (λ (e : Ending). sent_status (pulses.pulses_answer e)) (inputs.one_reading IsPulse inputs.pulses 1 0 input plain.trains trains plain.ending AtEnd plain.read read).1
+        ap input_status (inputs.one_reading IsPulse inputs.pulses 1 0 input plain.trains trains plain.ending AtEnd plain.read read).1
     by_ending (inr read) =
-        ap (λ (e : Ending). sent_status (pulses.pulses_answer e)) (inputs.one_reading IsPulse inputs.pulses 1 0 input plain.trains trains plain.ending AtStop plain.read read).1
+        ap input_status (inputs.one_reading IsPulse inputs.pulses 1 0 input plain.trains trains plain.ending AtStop plain.read read).1
 
 pub script_goes : (input : List ℕ) (c : Cartridge) (plain : Plain) (outcome : CommandOutcome) → ReadsAs c plain → IsOfLines input → ScriptOutcome (Some c) input outcome → outcome.status ≡ status.Done
 script_goes input c plain outcome there (items, reads) does =
     let on = goes_on (Scripting input) c plain outcome there does in
     let did = on.did in
     let lines = did.does in
-    ap status_of did.is ∙ ap (λ (o : scripts.ScriptRun). script_status o.answer) lines.is ∙ by_ending lines.items lines.ending lines.read reads
+    ap status_of did.is ∙ ap status_of lines.is ∙ by_ending lines.items lines.ending lines.read reads
   where
     by_ending : (found : List Item) (ending : Ending) → IsScript input found ending → IsScript input items AtEnd ⊎ IsScript input items AtStop →
-        script_status (scripts.script_answer ending) ≡ status.Done
+        input_status ending ≡ status.Done
     by_ending found ending known (inl read) =
-        ap (λ (e : Ending). script_status (scripts.script_answer e)) (inputs.one_reading IsItem inputs.items 1 0 input found items ending AtEnd known read).1
+        ap input_status (inputs.one_reading IsItem inputs.items 1 0 input found items ending AtEnd known read).1
     by_ending found ending known (inr read) =
-        ap (λ (e : Ending). script_status (scripts.script_answer e)) (inputs.one_reading IsItem inputs.items 1 0 input found items ending AtStop known read).1
+        ap input_status (inputs.one_reading IsItem inputs.items 1 0 input found items ending AtStop known read).1

@@ -3,17 +3,19 @@ use Rattle.std.proofs.Common.{◌≡◌, inl, inr, ℕ, List, Option, IfSome, �
 use Rattle.command_laws.proofs.CommandEnds.{over_map, told_whole}
 use Rattle.command_laws.proofs.CommandTable.{done_where_all_is_there}
 use Rattle.command_laws.proofs.TextWords.{one_command}
-use Rattle.command_spec.specs.Headline.{Answers}
-use Rattle.command_spec.specs.Machine.{HasValues, Spells, Step, Yields, CanBeDone}
-use Rattle.command_spec.specs.Runs.{OverTold}
+use Rattle.command_laws.specs.Terms.{Answers}
+use Rattle.command_spec.specs.Machine.{HasValues, Spells, Step, OverTold}
+use Rattle.command_laws.specs.CommandTerms.{Yields, CanBeDone}
 use Rattle.command_spec.specs.declared.status.Status.{Status}
 use Rattle.command_spec.specs.declared.words.Words.{Words}
 use Rattle.qic_base.specs.Acts.{Outside}
-use Rattle.qic_base.specs.Cartridge.{Cartridge, IsCartridge}
+use Rattle.qic_base.specs.Cartridge.{Cartridge}
+use Rattle.qic_base.specs.Terms.{IsCartridge}
 use Rattle.command_spec.specs.declared.status.Status.TheVariants as status
 use Rattle.qic_base.specs.Sink as sinks
 use Rattle.qic_base.specs.Source as sources
 use Rattle.qic_base.specs.Tape as tapes
+use Rattle.qic_base.specs.TapeCalls as tape_calls
 
 step_done : (words : List (List ℕ)) (command : Words) (held held' : Option Cartridge) (input output : List ℕ) (taken : ℕ) (answer : Status) → IfSome held IsCartridge → Spells words command → HasValues command →
     CanBeDone command held input → Step words held input held' output taken answer → answer ≡ status.Done
@@ -21,7 +23,7 @@ step_done words command held held' input output taken answer whole spells values
 step_done words command held held' input output taken answer whole spells values can (inr (other, spelled, (outcome, plain, after, shown, took, answered))) =
     answered ∙ done_where_all_is_there command held input outcome whole values can (subst (λ (w : Words). Yields w held input outcome) (one_command words other command spelled spells) plain)
 
-pub completes : {T S K : Type 0} (t : tapes.Meaning T) (s : sources.Meaning S) (k : sinks.Meaning K) (words : List (List ℕ)) (old new : Outside T S K) (answer : Status) → tapes.IsToldRight (t.told old.tape) (t.size old.tape) →
+pub completes : {T S K : Type 0} (t : tapes.Meaning T) (s : sources.Meaning S) (k : sinks.Meaning K) (words : List (List ℕ)) (old new : Outside T S K) (answer : Status) → tape_calls.IsToldRight (t.told old.tape) (t.size old.tape) →
     ((command : Words) → Spells words command → HasValues command) → Answers t s k words old new answer → (command : Words) → Spells words command →
     OverTold t s old (λ held input. CanBeDone command held input → (answer ≡ status.NoMemory) ⊎ (answer ≡ status.Done))
 completes t s k words old new answer right values answers command spells =

@@ -2,9 +2,9 @@
 use Rattle.std.proofs.Common.{[], ℕ, List, ◌≡◌, ◌++◌, Option, false}
 use Rattle.command_laws.proofs.CommandTable.{laws_of}
 use Rattle.command_spec.specs.Commands.{traits_of}
-use Rattle.command_spec.specs.Machine.{FrontPrints, CommandPrints, RefusedPrints, Yields}
+use Rattle.command_laws.specs.CommandTerms.{FrontPrints, CommandPrints, RefusedPrints, Yields}
 use Rattle.command_spec.specs.Outcome.{CommandOutcome}
-use Rattle.command_spec.specs.Runs.{IsOfBytes}
+use Rattle.command_spec.specs.Machine.{IsOfBytes}
 use Rattle.command_spec.specs.declared.status.Status.{Status}
 use Rattle.command_spec.specs.declared.words.Words.{Words}
 use Rattle.qic_base.specs.Cartridge.{Cartridge}

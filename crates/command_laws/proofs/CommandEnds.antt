@@ -5,19 +5,21 @@ use Rattle.std.specs.Prelude.{is_some}
 use Rattle.command_laws.proofs.CommandEndings.{refused_front, shorter_front, text_front}
 use Rattle.command_laws.proofs.CommandTable.{plain_answers}
 use Rattle.command_spec.specs.Commands.{traits_of}
-use Rattle.command_spec.specs.Headline.{EachLeft, StopsGoOn, Stepped, Answers, NoneRose, WasCut, IsCut, WordsLeave, Joins, PrintsFront}
-use Rattle.command_spec.specs.Machine.{HasValues, Yields, Spells}
+use Rattle.command_spec.specs.Headline.{EachLeft, StopsGoOn, Stepped, NoneRose, IsCut, WordsLeave, Joins}
+use Rattle.command_laws.specs.Terms.{Answers}
+use Rattle.command_spec.specs.Machine.{HasValues, Spells, fault_of, may_come_from, is_fault, is_outcome, InputLeft, Finished, CommandEnds, IsCutOff}
+use Rattle.command_laws.specs.CommandTerms.{Yields, FrontPrints}
 use Rattle.command_spec.specs.Outcome.{CommandOutcome, output_of}
-use Rattle.command_spec.specs.Runs.{fault_of, may_come_from, is_fault, is_outcome, InputLeft, Finished, CommandEnds}
 use Rattle.command_spec.specs.declared.status.Status.{Status}
 use Rattle.command_spec.specs.declared.words.Words.{Words}
 use Rattle.qic_base.proofs.Outcomes.{cut_is_torn, cut_stops, cut_took_front, cut_fell_none, cut_rose}
 use Rattle.qic_base.proofs.Steps.{Torn-all, Stops-left}
 use Rattle.qic_base.specs.Acts.{Failing, TapeFails, SourceFails, SinkFails, Outside, Act, steps_of, text_of, Cut, FailingRose}
-use Rattle.qic_base.specs.Cartridge.{Cartridge, IsCartridge}
-use Rattle.qic_base.specs.Step.{Step as TapeStep, effects}
-use Rattle.qic_base.specs.Stop.{Torn}
+use Rattle.qic_base.specs.Cartridge.{Cartridge}
+use Rattle.qic_base.specs.Terms.{IsCartridge}
+use Rattle.qic_base.specs.Step.{Step as TapeStep, effects, Torn}
 use Rattle.qic_base.specs.Tape as tapes
+use Rattle.qic_base.specs.TapeCalls as tape_calls
 use Rattle.command_spec.specs.declared.status.Status.TheVariants as status
 use Rattle.qic_base.specs.Sink as sinks
 use Rattle.qic_base.specs.Source as sources
@@ -69,11 +71,11 @@ done_or_not answer = inr (λ is. cc)
 pub record Laws {T S K : Type 0} (t : tapes.Meaning T) (s : sources.Meaning S) (k : sinks.Meaning K) (old new : Outside T S K) : Type 0 where
   pub nothing : (x : K) → k.took x [] x
   pub told : (x y : K) (text : List ℕ) → k.took x text y → k.written y ≡ option_map (λ bytes. bytes ++ text) (k.written x)
-  pub right : tapes.IsToldRight (t.told old.tape) (t.size old.tape)
-  pub before : tapes.IsLeftNow t old.tape
+  pub right : tape_calls.IsToldRight (t.told old.tape) (t.size old.tape)
+  pub before : tape_calls.IsLeftNow t old.tape
 
 -- what is told is a whole cartridge, or none
-pub told_whole : (held : Option Cartridge) (told : Option (Option Cartridge)) (size : Option ℕ) → tapes.IsToldRight told size → told ≡ Some held → IfSome held IsCartridge
+pub told_whole : (held : Option Cartridge) (told : Option (Option Cartridge)) (size : Option ℕ) → tape_calls.IsToldRight told size → told ≡ Some held → IfSome held IsCartridge
 told_whole held None size right told = cc
 told_whole None (Some other) size right told = tt
 told_whole (Some c) (Some None) size right told = cc
@@ -119,7 +121,7 @@ pub record LeftBy {T : Type 0} (t : tapes.Meaning T) (a b : T) (held : Option Ca
   pub torn : IsSomeAnd (t.told b) (λ left. Torn steps held left)
   pub leaves : (left : Option Cartridge) → Torn steps held left → P left
 
-pub each_left : {T : Type 0} (t : tapes.Meaning T) (a b : T) (P : (held left : Option Cartridge) → Type 0) → tapes.IsLeftNow t a →
+pub each_left : {T : Type 0} (t : tapes.Meaning T) (a b : T) (P : (held left : Option Cartridge) → Type 0) → tape_calls.IsLeftNow t a →
     ((held : Option Cartridge) → t.told a ≡ Some held → LeftBy t a b held (P held)) → EachLeft t a b P
 each_left t a b P before by = record {
   told = λ held told. let l = by held told in told_weaker (t.told b) l.leaves l.torn;
@@ -190,8 +192,7 @@ module _ {T S K : Type 0} (t : tapes.Meaning T) (s : sources.Meaning S) (k : sin
     spelled,
     over_map (t.told old.tape) (s.left old.source) _ _ stopped.told (λ held input told off.
         let some = has_outcome laws spelled values held input told in
-        subst (WasCut t s k command held input old new) (same_failing other failing (sym was ∙ is))
-        (record { outcome = some.0; plain = some.1; off = off.1 some.0 some.1 })),
+        (some.0, some.1, subst (λ (f : Failing). IsCutOff t s k command old new f some.0) (same_failing other failing (sym was ∙ is)) (off.1 some.0 some.1))),
   )
 
   -- what a run did, over what the tape told
@@ -273,26 +274,23 @@ module _ {T S K : Type 0} (t : tapes.Meaning T) (s : sources.Meaning S) (k : sin
   ends_finished (inr (failing, is, stopped)) sound =
       let fault : is_fault answer ≡ true = ap is_fault is ∙ is_a_fault failing in absurd (cc)
 
-  pub ends_begun : Laws t s k old new → Spells words command → CommandEnds t s k command old new answer → PrintsFront k command old.sink new.sink
+  pub ends_begun : Laws t s k old new → Spells words command → CommandEnds t s k command old new answer → (text : List ℕ) × FrontPrints command text × k.took old.sink text new.sink
   ends_begun laws spelled (inl finished) = by_answer (done_or_not answer)
     where
-      by_answer : (answer ≡ status.Done) ⊎ (answer ≢ status.Done) → PrintsFront k command old.sink new.sink
-      by_answer (inl is) = record {
-        text = output_of finished.outcome;
-        is_front = text_front command (output_of finished.outcome) (finished.prints.0 is);
-        took = finished.went.wrote.took;
-      }
-      by_answer (inr other) = record {
-        text = output_of finished.outcome;
-        is_front = refused_front command answer (output_of finished.outcome) (finished.prints.1 other);
-        took = finished.went.wrote.took;
-      }
+      by_answer : (answer ≡ status.Done) ⊎ (answer ≢ status.Done) → (text : List ℕ) × FrontPrints command text × k.took old.sink text new.sink
+      by_answer (inl is) = (
+        output_of finished.outcome,
+        text_front command (output_of finished.outcome) (finished.prints.0 is),
+        finished.went.wrote.took,
+      )
+      by_answer (inr other) = (
+        output_of finished.outcome,
+        refused_front command answer (output_of finished.outcome) (finished.prints.1 other),
+        finished.went.wrote.took,
+      )
   ends_begun laws spelled (inr (failing, is, stopped)) =
-      let took = cut_took_front t s k old new stopped.acts failing stopped.cut in record {
-        text = took.front;
-        is_front = shorter_front command took.front took.rest (text_of stopped.acts) took.parts stopped.front;
-        took = took.took;
-      }
+      let took = cut_took_front t s k old new stopped.acts failing stopped.cut in
+      (took.front, shorter_front command took.front took.rest (text_of stopped.acts) took.parts stopped.front, took.took)
 
   pub ends_silent : CommandEnds t s k command old new answer → (traits_of command).goes ≡ false → answer ≢ status.Done → answer ≢ status.SinkFault → new.sink ≡ old.sink
   ends_silent (inl finished) still other fault = finished.silent still other

@@ -1,16 +1,16 @@
 -- A volume is given back byte for byte by words of restoring.
-use Rattle.std.proofs.Common.{◌≡◌, ℕ, List, Some, subst, ap, ◌∙◌, sym, inl, inr, ◌++◌, ◌⊎◌, Option, IfSome, append_assoc, false}
+use Rattle.std.proofs.Common.{◌≡◌, ◌≢◌, ℕ, List, Some, subst, ap, ◌∙◌, sym, inl, inr, ◌++◌, ◌⊎◌, Option, IfSome, append_assoc, false}
 use Rattle.cartridge_spec.specs.Appending.{volume_bytes}
 use Rattle.cartridge_spec.specs.Volumes.{Plain, Volume}
 use Rattle.command_laws.proofs.RestoreGivenBack.{given, given_whole, given_lost, given_front}
 use Rattle.command_laws.proofs.TextWords.{one_command}
-use Rattle.command_spec.specs.Headline.{Answers, Stepped, IsCut, WasCut}
-use Rattle.command_spec.specs.Machine.{Spells, Step, Yields}
+use Rattle.command_laws.specs.Terms.{Answers}
+use Rattle.command_spec.specs.Headline.{Stepped, IsCut}
+use Rattle.command_spec.specs.Machine.{Spells, Step, IsCutOff, is_fault, fault_of}
+use Rattle.command_laws.specs.CommandTerms.{Yields}
 use Rattle.command_spec.specs.Outcome.{CommandOutcome, output_of}
-use Rattle.command_spec.specs.Restore.{RestoreOutcome}
-use Rattle.command_spec.specs.Commands.RestoreCommand.{HasNumber}
-use Rattle.command_spec.specs.Runs.{is_fault, fault_of}
-use Rattle.command_spec.specs.Volumes.{CameToEnd, GivesBack}
+use Rattle.command_spec.specs.Restore.{RestoreOutcome, HasNumber}
+use Rattle.command_spec.specs.Volumes.{GivesBack}
 use Rattle.command_spec.specs.declared.status.Status.{Status}
 use Rattle.command_spec.specs.declared.words.Words.{Words}
 use Rattle.qic_base.proofs.Outcomes.{cut_took_front}
@@ -32,12 +32,12 @@ module _ {T S K : Type 0} (t : tapes.Meaning T) (s : sources.Meaning S) (k : sin
     answered : answer ≡ outcome.status
     took : k.took old.sink (output_of outcome) new.sink
 
-  was_stepped : CameToEnd answer → Spells words (commands.Restore number) → t.told old.tape ≡ Some (Some c) → Answers t s k words old new answer → WasStepped
+  was_stepped : answer ≢ status.NoMemory → Spells words (commands.Restore number) → t.told old.tape ≡ Some (Some c) → Answers t s k words old new answer → WasStepped
   was_stepped came spells told answers =
       let over = subst (λ (o : Option (Option Cartridge)). IfSome o (λ held. (input : List ℕ) × IfSome (s.left old.source) (λ bytes. input ≡ bytes)
       × ((answer ≡ status.NoMemory) ⊎ Stepped t s k words held input old new answer))) told answers in
       elim over.2 [
-        | inl none ↦ absurd (came.1 none)
+        | inl none ↦ absurd (came none)
         | inr stepped ↦ by_step over.0 stepped stepped.step
       ]
     where
@@ -57,11 +57,12 @@ module _ {T S K : Type 0} (t : tapes.Meaning T) (s : sources.Meaning S) (k : sin
   was_cut failing plain volume has spells told (command, spelled, over) =
       let same : command ≡ commands.Restore number = one_command words command (commands.Restore number) spelled spells in
       let here = subst (λ (o : Option (Option Cartridge)). IfSome o (λ held. (input : List ℕ) × IfSome (s.left old.source) (λ bytes. input ≡ bytes)
-      × WasCut t s k command held input old new failing)) told over in
-      let cut : WasCut t s k command (Some c) here.0 old new failing = here.2 in
-      let plainly : RestoreOutcome number (Some c) cut.outcome = subst (λ (w : Words). Yields w (Some c) here.0 cut.outcome) same cut.plain in
-      let front = given_front number c plain volume cut.outcome has (given number c plain volume cut.outcome has plainly) in
-      let took = cut_took_front t s k old new cut.outcome.acts failing cut.off.cut in
+      × ((outcome : CommandOutcome) × Yields command held input outcome × IsCutOff t s k command old new failing outcome))) told over in
+      let cut = here.2 in
+      let plainly : RestoreOutcome number (Some c) cut.0 = subst (λ (w : Words). Yields w (Some c) here.0 cut.0) same cut.1 in
+      let off : IsCutOff t s k command old new failing cut.0 = cut.2 in
+      let front = given_front number c plain volume cut.0 has (given number c plain volume cut.0 has plainly) in
+      let took = cut_took_front t s k old new cut.0.acts failing off.cut in
       record {
         front = took.front;
         rest = took.rest ++ front.rest;
@@ -71,15 +72,16 @@ module _ {T S K : Type 0} (t : tapes.Meaning T) (s : sources.Meaning S) (k : sin
 
 pub gives_back : {T S K : Type 0} (t : tapes.Meaning T) (s : sources.Meaning S) (k : sinks.Meaning K) (words : List (List ℕ)) (old new : Outside T S K) (answer : Status) →
     (is_fault answer ≡ false → Answers t s k words old new answer) → ((failing : Failing) → answer ≡ fault_of failing → IsCut t s k words old new failing) →
-    GivesBack t k words old.tape new.tape old.sink new.sink answer
-gives_back t s k words old new answer carried cut = record {
-  whole = λ number c plain volume came spells told has few.
-      let was = was_stepped t s k words old new answer number c came spells told (carried came.0) in
+    (number : ℕ) (c : Cartridge) (plain : Plain) (volume : Volume) → Spells words (commands.Restore number) → t.told old.tape ≡ Some (Some c) →
+    HasNumber c plain number volume → GivesBack k c plain volume old.sink new.sink answer
+gives_back t s k words old new answer carried cut number c plain volume spells told has = record {
+  whole = λ sound memory few.
+      let was = was_stepped t s k words old new answer number c memory spells told (carried sound) in
       let is = given_whole number c plain volume was.outcome has (given number c plain volume was.outcome has was.plain) few in
       (was.answered ∙ is.0, subst (λ (text : List ℕ). k.took old.sink text new.sink) is.1 was.took);
-  lost = λ number c plain volume first came spells told has.
-      let was = was_stepped t s k words old new answer number c came spells told (carried came.0) in
+  lost = λ first sound memory.
+      let was = was_stepped t s k words old new answer number c memory spells told (carried sound) in
       let is = given_lost number c plain volume first was.outcome has (given number c plain volume was.outcome has was.plain) in
       (was.answered ∙ is.0, subst (λ (text : List ℕ). k.took old.sink text new.sink) is.1 was.took);
-  broken = λ number c plain volume failing is spells told has. was_cut t s k words old new answer number c failing plain volume has spells told (cut failing is);
+  broken = λ failing is. was_cut t s k words old new answer number c failing plain volume has spells told (cut failing is);
 }

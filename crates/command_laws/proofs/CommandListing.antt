@@ -11,6 +11,7 @@ use Rattle.cartridge_spec.specs.HeaderAndTable.{TableIs}
 use Rattle.cartridge_spec.specs.Mounting.{Mounting, Mounted, Mounts, settled, Lists}
 use Rattle.cartridge_spec.specs.Settling.{changed_by, settling_steps}
 use Rattle.cartridge_spec.specs.Table.{Entry}
+use Rattle.command_laws.proofs.MadeCounting.{appended_by}
 use Rattle.command_laws.proofs.CommandAdded.{replied_text, status_fits}
 use Rattle.command_laws.proofs.CommandAppends.{appended_line_is_some}
 use Rattle.command_laws.proofs.CommandEnds.{Laws, over_at, told_whole}
@@ -27,30 +28,32 @@ use Rattle.command_laws.proofs.ScriptMachineLaws.{one_outcome as one_script}
 use Rattle.command_laws.proofs.TextWords.{one_command}
 use Rattle.command_laws.specs.MountedListed.{IsListed, listed_behind}
 use Rattle.command_laws.specs.MountedListing.{AddsNone}
-use Rattle.command_spec.specs.Append.{Kept, Taking, Fits, TooLong, append_acts, entry_for, kept_in, room_in, taking, Appends, AppendOutcome, append_status, appended, kept_over}
+use Rattle.command_spec.specs.Append.{Kept, Taking, Fits, TooLong, append_acts, room_in, taking, AppendOutcome, appended, kept_over}
+use Rattle.command_laws.specs.CommandTerms.{entry_for, kept_in, Appends, append_status, Makes, AppendedFrom, Yields}
 use Rattle.command_spec.specs.Headline.{ToldNow}
 use Rattle.command_spec.specs.Lines.{reply_behind}
-use Rattle.command_spec.specs.Listing.{IsHeard, ListsVolume, NowLists, WasListed, ListsAppends}
-use Rattle.command_spec.specs.Machine.{Yields, HasValues, Spells}
-use Rattle.command_spec.specs.MadeVolumes.{AppendedBy, AppendedFrom}
-use Rattle.command_spec.specs.Make.{made_list, Makes, Making, MakeOutcome, MakesOn, make_status}
+use Rattle.command_spec.specs.Several.{IsHeard, NowLists, ListsAppends}
+use Rattle.command_spec.specs.Machine.{HasValues, Spells, CommandEnds, IsCutOff, fault_of, is_fault}
+use Rattle.command_spec.specs.Make.{AppendedBy, made_list, Making, MakeOutcome}
 use Rattle.command_spec.specs.Outcome.{Going, Opened, OpenOutcome, CommandOutcome}
-use Rattle.command_spec.specs.Runs.{CommandEnds, IsCutOff, fault_of, is_fault}
-use Rattle.command_spec.specs.Script.{ScriptDoes, entries_behind, Scripting, ScriptOutcome, ScriptsOn}
+use Rattle.command_spec.specs.Script.{ScriptDoes, entries_behind, Scripting, ScriptOutcome}
 use Rattle.command_spec.specs.ScriptLists.{ItemsWearBehind, ListsAnswered, ListsBroken}
-use Rattle.command_spec.specs.Volumes.{IsCarriedOut, WasNotDone}
+use Rattle.command_spec.specs.Volumes.{IsCarriedOut, IsInput}
+use Rattle.command_laws.specs.Terms.{WasNotDone}
 use Rattle.command_spec.specs.declared.status.Status.{Status}
 use Rattle.command_spec.specs.declared.words.Words.{Words}
 use Rattle.qic_base.proofs.Joins.{steps_of-append}
 use Rattle.qic_base.proofs.Steps.{effects-append}
 use Rattle.qic_base.specs.Acts.{Act, steps_of, text_of, Outside, TapeFails, SourceFails, SinkFails}
-use Rattle.qic_base.specs.Cartridge.{Cartridge, IsCartridge}
+use Rattle.qic_base.specs.Cartridge.{Cartridge}
+use Rattle.qic_base.specs.Terms.{IsCartridge}
 use Rattle.qic_base.specs.Step.{effects, Step as TapeStep}
 use Rattle.qic_base.specs.declared.tape.TapeInfo.{TapeInfo}
 use Rattle.command_spec.specs.declared.status.Status.TheVariants as status
 use Rattle.qic_base.specs.Sink as sinks
 use Rattle.qic_base.specs.Source as sources
 use Rattle.qic_base.specs.Tape as tapes
+use Rattle.qic_base.specs.TapeCalls as tape_calls
 use Rattle.command_spec.specs.declared.words.Words.TheVariants as commands
 use Rattle.command_spec.specs.Script as scripts
 use Rattle.command_spec.specs.Make as made
@@ -290,52 +293,53 @@ ends_done t s k command old new answer laws values (inr (SinkFails, is, stopped)
 -- ---- `append`
 
 module _ {T S K : Type 0} (t : tapes.Meaning T) (s : sources.Meaning S) (k : sinks.Meaning K) (name : List ℕ) (date : ℕ) (old new : Outside T S K) (answer : Status) (laws : Laws t s k old new) (values : HasValues (commands.Append name date))
-    (ends : CommandEnds t s k (commands.Append name date) old new answer) (c : Cartridge) (header : Header) (words : List ℕ) (table : List (List ℕ)) (entries : List Entry) (was : WasListed t old.tape c header words table entries) where
+    (ends : CommandEnds t s k (commands.Append name date) old new answer) (c : Cartridge) (header : Header) (words : List ℕ) (table : List (List ℕ)) (entries : List Entry) (told : t.told old.tape ≡ Some (Some c)) (mounts : Mounts c (Mounted header words table entries)) where
   abbrev command : Words
   command = commands.Append name date
 
   abbrev whole : IsCartridge c
-  whole = told_whole (Some c) (t.told old.tape) (t.size old.tape) laws.right was.told
+  whole = told_whole (Some c) (t.told old.tape) (t.size old.tape) laws.right told
 
-  append_lists_volume : IsCarriedOut answer → ListsVolume t (s.left old.source) old.tape new.tape header words entries name date
+  append_lists_volume : IsCarriedOut answer → (input : List ℕ) × IsInput (s.left old.source) input
+      × NowLists t new.tape header words (entries ++ entry_for (kept_in words entries) name date input ∷ [])
   append_lists_volume which =
-      let d : Did t (s.left old.source) command old.tape new.tape (Some c) status.Done = carried_out_did t s k command old new answer (Some c) whole values refl was.told which ends in
-      let with : List Entry = entries ++ entry_for (kept_in words entries) name date d.input ∷ [] in record {
-        input = d.input;
-        is_told = d.is_told;
-        lists = now_weaker t old.tape new.tape
+      let d : Did t (s.left old.source) command old.tape new.tape (Some c) status.Done = carried_out_did t s k command old new answer (Some c) whole values refl told which ends in
+      let with : List Entry = entries ++ entry_for (kept_in words entries) name date d.input ∷ [] in (
+        d.input,
+        d.is_told,
+        now_weaker t old.tape new.tape
             (λ left is. subst (λ (o : Option Cartridge). IsSomeAnd o (λ e. Lists e header words with)) (sym is)
-            (lists_with c header words table entries whole was.mounts name date values.0 values.1 d.input d.outcome d.plain d.sound))
-            (done_now t old.tape new.tape (steps_of d.outcome.acts) (Some c) d.did was.told);
-      }
+            (lists_with c header words table entries whole mounts name date values.0 values.1 d.input d.outcome d.plain d.sound))
+            (done_now t old.tape new.tape (steps_of d.outcome.acts) (Some c) d.did told),
+      )
 
   append_lists_none : WasNotDone answer → NowLists t new.tape header words entries
   append_lists_none not = by_end ends
     where
       by_end : CommandEnds t s k command old new answer → NowLists t new.tape header words entries
       by_end (inl finished) =
-          let over = over_at (t.told old.tape) _ (Some c) finished.told was.told in
+          let over = over_at (t.told old.tape) _ (Some c) finished.told told in
           now_weaker t old.tape new.tape
           (λ left is. subst (λ (o : Option Cartridge). IsSomeAnd o (λ e. Lists e header words entries)) (sym is)
-          (lists_without c header words table entries whole was.mounts name date values.0 values.1 over.0 finished.outcome finished.outcome.acts [] over.2.1 (append-nil finished.outcome.acts)
+          (lists_without c header words table entries whole mounts name date values.0 values.1 over.0 finished.outcome finished.outcome.acts [] over.2.1 (append-nil finished.outcome.acts)
           (inl (λ same. not.0 (finished.answered ∙ same)))))
-          (done_now t old.tape new.tape (steps_of finished.outcome.acts) (Some c) finished.went.did was.told)
+          (done_now t old.tape new.tape (steps_of finished.outcome.acts) (Some c) finished.went.did told)
       by_end (inr (TapeFails, is, stopped)) = absurd (not.2 is)
       by_end (inr (SinkFails, is, stopped)) = absurd (not.1 is)
       by_end (inr (SourceFails, is, stopped)) =
-          let over = over_at (t.told old.tape) _ (Some c) stopped.told was.told in
+          let over = over_at (t.told old.tape) _ (Some c) stopped.told told in
           let some = plain_answers command (Some c) over.0 values whole in
           let off : IsCutOff t s k command old new SourceFails some.0 = over.2.1 some.0 some.1 in
           let cut = off.cut in
           now_weaker t old.tape new.tape
           (λ left is. subst (λ (o : Option Cartridge). IsSomeAnd o (λ e. Lists e header words entries)) (sym is)
-          (lists_without c header words table entries whole was.mounts name date values.0 values.1 over.0 some.0 cut.front cut.rest some.1 cut.parts (inr (off.silent refl))))
-          (done_now t old.tape new.tape (steps_of cut.front) (Some c) cut.did was.told)
+          (lists_without c header words table entries whole mounts name date values.0 values.1 over.0 some.0 cut.front cut.rest some.1 cut.parts (inr (off.silent refl))))
+          (done_now t old.tape new.tape (steps_of cut.front) (Some c) cut.did told)
 
 -- ---- `script`
 
 module _ (c : Cartridge) (header : Header) (words : List ℕ) (table : List (List ℕ)) (entries : List Entry) (whole : IsCartridge c) (mounts : Mounts c (Mounted header words table entries))
-    (input : List ℕ) (came : scripts.ScriptRun) (does : ScriptDoes (settled table c) words entries input came) where
+    (input : List ℕ) (came : CommandOutcome) (does : ScriptDoes (settled table c) words entries input came) where
   abbrev Answered : (text : List ℕ) → Option Cartridge → Type 0
   Answered text left = ListsAnswered header words entries does.items does.dids (length text) left
 
@@ -343,13 +347,13 @@ module _ (c : Cartridge) (header : Header) (words : List ℕ) (table : List (Lis
   Broken text left = ListsBroken header words entries does.items does.dids (length text) left
 
   module _ (outcome : CommandOutcome) (opened : ScriptOutcome (Some c) input outcome) where
-    did : ScriptsOn input c words table entries outcome
+    did : Scripting input c header words table entries outcome
     did = went_on c header words table entries whole mounts (Scripting input) outcome opened
 
     acts : outcome.acts ≡ quiet (settling_steps table c) ∷ came.acts
     acts =
         ap (λ (o : CommandOutcome). o.acts) did.is
-        ∙ ap (λ (o : scripts.ScriptRun). quiet (settling_steps table c) ∷ o.acts) (one_script (settled table c) words entries input did.came came did.does does)
+        ∙ ap (λ (o : CommandOutcome). quiet (settling_steps table c) ∷ o.acts) (one_script (settled table c) words entries input did.came came did.does does)
 
     -- once it was carried out those of all lines are there
     script_lists_all : ItemsWearBehind does.items → IsSomeAnd (effects (steps_of outcome.acts) (Some c)) (λ d. Lists d header words (entries_behind entries does.dids))
@@ -453,7 +457,7 @@ module _ (seed count : ℕ) (few : count ≤ 200) (c : Cartridge) (header : Head
           by_front (x ∷ xs) act rest parts = cc
   make_lists_so outcome text at (inr (free, opened)) = by_at at
     where
-      did : MakesOn seed count c words table entries outcome
+      did : Making seed count c header words table entries outcome
       did = went_on c header words table entries whole mounts (Making seed count) outcome opened
 
       acts : outcome.acts ≡ quiet (settling_steps table c) ∷ did.acts
@@ -501,16 +505,18 @@ module _ (seed count : ℕ) (few : count ≤ 200) (c : Cartridge) (header : Head
       (n : ℕ) × AppendedBy seed count words entries outcome.status n × HasMade n (effects (steps_of outcome.acts) (Some c))
   make_lists_answered outcome (inl (locked, is)) = (
     0,
-    (omega arith, subst (λ (why : Status). AppendedFrom seed 1 count words entries why 0) (sym (ap (λ (o : CommandOutcome). o.status) is)) tt),
+    appended_by seed count words entries outcome.status 0 (omega arith)
+        (subst (λ (why : Status). AppendedFrom seed 1 count words entries why 0) (sym (ap (λ (o : CommandOutcome). o.status) is)) tt),
     some_and (λ e. Lists e header words entries) c (effects (steps_of outcome.acts) (Some c)) (table, mounts) (ap (λ (o : CommandOutcome). effects (steps_of o.acts) (Some c)) is),
   )
   make_lists_answered outcome (inr (free, opened)) =
-      let did : MakesOn seed count c words table entries outcome = went_on c header words table entries whole mounts (Making seed count) outcome opened in
+      let did : Making seed count c header words table entries outcome = went_on c header words table entries whole mounts (Making seed count) outcome opened in
       let l = make_lists seed count (settled table c) header words entries did.acts did.acts [] did.answer (effects (steps_of (quiet (settling_steps table c) ∷ did.acts)) (Some c)) few
       (lists_still c header words table entries whole mounts) (listed c header words table entries whole mounts) did.makes (append-nil did.acts)
       (behind_acts c header words table entries whole mounts did.acts) in (
         l.appended,
-        (l.within, subst (λ (why : Status). AppendedFrom seed 1 count words entries why l.appended) (sym (ap (λ (o : CommandOutcome). o.status) did.is)) (l.answered refl)),
+        appended_by seed count words entries outcome.status l.appended l.within
+            (subst (λ (why : Status). AppendedFrom seed 1 count words entries why l.appended) (sym (ap (λ (o : CommandOutcome). o.status) did.is)) (l.answered refl)),
         subst (HasMade l.appended) (sym (ap (λ (o : CommandOutcome). effects (steps_of o.acts) (Some c)) did.is)) l.lists,
       )
 
@@ -519,34 +525,36 @@ module _ (seed count : ℕ) (few : count ≤ 200) (c : Cartridge) (header : Head
   make_lists_all outcome does done =
       let made = make_lists_answered outcome does in
       subst (λ (n : ℕ). HasMade n (effects (steps_of outcome.acts) (Some c)))
-      (subst (λ (why : Status). AppendedFrom seed 1 count words entries why made.0) done made.1.1) made.2
+      (subst (λ (why : Status). AppendedBy seed count words entries why made.0) done made.1) made.2
 
 -- ---- all of them
 
 pub lists_appends : {T S K : Type 0} (t : tapes.Meaning T) (s : sources.Meaning S) (k : sinks.Meaning K) (words : List (List ℕ)) (command : Words) (old new : Outside T S K) (answer : Status) →
     Laws t s k old new → Spells words command → ((other : Words) → Spells words other → HasValues other) → CommandEnds t s k command old new answer →
-    ListsAppends t k (s.left old.source) words old.tape new.tape old.sink new.sink answer
-lists_appends t s k words command old new answer laws spelled values ends = record {
-  appended = λ name date c header map_words table entries spells was which.
+    (c : Cartridge) (header : Header) (map_words : List ℕ) (table : List (List ℕ)) (entries : List Entry) → t.told old.tape ≡ Some (Some c) →
+    Mounts c (Mounted header map_words table entries) → answer ≢ status.TapeFault →
+    ListsAppends t k (s.left old.source) words new.tape old.sink new.sink answer c header map_words table entries
+lists_appends t s k words command old new answer laws spelled values ends c header map_words table entries told mounts other = record {
+  appended = λ name date spells which.
       append_lists_volume t s k name date old new answer laws (values (commands.Append name date) spells)
-      (subst (λ (w : Words). CommandEnds t s k w old new answer) (one_command words command (commands.Append name date) spelled spells) ends) c header map_words table entries was which;
-  unchanged = λ name date c header map_words table entries spells was not.
+      (subst (λ (w : Words). CommandEnds t s k w old new answer) (one_command words command (commands.Append name date) spelled spells) ends) c header map_words table entries told mounts which;
+  unchanged = λ name date spells not_done no_sink.
       append_lists_none t s k name date old new answer laws (values (commands.Append name date) spells)
-      (subst (λ (w : Words). CommandEnds t s k w old new answer) (one_command words command (commands.Append name date) spelled spells) ends) c header map_words table entries was not;
-  made = λ seed count c header map_words table entries spells was other.
+      (subst (λ (w : Words). CommandEnds t s k w old new answer) (one_command words command (commands.Append name date) spelled spells) ends) c header map_words table entries told mounts (not_done, no_sink, other);
+  made = λ seed count spells.
       let which : Words = commands.Make seed count in
       let few : count ≤ 200 = values which spells in
       let ran = ends_done t s k which old new answer laws few
-      (subst (λ (w : Words). CommandEnds t s k w old new answer) (one_command words command which spelled spells) ends) c was.told other in
-      let whole : IsCartridge c = told_whole (Some c) (t.told old.tape) (t.size old.tape) laws.right was.told in
-      let so = make_lists_so seed count few c header map_words table entries whole was.mounts ran.outcome ran.text ran.at ran.plain in
+      (subst (λ (w : Words). CommandEnds t s k w old new answer) (one_command words command which spelled spells) ends) c told other in
+      let whole : IsCartridge c = told_whole (Some c) (t.told old.tape) (t.size old.tape) laws.right told in
+      let so = make_lists_so seed count few c header map_words table entries whole mounts ran.outcome ran.text ran.at ran.plain in
       let Made : ℕ → Option Cartridge → Type 0 = λ n left. IsSomeAnd left (λ d. Lists d header map_words (made_list seed n map_words entries)) in record {
         text = ran.text;
         took = ran.took;
         some = (so.0.0, so.0.1, now_weaker t old.tape new.tape (λ left is. subst (Made so.0.0) (sym is) so.0.2) ran.now);
         answered = λ sound.
             let all = ran.sound sound in
-            let made = make_lists_answered seed count few c header map_words table entries whole was.mounts ran.outcome ran.plain in (
+            let made = make_lists_answered seed count few c header map_words table entries whole mounts ran.outcome ran.plain in (
               made.0,
               subst (λ (why : Status). AppendedBy seed count map_words entries why made.0) all.0 made.1,
               now_weaker t old.tape new.tape (λ left is. subst (Made made.0) (sym (is ∙ ap (λ (ss : List TapeStep). effects ss (Some c)) all.1)) made.2) ran.now,
@@ -557,63 +565,63 @@ lists_appends t s k words command old new answer laws spelled values ends = reco
               let all = ran.heard (inl done) in
               now_weaker t old.tape new.tape
               (λ left is. subst (Made count) (sym (is ∙ ap (λ (ss : List TapeStep). effects ss (Some c)) all.1))
-              (make_lists_all seed count few c header map_words table entries whole was.mounts ran.outcome ran.plain (all.0 ∙ done))) ran.now
+              (make_lists_all seed count few c header map_words table entries whole mounts ran.outcome ran.plain (all.0 ∙ done))) ran.now
           | inr (inr sink) ↦ now_weaker t old.tape new.tape (λ left is. subst (Made count) (sym is) (so.1 (inr (ran.broke sink)))) ran.now
         ];
       };
-  scripted = λ c header map_words table entries spells was other.
+  scripted = λ spells.
       let ran = ends_done t s k commands.Script old new answer laws tt
-      (subst (λ (w : Words). CommandEnds t s k w old new answer) (one_command words command commands.Script spelled spells) ends) c was.told other in
-      let whole : IsCartridge c = told_whole (Some c) (t.told old.tape) (t.size old.tape) laws.right was.told in record {
-        input = ran.input;
-        is_told = ran.is_told;
-        lists = λ came does. record {
+      (subst (λ (w : Words). CommandEnds t s k w old new answer) (one_command words command commands.Script spelled spells) ends) c told other in
+      let whole : IsCartridge c = told_whole (Some c) (t.told old.tape) (t.size old.tape) laws.right told in (
+        ran.input,
+        ran.is_told,
+        λ came does. record {
           text = ran.text;
           took = ran.took;
           answered = λ other. now_weaker t old.tape new.tape
               (λ left is. subst (ListsAnswered header map_words entries does.items does.dids (length ran.text)) (sym is)
-              (script_answered c header map_words table entries whole was.mounts ran.input came does ran.outcome ran.plain ran.text ran.at (ran.whole other))) ran.now;
+              (script_answered c header map_words table entries whole mounts ran.input came does ran.outcome ran.plain ran.text ran.at (ran.whole other))) ran.now;
           broken = λ sink. now_weaker t old.tape new.tape
               (λ left is. subst (ListsBroken header map_words entries does.items does.dids (length ran.text)) (sym is)
-              (script_broken c header map_words table entries whole was.mounts ran.input came does ran.outcome ran.plain ran.text ran.at (ran.broke sink))) ran.now;
+              (script_broken c header map_words table entries whole mounts ran.input came does ran.outcome ran.plain ran.text ran.at (ran.broke sink))) ran.now;
           all = λ heard behind. now_weaker t old.tape new.tape
               (λ left is. subst (λ (o : Option Cartridge). IsSomeAnd o (λ d. Lists d header map_words (entries_behind entries does.dids)))
               (sym (is ∙ ap (λ (ss : List TapeStep). effects ss (Some c)) (ran.heard heard).1))
-              (script_lists_all c header map_words table entries whole was.mounts ran.input came does ran.outcome ran.plain behind)) ran.now;
-        };
-      };
+              (script_lists_all c header map_words table entries whole mounts ran.input came does ran.outcome ran.plain behind)) ran.now;
+        },
+      );
 }
 
 -- ---- a run that touched nothing
 
-pub none_listed : {T K : Type 0} (t : tapes.Meaning T) (k : sinks.Meaning K) (told : Option (List ℕ)) (words : List (List ℕ)) (a : T) (x : K) (answer : Status) → tapes.IsToldRight (t.told a) (t.size a) →
+pub none_listed : {T K : Type 0} (t : tapes.Meaning T) (k : sinks.Meaning K) (told : Option (List ℕ)) (words : List (List ℕ)) (a : T) (x : K) (answer : Status) → tape_calls.IsToldRight (t.told a) (t.size a) →
     k.took x [] x → (IsCarriedOut answer → ⊥) → (IsHeard answer → ⊥) → ((seed count : ℕ) (words : List ℕ) (es : List Entry) → AppendedFrom seed 1 count words es answer 0) →
-    ListsAppends t k told words a a x x answer
-none_listed t k told words a x answer right nothing never unheard unmade = record {
-  appended = λ name date c header map_words table entries spells was which. absurd (never which);
-  unchanged = λ name date c header map_words table entries spells was not. as_before c header map_words table entries was;
-  made = λ seed count c header map_words table entries spells was other. record {
+    (c : Cartridge) (header : Header) (map_words : List ℕ) (table : List (List ℕ)) (entries : List Entry) → t.told a ≡ Some (Some c) →
+    Mounts c (Mounted header map_words table entries) → ListsAppends t k told words a x x answer c header map_words table entries
+none_listed t k told words a x answer right nothing never unheard unmade c header map_words table entries held mounts = record {
+  appended = λ name date spells which. absurd (never which);
+  unchanged = λ name date spells not_done no_sink. as_before;
+  made = λ seed count spells. record {
     text = [];
     took = nothing;
-    some = (0, omega arith, as_before c header map_words table entries was);
-    answered = λ sound. (0, (omega arith, unmade seed count map_words entries), as_before c header map_words table entries was);
+    some = (0, omega arith, as_before);
+    answered = λ sound. (0, appended_by seed count map_words entries answer 0 (omega arith) (unmade seed count map_words entries), as_before);
     all = λ either. elim either [ inl some ↦ absurd (some refl) | inr done ↦ absurd (never done) ];
   };
-  scripted = λ c header map_words table entries spells was other. record {
-    input = input_of told;
-    is_told = input_told told;
-    lists = λ came does. record {
+  scripted = λ spells. (
+    input_of told,
+    input_told told,
+    λ came does. record {
       text = [];
       took = nothing;
       answered = λ other.
-          (subst (λ (o : Option (Option Cartridge)). IsSomeAnd o (ListsAnswered header map_words entries does.items does.dids 0)) (sym was.told)
-          (listed_none (settled table c) c header map_words entries (input_of told) came does (table, was.mounts)));
+          (subst (λ (o : Option (Option Cartridge)). IsSomeAnd o (ListsAnswered header map_words entries does.items does.dids 0)) (sym held)
+          (listed_none (settled table c) c header map_words entries (input_of told) came does (table, mounts)));
       broken = λ sink. absurd (never (inr sink));
       all = λ heard behind. absurd (unheard heard);
-    };
-  };
+    },
+  );
 }
   where
-    as_before : (c : Cartridge) (header : Header) (map_words : List ℕ) (table : List (List ℕ)) (entries : List Entry) → WasListed t a c header map_words table entries → NowLists t a header map_words entries
-    as_before c header map_words table entries was =
-        subst (λ (o : Option (Option Cartridge)). IsSomeAnd o (λ left. IsSomeAnd left (λ d. Lists d header map_words entries))) (sym was.told) (table, was.mounts)
+    as_before : NowLists t a header map_words entries
+    as_before = subst (λ (o : Option (Option Cartridge)). IsSomeAnd o (λ left. IsSomeAnd left (λ d. Lists d header map_words entries))) (sym held) (table, mounts)

@@ -10,21 +10,22 @@ use Rattle.cartridge_laws.proofs.OneLossComesBack.{stopped_append_comes_back, do
 use Rattle.cartridge_laws.specs.AppendBetween.{IsWhole}
 use Rattle.cartridge_laws.specs.AppendLaws.{IsReadyFor}
 use Rattle.cartridge_laws.specs.AppendWrites.{KeepsTo}
-use Rattle.cartridge_spec.specs.Appending.{last_end, with_bytes}
+use Rattle.cartridge_laws.specs.Terms.{last_end}
+use Rattle.cartridge_spec.specs.Appending.{with_bytes}
 use Rattle.cartridge_spec.specs.Formatting.{IsLabel}
 use Rattle.cartridge_spec.specs.HeaderAndTable.{IsArea, TableIs}
-use Rattle.cartridge_spec.specs.Mounting.{settled, IsTableLive}
-use Rattle.cartridge_spec.specs.OneLoss.{ComesBackAs, LosesOneAlone}
+use Rattle.cartridge_spec.specs.Mounting.{settled, IsTableLive, ComesBackAs, LosesOneAlone}
 use Rattle.cartridge_spec.specs.Settling.{settling_steps, changed_by}
 use Rattle.cartridge_spec.specs.Volumes.{Plain, Stands, entries_of}
 use Rattle.command_laws.proofs.CommandAppends.{behind_settling, segments_acts, table_acts, fits, segments_are_free, no_table, steps_are, course, kept_of, done_behind, done_fits}
 use Rattle.command_spec.specs.Append.{AppendOutcome, room_in}
+use Rattle.command_spec.specs.OneLoss.{ComesBackAsOneOf}
 use Rattle.command_spec.specs.Outcome.{CommandOutcome}
 use Rattle.qic_base.proofs.Steps.{Torn-append}
 use Rattle.qic_base.specs.Acts.{Act, steps_of}
-use Rattle.qic_base.specs.Cartridge.{Cartridge, IsCartridge}
-use Rattle.qic_base.specs.Step.{Step, effects}
-use Rattle.qic_base.specs.Stop.{Torn}
+use Rattle.qic_base.specs.Cartridge.{Cartridge}
+use Rattle.qic_base.specs.Terms.{IsCartridge}
+use Rattle.qic_base.specs.Step.{Step, effects, Torn}
 use Rattle.cartridge_laws.specs.AppendLaws as appends
 use Rattle.command_spec.specs.declared.status.Status.TheVariants as status
 
@@ -34,10 +35,6 @@ pub kept_whole : (c d : Cartridge) (area : List (List ℕ)) (last : ℕ) → 2 �
 kept_whole c d area last h kept whole i low = kept.sectors 2 i h low ∙ whole i low
 
 -- ---- a stop
-
--- one of the plain cartridges
-abbrev Either : Plain → Plain → Cartridge → Type 0
-Either old new d = (f : Cartridge) (lost : ℕ) → LosesOneAlone d f lost → ComesBackAs f old ⊎ ComesBackAs f new
 
 -- a stop comes before the table is settled, or behind that
 settled_or_not : (c : Cartridge) (plain : Plain) (steps : List Step) (left : Option Cartridge) → TableIs c plain.table_area → IsTableLive c →
@@ -84,7 +81,7 @@ module _ (name : List ℕ) (date : ℕ) (input : List ℕ) (c : Cartridge) (plai
 
   -- among the writes of free segments
   free_survives : (new : Plain) (left : Option Cartridge) → Torn (steps_of (segments_acts c plain input)) (Some s) left →
-      IsSomeAnd left (Either plain new)
+      IsSomeAnd left (ComesBackAsOneOf plain new)
   free_survives new left torn =
       some_weaker left
       (λ d known f lost loses.
@@ -94,7 +91,7 @@ module _ (name : List ℕ) (date : ℕ) (input : List ℕ) (c : Cartridge) (plai
 
   -- among the writes of an append
   pub append_survives : fits plain input ≡ true → (left : Option Cartridge) → Torn (appends.append_steps_of plain name date input) (Some s) left →
-      IsSomeAnd left (Either plain (with_bytes plain name date input))
+      IsSomeAnd left (ComesBackAsOneOf plain (with_bytes plain name date input))
   append_survives enough left torn =
       let front : List Step = appends.volume_steps plain name date input in
       let rear : List Step = appends.list_steps plain name date input in
@@ -108,7 +105,7 @@ module _ (name : List ℕ) (date : ℕ) (input : List ℕ) (c : Cartridge) (plai
 
   run_survives : (left : Option Cartridge) →
       Torn (behind_settling c plain (steps_of (segments_acts c plain input ++ table_acts c plain name date input))) (Some c) left →
-      Torn (settling_steps plain.table_area c) (Some c) left ⊎ IsSomeAnd left (Either plain (with_bytes plain name date input))
+      Torn (settling_steps plain.table_area c) (Some c) left ⊎ IsSomeAnd left (ComesBackAsOneOf plain (with_bytes plain name date input))
   run_survives left torn =
       elim (cases_Bool (fits plain input)) [
         | inl enough ↦ elim (settled_or_not c plain (appends.append_steps_of plain name date input) left table live
@@ -140,7 +137,7 @@ nothing_torn c (x ∷ xs) left same = inl same
 pub append_comes_back : (name : List ℕ) (date : ℕ) (input : List ℕ) (c : Cartridge) (plain : Plain) (outcome : CommandOutcome) (left : Option Cartridge) →
     IsLabel name → date < 2 ^ 32 → All (λ b. b < 256) input → IsCartridge c → Stands c plain → IsTableLive c →
     AppendOutcome name date (Some c) input outcome → Torn (steps_of outcome.acts) (Some c) left →
-    Torn (settling_steps plain.table_area c) (Some c) left ⊎ IsSomeAnd left (Either plain (with_bytes plain name date input))
+    Torn (settling_steps plain.table_area c) (Some c) left ⊎ IsSomeAnd left (ComesBackAsOneOf plain (with_bytes plain name date input))
 append_comes_back name date input c plain outcome left label word content whole stood live machine torn =
     elim (course name date input c plain outcome stood machine) [
       | inl none ↦

@@ -11,32 +11,30 @@ use Rattle.cartridge_spec.specs.Mounting.{Mounting, settled, Mounts}
 use Rattle.cartridge_spec.specs.Settling.{settling_steps}
 use Rattle.cartridge_spec.specs.Table.{Entry}
 use Rattle.command_laws.proofs.MadeStops.{makes_one_thing}
-use Rattle.command_laws.proofs.PulseMachineLaws.{one_outcome}
+use Rattle.command_laws.proofs.PulseMachineLaws.{one_outcome, run_of}
 use Rattle.command_laws.proofs.PulseStopping.{stops_leave as trains_leave}
 use Rattle.command_laws.proofs.RestoreCounts.{restores_in_no_step}
 use Rattle.command_laws.proofs.RestoreEndings.{restores_is_function}
 use Rattle.command_laws.proofs.ScriptMachineLaws.{one_outcome as one_script}
 use Rattle.command_laws.proofs.ScrubTurns.{scrubs_is_function}
-use Rattle.command_spec.specs.Append.{Appends}
-use Rattle.command_spec.specs.Commands.Defect.{DefectOutcome}
-use Rattle.command_spec.specs.Commands.Format.{FormatOutcome, cleared, formatted}
-use Rattle.command_spec.specs.Commands.Lose.{LoseOutcome}
-use Rattle.command_spec.specs.Make.{Making, made_on}
-use Rattle.command_spec.specs.Outcome.{refused, CommandOutcome, Going, Opened, OpenOutcome, WritableOutcome, Printing, Shows, settling_act, HasPlace}
-use Rattle.command_spec.specs.Pulses.{sent, info_of, SentOutcome, train_acts}
+use Rattle.command_spec.specs.Single.{DefectOutcome, FormatOutcome, LoseOutcome}
+use Rattle.command_laws.specs.Terms.{cleared, formatted, Printing, Mends, ScrubOutcome}
+use Rattle.command_laws.specs.CommandTerms.{Appends}
+use Rattle.command_spec.specs.Make.{Answer, Making, make_status}
+use Rattle.command_spec.specs.Outcome.{refused, CommandOutcome, Going, Opened, OpenOutcome, WritableOutcome, Shows, settling_act, HasPlace}
+use Rattle.command_laws.specs.PulseRuns.{sent, info_of}
+use Rattle.command_spec.specs.Pulses.{SentOutcome, train_acts}
 use Rattle.command_spec.specs.Restore.{GivingEnd, Restores, pieces, Gives, ending_status, RestoreOutcome}
-use Rattle.command_spec.specs.Script.{Scripting, scripted_on}
-use Rattle.command_spec.specs.Scrub.{Mends, Scrubs, ScrubOutcome}
+use Rattle.command_spec.specs.Script.{Scripting}
+use Rattle.command_spec.specs.Scrub.{Scrubs}
 use Rattle.command_spec.specs.declared.status.Status.{Status}
 use Rattle.drive_spec.specs.Record.{power_on}
 use Rattle.qic_base.proofs.Steps.{Torn-append}
 use Rattle.qic_base.specs.Acts.{Act, steps_of}
 use Rattle.qic_base.specs.Cartridge.{Cartridge}
-use Rattle.qic_base.specs.Step.{Step as TapeStep, changed, SetReferenced, Wear, Spoil, effect, effects}
-use Rattle.qic_base.specs.Stop.{Torn, Halfway}
+use Rattle.qic_base.specs.Step.{Step as TapeStep, changed, SetReferenced, Wear, Spoil, effect, effects, Torn, Halfway}
 use Rattle.cartridge_spec.specs.Mounting as mounting
 use Rattle.command_spec.specs.declared.status.Status.TheVariants as status
-use Rattle.command_spec.specs.Pulses as pulses
 
 -- ---- what a stop leaves
 
@@ -192,9 +190,9 @@ appending_leaves goes (Some c) left outcome (inl (locked, is)) torn = λ mark. s
 appending_leaves goes (Some c) left outcome (inr (free, opened)) torn = λ mark. absurd (cc)
 
 pub sent_leaves : (held left : Option Cartridge) (input : List ℕ) (outcome : CommandOutcome) → SentOutcome held input outcome → Torn (steps_of outcome.acts) held left → (left ≡ held) ⊎ (left ≡ effect SetReferenced held)
-sent_leaves held left input outcome (came, plain, is) torn =
+sent_leaves held left input outcome plain torn =
     let same : steps_of outcome.acts ≡ steps_of (train_acts (power_on (info_of held)) plain.trains) =
-    ap (λ (o : CommandOutcome). steps_of o.acts) is ∙ ap (λ (o : pulses.PulseRun). steps_of o.acts) plain.comes in
+    ap (λ (o : CommandOutcome). steps_of o.acts) plain.is in
     trains_leave (power_on (info_of held)) plain.trains held left (subst (λ (steps : List TapeStep). Torn steps held left) same torn)
 
 pub format_leaves : (label : List ℕ) (date : ℕ) (held left : Option Cartridge) (outcome : CommandOutcome) → FormatOutcome label date held outcome → Torn (steps_of outcome.acts) held left → FormatLeaves label date held left
@@ -282,6 +280,9 @@ mends_one c header ws table entries a b is was =
     is.is ∙ ap (λ (xs : List Act). given table c xs status.Done)
     (scrubs_is_function (settled table c) ws entries is.acts was.acts is.scrubs was.scrubs) ∙ sym was.is
 
+abbrev scripted_on : (table : List (List ℕ)) (c : Cartridge) → CommandOutcome → CommandOutcome
+scripted_on table c came = record came { acts = settling_act table c ∷ came.acts }
+
 pub scripting_one : (input : List ℕ) → IsOne (Scripting input)
 scripting_one input c header ws table entries a b is was =
     is.is ∙ ap (scripted_on table c) (one_script (settled table c) ws entries input is.came was.came is.does was.does) ∙ sym was.is
@@ -289,7 +290,8 @@ scripting_one input c header ws table entries a b is was =
 pub making_one : (seed count : ℕ) → IsOne (Making seed count)
 making_one seed count c header ws table entries a b is was =
     let both = makes_one_thing seed count (settled table c) ws entries is.acts was.acts is.answer was.answer is.makes was.makes in
-    is.is ∙ ap (λ (xs : List Act). made_on table c xs is.answer) both.0 ∙ ap (made_on table c was.acts) both.1 ∙ sym was.is
+    is.is ∙ ap (λ (xs : List Act). given table c xs (make_status is.answer)) both.0
+    ∙ ap (λ (answer : Answer). given table c was.acts (make_status answer)) both.1 ∙ sym was.is
 
 -- ---- formatting is a function
 
@@ -313,8 +315,10 @@ format_is_function label date (Some c) a b (inr (inr (unlocked, none, (words, (a
 -- ---- trains of pulses are one
 
 pub sent_is_function : (held : Option Cartridge) (input : List ℕ) (a b : CommandOutcome) → SentOutcome held input a → SentOutcome held input b → a ≡ b
-sent_is_function held input a b (came, plain, is) (other, rule, was) =
-    is ∙ ap sent (one_outcome (info_of held) input came other plain rule) ∙ sym was
+sent_is_function held input a b one other =
+    let is = run_of held input a one in
+    let was = run_of held input b other in
+    is.2 ∙ ap sent (one_outcome (info_of held) input is.0 was.0 is.1 was.1) ∙ sym was.2
 
 -- ---- a protected cartridge
 

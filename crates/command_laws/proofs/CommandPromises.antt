@@ -7,28 +7,29 @@ use Rattle.command_laws.proofs.CommandEnds.{Laws, ends_asked, ends_cause, ends_a
 use Rattle.command_laws.proofs.CommandGivenBack.{gives_back}
 use Rattle.command_laws.proofs.CommandListing.{lists_appends, none_listed}
 use Rattle.command_laws.proofs.CommandMachineLaws.{machine_is_function_where, machine_answers_where}
-use Rattle.command_laws.proofs.CommandSeveral.{makes_volumes, carries_out_lines, none_made, none_scripted}
+use Rattle.command_laws.proofs.CommandSeveral.{makes_volumes, carries_out_lines, none_made, none_scripted, makes_stop, scripts_stop}
 use Rattle.command_laws.proofs.CommandSurvives.{survives_one_loss, none_survives}
 use Rattle.command_laws.proofs.CommandTable.{laws_of, has_values}
 use Rattle.command_laws.proofs.CommandTold.{input_of, input_told}
-use Rattle.command_laws.proofs.CommandVolumes.{volumes_stay, list_stays, stays_live, stays_clean, stops_format, stops_append, is_changed, may_change, none_changed}
+use Rattle.command_laws.proofs.CommandVolumes.{volumes_stay, list_stays, stays_live, stays_clean, stops_format, stops_append, is_changed, may_change, none_changed, stays_bare}
 use Rattle.command_laws.proofs.TextWords.{one_command, each_words}
 use Rattle.command_laws.specs.CommandLaws.{MachineIsFunction, MachineAnswers}
 use Rattle.command_spec.specs.Commands.{traits_of}
-use Rattle.command_spec.specs.Headline.{WordsLeave, EachLeft, PrintsRefused, PrintsFront, Stepped, Answers, SpellsOne}
-use Rattle.command_spec.specs.Listing.{IsHeard}
-use Rattle.command_spec.specs.MadeVolumes.{AppendedFrom}
-use Rattle.command_spec.specs.Machine.{HasInputFault, HasValues, Spells, SpellsNone}
+use Rattle.command_spec.specs.Headline.{WordsLeave, EachLeft, Stepped}
+use Rattle.command_laws.specs.Terms.{Answers}
+use Rattle.command_spec.specs.Several.{IsHeard}
+use Rattle.command_laws.specs.CommandTerms.{AppendedFrom, HasInputFault, FrontPrints, RefusedPrints}
+use Rattle.command_spec.specs.Machine.{HasValues, Spells, SpellsNone, may_come_from, NamesFault, InputLeft, IsCutOff, CommandEnds, EndsBlind, is_fault, Finished, is_outcome}
 use Rattle.command_spec.specs.Outcome.{CommandOutcome, output_of}
 use Rattle.command_spec.specs.Promises.{Promises}
-use Rattle.command_spec.specs.Runs.{may_come_from, NamesFault, InputLeft, IsCutOff, CommandEnds, EndsBlind, is_fault, Finished, is_outcome}
 use Rattle.command_spec.specs.Volumes.{IsCarriedOut}
 use Rattle.command_spec.specs.declared.status.Status.{Status}
 use Rattle.command_spec.specs.declared.words.Words.{Words}
 use Rattle.qic_base.proofs.Steps.{Stops-nothing}
-use Rattle.qic_base.specs.Acts.{Act, Outside, Failing, TapeFails, SourceFails, SinkFails, Went, Cut, no_source, around}
+use Rattle.qic_base.specs.Acts.{Act, Outside, Failing, TapeFails, SourceFails, SinkFails, Went, Cut}
+use Rattle.qic_base.specs.Terms.{no_source, around}
 use Rattle.qic_base.specs.Cartridge.{Cartridge}
-use Rattle.qic_base.specs.Cause.{Rose}
+use Rattle.qic_base.specs.Tape.{Rose}
 use Rattle.command_spec.specs.declared.status.Status.TheVariants as status
 use Rattle.qic_base.specs.Sink as sinks
 use Rattle.qic_base.specs.Source as sources
@@ -163,12 +164,15 @@ module _ {T S K : Type 0} (t : tapes.Meaning T) (s : sources.Meaning S) (k : sin
         lists = list_stays t (s.left old.source) words old.tape new.tape laws.right stops;
         live = stays_live t (s.left old.source) words old.tape new.tape laws.right stops;
         clean = stays_clean t (s.left old.source) words old.tape new.tape laws.right stops;
+        bare = stays_bare t (s.left old.source) words old.tape new.tape laws.right stops;
         formats = stops_format t (s.left old.source) words old.tape new.tape laws.right stops;
         appends = stops_append t (s.left old.source) words old.tape new.tape laws.right (λ other spells. has_values words other spells) stops;
+        makes = makes_stop t (s.left old.source) words old.tape new.tape laws.right (λ other spells. has_values words other spells) stops;
+        scripts = scripts_stop t (s.left old.source) words old.tape new.tape laws.right stops;
         changed = is_changed t s k words command old new answer laws spelled values ends;
         survives = survives_one_loss t s k words command old new answer laws spelled values (λ other spells. has_values words other spells) ends stops;
-        makes = makes_volumes t s k words command old new answer laws spelled (λ other spells. has_values words other spells) ends stops;
-        scripts = carries_out_lines t s k words command old new answer laws spelled ends stops;
+        made = makes_volumes t s k words command old new answer laws spelled (λ other spells. has_values words other spells) ends;
+        scripted = carries_out_lines t s k words command old new answer laws spelled ends;
         listed = lists_appends t s k words command old new answer laws spelled (λ other spells. has_values words other spells) ends;
         restores =
             gives_back t s k words old new answer (ends_carried t s k words command old new answer laws spelled ends)
@@ -189,13 +193,13 @@ module _ {T S K : Type 0} (t : tapes.Meaning T) (s : sources.Meaning S) (k : sin
         text = record {
           done = λ done.
               let f : Finished t s k command old new answer = finished (ap is_fault done) in
-              record { command = command; spelled = spelled; text = output_of f.outcome; is_text = f.prints.0 done; took = f.went.wrote.took };
+              (command, spelled, (output_of f.outcome, f.prints.0 done, f.went.wrote.took));
           refused = λ other spells sound unlike.
               let f : Finished t s k command old new answer = finished sound in
-              subst (λ (w : Words). PrintsRefused k w answer old.sink new.sink) (same_command spelled other spells)
-              (record { text = output_of f.outcome; is_text = f.prints.1 unlike; took = f.went.wrote.took });
+              subst (λ (w : Words). (text : List ℕ) × RefusedPrints w answer text × k.took old.sink text new.sink) (same_command spelled other spells)
+              (output_of f.outcome, f.prints.1 unlike, f.went.wrote.took);
           begun = λ other spells.
-              subst (λ (w : Words). PrintsFront k w old.sink new.sink) (same_command spelled other spells)
+              subst (λ (w : Words). (text : List ℕ) × FrontPrints w text × k.took old.sink text new.sink) (same_command spelled other spells)
               (ends_begun t s k words command old new answer laws spelled ends);
         };
       }
@@ -247,8 +251,8 @@ module _ {T S K : Type 0} (t : tapes.Meaning T) (s : sources.Meaning S) (k : sin
       })
 
   idle : (answer : Status) → Laws t s k old old → is_idle answer ≡ true → s.keeps old.source old.source → Answers t s k words old old answer →
-      (answer ≡ status.Usage) ↔ SpellsNone words → (answer ≡ status.NoMemory → SpellsOne words (λ traits. traits.memory)) →
-      ((command : Words) → Spells words command → PrintsFront k command old.sink old.sink) → Promises t s k words old old answer
+      (answer ≡ status.Usage) ↔ SpellsNone words → (answer ≡ status.NoMemory → (command : Words) × Spells words command × ((traits_of command).memory ≡ true)) →
+      ((command : Words) → Spells words command → (text : List ℕ) × FrontPrints command text × k.took old.sink text old.sink) → Promises t s k words old old answer
   idle answer laws is kept answers usage memory begun =
       let stops : EachLeft t old.tape old.tape (WordsLeave (s.left old.source) words) = untouched_stops laws in
       let nothing = idle_changes_nothing answer is in
@@ -263,15 +267,18 @@ module _ {T S K : Type 0} (t : tapes.Meaning T) (s : sources.Meaning S) (k : sin
         lists = list_stays t (s.left old.source) words old.tape old.tape laws.right stops;
         live = stays_live t (s.left old.source) words old.tape old.tape laws.right stops;
         clean = stays_clean t (s.left old.source) words old.tape old.tape laws.right stops;
+        bare = stays_bare t (s.left old.source) words old.tape old.tape laws.right stops;
         formats = stops_format t (s.left old.source) words old.tape old.tape laws.right stops;
         appends = stops_append t (s.left old.source) words old.tape old.tape laws.right (λ other spells. has_values words other spells) stops;
+        makes = makes_stop t (s.left old.source) words old.tape old.tape laws.right (λ other spells. has_values words other spells) stops;
+        scripts = scripts_stop t (s.left old.source) words old.tape old.tape laws.right stops;
         changed = none_changed t (s.left old.source) words old.tape answer nothing.0 nothing.1;
-        survives = none_survives t (s.left old.source) words old.tape answer laws.right nothing.0 nothing.1 (λ other spells. has_values words other spells) stops;
-        makes = none_made t k (s.left old.source) words old.tape old.sink answer laws.right (laws.nothing old.sink)
-            ends.0 (λ seed count map_words es. idle_appends_none seed count map_words es answer is) (λ other spells. has_values words other spells) stops;
-        scripts = none_scripted t k (s.left old.source) words old.tape old.sink answer laws.right (laws.nothing old.sink) ends.1 stops;
-        listed = none_listed t k (s.left old.source) words old.tape old.sink answer laws.right (laws.nothing old.sink) ends.0 ends.1
-            (λ seed count map_words es. idle_appends_none seed count map_words es answer is);
+        survives = none_survives t k (s.left old.source) words old.tape old.sink answer laws.right (laws.nothing old.sink) ends.0 ends.1 (λ other spells. has_values words other spells) stops;
+        made = none_made t k words old.tape old.sink answer (laws.nothing old.sink) ends.0 (λ seed count map_words es. idle_appends_none seed count map_words es answer is);
+        scripted = none_scripted t k (s.left old.source) words old.tape old.sink answer (laws.nothing old.sink) ends.1;
+        listed = λ c header map_words table entries told mounts other.
+            none_listed t k (s.left old.source) words old.tape old.sink answer laws.right (laws.nothing old.sink) ends.0 ends.1
+            (λ seed count map_words es. idle_appends_none seed count map_words es answer is) c header map_words table entries told mounts;
         restores = gives_back t s k words old old answer (λ sound. answers) (λ failing same. let fault = ap is_fault same ∙ is_a_fault failing in let no = nothing.0 in absurd (cc));
         joins = record {
           counts = record { tape = omega arith; source = omega arith; sink = omega arith };
@@ -290,7 +297,7 @@ module _ {T S K : Type 0} (t : tapes.Meaning T) (s : sources.Meaning S) (k : sin
         kept = kept;
         text = record {
           done = λ done. let no = ap is_idle done in absurd (cc);
-          refused = λ command spells sound unlike. record { text = []; is_text = none_printed command answer; took = laws.nothing old.sink };
+          refused = λ command spells sound unlike. ([], none_printed command answer, laws.nothing old.sink);
           begun = begun;
         };
       }
@@ -321,4 +328,4 @@ module _ {T S K : Type 0} (t : tapes.Meaning T) (s : sources.Meaning S) (k : sin
       idle status.NoMemory laws refl kept
       (over_any (t.told old.tape) (s.left old.source) _ (λ held input told. inl refl))
       ((λ is. absurd (cc)), (λ none. absurd (none command spelled))) (λ is. (command, spelled, takes))
-      (λ other spells. record { text = []; is_front = nothing_front other; took = laws.nothing old.sink })
+      (λ other spells. ([], nothing_front other, laws.nothing old.sink))

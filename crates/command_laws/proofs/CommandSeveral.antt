@@ -10,6 +10,7 @@ use Rattle.cartridge_spec.specs.Mounting.{Mounts, mounted_as, Mounting, settled,
 use Rattle.cartridge_spec.specs.Settling.{changed_by, settling_steps}
 use Rattle.cartridge_spec.specs.Table.{Entry}
 use Rattle.cartridge_spec.specs.Volumes.{Plain, entries_of, Stands}
+use Rattle.command_laws.proofs.MadeCounting.{appended_by}
 use Rattle.command_laws.proofs.CommandEnds.{after_steps, is_a_fault, Laws, over_at, told_whole}
 use Rattle.command_laws.proofs.CommandOpened.{quiet}
 use Rattle.command_laws.proofs.CommandTable.{plain_answers}
@@ -20,34 +21,34 @@ use Rattle.command_laws.proofs.MadeStops.{stopped_make_stands}
 use Rattle.command_laws.proofs.MountedHeld.{mounted_open, settled_live, mounted_held}
 use Rattle.command_laws.proofs.MountedKeeping.{live_kept}
 use Rattle.command_laws.proofs.ScriptAnswered.{answered_behind, answered_between, done_script_stands, none_answered, stopped_script_stands}
+use Rattle.command_laws.proofs.ScriptReached.{front_steps}
 use Rattle.command_laws.proofs.ScriptMachineLaws.{one_outcome as one_script}
 use Rattle.command_laws.proofs.TextWords.{one_command}
-use Rattle.command_laws.specs.ActStops.{Between, Behind, IsLeftBy}
+use Rattle.command_laws.specs.ActStops.{Behind, IsLeftBy}
 use Rattle.command_laws.specs.MountedHeld.{IsHeld}
 use Rattle.command_laws.specs.MountedKept.{IsKept, IsOpen}
 use Rattle.command_laws.specs.ScriptStanding.{WentNoFurther, plain_behind}
 use Rattle.command_spec.specs.Headline.{ToldNow, StopLeaves, WordsLeave, EachLeft}
 use Rattle.command_spec.specs.Input.{Item}
-use Rattle.command_spec.specs.Listing.{IsHeard}
-use Rattle.command_spec.specs.Machine.{Yields, HasValues, Spells}
-use Rattle.command_spec.specs.MadeVolumes.{AppendedBy, AppendedFrom, made_contents}
-use Rattle.command_spec.specs.Make.{Makes, Making, MakeOutcome, make_status}
+use Rattle.command_spec.specs.Several.{IsHeard, FirstLinesSpare, Scripted, SomeMade, SomeScripted, AllAnswered, AllMade, Generated}
+use Rattle.command_laws.specs.CommandTerms.{Yields, AppendedFrom, Makes}
+use Rattle.command_spec.specs.Machine.{HasValues, Spells, may_come_from, fault_of, is_fault, CommandEnds}
+use Rattle.command_spec.specs.Make.{AppendedBy, made_contents, Making, MakeOutcome, make_status}
 use Rattle.command_spec.specs.Outcome.{Going, CommandOutcome, refused, Opened, OpenOutcome}
-use Rattle.command_spec.specs.Runs.{may_come_from, fault_of, is_fault, CommandEnds}
 use Rattle.command_spec.specs.Script.{ScriptDoes, Scripting, ScriptOutcome}
 use Rattle.command_spec.specs.ScriptLists.{CameFurther, ItemsSpare, StandsAnswered}
-use Rattle.command_spec.specs.Several.{FirstLinesSpare, Scripted, SomeMade, MakesVolumes, SomeScripted, CarriesOutLines}
 use Rattle.command_spec.specs.Volumes.{IsCarriedOut}
 use Rattle.command_spec.specs.declared.status.Status.{Status}
 use Rattle.command_spec.specs.declared.words.Words.{Words}
-use Rattle.qic_base.proofs.Joins.{text_of-append, steps_of-append}
+use Rattle.qic_base.proofs.Joins.{text_of-append}
 use Rattle.qic_base.proofs.Steps.{Torn-append, effects-append}
 use Rattle.qic_base.specs.Acts.{Act, steps_of, text_of, next_steps, Outside, Failing, TapeFails, SourceFails, SinkFails, Went, Cut}
-use Rattle.qic_base.specs.Cartridge.{Cartridge, IsCartridge}
-use Rattle.qic_base.specs.Step.{effects, Step as TapeStep}
-use Rattle.qic_base.specs.Stop.{Torn}
+use Rattle.qic_base.specs.Cartridge.{Cartridge}
+use Rattle.qic_base.specs.Terms.{IsCartridge}
+use Rattle.qic_base.specs.Step.{effects, Step as TapeStep, Torn}
 use Rattle.command_spec.specs.declared.status.Status.TheVariants as status
 use Rattle.qic_base.specs.Tape as tapes
+use Rattle.qic_base.specs.TapeCalls as tape_calls
 use Rattle.qic_base.specs.Sink as sinks
 use Rattle.qic_base.specs.Source as sources
 use Rattle.command_spec.specs.Make as made
@@ -79,6 +80,29 @@ mounted_or_turned goes c plain outcome stood (m, mounts, opened) =
       | inr (n, same) ↦ inl (record { why = status.Lost 2 n; is = subst (λ (a : Mounting). Opened goes c a outcome) same opened; unheard = never_heard n; none_made = λ seed count words es other. absurd (other refl) })
     ]
 
+-- ---- what acts print
+
+-- of a text that is empty nothing is left
+pub no_more : (some more : List ℕ) → some ++ more ≡ [] → more ≡ []
+no_more [] more is = is
+no_more (x ∷ xs) more is = cc
+
+-- .. so none is left of it where an act and those before it print nothing
+pub none_left : (front : List Act) (act : Act) (some more : List ℕ) → some ++ more ≡ act.text → text_of (front ++ act ∷ []) ≡ [] → more ≡ []
+none_left front act some more written none =
+    let last : act.text ++ [] ≡ [] = no_more (text_of front) (act.text ++ []) (sym (text_of-append front (act ∷ [])) ∙ none) in
+    no_more some more (written ∙ sym (append-nil act.text) ∙ last)
+
+pub some_long : (text : List ℕ) → text ≢ [] → 0 < length text
+some_long [] some = absurd (some refl)
+some_long (x ∷ xs) some = omega arith
+
+none_torn : (steps : List TapeStep) (held : Option Cartridge) → Torn steps held held
+none_torn [] held = refl
+none_torn (x ∷ xs) held = inl refl
+
+-- ---- the settling comes first
+
 -- what is left of some acts, the first of which settles the table
 module _ (c : Cartridge) (plain : Plain) (whole : IsCartridge c) (stood : Stands c plain) (mounts : Mounts c (mounted_as plain)) where
   abbrev still : Cartridge
@@ -109,6 +133,97 @@ module _ (c : Cartridge) (plain : Plain) (whole : IsCartridge c) (stood : Stands
   behind_front more =
       effects-append (settling_steps plain.table_area c) (steps_of more) (Some c) ∙ ap (effects (steps_of more)) settled_now ∙ effects-some (steps_of more) still
 
+  -- acts that were cut off: in the settling, and then nothing was printed; or behind it
+  pub behind_then : (acts : List Act) (text : List ℕ) (left : Option Cartridge) → Behind c (settling ∷ acts) text left → Behind still acts text left
+  behind_then acts text left at =
+      elim (begun at.front (at.act ∷ at.rest) acts at.parts) [
+        | inl (none, all) ↦
+            let first : at.act ≡ settling = cc in
+            absurd (at.lacks (no_more at.some at.more (at.written ∙ ap (λ (a : Act). a.text) first)))
+        | inr (more, is, parts) ↦ record {
+          front = more;
+          act = at.act;
+          rest = at.rest;
+          parts = parts;
+          is = at.is ∙ ap (λ (xs : List Act). effects (steps_of xs ++ at.act.steps) (Some c)) is
+              ∙ ap (λ (ss : List TapeStep). effects ss (Some c)) (append_assoc (settling_steps plain.table_area c) (steps_of more) at.act.steps)
+              ∙ effects-append (settling_steps plain.table_area c) (steps_of more ++ at.act.steps) (Some c)
+              ∙ ap (effects (steps_of more ++ at.act.steps)) settled_now;
+          some = at.some;
+          more = at.more;
+          written = at.written;
+          lacks = at.lacks;
+          is_text = at.is_text ∙ ap (λ (xs : List Act). text_of xs ++ at.some) is;
+        }
+      ]
+
+  pub left_then : (acts : List Act) (text : List ℕ) (left : Option Cartridge) → IsLeftBy c (settling ∷ acts) text left →
+      ((text ≡ []) × Torn (settling_steps plain.table_area c) (Some c) left) ⊎ IsLeftBy still acts text left
+  left_then acts text left (inr at) = inr (inr (behind_then acts text left at))
+  left_then acts text left (inl at) =
+      elim (begun at.front at.rest acts at.parts) [
+        | inl (none, all) ↦ inl (
+          at.is_text ∙ ap text_of none,
+          subst (λ (rest : List Act). Torn (next_steps rest) (Some c) left) all
+              (subst (λ (front : List Act). Torn (next_steps at.rest) (effects (steps_of front) (Some c)) left) none at.torn),
+        )
+        | inr (more, is, parts) ↦ inr (inl (record {
+          front = more;
+          rest = at.rest;
+          parts = parts;
+          torn = subst (λ (held : Option Cartridge). Torn (next_steps at.rest) held left)
+              (ap (λ (xs : List Act). effects (steps_of xs) (Some c)) is ∙ effects-append (settling_steps plain.table_area c) (steps_of more) (Some c)
+              ∙ ap (effects (steps_of more)) settled_now) at.torn;
+          is_text = at.is_text ∙ ap text_of is;
+        }))
+      ]
+
+-- a refusal leaves all as it was, and prints nothing
+pub turned_left : (c : Cartridge) (outcome : CommandOutcome) (text : List ℕ) (left : Option Cartridge) → WasTurned outcome → IsLeftBy c outcome.acts text left → (text ≡ []) × (left ≡ Some c)
+turned_left c outcome text left turned so = by_acts (subst (λ (o : CommandOutcome). IsLeftBy c o.acts text left) turned.is so)
+  where
+    by_acts : IsLeftBy c [] text left → (text ≡ []) × (left ≡ Some c)
+    by_acts (inl at) = by_front at.front at.rest at.parts at.is_text at.torn
+      where
+        by_front : (front rest : List Act) → front ++ rest ≡ [] → text ≡ text_of front → Torn (next_steps rest) (effects (steps_of front) (Some c)) left → (text ≡ []) × (left ≡ Some c)
+        by_front [] [] none is torn = (is, torn)
+        by_front [] (x ∷ xs) none is torn = cc
+        by_front (x ∷ xs) rest none is torn = cc
+    by_acts (inr at) = by_front at.front at.act at.rest at.parts
+      where
+        by_front : (front : List Act) (act : Act) (rest : List Act) → front ++ act ∷ rest ≡ [] → (text ≡ []) × (left ≡ Some c)
+        by_front [] act rest none = cc
+        by_front (x ∷ xs) act rest none = cc
+
+-- a front of the acts that prints something was done, and a stop came in the next one
+pub record HasPrinted (c : Cartridge) (acts : List Act) (left : Option Cartridge) : Type 0 where
+  pub front : List Act
+  pub rest : List Act
+  pub parts : front ++ rest ≡ acts
+  pub some : text_of front ≢ []
+  pub torn : Torn (next_steps rest) (Some (changed_by (steps_of front) c)) left
+
+behind_printed : (c : Cartridge) (acts : List Act) (text : List ℕ) (left : Option Cartridge) → Behind c acts text left → HasPrinted c acts left
+behind_printed c acts text left at = record {
+  front = at.front ++ at.act ∷ [];
+  rest = at.rest;
+  parts = append_assoc at.front (at.act ∷ []) at.rest ∙ at.parts;
+  some = λ none. at.lacks (none_left at.front at.act at.some at.more at.written none);
+  torn = subst (λ (held : Option Cartridge). Torn (next_steps at.rest) held left)
+      (at.is ∙ ap (λ (ss : List TapeStep). effects ss (Some c)) (sym (front_steps at.front at.act)) ∙ effects-some (steps_of (at.front ++ at.act ∷ [])) c)
+      (none_torn (next_steps at.rest) left);
+}
+
+left_printed : (c : Cartridge) (acts : List Act) (text : List ℕ) (left : Option Cartridge) → text ≢ [] → IsLeftBy c acts text left → HasPrinted c acts left
+left_printed c acts text left some (inr at) = behind_printed c acts text left at
+left_printed c acts text left some (inl at) = record {
+  front = at.front;
+  rest = at.rest;
+  parts = at.parts;
+  some = λ none. some (at.is_text ∙ none);
+  torn = subst (λ (held : Option Cartridge). Torn (next_steps at.rest) held left) (effects-some (steps_of at.front) c) at.torn;
+}
+
 -- ---- what is told when a run is over
 
 -- something is told of what a told cartridge became
@@ -116,30 +231,7 @@ still_told : (o : Option (Option Cartridge)) (P : Option Cartridge → Type 0) �
 still_told None P some each = cc
 still_told (Some left) P some each = each left refl
 
--- ---- what is left of acts, and printed
-
--- of a text that is empty nothing is written
-pub no_text : (some more : List ℕ) → some ++ more ≡ [] → some ≡ []
-no_text [] more is = refl
-no_text (x ∷ xs) more is = cc
-
-pub no_more : (some more : List ℕ) → some ++ more ≡ [] → more ≡ []
-no_more [] more is = is
-no_more (x ∷ xs) more is = cc
-
--- .. so none is left of it where an act and those before it print nothing
-pub none_left : (front : List Act) (act : Act) (some more : List ℕ) → some ++ more ≡ act.text → text_of (front ++ act ∷ []) ≡ [] → more ≡ []
-none_left front act some more written none =
-    let last : act.text ++ [] ≡ [] = no_more (text_of front) (act.text ++ []) (sym (text_of-append front (act ∷ [])) ∙ none) in
-    no_more some more (written ∙ sym (append-nil act.text) ∙ last)
-
-pub some_long : (text : List ℕ) → text ≢ [] → 0 < length text
-some_long [] some = absurd (some refl)
-some_long (x ∷ xs) some = omega arith
-
-none_torn : (steps : List TapeStep) (held : Option Cartridge) → Torn steps held held
-none_torn [] held = refl
-none_torn (x ∷ xs) held = inl refl
+-- ---- how acts ended
 
 module _ {T S K : Type 0} (t : tapes.Meaning T) (s : sources.Meaning S) (k : sinks.Meaning K) (old new : Outside T S K) (c : Cartridge) (told : t.told old.tape ≡ Some (Some c)) where
   -- how acts ended
@@ -323,71 +415,42 @@ module _ (seed count : ℕ) (few : count ≤ 200) (c : Cartridge) (plain : Plain
         ]
       ]
 
-  -- a front of the acts printed something
-  printed_run : (run_acts : List Act) (answer : made.Answer) (text : List ℕ) (left : Option Cartridge) → Mounts c (mounted_as plain) → IsKept (settled plain.table_area c) plain →
-      Makes seed count (settled plain.table_area c) plain.words (entries_of plain) run_acts answer → text ≢ [] → Between c (quiet (settling_steps plain.table_area c) ∷ run_acts) text left → HasMade count left
-  printed_run run_acts answer text left mounts kept makes some at =
-      elim (begun c plain whole stood mounts at.front at.rest run_acts at.parts) [
-        | inl (none, all) ↦ absurd (some (at.is_text ∙ ap text_of none))
-        | inr (more, is, parts) ↦
-            made_are_answered seed count (settled plain.table_area c) plain run_acts more at.rest answer left few kept makes parts
-            (λ none. some (at.is_text ∙ ap text_of is ∙ none))
-            (subst (λ (held : Option Cartridge). Torn (next_steps at.rest) held left)
-            (ap (λ (acts : List Act). effects (steps_of acts) (Some c)) is ∙ behind_front c plain whole stood mounts more) at.torn)
-      ]
-
-  -- the text of an act broke off
-  broken_run : (run_acts : List Act) (answer : made.Answer) (text : List ℕ) (left : Option Cartridge) → Mounts c (mounted_as plain) → IsKept (settled plain.table_area c) plain →
-      Makes seed count (settled plain.table_area c) plain.words (entries_of plain) run_acts answer → Behind c (quiet (settling_steps plain.table_area c) ∷ run_acts) text left → HasMade count left
-  broken_run run_acts answer text left mounts kept makes at =
-      elim (begun c plain whole stood mounts at.front (at.act ∷ at.rest) run_acts at.parts) [
-        | inl (none, all) ↦
-            let first : at.act ≡ quiet (settling_steps plain.table_area c) = cc in
-            absurd (at.lacks (no_more at.some at.more (at.written ∙ ap (λ (a : Act). a.text) first)))
-        | inr (more, is, parts) ↦
-            let next : List Act = more ++ at.act ∷ [] in
-            let whole_front : steps_of (quiet (settling_steps plain.table_area c) ∷ next) ≡ steps_of at.front ++ at.act.steps =
-            ap (λ (ss : List TapeStep). settling_steps plain.table_area c ++ ss) (steps_of-append more (at.act ∷ []) ∙ ap (λ (ss : List TapeStep). steps_of more ++ ss) (append-nil at.act.steps))
-            ∙ sym (append_assoc (settling_steps plain.table_area c) (steps_of more) at.act.steps) ∙ ap (λ (acts : List Act). steps_of acts ++ at.act.steps) (sym is) in
-            made_are_answered seed count (settled plain.table_area c) plain run_acts next at.rest answer left few kept makes
-            (append_assoc more (at.act ∷ []) at.rest ∙ parts)
-            (λ none. at.lacks (none_left more at.act at.some at.more at.written none))
-            (subst (λ (held : Option Cartridge). Torn (next_steps at.rest) held left)
-            (at.is ∙ ap (λ (ss : List TapeStep). effects ss (Some c)) (sym whole_front) ∙ behind_front c plain whole stood mounts next) (none_torn (next_steps at.rest) left))
-      ]
-
-  -- of no acts none broke off
-  none_behind : (text : List ℕ) (left : Option Cartridge) → Behind c [] text left → HasMade count left
-  none_behind text left at = by_front at.front at.act at.rest at.parts
-    where
-      by_front : (front : List Act) (act : Act) (rest : List Act) → front ++ act ∷ rest ≡ [] → HasMade count left
-      by_front [] act rest none = cc
-      by_front (x ∷ xs) act rest none = cc
-
-  -- once the sink failed all of them are there, ..
-  make_broken : (outcome : CommandOutcome) (text : List ℕ) (left : Option Cartridge) → IsTableLive c → MakeOutcome seed count (Some c) outcome → Behind c outcome.acts text left → HasMade count left
-  make_broken outcome text left live does so =
+  -- its steps printed something, or the sink failed
+  pub make_has_printed : (outcome : CommandOutcome) (text : List ℕ) (left : Option Cartridge) → MakeOutcome seed count (Some c) outcome →
+      ((text ≢ []) × IsLeftBy c outcome.acts text left) ⊎ Behind c outcome.acts text left → (run : MakeRan outcome) × HasPrinted (settled plain.table_area c) run.acts left
+  make_has_printed outcome text left does which =
       elim (make_course outcome does) [
-        | inl turned ↦ none_behind text left (subst (λ (o : CommandOutcome). Behind c o.acts text left) turned.is so)
-        | inr run ↦ broken_run run.acts run.answer text left run.mounts (kept_now outcome live run) run.makes (subst (λ (o : CommandOutcome). Behind c o.acts text left) run.is so)
-      ]
-
-  -- .. and once it has printed anything
-  pub make_printed : (outcome : CommandOutcome) (text : List ℕ) (left : Option Cartridge) → IsTableLive c → MakeOutcome seed count (Some c) outcome → text ≢ [] →
-      IsLeftBy c outcome.acts text left → HasMade count left
-  make_printed outcome text left live does some (inr so) = make_broken outcome text left live does so
-  make_printed outcome text left live does some (inl so) =
-      elim (make_course outcome does) [
-        | inl turned ↦ absurd (some (nothing_left text left (subst (λ (o : CommandOutcome). Between c o.acts text left) turned.is so)))
-        | inr run ↦ printed_run run.acts run.answer text left run.mounts (kept_now outcome live run) run.makes some (subst (λ (o : CommandOutcome). Between c o.acts text left) run.is so)
+        | inl turned ↦ elim which [
+          | inl (some, so) ↦ absurd (some (turned_left c outcome text left turned so).0)
+          | inr so ↦ none_behind (subst (λ (o : CommandOutcome). Behind c o.acts text left) turned.is so)
+        ]
+        | inr run ↦
+            let acts_are : outcome.acts ≡ quiet (settling_steps plain.table_area c) ∷ run.acts = ap (λ (o : CommandOutcome). o.acts) run.is in
+            (run, elim which [
+              | inl (some, so) ↦
+                  elim (left_then c plain whole stood run.mounts run.acts text left (subst (λ (acts : List Act). IsLeftBy c acts text left) acts_are so)) [
+                    | inl (none, torn) ↦ absurd (some none)
+                    | inr at ↦ left_printed (settled plain.table_area c) run.acts text left some at
+                  ]
+              | inr so ↦
+                  behind_printed (settled plain.table_area c) run.acts text left
+                  (behind_then c plain whole stood run.mounts run.acts text left (subst (λ (acts : List Act). Behind c acts text left) acts_are so))
+            ])
       ]
     where
-      nothing_left : (text : List ℕ) (left : Option Cartridge) → Between c [] text left → text ≡ []
-      nothing_left text left at = by_front at.front at.rest at.parts at.is_text
+      none_behind : {P : Type 0} → Behind c [] text left → P
+      none_behind at = by_front at.front at.act at.rest at.parts
         where
-          by_front : (front rest : List Act) → front ++ rest ≡ [] → text ≡ text_of front → text ≡ []
-          by_front [] rest none is = is
-          by_front (x ∷ xs) rest none is = cc
+          by_front : {P : Type 0} (front : List Act) (act : Act) (rest : List Act) → front ++ act ∷ rest ≡ [] → P
+          by_front [] act rest none = cc
+          by_front (x ∷ xs) act rest none = cc
+
+  -- once it did, or the sink failed, all of them are there
+  pub make_printed : (outcome : CommandOutcome) (text : List ℕ) (left : Option Cartridge) → IsTableLive c → MakeOutcome seed count (Some c) outcome →
+      ((text ≢ []) × IsLeftBy c outcome.acts text left) ⊎ Behind c outcome.acts text left → HasMade count left
+  make_printed outcome text left live does which =
+      let (run, at) = make_has_printed outcome text left does which in
+      made_are_answered seed count (settled plain.table_area c) plain run.acts at.front at.rest run.answer left few (kept_now outcome live run) run.makes at.parts at.some at.torn
 
   -- and where all acts went, as many as were appended by the answer, also where sectors of the table's segment take no write
   pub make_answered : (outcome : CommandOutcome) → MakeOutcome seed count (Some c) outcome →
@@ -396,17 +459,16 @@ module _ (seed count : ℕ) (few : count ≤ 200) (c : Cartridge) (plain : Plain
       elim (make_course outcome does) [
         | inl turned ↦ (
           0,
-          (
-            omega arith,
-            subst (λ (why : Status). AppendedFrom seed 1 count plain.words (entries_of plain) why 0) (sym (ap (λ (o : CommandOutcome). o.status) turned.is))
-                (turned.none_made seed count plain.words (entries_of plain)),
-          ),
+          appended_by seed count plain.words (entries_of plain) outcome.status 0 (omega arith)
+              (subst (λ (why : Status). AppendedFrom seed 1 count plain.words (entries_of plain) why 0) (sym (ap (λ (o : CommandOutcome). o.status) turned.is))
+              (turned.none_made seed count plain.words (entries_of plain))),
           some_and (λ d. Stands d plain) c (effects (steps_of outcome.acts) (Some c)) stood (ap (λ (o : CommandOutcome). effects (steps_of o.acts) (Some c)) turned.is),
         )
         | inr run ↦
             let made = answered_make_stands seed count (settled plain.table_area c) plain run.acts run.answer few run.held run.makes in (
               made.0,
-              (made.1, subst (λ (why : Status). AppendedFrom seed 1 count plain.words (entries_of plain) why made.0) (sym (ap (λ (o : CommandOutcome). o.status) run.is)) made.2),
+              appended_by seed count plain.words (entries_of plain) outcome.status made.0 made.1
+                  (subst (λ (why : Status). AppendedFrom seed 1 count plain.words (entries_of plain) why made.0) (sym (ap (λ (o : CommandOutcome). o.status) run.is)) made.2),
               some_and (λ d. Stands d (with_all plain (made_contents seed 1 made.0))) (changed_by (steps_of run.acts) (settled plain.table_area c)) (effects (steps_of outcome.acts) (Some c))
                   made.3 (ap (λ (o : CommandOutcome). effects (steps_of o.acts) (Some c)) run.is ∙ behind_front c plain whole stood run.mounts run.acts),
             )
@@ -417,7 +479,7 @@ module _ (seed count : ℕ) (few : count ≤ 200) (c : Cartridge) (plain : Plain
   make_done outcome does is_done =
       let made = make_answered outcome does in
       subst (λ (n : ℕ). HasMade n (effects (steps_of outcome.acts) (Some c)))
-      (subst (λ (why : Status). AppendedFrom seed 1 count plain.words (entries_of plain) why made.0) is_done made.1.1) made.2
+      (subst (λ (why : Status). AppendedBy seed count plain.words (entries_of plain) why made.0) is_done made.1) made.2
 
 -- what is left by words of a generated run
 some_made : (told : Option (List ℕ)) (words : List (List ℕ)) (held left : Option Cartridge) → ((command : Words) → Spells words command → HasValues command) → IfSome held IsCartridge →
@@ -431,39 +493,41 @@ some_made told words held left values whole (inr (command, spelled, leaves)) see
     subst (λ (w : Words). StopLeaves told w (Some c) left) same (subst (λ (h : Option Cartridge). StopLeaves told command h left) is leaves) in
     make_stopped seed count (values other run.spelled) c plain (whole_of held c whole is) run.stands l.outcome left live l.plain l.torn
 
+pub makes_stop : {T : Type 0} (t : tapes.Meaning T) (told : Option (List ℕ)) (words : List (List ℕ)) (a b : T) → tape_calls.IsToldRight (t.told a) (t.size a) →
+    ((other : Words) → Spells words other → HasValues other) → EachLeft t a b (WordsLeave told words) → EachLeft t a b (SomeMade words)
+makes_stop t told words a b right values leaves = each_weaker t a b right (λ held left whole is. some_made told words held left values whole is) leaves
+
 pub makes_volumes : {T S K : Type 0} (t : tapes.Meaning T) (s : sources.Meaning S) (k : sinks.Meaning K) (words : List (List ℕ)) (command : Words) (old new : Outside T S K) (answer : Status) →
     Laws t s k old new → Spells words command → ((other : Words) → Spells words other → HasValues other) → CommandEnds t s k command old new answer →
-    EachLeft t old.tape new.tape (WordsLeave (s.left old.source) words) → MakesVolumes t k words old.tape new.tape old.sink new.sink answer
-makes_volumes t s k words command old new answer laws spelled values ends leaves = record {
-  stopped = each_weaker t old.tape new.tape laws.right (λ held left whole is. some_made (s.left old.source) words held left values whole is) leaves;
-  over = λ seed count c plain told run.
-      let other : Words = commands.Make seed count in
-      let same : command ≡ other = one_command words command other spelled run.spelled in
-      let few : count ≤ 200 = values other run.spelled in
-      let whole : IsCartridge c = told_whole (Some c) (t.told old.tape) (t.size old.tape) laws.right told in
-      let ran = ends_ran t s k other old new answer laws few (subst (λ (w : Words). CommandEnds t s k w old new answer) same ends) c told in
-      let was = ran.was in record {
-        text = was.text;
-        took = was.took;
-        answered = λ sound.
-            let all = ran.sound sound in
-            let made = make_answered seed count few c plain whole run.stands ran.outcome ran.plain in (
-              made.0,
-              subst (λ (why : Status). AppendedBy seed count plain.words (entries_of plain) why made.0) all.0 made.1,
-              now_weaker t old.tape new.tape
-                  (λ left is. subst (λ (o : Option Cartridge). IsSomeAnd o (λ d. Stands d (with_all plain (made_contents seed 1 made.0)))) (sym is) made.2)
-                  (done_now t old.tape new.tape (steps_of ran.outcome.acts) (Some c) all.1 told),
-            );
-        all = λ live which. elim which [
-          | inl some ↦ now_weaker t old.tape new.tape
-              (λ left is. make_printed seed count few c plain whole run.stands ran.outcome was.text left live ran.plain some is) was.each
-          | inr sink ↦
-              let broken = ran.broke sink in
-              now_weaker t old.tape new.tape
-              (λ left is. make_broken seed count few c plain whole run.stands ran.outcome broken.text left live ran.plain is) broken.each
-        ];
-      };
-}
+    (seed count : ℕ) (c : Cartridge) (plain : Plain) → t.told old.tape ≡ Some (Some c) → Generated words seed count c plain →
+    AllMade t k new.tape old.sink new.sink answer seed count c plain
+makes_volumes t s k words command old new answer laws spelled values ends seed count c plain told run =
+    let other : Words = commands.Make seed count in
+    let same : command ≡ other = one_command words command other spelled run.spelled in
+    let few : count ≤ 200 = values other run.spelled in
+    let whole : IsCartridge c = told_whole (Some c) (t.told old.tape) (t.size old.tape) laws.right told in
+    let ran = ends_ran t s k other old new answer laws few (subst (λ (w : Words). CommandEnds t s k w old new answer) same ends) c told in
+    let was = ran.was in record {
+      text = was.text;
+      took = was.took;
+      answered = λ sound.
+          let all = ran.sound sound in
+          let made = make_answered seed count few c plain whole run.stands ran.outcome ran.plain in (
+            made.0,
+            subst (λ (why : Status). AppendedBy seed count plain.words (entries_of plain) why made.0) all.0 made.1,
+            now_weaker t old.tape new.tape
+                (λ left is. subst (λ (o : Option Cartridge). IsSomeAnd o (λ d. Stands d (with_all plain (made_contents seed 1 made.0)))) (sym is) made.2)
+                (done_now t old.tape new.tape (steps_of ran.outcome.acts) (Some c) all.1 told),
+          );
+      all = λ live which. elim which [
+        | inl some ↦ now_weaker t old.tape new.tape
+            (λ left is. make_printed seed count few c plain whole run.stands ran.outcome was.text left live ran.plain (inl (some, is))) was.each
+        | inr sink ↦
+            let broken = ran.broke sink in
+            now_weaker t old.tape new.tape
+            (λ left is. make_printed seed count few c plain whole run.stands ran.outcome broken.text left live ran.plain (inr is)) broken.each
+      ];
+    }
 
 -- ---- a script
 
@@ -495,7 +559,7 @@ module _ (told : Option (List ℕ)) (words : List (List ℕ)) (c : Cartridge) (p
             inr (record {
               mounts = was.mounts;
               held = mounted_held c plain whole script.stands was.mounts;
-              acts = ap (λ (o : CommandOutcome). o.acts) did.is ∙ ap (λ (o : scripts.ScriptRun). quiet (settling_steps plain.table_area c) ∷ o.acts) one;
+              acts = ap (λ (o : CommandOutcome). o.acts) did.is ∙ ap (λ (o : CommandOutcome). quiet (settling_steps plain.table_area c) ∷ o.acts) one;
             })
       ]
 
@@ -550,61 +614,31 @@ module _ (told : Option (List ℕ)) (words : List (List ℕ)) (c : Cartridge) (p
       ScriptOutcome (Some c) input outcome → NoFurther text → IsLeftBy c outcome.acts text left → Answered text left
   script_answered input outcome text left live same does spares so =
       elim (script_course input outcome same does) [
-        | inl turned ↦ turned_down text left (subst (λ (o : CommandOutcome). IsLeftBy c o.acts text left) turned.is so)
-        | inr run ↦ ran run (subst (λ (acts : List Act). IsLeftBy c acts text left) run.acts so)
+        | inl turned ↦
+            let was = turned_left c outcome text left turned so in
+            nothing_answered text left was.0 (some_and (λ d. Stands d plain) c left script.stands was.1)
+        | inr run ↦
+            elim (left_then c plain whole script.stands run.mounts script.outcome.acts text left (subst (λ (acts : List Act). IsLeftBy c acts text left) run.acts so)) [
+              | inl (none, torn) ↦ nothing_answered text left none (stopped_stands c plain plain.table_area left script.stands run.mounts.reads torn)
+              | inr at ↦ ran run at
+            ]
       ]
     where
-      turned_down : (text : List ℕ) (left : Option Cartridge) → IsLeftBy c [] text left → Answered text left
-      turned_down text left (inl at) = by_front at.front at.rest at.parts at.is_text at.torn
-        where
-          by_front : (front rest : List Act) → front ++ rest ≡ [] → text ≡ text_of front → Torn (next_steps rest) (effects (steps_of front) (Some c)) left → Answered text left
-          by_front [] [] none is torn = nothing_answered text left is (some_and (λ d. Stands d plain) c left script.stands torn)
-          by_front [] (x ∷ xs) none is torn = cc
-          by_front (x ∷ xs) rest none is torn = cc
-      turned_down text left (inr at) = by_front at.front at.act at.rest at.parts
-        where
-          by_front : (front : List Act) (act : Act) (rest : List Act) → front ++ act ∷ rest ≡ [] → Answered text left
-          by_front [] act rest none = cc
-          by_front (x ∷ xs) act rest none = cc
-
-      ran : ScriptRan outcome → IsLeftBy c (quiet (settling_steps plain.table_area c) ∷ script.outcome.acts) text left → Answered text left
+      ran : ScriptRan outcome → IsLeftBy (settled plain.table_area c) script.outcome.acts text left → Answered text left
       ran run (inl at) =
-          elim (begun c plain whole script.stands run.mounts at.front at.rest script.outcome.acts at.parts) [
-            | inl (none, all) ↦
-                nothing_answered text left (at.is_text ∙ ap text_of none)
-                (stopped_stands c plain plain.table_area left script.stands run.mounts.reads
-                (subst (λ (rest : List Act). Torn (next_steps rest) (Some c) left) all (subst (λ (front : List Act). Torn (next_steps at.rest) (effects (steps_of front) (Some c)) left) none at.torn)))
-            | inr (more, is, parts) ↦
-                subst (λ (xs : List ℕ). Answered xs left) (sym (at.is_text ∙ ap text_of is))
-                (answered_between (settled plain.table_area c) plain script.input script.outcome more at.rest left run.held
-                (settled_live c plain.table_area run.mounts.reads live) script.does script.bytes
-                (subst (λ (xs : List ℕ). NoFurther xs) (at.is_text ∙ ap text_of is) spares) parts
-                (subst (λ (held : Option Cartridge). Torn (next_steps at.rest) held left)
-                (ap (λ (acts : List Act). effects (steps_of acts) (Some c)) is ∙ behind_front c plain whole script.stands run.mounts more) at.torn))
-          ]
+          subst (λ (xs : List ℕ). Answered xs left) (sym at.is_text)
+          (answered_between (settled plain.table_area c) plain script.input script.outcome at.front at.rest left run.held
+          (settled_live c plain.table_area run.mounts.reads live) script.does script.bytes (subst (λ (xs : List ℕ). NoFurther xs) at.is_text spares) at.parts
+          (subst (λ (held : Option Cartridge). Torn (next_steps at.rest) held left) (effects-some (steps_of at.front) (settled plain.table_area c)) at.torn))
       ran run (inr at) =
-          elim (begun c plain whole script.stands run.mounts at.front (at.act ∷ at.rest) script.outcome.acts at.parts) [
-            | inl (none, all) ↦
-                let first : at.act ≡ quiet (settling_steps plain.table_area c) = cc in
-                let unsaid : at.some ≡ [] = no_text at.some at.more (at.written ∙ ap (λ (a : Act). a.text) first) in
-                nothing_answered text left (at.is_text ∙ ap (λ (acts : List Act). text_of acts ++ at.some) none ∙ unsaid)
-                (some_and (λ d. Stands d plain) (settled plain.table_area c) left run.held.stands
-                (at.is ∙ ap (λ (acts : List Act). effects (steps_of acts ++ at.act.steps) (Some c)) none ∙ ap (λ (a : Act). effects a.steps (Some c)) first ∙ settling_effects c plain.table_area run.mounts.reads))
-            | inr (more, is, parts) ↦
-                let texts : length text ≡ length (text_of more) + length at.some = ap length (at.is_text ∙ ap (λ (acts : List Act). text_of acts ++ at.some) is) ∙ length-append (text_of more) at.some in
-                let act_text : length at.act.text ≡ length at.some + length at.more = ap length (sym at.written) ∙ length-append at.some at.more in
-                answered_behind (settled plain.table_area c) plain script.input script.outcome more at.act at.rest left (length text) run.held
-                (settled_live c plain.table_area run.mounts.reads live) script.does script.bytes spares parts
-                (at.is ∙ ap (λ (acts : List Act). effects (steps_of acts ++ at.act.steps) (Some c)) is
-                ∙ ap (λ (ss : List TapeStep). effects ss (Some c)) (append_assoc (settling_steps plain.table_area c) (steps_of more) at.act.steps)
-                ∙ effects-append (settling_steps plain.table_area c) (steps_of more ++ at.act.steps) (Some c)
-                ∙ ap (effects (steps_of more ++ at.act.steps)) (settling_effects c plain.table_area run.mounts.reads)
-                ∙ effects-some (steps_of more ++ at.act.steps) (settled plain.table_area c))
-                (omega arith) (omega arith)
-          ]
+          let texts : length text ≡ length (text_of at.front) + length at.some = ap length at.is_text ∙ length-append (text_of at.front) at.some in
+          let act_text : length at.act.text ≡ length at.some + length at.more = ap length (sym at.written) ∙ length-append at.some at.more in
+          answered_behind (settled plain.table_area c) plain script.input script.outcome at.front at.act at.rest left (length text) run.held
+          (settled_live c plain.table_area run.mounts.reads live) script.does script.bytes spares at.parts
+          (at.is ∙ effects-some (steps_of at.front ++ at.act.steps) (settled plain.table_area c)) (omega arith) (omega arith)
 
 -- what is left by words of a script
-some_scripted : (told : Option (List ℕ)) (words : List (List ℕ)) (held left : Option Cartridge) → IfSome held IsCartridge → WordsLeave told words held left → SomeScripted told words held left
+pub some_scripted : (told : Option (List ℕ)) (words : List (List ℕ)) (held left : Option Cartridge) → IfSome held IsCartridge → WordsLeave told words held left → SomeScripted told words held left
 some_scripted told words held left whole (inl same) c plain is script live count spares =
     inr (0, omega arith, some_and (λ d. Stands d plain) c left script.stands (same ∙ is))
 some_scripted told words held left whole (inr (command, spelled, leaves)) c plain is script live count spares =
@@ -613,58 +647,56 @@ some_scripted told words held left whole (inr (command, spelled, leaves)) c plai
     subst (λ (w : Words). StopLeaves told w (Some c) left) same (subst (λ (h : Option Cartridge). StopLeaves told command h left) is leaves) in
     script_stopped told words c plain (whole_of held c whole is) script l.input l.outcome left live (same_input told script.input l.input script.is_told l.is_told) l.plain count spares l.torn
 
+pub scripts_stop : {T : Type 0} (t : tapes.Meaning T) (told : Option (List ℕ)) (words : List (List ℕ)) (a b : T) → tape_calls.IsToldRight (t.told a) (t.size a) →
+    EachLeft t a b (WordsLeave told words) → EachLeft t a b (SomeScripted told words)
+scripts_stop t told words a b right leaves = each_weaker t a b right (λ held left whole is. some_scripted told words held left whole is) leaves
+
 pub carries_out_lines : {T S K : Type 0} (t : tapes.Meaning T) (s : sources.Meaning S) (k : sinks.Meaning K) (words : List (List ℕ)) (command : Words) (old new : Outside T S K) (answer : Status) →
     Laws t s k old new → Spells words command → CommandEnds t s k command old new answer →
-    EachLeft t old.tape new.tape (WordsLeave (s.left old.source) words) → CarriesOutLines t k (s.left old.source) words old.tape new.tape old.sink new.sink answer
-carries_out_lines t s k words command old new answer laws spelled ends leaves = record {
-  stopped = each_weaker t old.tape new.tape laws.right (λ held left whole is. some_scripted (s.left old.source) words held left whole is) leaves;
-  over = λ c plain told script.
-      let same : command ≡ commands.Script = one_command words command commands.Script spelled script.spelled in
-      let whole : IsCartridge c = told_whole (Some c) (t.told old.tape) (t.size old.tape) laws.right told in
-      let ran = ends_ran t s k commands.Script old new answer laws tt (subst (λ (w : Words). CommandEnds t s k w old new answer) same ends) c told in
-      let was = ran.was in record {
-        text = was.text;
-        took = was.took;
-        answered = λ live count further spares. now_weaker t old.tape new.tape
-            (λ left is. script_answered (s.left old.source) words c plain whole script ran.input ran.outcome was.text left live
-            (same_input (s.left old.source) script.input ran.input script.is_told ran.is_told) ran.plain (count, spares.0, further, spares.1) is) was.each;
-        all = λ heard spares.
-            let all = ran.heard heard in
-            now_weaker t old.tape new.tape
-            (λ left is. subst (λ (o : Option Cartridge). IsSomeAnd o (λ d. Stands d (plain_behind plain script.does.items script.does.dids))) (sym is)
-            (script_heard (s.left old.source) words c plain whole script ran.input ran.outcome
-            (same_input (s.left old.source) script.input ran.input script.is_told ran.is_told) ran.plain (subst IsHeard (sym all.0) heard) spares))
-            (done_now t old.tape new.tape (steps_of ran.outcome.acts) (Some c) all.1 told);
-      };
-}
+    (c : Cartridge) (plain : Plain) → t.told old.tape ≡ Some (Some c) → (script : Scripted (s.left old.source) words c plain) →
+    AllAnswered t k new.tape old.sink new.sink answer script
+carries_out_lines t s k words command old new answer laws spelled ends c plain told script =
+    let same : command ≡ commands.Script = one_command words command commands.Script spelled script.spelled in
+    let whole : IsCartridge c = told_whole (Some c) (t.told old.tape) (t.size old.tape) laws.right told in
+    let ran = ends_ran t s k commands.Script old new answer laws tt (subst (λ (w : Words). CommandEnds t s k w old new answer) same ends) c told in
+    let was = ran.was in record {
+      text = was.text;
+      took = was.took;
+      answered = λ live count further spares. now_weaker t old.tape new.tape
+          (λ left is. script_answered (s.left old.source) words c plain whole script ran.input ran.outcome was.text left live
+          (same_input (s.left old.source) script.input ran.input script.is_told ran.is_told) ran.plain (count, spares.0, further, spares.1) is) was.each;
+      all = λ heard spares.
+          let all = ran.heard heard in
+          now_weaker t old.tape new.tape
+          (λ left is. subst (λ (o : Option Cartridge). IsSomeAnd o (λ d. Stands d (plain_behind plain script.does.items script.does.dids))) (sym is)
+          (script_heard (s.left old.source) words c plain whole script ran.input ran.outcome
+          (same_input (s.left old.source) script.input ran.input script.is_told ran.is_told) ran.plain (subst IsHeard (sym all.0) heard) spares))
+          (done_now t old.tape new.tape (steps_of ran.outcome.acts) (Some c) all.1 told);
+    }
 
 -- ---- a run that touched nothing
 
-untouched_now : {T : Type 0} (t : tapes.Meaning T) (a : T) (c : Cartridge) (P : Option Cartridge → Type 0) → t.told a ≡ Some (Some c) → P (Some c) → ToldNow t a P
+pub untouched_now : {T : Type 0} (t : tapes.Meaning T) (a : T) (c : Cartridge) (P : Option Cartridge → Type 0) → t.told a ≡ Some (Some c) → P (Some c) → ToldNow t a P
 untouched_now t a c P told holds = subst (λ (o : Option (Option Cartridge)). IsSomeAnd o P) (sym told) holds
 
-pub none_made : {T K : Type 0} (t : tapes.Meaning T) (k : sinks.Meaning K) (told : Option (List ℕ)) (words : List (List ℕ)) (a : T) (x : K) (answer : Status) → tapes.IsToldRight (t.told a) (t.size a) →
-    k.took x [] x → (IsCarriedOut answer → ⊥) → ((seed count : ℕ) (words : List ℕ) (es : List Entry) → AppendedFrom seed 1 count words es answer 0) → ((other : Words) → Spells words other → HasValues other) → EachLeft t a a (WordsLeave told words) → MakesVolumes t k words a a x x answer
-none_made t k told words a x answer right nothing never unmade values leaves = record {
-  stopped = each_weaker t a a right (λ held left whole is. some_made told words held left values whole is) leaves;
-  over = λ seed count c plain is run. record {
-    text = [];
-    took = nothing;
-    answered = λ sound.
-        (0, (omega arith, unmade seed count plain.words (entries_of plain)), untouched_now t a c (λ left. IsSomeAnd left (λ d. Stands d plain)) is run.stands);
-    all = λ live which. elim which [ inl some ↦ absurd (some refl) | inr sink ↦ absurd (never (inr sink)) ];
-  };
+pub none_made : {T K : Type 0} (t : tapes.Meaning T) (k : sinks.Meaning K) (words : List (List ℕ)) (a : T) (x : K) (answer : Status) →
+    k.took x [] x → (IsCarriedOut answer → ⊥) → ((seed count : ℕ) (words : List ℕ) (es : List Entry) → AppendedFrom seed 1 count words es answer 0) →
+    (seed count : ℕ) (c : Cartridge) (plain : Plain) → t.told a ≡ Some (Some c) → Generated words seed count c plain → AllMade t k a x x answer seed count c plain
+none_made t k words a x answer nothing never unmade seed count c plain is run = record {
+  text = [];
+  took = nothing;
+  answered = λ sound.
+      (0, appended_by seed count plain.words (entries_of plain) answer 0 (omega arith) (unmade seed count plain.words (entries_of plain)), untouched_now t a c (λ left. IsSomeAnd left (λ d. Stands d plain)) is run.stands);
+  all = λ live which. elim which [ inl some ↦ absurd (some refl) | inr sink ↦ absurd (never (inr sink)) ];
 }
 
-pub none_scripted : {T K : Type 0} (t : tapes.Meaning T) (k : sinks.Meaning K) (told : Option (List ℕ)) (words : List (List ℕ)) (a : T) (x : K) (answer : Status) → tapes.IsToldRight (t.told a) (t.size a) →
-    k.took x [] x → (IsHeard answer → ⊥) → EachLeft t a a (WordsLeave told words) → CarriesOutLines t k told words a a x x answer
-none_scripted t k told words a x answer right nothing unheard leaves = record {
-  stopped = each_weaker t a a right (λ held left whole is. some_scripted told words held left whole is) leaves;
-  over = λ c plain is script. record {
-    text = [];
-    took = nothing;
-    answered = λ live count further spares. untouched_now t a c (StandsAnswered plain script.does.items script.does.dids 0) is
-        (none_answered (settled plain.table_area c) plain script.input script.outcome (Some c) script.does script.bytes script.stands);
-    all = λ heard spares. absurd (unheard heard);
-  };
+pub none_scripted : {T K : Type 0} (t : tapes.Meaning T) (k : sinks.Meaning K) (told : Option (List ℕ)) (words : List (List ℕ)) (a : T) (x : K) (answer : Status) →
+    k.took x [] x → (IsHeard answer → ⊥) → (c : Cartridge) (plain : Plain) → t.told a ≡ Some (Some c) → (script : Scripted told words c plain) →
+    AllAnswered t k a x x answer script
+none_scripted t k told words a x answer nothing unheard c plain is script = record {
+  text = [];
+  took = nothing;
+  answered = λ live count further spares. untouched_now t a c (StandsAnswered plain script.does.items script.does.dids 0) is
+      (none_answered (settled plain.table_area c) plain script.input script.outcome (Some c) script.does script.bytes script.stands);
+  all = λ heard spares. absurd (unheard heard);
 }

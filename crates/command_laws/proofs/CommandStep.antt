@@ -15,8 +15,7 @@ use Rattle.command_laws.proofs.CommandSteps.{by_outcome}
 use Rattle.command_spec.specs.Outcome.{CommandOutcome, StepOutcome}
 use Rattle.qic_base.specs.Acts.{steps_of}
 use Rattle.qic_base.specs.Cartridge.{Cartridge}
-use Rattle.qic_base.specs.Step.{Step, changed}
-use Rattle.qic_base.specs.Stop.{Torn, Halfway}
+use Rattle.qic_base.specs.Step.{Step, changed, Torn, Halfway}
 
 -- The step keeps what a cartridge stands for, what it is mounted as, and its header copies, for no sector reads more; it is done
 -- or not, and puts in no new cartridge.

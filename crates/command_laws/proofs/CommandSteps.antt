@@ -2,32 +2,33 @@
 use Rattle.std.proofs.Common.{[], ◌≡◌, ◌&&◌, ◌*◌, ℕ, Bool, true, false, cond, List, ◌∷◌, ◌++◌, length, drop, take, nat_le, nat_lt, map, sym, ap, ◌∙◌, subst, Option, Some, None, inl, inr, is_some}
 use Rattle.std.specs.List.{range_with_len}
 use Rattle.cartridge_laws.specs.ChangeSteps.{HasNoRenew}
-use Rattle.cartridge_spec.specs.Appending.{table_places, table_writes}
+use Rattle.cartridge_laws.specs.Terms.{table_places, slot_sector}
+use Rattle.cartridge_spec.specs.Appending.{table_writes}
 use Rattle.cartridge_spec.specs.Formatting.{clearing_steps, copy_writes, format_steps}
 use Rattle.cartridge_spec.specs.Header.{Header}
 use Rattle.cartridge_spec.specs.Mounting.{Mounting, settled}
 use Rattle.cartridge_spec.specs.Says.{Saying, Data, LostSectors, Mismatch, with_parity}
 use Rattle.cartridge_spec.specs.Settling.{writes_of, block_writes, settling_places, settling_steps, changed_by}
 use Rattle.cartridge_spec.specs.Shape.{mask_at, capacity, usable_places, is_unreadable, sector_at}
-use Rattle.cartridge_spec.specs.Table.{Entry, slot_sector, table_with}
+use Rattle.cartridge_spec.specs.Table.{Entry, table_with}
 use Rattle.cartridge_spec.specs.Volumes.{volume_length}
 use Rattle.command_laws.proofs.MadeStops.{sum_in_no_step}
 use Rattle.command_laws.proofs.RestoreCounts.{restores_in_no_step, framed_in_no_step}
 use Rattle.command_laws.proofs.ScriptOutcomes.{replied}
 use Rattle.command_laws.proofs.ScrubAtOnce.{scrub_steps}
-use Rattle.command_spec.specs.Append.{Appends, segment_act, volume_acts, filled_acts, input_acts, Taking, Fits, TooLong, TooShort, Kept, input_writes, entry_acts, append_acts, entry_for, room_in, free_in, has_promised_room, most_written, taking, kept_over, silently}
-use Rattle.command_spec.specs.Commands.Defect.{DefectOutcome}
-use Rattle.command_spec.specs.Commands.Format.{FormatOutcome}
-use Rattle.command_spec.specs.Generator.{made_bytes, made_length}
+use Rattle.command_laws.specs.CommandTerms.{Appends, free_in, most_written, silently, made_acts, restored_line, entry_for}
+use Rattle.command_spec.specs.Append.{segment_act, volume_acts, filled_acts, input_acts, Taking, Fits, TooLong, TooShort, Kept, input_writes, entry_acts, append_acts, room_in, has_promised_room, taking, kept_over}
+use Rattle.command_spec.specs.Single.{DefectOutcome, FormatOutcome, LoseOutcome}
+use Rattle.command_spec.specs.Make.{made_bytes, made_length, Making, MakeStep, AppendMade, WearSector, ScrubAll, SumVolume, StepDoes, Runs, Answer, after_item, made_name, making}
 use Rattle.command_spec.specs.Input.{Item, Ending, AtEnd, AtStop, AtFault}
 use Rattle.command_spec.specs.Lines.{reply_behind}
-use Rattle.command_spec.specs.Commands.Lose.{LoseOutcome}
-use Rattle.command_spec.specs.Make.{Making, MakeStep, AppendMade, WearSector, ScrubAll, SumVolume, StepDoes, Runs, Answer, after_item, made_acts, made_name, making}
-use Rattle.command_spec.specs.Outcome.{CommandOutcome, Going, Opened, OpenOutcome, WritableOutcome, Printing, Shows, settling_act}
-use Rattle.command_spec.specs.Pulses.{SentOutcome, info_of, PulseRun, train_acts, train_changes, pulsed_row}
+use Rattle.command_spec.specs.Outcome.{CommandOutcome, Going, Opened, OpenOutcome, WritableOutcome, Shows, settling_act}
+use Rattle.command_laws.specs.Terms.{Printing, Mends}
+use Rattle.command_spec.specs.Pulses.{SentOutcome, train_acts, train_changes, pulsed_row}
+use Rattle.command_laws.specs.PulseRuns.{info_of}
 use Rattle.command_spec.specs.Restore.{Gives, pieces, framed, GivingEnd, Restored, LostIn, MismatchIn}
-use Rattle.command_spec.specs.Script.{reply, refusal_line, restored_line, Scripting, ScriptRun, Did, Meeting, Refuses, Finds, acts_on, append_did, taken_as, given_as, LineDoes, acts_of, ItemsDo, EndDoes, cartridge_behind, entries_behind, place_behind}
-use Rattle.command_spec.specs.Scrub.{Mends, Scrubs, Looked, looked_at, reads, steps_in, mending_writes, looking_acts}
+use Rattle.command_spec.specs.Script.{reply, refusal_line, Scripting, Did, Meeting, Refuses, Finds, acts_on, append_did, taken_as, given_as, LineDoes, acts_of, ItemsDo, EndDoes, cartridge_behind, entries_behind, place_behind}
+use Rattle.command_spec.specs.Scrub.{Scrubs, Looked, looked_at, reads, steps_in, mending_writes, looking_acts}
 use Rattle.command_spec.specs.declared.line.Line.{Line}
 use Rattle.drive_spec.specs.Effects.{ticked}
 use Rattle.drive_spec.specs.Record.{Record, power_on}
@@ -223,9 +224,8 @@ trains_none r (train ∷ trains) =
     none_both (train_changes r train) (steps_of (train_acts (pulsed_row r train) trains)) (none_in_train r train) (trains_none (pulsed_row r train) trains)
 
 pub sent_none : (held : Option Cartridge) (input : List ℕ) (outcome : CommandOutcome) → SentOutcome held input outcome → AreNoRenew outcome.acts
-sent_none held input outcome (came, plain, is) =
-    by_outcome outcome _ is
-    (subst (λ (r : PulseRun). AreNoRenew r.acts) (sym plain.comes) (trains_none (power_on (info_of held)) plain.trains))
+sent_none held input outcome plain =
+    by_outcome outcome _ plain.is (trains_none (power_on (info_of held)) plain.trains)
 
 -- ---- appending
 
@@ -345,7 +345,7 @@ end_none c ws entries rest (AtFault number place) acts (inr (never, is)) = acts_
 pub scripting_none : (input : List ℕ) → GoesWithNone (Scripting input)
 scripting_none input c header ws table entries outcome found =
     let does = found.does in
-    by_outcome outcome _ found.is (settled_none table c found.came.acts (acts_by found.came.acts (acts_of does.dids ++ does.last) (ap (λ (r : ScriptRun). steps_of r.acts) does.is)
+    by_outcome outcome _ found.is (settled_none table c found.came.acts (acts_by found.came.acts (acts_of does.dids ++ does.last) (ap (λ (r : CommandOutcome). steps_of r.acts) does.is)
     (acts_both (acts_of does.dids) does.last (items_none (settled table c) ws entries does.items does.dids does.did)
     (end_none (cartridge_behind (settled table c) does.dids) ws (entries_behind entries does.dids) (drop (place_behind 1 0 input does.items does.ending does.read) input) does.ending does.last does.ends))))
 
@@ -360,11 +360,11 @@ step_none seed c ws entries (AppendMade volume) acts answer (inr (free, inl appe
     (none_in_settling appended.table c))
 step_none seed c ws entries (AppendMade volume) acts answer (inr (free, inr lost)) = acts_of_none acts (ap steps_of lost.does)
 step_none seed c ws entries (WearSector segment sector) acts answer worn =
-    acts_by acts (record { steps = Wear segment sector ∷ []; text = [] } ∷ []) (ap steps_of worn.does) (tt, tt)
+    acts_by acts (record { steps = Wear segment sector ∷ []; text = [] } ∷ []) (ap steps_of worn.0) (tt, tt)
 step_none seed c ws entries ScrubAll acts answer (inl refused) = acts_of_none acts (ap steps_of refused.does)
-step_none seed c ws entries ScrubAll acts answer (inr (free, scrubbed)) = scrub_none c ws entries acts scrubbed.does
+step_none seed c ws entries ScrubAll acts answer (inr (free, scrubbed)) = scrub_none c ws entries acts scrubbed.0
 step_none seed c ws entries (SumVolume number) acts answer summed =
-    acts_of_none acts (ap steps_of summed.does ∙ sum_in_no_step number (volume_length ws summed.entry) (text_of summed.given) summed.ending)
+    acts_of_none acts (ap steps_of summed.is.0 ∙ sum_in_no_step number (volume_length ws summed.entry) (text_of summed.acts) summed.ending)
 
 runs_none : (seed : ℕ) (c : Cartridge) (ws : List ℕ) (entries : List Entry) (items : List MakeStep) (acts : List Act) (answer : Answer) →
     Runs seed c ws entries items acts answer → AreNoRenew acts

@@ -35,10 +35,12 @@ use Rattle.command_laws.proofs.CommandTable.UpgradeCommand.{upgrade_laws, upgrad
 use Rattle.command_laws.specs.CommandLaws.{DoneWhereAllIsThere, OneOutcome, OnlyNewRenews, CopiesStayClean, CopiesStayBare}
 use Rattle.command_laws.specs.CommandRecord.{CommandLaws}
 use Rattle.command_spec.specs.Commands.{command_of, IsCommand}
-use Rattle.command_spec.specs.Machine.{HasValues, Yields}
+use Rattle.command_spec.specs.Machine.{HasValues}
+use Rattle.command_laws.specs.CommandTerms.{Yields}
 use Rattle.command_spec.specs.Outcome.{CommandOutcome}
 use Rattle.command_spec.specs.declared.words.Words.{Words}
-use Rattle.qic_base.specs.Cartridge.{Cartridge, IsCartridge}
+use Rattle.qic_base.specs.Cartridge.{Cartridge}
+use Rattle.qic_base.specs.Terms.{IsCartridge}
 use Rattle.command_spec.specs.declared.words.Words.TheVariants as words
 
 -- the readings of all commands

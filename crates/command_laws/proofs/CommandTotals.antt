@@ -11,22 +11,22 @@ use Rattle.cartridge_spec.specs.Mounting.{Mounts, Mounting, settled}
 use Rattle.cartridge_spec.specs.Table.{Entry}
 use Rattle.command_laws.proofs.MadeOutcomes.{makes_something}
 use Rattle.command_laws.proofs.MountedListed.{mounted_listed}
-use Rattle.command_laws.proofs.PulseMachineLaws.{each_outcome}
+use Rattle.command_laws.proofs.PulseMachineLaws.{each_outcome, sends_of}
 use Rattle.command_laws.proofs.RestoreEndings.{restores_always}
 use Rattle.command_laws.proofs.ScriptOutcomes.{each_outcome as each_script}
 use Rattle.command_laws.proofs.ScriptPlaces.{place_or_not}
 use Rattle.command_laws.proofs.ScrubTurns.{scrubs_always}
-use Rattle.command_spec.specs.Append.{Appends}
-use Rattle.command_spec.specs.Commands.Defect.{DefectOutcome}
-use Rattle.command_spec.specs.Commands.Format.{FormatOutcome}
-use Rattle.command_spec.specs.Commands.Lose.{LoseOutcome}
+use Rattle.command_spec.specs.Single.{DefectOutcome, FormatOutcome, LoseOutcome}
+use Rattle.command_laws.specs.CommandTerms.{Appends}
 use Rattle.command_spec.specs.Make.{Making}
-use Rattle.command_spec.specs.Outcome.{CommandOutcome, HasPlace, Going, Opened, OpenOutcome, WritableOutcome, Printing, Shows}
-use Rattle.command_spec.specs.Pulses.{sent, info_of, SentOutcome}
+use Rattle.command_spec.specs.Outcome.{CommandOutcome, HasPlace, Going, Opened, OpenOutcome, WritableOutcome, Shows}
+use Rattle.command_laws.specs.Terms.{Printing, Mends}
+use Rattle.command_laws.specs.PulseRuns.{sent, info_of}
+use Rattle.command_spec.specs.Pulses.{SentOutcome}
 use Rattle.command_spec.specs.Restore.{Gives, volume_at, pieces}
 use Rattle.command_spec.specs.Script.{Scripting}
-use Rattle.command_spec.specs.Scrub.{Mends}
-use Rattle.qic_base.specs.Cartridge.{Cartridge, view_at, IsCartridge}
+use Rattle.qic_base.specs.Cartridge.{Cartridge, view_at}
+use Rattle.qic_base.specs.Terms.{IsCartridge}
 use Rattle.qic_base.specs.Tape.{spoil_answer}
 use Rattle.cartridge_spec.specs.Mounting as mounting
 
@@ -123,4 +123,4 @@ format_answers label date (Some c) is few whole = by_mark c.info.protected refl
     by_mark false is = by_front is (first_defect_or_none c)
 
 pub sent_answers : (held : Option Cartridge) (input : List ℕ) → (outcome : CommandOutcome) × SentOutcome held input outcome
-sent_answers held input = let came = each_outcome (info_of held) input in (sent came.0, (came.0, came.1, refl))
+sent_answers held input = let came = each_outcome (info_of held) input in (sent came.0, sends_of held input came.0 came.1)

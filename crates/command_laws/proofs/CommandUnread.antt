@@ -16,8 +16,7 @@ use Rattle.command_laws.specs.CommandRecord.{NeitherReads}
 use Rattle.command_spec.specs.Outcome.{CommandOutcome, Going, OpenOutcome, Opened, WritableOutcome}
 use Rattle.qic_base.specs.Acts.{steps_of}
 use Rattle.qic_base.specs.Cartridge.{Cartridge, view_at}
-use Rattle.qic_base.specs.Step.{Step, SetReferenced, Wear, changed, worn_view}
-use Rattle.qic_base.specs.Stop.{Torn}
+use Rattle.qic_base.specs.Step.{Step, SetReferenced, Wear, changed, worn_view, Torn}
 use Rattle.cartridge_spec.specs.Mounting as mounting
 
 alike_reads : (c d : Cartridge) (copy : ℕ) → CellsAlike (copy_cells c copy) (copy_cells d copy) → CopyDoesNotRead c copy → CopyDoesNotRead d copy

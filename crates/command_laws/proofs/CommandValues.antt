@@ -3,7 +3,7 @@ use Rattle.std.proofs.lemmas.Bool.{eqb-true}
 use Rattle.std.proofs.Common.{[], if◌then◌else◌, ◌≡◌, ℕ, ◌<◌, ◌^◌, ◌==◌, Bool, true, false, List, ◌∷◌, refl, inl, inr, arith}
 use Rattle.cartridge_spec.specs.Formatting.{IsLabel}
 use Rattle.command_laws.proofs.ScriptValues.{date_is_word, name_is_label}
-use Rattle.command_spec.specs.CommandWords.{Word, Name, SpellsAll, HasForm, dated}
+use Rattle.command_spec.specs.Command.{Word, Name, SpellsAll, HasForm, dated}
 
 -- a label of 44 bytes, or a name, and a date behind a word
 pub dated_values : (word : List ℕ) (ws : List (List ℕ)) (label : List ℕ) (date : ℕ) → HasForm ws (dated (Word word ∷ Name label ∷ []) date) → IsLabel label × (date < 2 ^ 32)

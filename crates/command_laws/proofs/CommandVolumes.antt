@@ -8,9 +8,11 @@ use Rattle.cartridge_laws.proofs.FormatStops.{stopped_clearing, stopped_format, 
 use Rattle.cartridge_laws.proofs.FormatWriting.{some_and, some_weaker, effects-some}
 use Rattle.cartridge_spec.specs.Appending.{with_bytes}
 use Rattle.cartridge_spec.specs.Formatting.{HasNoDefectInFront, IsFreshFor, IsFreshWith, StandsCleanly, HasNoHeader, HasCleanCopies, format_steps, clearing_steps}
-use Rattle.cartridge_spec.specs.HeaderAndTable.{IsUnformatted}
+use Rattle.cartridge_spec.specs.Header.{Header}
+use Rattle.cartridge_spec.specs.HeaderAndTable.{IsUnformatted, IsArea}
 use Rattle.cartridge_spec.specs.Mounting.{Mounts, Mounted, IsTableLive}
 use Rattle.cartridge_spec.specs.Settling.{changed_by}
+use Rattle.cartridge_spec.specs.Table.{Entry}
 use Rattle.cartridge_spec.specs.Volumes.{Plain, Stands}
 use Rattle.command_laws.proofs.CommandAppends.{append_stopped, append_refused, append_unanswered, append_done}
 use Rattle.command_laws.proofs.CommandEnds.{after_steps, told_weaker, over_at, told_whole, Laws, ends_finished}
@@ -18,21 +20,24 @@ use Rattle.command_laws.proofs.CommandKeeping.{same_stands}
 use Rattle.command_laws.proofs.CommandPlainLaws.{FormatLeaves, format_leaves}
 use Rattle.command_laws.proofs.CommandTable.{laws_of, plain_answers}
 use Rattle.command_laws.proofs.TextWords.{one_command}
-use Rattle.command_spec.specs.Commands.{traits_of}
-use Rattle.command_spec.specs.Commands.Format.{FormatOutcome}
+use Rattle.command_laws.specs.Terms.{IsBare, WasNotDone}
+use Rattle.command_spec.specs.Command.{Command}
+use Rattle.command_spec.specs.Commands.{traits_of, command_of}
+use Rattle.command_spec.specs.Single.{FormatOutcome}
 use Rattle.command_spec.specs.Headline.{ToldNow, EachLeft, StopLeaves, WordsLeave}
-use Rattle.command_spec.specs.Machine.{Yields, HasValues, Spells}
+use Rattle.command_laws.specs.CommandTerms.{Yields}
+use Rattle.command_spec.specs.Machine.{HasValues, Spells, IsOfBytes, fault_of, may_come_from, IsCutOff, Finished, CommandEnds, is_fault}
 use Rattle.command_spec.specs.Outcome.{CommandOutcome}
-use Rattle.command_spec.specs.Runs.{IsOfBytes, fault_of, may_come_from, IsCutOff, Finished, CommandEnds, is_fault}
-use Rattle.command_spec.specs.Volumes.{IsCarriedOut, StillStands, VolumesStay, StillMounts, ListStays, StillLive, StillClean, StandsEmpty, FormatsOrNot, StopsFormat, AreBytes, StandsAppended, AppendedOrNot, StopsAppend, StandsFresh, IsBare, WasNotDone, IsChanged}
+use Rattle.command_spec.specs.Volumes.{IsCarriedOut, StandsEmpty, FormatsOrNot, AreBytes, StandsAppended, AppendedOrNot, IsChanged, StillHolds}
 use Rattle.command_spec.specs.declared.status.Status.{Status}
 use Rattle.command_spec.specs.declared.words.Words.{Words}
 use Rattle.qic_base.proofs.Steps.{Done-nothing}
 use Rattle.qic_base.specs.Acts.{steps_of, Outside, Failing, TapeFails, SourceFails, SinkFails}
-use Rattle.qic_base.specs.Cartridge.{Cartridge, IsCartridge, new_cartridge}
-use Rattle.qic_base.specs.Step.{Step as TapeStep, effects, Renew}
-use Rattle.qic_base.specs.Stop.{Torn}
+use Rattle.qic_base.specs.Cartridge.{Cartridge, new_cartridge}
+use Rattle.qic_base.specs.Terms.{IsCartridge}
+use Rattle.qic_base.specs.Step.{Step as TapeStep, effects, Renew, Torn}
 use Rattle.qic_base.specs.Tape as tapes
+use Rattle.qic_base.specs.TapeCalls as tape_calls
 use Rattle.qic_base.specs.Sink as sinks
 use Rattle.qic_base.specs.Source as sources
 use Rattle.command_spec.specs.declared.status.Status.TheVariants as status
@@ -47,70 +52,55 @@ may_change answer = false
 -- ---- each that is left
 
 -- a fact of each cartridge that is left follows from another, over a whole cartridge or none
-pub each_weaker : {T : Type 0} {P Q : (held left : Option Cartridge) → Type 0} (t : tapes.Meaning T) (a b : T) → tapes.IsToldRight (t.told a) (t.size a) →
+pub each_weaker : {T : Type 0} {P Q : (held left : Option Cartridge) → Type 0} (t : tapes.Meaning T) (a b : T) → tape_calls.IsToldRight (t.told a) (t.size a) →
     ((held left : Option Cartridge) → IfSome held IsCartridge → P held left → Q held left) → EachLeft t a b P → EachLeft t a b Q
 each_weaker t a b right follows each = record {
   told = λ held told. told_weaker (t.told b) (λ left is. follows held left (told_whole held (t.told a) (t.size a) right told) is) (each.told held told);
   since = λ held left telling told is. follows held left (told_whole held (t.told a) (t.size a) right told) (each.since held left telling told is);
 }
 
--- ---- commands that keep the volumes
+-- ---- what a command keeps
 
-still_stands : (told : Option (List ℕ)) (words : List (List ℕ)) (held left : Option Cartridge) → WordsLeave told words held left → StillStands words held left
-still_stands told words held left (inl same) c plain is stood keep = same_stands c plain left stood (same ∙ is)
-still_stands told words held left (inr (command, spells, leaves)) c plain is stood keep =
-    (laws_of command).stands c plain (keep command spells) stood leaves.input leaves.outcome left
-    (subst (λ (h : Option Cartridge). Yields command h leaves.input leaves.outcome) is leaves.plain)
-    (subst (λ (h : Option Cartridge). Torn (steps_of leaves.outcome.acts) h left) is leaves.torn)
+module _ {T : Type 0} (t : tapes.Meaning T) (told : Option (List ℕ)) (words : List (List ℕ)) (a b : T) (right : tape_calls.IsToldRight (t.told a) (t.size a)) (leaves : EachLeft t a b (WordsLeave told words)) where
+  still_holds : (keeps : Command → Cartridge → Type 0) (Holds : Cartridge → Type 0) →
+      ((command : Words) (c : Cartridge) (input : List ℕ) (outcome : CommandOutcome) (left : Option Cartridge) → keeps (command_of command) c → Holds c →
+      Yields command (Some c) input outcome → Torn (steps_of outcome.acts) (Some c) left → IsSomeAnd left Holds) →
+      EachLeft t a b (StillHolds words keeps Holds)
+  still_holds keeps Holds follows = each_weaker t a b right (λ held left whole is. by_left held left is) leaves
+    where
+      by_left : (held left : Option Cartridge) → WordsLeave told words held left → StillHolds words keeps Holds held left
+      by_left held left (inl same) c is holds keep = some_and Holds c left holds (same ∙ is)
+      by_left held left (inr (command, spells, leaves)) c is holds keep =
+          follows command c leaves.input leaves.outcome left (keep command spells) holds
+          (subst (λ (h : Option Cartridge). Yields command h leaves.input leaves.outcome) is leaves.plain)
+          (subst (λ (h : Option Cartridge). Torn (steps_of leaves.outcome.acts) h left) is leaves.torn)
 
-pub volumes_stay : {T : Type 0} (t : tapes.Meaning T) (told : Option (List ℕ)) (words : List (List ℕ)) (a b : T) → tapes.IsToldRight (t.told a) (t.size a) → EachLeft t a b (WordsLeave told words) → VolumesStay t words a b
-volumes_stay t told words a b right leaves = each_weaker t a b right (λ held left whole is. still_stands told words held left is) leaves
+  pub volumes_stay : (plain : Plain) → EachLeft t a b (StillHolds words (λ command c. command.keeps_volumes c plain) (λ c. Stands c plain))
+  volumes_stay plain =
+      still_holds (λ command c. command.keeps_volumes c plain) (λ c. Stands c plain)
+      (λ command c input outcome left keep stood yields torn. (laws_of command).stands c plain keep stood input outcome left yields torn)
 
--- ---- commands that keep the list
+  pub list_stays : (header : Header) (map_words : List ℕ) (table : List (List ℕ)) (entries : List Entry) →
+      EachLeft t a b (StillHolds words (λ command c. command.keeps_list c) (λ c. Mounts c (Mounted header map_words table entries)))
+  list_stays header map_words table entries =
+      still_holds (λ command c. command.keeps_list c) (λ c. Mounts c (Mounted header map_words table entries))
+      (λ command c input outcome left keep mounts yields torn. (laws_of command).mounts c header map_words table entries keep mounts input outcome left yields torn)
 
-still_mounts : (told : Option (List ℕ)) (words : List (List ℕ)) (held left : Option Cartridge) → WordsLeave told words held left → StillMounts words held left
-still_mounts told words held left (inl same) c header map_words table entries is mounts keep =
-    some_and (λ d. Mounts d (Mounted header map_words table entries)) c left mounts (same ∙ is)
-still_mounts told words held left (inr (command, spells, leaves)) c header map_words table entries is mounts keep =
-    (laws_of command).mounts c header map_words table entries (keep command spells) mounts leaves.input leaves.outcome left
-    (subst (λ (h : Option Cartridge). Yields command h leaves.input leaves.outcome) is leaves.plain)
-    (subst (λ (h : Option Cartridge). Torn (steps_of leaves.outcome.acts) h left) is leaves.torn)
+  pub stays_live : EachLeft t a b (StillHolds words (λ command c. command.keeps_live) IsTableLive)
+  stays_live =
+      still_holds (λ command c. command.keeps_live) IsTableLive
+      (λ command c input outcome left keep live yields torn.
+      steps_keep_live (steps_of outcome.acts) c left ((laws_of command).live (Some c) input outcome keep yields) live torn)
 
-pub list_stays : {T : Type 0} (t : tapes.Meaning T) (told : Option (List ℕ)) (words : List (List ℕ)) (a b : T) → tapes.IsToldRight (t.told a) (t.size a) → EachLeft t a b (WordsLeave told words) → ListStays t words a b
-list_stays t told words a b right leaves = each_weaker t a b right (λ held left whole is. still_mounts told words held left is) leaves
+  pub stays_clean : (area : List (List ℕ)) → IsArea area → EachLeft t a b (StillHolds words (λ command c. command.keeps_copies c) (λ c. HasCleanCopies c area))
+  stays_clean area is_area =
+      still_holds (λ command c. command.keeps_copies c) (λ c. HasCleanCopies c area)
+      (λ command c input outcome left keep clean yields torn. (laws_of command).clean c area keep is_area clean input outcome left yields torn)
 
--- ---- the table's segment
-
-still_live : (told : Option (List ℕ)) (words : List (List ℕ)) (held left : Option Cartridge) → WordsLeave told words held left → StillLive words held left
-still_live told words held left (inl same) c is live none = some_and IsTableLive c left live (same ∙ is)
-still_live told words held left (inr (command, spells, leaves)) c is live none =
-    steps_keep_live (steps_of leaves.outcome.acts) c left
-    ((laws_of command).live held leaves.input leaves.outcome (none command spells) leaves.plain)
-    live (subst (λ (h : Option Cartridge). Torn (steps_of leaves.outcome.acts) h left) is leaves.torn)
-
-pub stays_live : {T : Type 0} (t : tapes.Meaning T) (told : Option (List ℕ)) (words : List (List ℕ)) (a b : T) → tapes.IsToldRight (t.told a) (t.size a) → EachLeft t a b (WordsLeave told words) → EachLeft t a b (StillLive words)
-stays_live t told words a b right leaves = each_weaker t a b right (λ held left whole is. still_live told words held left is) leaves
-
--- ---- header copies
-
-still_clean : (told : Option (List ℕ)) (words : List (List ℕ)) (held left : Option Cartridge) → WordsLeave told words held left → StillClean words held left
-still_clean told words held left (inl same) = record {
-  clean = λ c area is is_area clean keep. some_and (λ d. HasCleanCopies d area) c left clean (same ∙ is);
-  bare = λ c is bare keep. some_and HasNoHeader c left bare (same ∙ is);
-}
-still_clean told words held left (inr (command, spells, leaves)) = record {
-  clean = λ c area is is_area clean keep.
-      (laws_of command).clean c area (keep command spells) is_area clean leaves.input leaves.outcome left
-      (subst (λ (h : Option Cartridge). Yields command h leaves.input leaves.outcome) is leaves.plain)
-      (subst (λ (h : Option Cartridge). Torn (steps_of leaves.outcome.acts) h left) is leaves.torn);
-  bare = λ c is bare keep.
-      (laws_of command).bare c (keep command spells) bare leaves.input leaves.outcome left
-      (subst (λ (h : Option Cartridge). Yields command h leaves.input leaves.outcome) is leaves.plain)
-      (subst (λ (h : Option Cartridge). Torn (steps_of leaves.outcome.acts) h left) is leaves.torn);
-}
-
-pub stays_clean : {T : Type 0} (t : tapes.Meaning T) (told : Option (List ℕ)) (words : List (List ℕ)) (a b : T) → tapes.IsToldRight (t.told a) (t.size a) → EachLeft t a b (WordsLeave told words) → EachLeft t a b (StillClean words)
-stays_clean t told words a b right leaves = each_weaker t a b right (λ held left whole is. still_clean told words held left is) leaves
+  pub stays_bare : EachLeft t a b (StillHolds words (λ command c. command.keeps_copies c) HasNoHeader)
+  stays_bare =
+      still_holds (λ command c. command.keeps_copies c) HasNoHeader
+      (λ command c input outcome left keep bare yields torn. (laws_of command).bare c keep bare input outcome left yields torn)
 
 -- ---- formatting
 
@@ -119,9 +109,9 @@ fresh_for : (c : Cartridge) (label : List ℕ) (date : ℕ) (words : List ℕ) (
 fresh_for c label date words area none fresh = record { fresh = fresh; front = none }
 
 pub format_standing : (label : List ℕ) (date : ℕ) (c : Cartridge) (plain : Plain) (left : Option Cartridge) → IsCartridge c → StandsCleanly c plain →
-    FormatLeaves label date (Some c) left → IsSomeAnd left (λ d. StandsCleanly d plain ⊎ IsUnformatted d ⊎ StandsEmpty c label date d)
+    FormatLeaves label date (Some c) left → IsSomeAnd left (λ d. StandsCleanly d plain ⊎ IsUnformatted d ⊎ StandsEmpty Stands c label date d)
 format_standing label date c plain left whole stood (inl (locked, same)) =
-    some_and (λ d. StandsCleanly d plain ⊎ IsUnformatted d ⊎ StandsEmpty c label date d) c left (inl stood) same
+    some_and (λ d. StandsCleanly d plain ⊎ IsUnformatted d ⊎ StandsEmpty Stands c label date d) c left (inl stood) same
 format_standing label date c plain left whole stood (inr (inl (free, torn))) =
     some_weaker left (λ d is. elim is [ inl stands ↦ inl stands | inr none ↦ inr (inl (unformatted_from_bare d none)) ])
     (stopped_clearing c plain left whole stood torn)
@@ -136,9 +126,9 @@ format_standing label date c plain left whole stood (inr (inr (free, none, (word
     (stopped_format c plain label date words area left whole stood is_fresh torn)
 
 pub format_bare : (label : List ℕ) (date : ℕ) (c : Cartridge) (left : Option Cartridge) → IsCartridge c → HasNoHeader c →
-    IsUnformatted c → FormatLeaves label date (Some c) left → IsSomeAnd left (λ d. IsUnformatted d ⊎ StandsEmpty c label date d)
+    IsUnformatted c → FormatLeaves label date (Some c) left → IsSomeAnd left (λ d. IsUnformatted d ⊎ StandsEmpty Stands c label date d)
 format_bare label date c left whole bare unformatted (inl (locked, same)) =
-    some_and (λ d. IsUnformatted d ⊎ StandsEmpty c label date d) c left (inl unformatted) same
+    some_and (λ d. IsUnformatted d ⊎ StandsEmpty Stands c label date d) c left (inl unformatted) same
 format_bare label date c left whole bare unformatted (inr (inl (free, torn))) =
     some_weaker left (λ d is. inl (unformatted_from_bare d is)) (stopped_clearing_new c left whole bare torn)
 format_bare label date c left whole bare unformatted (inr (inr (free, none, (words, (area, fresh, torn))))) =
@@ -168,17 +158,17 @@ formats_or_not : (told : Option (List ℕ)) (words : List (List ℕ)) (held left
 formats_or_not told words held left whole leaves = record {
   standing = λ label date c plain spells is stood.
       elim (left_by_format told words held left label date c spells is leaves) [
-        | inl same ↦ some_and (λ d. StandsCleanly d plain ⊎ IsUnformatted d ⊎ StandsEmpty c label date d) c left (inl stood) same
+        | inl same ↦ some_and (λ d. StandsCleanly d plain ⊎ IsUnformatted d ⊎ StandsEmpty Stands c label date d) c left (inl stood) same
         | inr formatting ↦ format_standing label date c plain left (whole_of held c whole is) stood formatting
       ];
   bare = λ label date c spells is none.
       elim (left_by_format told words held left label date c spells is leaves) [
-        | inl same ↦ some_and (λ d. IsUnformatted d ⊎ StandsEmpty c label date d) c left (inl (unformatted_from_bare c none)) same
+        | inl same ↦ some_and (λ d. IsUnformatted d ⊎ StandsEmpty Stands c label date d) c left (inl (unformatted_from_bare c none)) same
         | inr formatting ↦ format_bare label date c left (whole_of held c whole is) none (unformatted_from_bare c none) formatting
       ];
 }
 
-pub stops_format : {T : Type 0} (t : tapes.Meaning T) (told : Option (List ℕ)) (words : List (List ℕ)) (a b : T) → tapes.IsToldRight (t.told a) (t.size a) → EachLeft t a b (WordsLeave told words) → StopsFormat t words a b
+pub stops_format : {T : Type 0} (t : tapes.Meaning T) (told : Option (List ℕ)) (words : List (List ℕ)) (a b : T) → tape_calls.IsToldRight (t.told a) (t.size a) → EachLeft t a b (WordsLeave told words) → EachLeft t a b (FormatsOrNot words)
 stops_format t told words a b right leaves = each_weaker t a b right (λ held left whole is. formats_or_not told words held left whole is) leaves
 
 -- ---- appending
@@ -203,8 +193,8 @@ appended_or_not told words held left values whole (inr (command, spelled, leaves
     (λ d stands. elim stands [ inl old ↦ inl old | inr new ↦ inr (record { input = l.input; is_told = l.is_told; stands = new }) ])
     (append_stopped name date l.input c plain l.outcome left known.0 known.1 (of_bytes told l.input bytes l.is_told (l.bytes refl)) (whole_of held c whole is) stood live l.plain l.torn)
 
-pub stops_append : {T : Type 0} (t : tapes.Meaning T) (told : Option (List ℕ)) (words : List (List ℕ)) (a b : T) → tapes.IsToldRight (t.told a) (t.size a) →
-    ((command : Words) → Spells words command → HasValues command) → EachLeft t a b (WordsLeave told words) → StopsAppend t told words a b
+pub stops_append : {T : Type 0} (t : tapes.Meaning T) (told : Option (List ℕ)) (words : List (List ℕ)) (a b : T) → tape_calls.IsToldRight (t.told a) (t.size a) →
+    ((command : Words) → Spells words command → HasValues command) → EachLeft t a b (WordsLeave told words) → EachLeft t a b (AppendedOrNot told words)
 stops_append t told words a b right values leaves = each_weaker t a b right (λ held left whole is. appended_or_not told words held left values whole is) leaves
 
 -- ---- when a run is over
@@ -276,19 +266,19 @@ renewed_effect segments None = refl
 renewed_effect segments (Some c) = refl
 
 pub formatted_fresh : (label : List ℕ) (date : ℕ) (c : Cartridge) (outcome : CommandOutcome) → IsCartridge c → FormatOutcome label date (Some c) outcome → outcome.status ≡ status.Done →
-    IsSomeAnd (effects (steps_of outcome.acts) (Some c)) (StandsFresh c label date)
+    IsSomeAnd (effects (steps_of outcome.acts) (Some c)) (StandsEmpty StandsCleanly c label date)
 formatted_fresh label date c outcome whole (inl (locked, is)) done = let other = ap (λ (o : CommandOutcome). o.status) is in absurd (cc)
 formatted_fresh label date c outcome whole (inr (inl (free, (segment, first, is)))) done = let other = ap (λ (o : CommandOutcome). o.status) is in absurd (cc)
 formatted_fresh label date c outcome whole (inr (inr (free, none, (words, (area, fresh, is))))) done =
     let n : ℕ = c.info.segments_per_track in
     let is_fresh : IsFreshFor c label date words area = fresh_for c label date words area none fresh in
-    some_and (StandsFresh c label date) (changed_by (format_steps n area) c) (effects (steps_of outcome.acts) (Some c))
+    some_and (StandsEmpty StandsCleanly c label date) (changed_by (format_steps n area) c) (effects (steps_of outcome.acts) (Some c))
     (record {
       words = words;
       area = area;
       fresh = is_fresh;
-      stands = formatted_stands c (changed_by (format_steps n area) c) label date words area whole is_fresh (formatting_formats c area whole fresh.fresh.size none);
-      live = formatted_is_live c (changed_by (format_steps n area) c) area whole none (formatting_formats c area whole fresh.fresh.size none);
+      stands = formatted_stands c (changed_by (format_steps n area) c) label date words area whole is_fresh (formatting_formats c area whole fresh.size none);
+      live = formatted_is_live c (changed_by (format_steps n area) c) area whole none (formatting_formats c area whole fresh.size none);
     })
     (ap (λ (o : CommandOutcome). effects (steps_of o.acts) (Some c)) is ∙ ap (λ (steps : List TapeStep). effects steps (Some c)) (append-nil (format_steps n area)) ∙ effects-some (format_steps n area) c)
 
@@ -353,10 +343,10 @@ is_changed t s k words command old new answer laws spelled values ends = record 
       let d : Did t (s.left old.source) other old.tape new.tape (Some c) status.Done =
       carried_out_did t s k other old new answer (Some c) whole
       (subst HasValues same values) refl told which (subst (λ (w : Words). CommandEnds t s k w old new answer) same ends) in
-      let fresh : IsSomeAnd (effects (steps_of d.outcome.acts) (Some c)) (StandsFresh c label date) =
+      let fresh : IsSomeAnd (effects (steps_of d.outcome.acts) (Some c)) (StandsEmpty StandsCleanly c label date) =
       formatted_fresh label date c d.outcome whole d.plain d.sound in
       now_weaker t old.tape new.tape
-      (λ left is. subst (λ (o : Option Cartridge). IsSomeAnd o (StandsFresh c label date)) (sym is) fresh)
+      (λ left is. subst (λ (o : Option Cartridge). IsSomeAnd o (StandsEmpty StandsCleanly c label date)) (sym is) fresh)
       (done_now t old.tape new.tape (steps_of d.outcome.acts) (Some c) d.did told);
   cleared = λ label date segment c front spells told.
       let other : Words = commands.Format label date in
@@ -383,11 +373,11 @@ is_changed t s k words command old new answer laws spelled values ends = record 
       (λ l is. subst (λ (o : Option Cartridge). IsSomeAnd o (StandsAppended (s.left old.source) name date c plain)) (sym is)
       (some_weaker (effects (steps_of d.outcome.acts) (Some c)) (λ e stands. record { input = d.input; is_told = d.is_told; stands = stands }) left))
       (done_now t old.tape new.tape (steps_of d.outcome.acts) (Some c) d.did told);
-  unchanged = λ name date c plain not spells told stood.
+  unchanged = λ name date c plain not_done no_sink no_tape spells told stood.
       let other : Words = commands.Append name date in
       let same : command ≡ other = one_command words command other spelled spells in
       let whole : IsCartridge c = told_whole (Some c) (t.told old.tape) (t.size old.tape) laws.right told in
-      append_unchanged t s k name date old new answer c plain laws (subst HasValues same values) whole stood told not (subst (λ (w : Words). CommandEnds t s k w old new answer) same ends);
+      append_unchanged t s k name date old new answer c plain laws (subst HasValues same values) whole stood told (not_done, no_sink, no_tape) (subst (λ (w : Words). CommandEnds t s k w old new answer) same ends);
 }
 
 -- words of no command change nothing, and want of memory
@@ -398,7 +388,7 @@ none_changed t input words a answer no_fault none = record {
   formatted = λ label date c which spells told. absurd (never which);
   cleared = λ label date segment c front spells told. let no = ap may_change front in absurd (cc);
   appended = λ name date c plain which spells told bytes stood. absurd (never which);
-  unchanged = λ name date c plain not spells told stood.
+  unchanged = λ name date c plain not_done no_sink no_tape spells told stood.
       now_weaker t a a (λ left is. same_stands c plain left stood is) (done_now t a a [] (Some c) (Done-nothing t a) told);
 } where
   never : IsCarriedOut answer → ⊥

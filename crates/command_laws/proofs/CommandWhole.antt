@@ -1,16 +1,15 @@
 -- Each command leaves a whole cartridge where it began with one, done or stopped.
-use Rattle.std.proofs.Common.{◌≡◌, ◌≢◌, ◌⊎◌, ℕ, ◌+◌, ◌<◌, ◌≤◌, ◌^◌, List, [], ◌∷◌, ◌++◌, All, Bool, true, false, Option, Some, None, IsSomeAnd, IfSome, inl, inr, refl, sym, ap, ◌∙◌, subst, arith, append_assoc, append-nil, drop, length}
+use Rattle.std.proofs.Common.{◌≡◌, ℕ, ◌+◌, ◌<◌, ◌≤◌, ◌^◌, List, [], ◌∷◌, ◌++◌, All, false, Option, Some, None, IsSomeAnd, IfSome, inl, inr, refl, sym, ap, ◌∙◌, subst, arith, append_assoc, append-nil, drop, length}
 use Rattle.std.proofs.lemmas.List.Elements.{All-drop}
 use Rattle.cartridge_laws.proofs.FormatWriting.{some_and}
 use Rattle.cartridge_laws.proofs.MountSettled.{settled_keeps_table}
 use Rattle.cartridge_spec.specs.Formatting.{IsLabel, clearing_steps, format_steps}
 use Rattle.cartridge_spec.specs.Header.{Header}
-use Rattle.cartridge_spec.specs.HeaderAndTable.{TableIs}
 use Rattle.cartridge_spec.specs.Mounting.{Mounts, settled}
-use Rattle.cartridge_spec.specs.Settling.{changed_by, settling_steps}
+use Rattle.cartridge_spec.specs.Settling.{changed_by}
 use Rattle.cartridge_spec.specs.Table.{Entry}
 use Rattle.cartridge_spec.specs.Volumes.{volume_length}
-use Rattle.command_laws.proofs.CommandClean.{GoesLeaving, Leaves, acts_leave, both_leave, leaves_by, leaves_done, none_leaves, refused_leaves, wear_leaves}
+use Rattle.command_laws.proofs.CommandClean.{GoesLeaving, Leaves, acts_leave, leaves_by, leaves_done, none_leaves, refused_leaves, wear_leaves}
 use Rattle.command_laws.proofs.MadeOutcomes.{CanDo, CanRun, can_make, made_behind}
 use Rattle.command_laws.proofs.MadeStops.{made_content, made_label, sum_in_no_step}
 use Rattle.command_laws.proofs.MountedListed.{append_listed, mounted_listed, scrub_listed, wear_listed}
@@ -22,24 +21,22 @@ use Rattle.command_laws.proofs.ScrubMending.{stopped_scrub_is_cartridge}
 use Rattle.command_laws.proofs.WholeSteps.{append_leaves, behind_leave, clearing_leaves, format_steps_leave, new_whole, worn_whole}
 use Rattle.command_laws.specs.MountedListed.{IsListed, listed_behind}
 use Rattle.command_laws.specs.ScriptStanding.{HaveBytes, LineHasBytes}
-use Rattle.command_spec.specs.Append.{AppendOutcome, Appends, Fits, Kept, Taking, TooLong, TooShort, append_acts, kept_over, room_in, silently, taking}
-use Rattle.command_spec.specs.Commands.Format.{FormatOutcome}
-use Rattle.command_spec.specs.Generator.{made_bytes, made_length}
+use Rattle.command_spec.specs.Append.{AppendOutcome, Fits, Kept, Taking, TooLong, TooShort, append_acts, kept_over, room_in, taking}
+use Rattle.command_spec.specs.Single.{FormatOutcome}
+use Rattle.command_laws.specs.CommandTerms.{Appends, silently, made_acts}
+use Rattle.command_spec.specs.Make.{made_bytes, made_length, Answer, AppendMade, Making, MakeStep, Runs, ScrubAll, StepDoes, SumVolume, WearSector, after_item, made_name, making}
 use Rattle.command_spec.specs.Input.{AtEnd, AtFault, AtStop, Ending, Item}
 use Rattle.command_spec.specs.Lines.{reply_behind}
-use Rattle.command_spec.specs.Make.{Answer, AppendMade, Making, MakeStep, Runs, ScrubAll, StepDoes, SumVolume, WearSector, after_item, made_acts, made_entry, made_name, making}
-use Rattle.command_spec.specs.Commands.New.{NewOutcome}
-use Rattle.command_spec.specs.Outcome.{CommandOutcome, Opened, Printing, Shows, StepOutcome}
+use Rattle.command_laws.specs.Terms.{NewOutcome, Printing, Mends}
+use Rattle.command_spec.specs.Outcome.{CommandOutcome, Opened, Shows, StepOutcome}
 use Rattle.command_spec.specs.Restore.{GivingEnd, Gives, LostIn, MismatchIn, Restored, framed, pieces}
-use Rattle.command_spec.specs.Script.{Did, EndDoes, Finds, ItemsDo, LineDoes, Meeting, Meets, Refuses, ScriptRun, Scripting, acts_of, acts_on, append_did, cartridge_behind, entries_behind, given_as, line_refused, place_behind, refusal_line, reply, restored_line, taken_as}
-use Rattle.command_spec.specs.Scrub.{Mends}
+use Rattle.command_spec.specs.Script.{Did, EndDoes, Finds, ItemsDo, LineDoes, Meeting, Meets, Refuses, Scripting, acts_of, acts_on, append_did, cartridge_behind, entries_behind, given_as, line_refused, place_behind, refusal_line, reply, taken_as}
 use Rattle.command_spec.specs.declared.line.Line.{Line}
 use Rattle.gf256_qic.proofs.Parities.{all_right}
-use Rattle.qic_base.proofs.Joins.{steps_of-append}
 use Rattle.qic_base.specs.Acts.{Act, steps_of, text_of}
-use Rattle.qic_base.specs.Cartridge.{Cartridge, IsCartridge, IsLength, new_cartridge}
-use Rattle.qic_base.specs.Step.{Renew, Step, Wear, changed}
-use Rattle.qic_base.specs.Stop.{Halfway, Torn}
+use Rattle.qic_base.specs.Cartridge.{Cartridge, IsLength, new_cartridge}
+use Rattle.qic_base.specs.Terms.{IsCartridge}
+use Rattle.qic_base.specs.Step.{Renew, Step, Wear, changed, Halfway, Torn}
 use Rattle.qic_base.specs.declared.tape.TapeInfo.{TapeInfo}
 use Rattle.cartridge_spec.specs.Mounting as mounting
 use Rattle.command_spec.specs.declared.line.Line.TheVariants as line
@@ -68,7 +65,7 @@ format_whole label date c outcome (inr (inl (free, (segment, first, is)))) whole
 format_whole label date c outcome (inr (inr (free, none, (words, (area, fresh, is))))) whole =
     whole_outcome c outcome _ is
     (leaves_by IsCartridge c (format_steps c.info.segments_per_track area ++ []) (format_steps c.info.segments_per_track area) (append-nil (format_steps c.info.segments_per_track area))
-    (format_steps_leave c.info.segments_per_track area c whole fresh.fresh.size))
+    (format_steps_leave c.info.segments_per_track area c whole fresh.size))
 
 -- ---- over a mounted cartridge
 
@@ -196,7 +193,7 @@ scripting_whole input content c header ws table entries outcome mounts found who
     let does = found.does in
     whole_outcome c outcome _ found.is
     (behind_leave c table (steps_of found.came.acts) whole mounts.reads (λ still.
-    leaves_by IsCartridge (settled table c) (steps_of found.came.acts) (steps_of (acts_of does.dids ++ does.last)) (ap (λ (r : ScriptRun). steps_of r.acts) does.is)
+    leaves_by IsCartridge (settled table c) (steps_of found.came.acts) (steps_of (acts_of does.dids ++ does.last)) (ap (λ (r : CommandOutcome). steps_of r.acts) does.is)
     (items_leave (settled table c) ws entries does.items does.dids (drop (place_behind 1 0 input does.items does.ending does.read) input) does.ending does.last still
     (listed_still c header ws table entries whole mounts) (items_have_bytes input does.items does.ending does.read content)
     (All-drop (λ b. b < 256) (place_behind 1 0 input does.items does.ending does.read) input content) does.did does.ends)))
@@ -234,11 +231,11 @@ step_leaves seed c ws entries (AppendMade volume) acts answer whole listed can (
     (made_label volume can) (omega arith) (made_content seed volume))
 step_leaves seed c ws entries (AppendMade volume) acts answer whole listed can (inr (free, inr lost)) = still_whole c (steps_of acts) whole (ap steps_of lost.does)
 step_leaves seed c ws entries (WearSector segment sector) acts answer whole listed can worn =
-    leaves_by IsCartridge c (steps_of acts) (Wear segment sector ∷ []) (ap steps_of worn.does) (wear_leaves IsCartridge segment sector c whole (worn_whole c segment sector whole))
+    leaves_by IsCartridge c (steps_of acts) (Wear segment sector ∷ []) (ap steps_of worn.0) (wear_leaves IsCartridge segment sector c whole (worn_whole c segment sector whole))
 step_leaves seed c ws entries ScrubAll acts answer whole listed can (inl refused) = still_whole c (steps_of acts) whole (ap steps_of refused.does)
-step_leaves seed c ws entries ScrubAll acts answer whole listed can (inr (free, scrubbed)) = λ left torn. stopped_scrub_is_cartridge c ws entries acts left whole scrubbed.does torn
+step_leaves seed c ws entries ScrubAll acts answer whole listed can (inr (free, scrubbed)) = λ left torn. stopped_scrub_is_cartridge c ws entries acts left whole scrubbed.0 torn
 step_leaves seed c ws entries (SumVolume number) acts answer whole listed can summed =
-    still_whole c (steps_of acts) whole (ap steps_of summed.does ∙ sum_in_no_step number (volume_length ws summed.entry) (text_of summed.given) summed.ending)
+    still_whole c (steps_of acts) whole (ap steps_of summed.is.0 ∙ sum_in_no_step number (volume_length ws summed.entry) (text_of summed.acts) summed.ending)
 
 step_listed : (seed : ℕ) (c : Cartridge) (ws : List ℕ) (entries : List Entry) (item : MakeStep) (acts : List Act) → IsListed c ws entries → CanDo entries item →
     StepDoes seed c ws entries item acts made.Done → IsListed (changed_by (steps_of acts) c) ws (after_item seed ws entries item)
@@ -251,11 +248,11 @@ step_listed seed c ws entries (AppendMade volume) acts listed can (inr (free, in
     (append_listed c ws entries table (made_name volume) 0 (Some (made_length seed volume)) silently (made_bytes seed volume) listed free appended.reads (made_label volume can) (omega arith)))
 step_listed seed c ws entries (AppendMade volume) acts listed can (inr (free, inr lost)) = absurd (let same = lost.answered in cc)
 step_listed seed c ws entries (WearSector segment sector) acts listed can worn =
-    listed_by c ws entries (steps_of acts) (Wear segment sector ∷ []) (ap steps_of worn.does) (wear_listed c ws entries segment sector listed)
+    listed_by c ws entries (steps_of acts) (Wear segment sector ∷ []) (ap steps_of worn.0) (wear_listed c ws entries segment sector listed)
 step_listed seed c ws entries ScrubAll acts listed can (inl refused) = absurd (let same = refused.answered in cc)
-step_listed seed c ws entries ScrubAll acts listed can (inr (free, scrubbed)) = scrub_listed c ws entries acts listed free scrubbed.does
+step_listed seed c ws entries ScrubAll acts listed can (inr (free, scrubbed)) = scrub_listed c ws entries acts listed free scrubbed.0
 step_listed seed c ws entries (SumVolume number) acts listed can summed =
-    listed_by c ws entries (steps_of acts) [] (ap steps_of summed.does ∙ sum_in_no_step number (volume_length ws summed.entry) (text_of summed.given) summed.ending) listed
+    listed_by c ws entries (steps_of acts) [] (ap steps_of summed.is.0 ∙ sum_in_no_step number (volume_length ws summed.entry) (text_of summed.acts) summed.ending) listed
 
 runs_leave : (seed : ℕ) (c : Cartridge) (ws : List ℕ) (entries : List Entry) (items : List MakeStep) (acts : List Act) (answer : Answer) → IsCartridge c → IsListed c ws entries →
     CanRun seed ws entries items → Runs seed c ws entries items acts answer → Whole c (steps_of acts)

@@ -21,12 +21,11 @@ use Rattle.command_laws.proofs.RestoreGivenBack.{given_whole}
 use Rattle.command_laws.proofs.RestoreStanding.{volume_is_long}
 use Rattle.command_laws.specs.CopyLaws.{CopyWithRoomIsDone}
 use Rattle.command_laws.specs.MountedKept.{IsOpen}
-use Rattle.command_spec.specs.Complete.{ReadsAs}
+use Rattle.command_spec.specs.Command.{ReadsAs}
 use Rattle.command_spec.specs.Copied.{contents_of}
 use Rattle.command_spec.specs.Copying.{Compares, Copies, CopiesVolume, FromMounted, Side, ToMounted, giving_status, has_room_for, missing}
 use Rattle.command_spec.specs.Outcome.{settling_act}
-use Rattle.command_spec.specs.Restore.{GivingEnd, LosesFew, LostIn, MismatchIn, Restored, Restores, ending_status, pieces_in}
-use Rattle.command_spec.specs.Commands.RestoreCommand.{HasNumber}
+use Rattle.command_spec.specs.Restore.{GivingEnd, LosesFew, LostIn, MismatchIn, Restored, Restores, ending_status, pieces_in, HasNumber}
 use Rattle.command_spec.specs.declared.copy_status.CopyStatus.{CopyStatus}
 use Rattle.qic_base.specs.Acts.{Act, steps_of}
 use Rattle.qic_base.specs.Cartridge.{Cartridge}

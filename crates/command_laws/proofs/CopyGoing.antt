@@ -13,7 +13,8 @@ use Rattle.command_laws.proofs.RestoreStanding.{volume_is_long}
 use Rattle.command_laws.specs.CopyLaws.{CopyGoesOn}
 use Rattle.command_spec.specs.Copied.{BeginsLike, contents_of, copied, missing_contents}
 use Rattle.command_spec.specs.Copying.{difference, is_alike}
-use Rattle.qic_base.specs.Cartridge.{Cartridge, IsCartridge}
+use Rattle.qic_base.specs.Cartridge.{Cartridge}
+use Rattle.qic_base.specs.Terms.{IsCartridge}
 
 -- ---- the volumes that both have
 

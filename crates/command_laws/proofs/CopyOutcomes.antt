@@ -1,5 +1,5 @@
 -- A copy comes to something, whatever the sectors of the cartridges hold.
-use Rattle.std.proofs.Common.{◌≡◌, ℕ, nat_lt, arith, Bool, true, false, cond, List, [], ◌∷◌, ◌++◌, length, take, All, Option, Some, None, IfSome, inl, inr, refl, ap, sym, ◌∙◌, subst}
+use Rattle.std.proofs.Common.{◌≡◌, ℕ, nat_lt, arith, Bool, true, false, cond, List, [], ◌∷◌, ◌++◌, length, take, All, Option, Some, None, IfSome, inl, inr, refl, ap, ◌∙◌, subst, sym}
 use Rattle.std.proofs.lemmas.Bool.{cases_Bool, le-ltb}
 use Rattle.std.proofs.lemmas.List.{take_all}
 use Rattle.std.proofs.lemmas.List.Elements.{All-drop, All-head, All-tail}
@@ -19,13 +19,14 @@ use Rattle.command_laws.proofs.RestoreGiven.{given_always, given_is_long}
 use Rattle.command_laws.specs.CopyLaws.{CopiesSomething}
 use Rattle.command_laws.specs.MountedListed.{IsListed, listed_behind}
 use Rattle.command_spec.specs.Append.{Fits, Kept, Taking, TooLong, TooShort, room_in, taking}
-use Rattle.command_spec.specs.Copying.{Compares, Copies, CopiesVolume, CopyOutcome, DoneOf, FromMounted, Side, ToDoes, ToMounted, behind_copy, copied_behind, copied_entry, copy_acts, copy_refused, first_difference, foreign_fault, giving_status, has_room_for, kept_on, length_on, missing, side_of}
+use Rattle.command_spec.specs.Copying.{Compares, Copies, CopiesVolume, CopyOutcome, FromMounted, Side, ToDoes, ToMounted, behind_copy, copied_behind, copied_entry, copy_acts, copy_refused, first_difference, foreign_fault, giving_status, has_room_for, kept_on, length_on, missing, side_of, DoneOf}
 use Rattle.command_spec.specs.Lines.{count_line}
 use Rattle.command_spec.specs.Outcome.{settling_act}
 use Rattle.command_spec.specs.Restore.{GivenBytes, GivingEnd, LostIn, MismatchIn, Restored, Restores, pieces}
 use Rattle.command_spec.specs.declared.copy_status.CopyStatus.{CopyStatus}
 use Rattle.qic_base.specs.Acts.{Act, steps_of}
-use Rattle.qic_base.specs.Cartridge.{Cartridge, IsCartridge}
+use Rattle.qic_base.specs.Cartridge.{Cartridge}
+use Rattle.qic_base.specs.Terms.{IsCartridge}
 use Rattle.qic_base.specs.declared.tape.TapeInfo.{TapeInfo}
 use Rattle.cartridge_spec.specs.Mounting as mounting
 use Rattle.command_spec.specs.declared.copy_fault.CopyFault.TheVariants as fault

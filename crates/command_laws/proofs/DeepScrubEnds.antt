@@ -23,16 +23,17 @@ use Rattle.command_laws.specs.DeepScrubLaws.{DeepScrubMends, DeepScrubStopped, F
 use Rattle.command_laws.specs.PromiseLaws.{DeepScrubRunMends}
 use Rattle.command_laws.specs.SilentSectors.{DiffersSilently}
 use Rattle.command_spec.specs.Headline.{Stepped, ToldNow}
-use Rattle.command_spec.specs.Machine.{Spells, Yields}
+use Rattle.command_spec.specs.Machine.{Spells, is_fault}
+use Rattle.command_laws.specs.CommandTerms.{Yields}
 use Rattle.command_spec.specs.Outcome.{CommandOutcome, Opened}
-use Rattle.command_spec.specs.Runs.{is_fault}
-use Rattle.command_spec.specs.ScrubForms.{MendsDeep, ScrubsAs, ScrubsDeepOn}
+use Rattle.command_laws.specs.Terms.{MendsDeep, ScrubsDeepOn}
+use Rattle.command_spec.specs.Scrub.{ScrubsAs}
 use Rattle.command_spec.specs.declared.depth.Depth.TheVariants.{Deep}
 use Rattle.command_spec.specs.declared.status.Status.{Status}
 use Rattle.command_spec.specs.declared.words.Words.{Words}
 use Rattle.qic_base.specs.Acts.{Act, Outside, steps_of}
 use Rattle.qic_base.specs.Cartridge.{Cartridge}
-use Rattle.qic_base.specs.Stop.{Torn}
+use Rattle.qic_base.specs.Step.{Torn}
 use Rattle.cartridge_spec.specs.Mounting as mounting
 use Rattle.command_spec.specs.declared.status.Status.TheVariants as status
 use Rattle.command_spec.specs.declared.words.Words.TheVariants as words

@@ -11,7 +11,8 @@ use Rattle.cartridge_laws.proofs.Sayings.{says_is_function}
 use Rattle.cartridge_laws.specs.Table.{IsSoundList}
 use Rattle.cartridge_spec.specs.Formatting.{HasCleanCopies, IsCleanCopy}
 use Rattle.cartridge_spec.specs.Header.{Header, header_fault}
-use Rattle.cartridge_spec.specs.HeaderAndTable.{CopyDoesNotRead, CopyReads, IsArea, IsInForce, TableIs, copy_cells, last_segment}
+use Rattle.cartridge_spec.specs.HeaderAndTable.{CopyDoesNotRead, CopyReads, IsArea, TableIs, copy_cells, last_segment}
+use Rattle.cartridge_laws.specs.Terms.{IsInForce}
 use Rattle.cartridge_spec.specs.Mounting.{IsMounted, Mounted, Mounting, Mounts, TableLost, mounted_as, settled}
 use Rattle.cartridge_spec.specs.Says.{Data, Mismatch, Says, Written, Zero, whole_mask}
 use Rattle.cartridge_spec.specs.Settling.{settling_steps}
@@ -28,10 +29,9 @@ use Rattle.command_laws.proofs.ScrubSeen.{IsSeen, SameIn, same_back, wrong_same}
 use Rattle.command_laws.proofs.ScrubStanding.{copy_reads, in_force, looks_in_front, table_kept}
 use Rattle.command_laws.specs.ScrubFound.{without_all}
 use Rattle.command_laws.specs.ScrubSayings.{Rise}
-use Rattle.command_spec.specs.Commands.DeepScrubCommand.{IsFirstCopyRight}
+use Rattle.command_laws.specs.Terms.{IsFirstCopyRight, DeepScrubOutcome, MendsDeep, ScrubsDeepOn}
 use Rattle.command_spec.specs.Outcome.{CommandOutcome, Opened}
-use Rattle.command_spec.specs.Scrub.{Looked, looked_at, whole_segment}
-use Rattle.command_spec.specs.ScrubForms.{DeepScrubOutcome, Finding, IsWrong, MendsDeep, ScrubsAs, ScrubsDeepOn}
+use Rattle.command_spec.specs.Scrub.{Looked, looked_at, whole_segment, Finding, IsWrong, ScrubsAs}
 use Rattle.command_spec.specs.declared.depth.Depth.{Depth}
 use Rattle.command_spec.specs.declared.depth.Depth.TheVariants.{Deep}
 use Rattle.qic_base.specs.Acts.{Act, steps_of}

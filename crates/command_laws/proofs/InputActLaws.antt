@@ -5,7 +5,6 @@ use Rattle.std.proofs.lemmas.List.{take_all}
 use Rattle.cartridge_laws.proofs.AppendBySegments.{writes_by_segment}
 use Rattle.cartridge_laws.proofs.AppendKeeping.{parts_of_segments}
 use Rattle.cartridge_laws.proofs.AppendParts.{length-in_sectors, are_sectors}
-use Rattle.cartridge_laws.proofs.Sayings.{cartridge_sectors, code_sectors}
 use Rattle.cartridge_laws.specs.AppendWrites.{AreWrites, IsFree, IsOfSector}
 use Rattle.cartridge_laws.specs.Shape.{Carries}
 use Rattle.cartridge_spec.specs.Appending.{part_writes, in_sectors}
@@ -152,7 +151,7 @@ act_whole words s bytes any are =
     let data_part : All IsSector sectors = are_sectors (data_count (mask_at words s)) bytes are in
     writes_whole s (usable_places (mask_at words s)) (with_parity sectors)
     (All-append IsSector sectors (parity_sectors sectors) data_part
-    (cartridge_sectors (parity_sectors sectors) (parity_sectors-are_sectors sectors (code_sectors sectors data_part))))
+    (parity_sectors-are_sectors sectors data_part))
 
 bytes_behind : (n : ℕ) (bytes : List ℕ) → AreBytes bytes → AreBytes (drop n bytes)
 bytes_behind n bytes are = All-drop (λ (b : ℕ). b < 256) n bytes are

@@ -1,5 +1,5 @@
 -- What leaves a whole table whole: appends, sectors that are worn behind it, and scrubs.
-use Rattle.std.proofs.Common.{if◌then◌else◌, ◌≡◌, ◌∙◌, ◌⊎◌, ◌++◌, ◌<◌, ◌≤◌, ℕ, List, [], Bool, true, false, Option, Some, IsSomeAnd, inl, inr, ap, sym, subst, refl, arith, length}
+use Rattle.std.proofs.Common.{if◌then◌else◌, ◌≡◌, ◌∙◌, ◌++◌, ◌≤◌, ℕ, List, [], Bool, false, Option, Some, IsSomeAnd, inl, inr, ap, sym, subst, arith, ◌+◌, suc}
 use Rattle.std.proofs.lemmas.Bool.{cases_Bool, cases_lt}
 use Rattle.cartridge_laws.proofs.AppendVolume.{old_order}
 use Rattle.cartridge_laws.proofs.ChangeViews.{view_of_other}
@@ -10,15 +10,13 @@ use Rattle.cartridge_laws.proofs.MountSettled.{settled_is_whole, settled_keeps_t
 use Rattle.cartridge_laws.proofs.MountWhole.{settled_is_cartridge}
 use Rattle.cartridge_laws.proofs.OneLossComesBack.{whole_comes_back}
 use Rattle.cartridge_laws.specs.AppendBetween.{IsWhole}
-use Rattle.cartridge_laws.specs.AppendLaws.{new_table}
-use Rattle.cartridge_spec.specs.Appending.{has_room, with_bytes}
+use Rattle.cartridge_spec.specs.Appending.{with_bytes}
 use Rattle.cartridge_spec.specs.HeaderAndTable.{last_segment}
-use Rattle.cartridge_spec.specs.Mounting.{settled}
-use Rattle.cartridge_spec.specs.OneLoss.{LosesOneAlone}
 use Rattle.cartridge_spec.specs.Says.{with_parity}
-use Rattle.cartridge_spec.specs.Settling.{block_writes, changed_by, is_left_out, is_unsettled, places_where, settling_places, settling_steps}
+use Rattle.cartridge_spec.specs.Settling.{block_writes, changed_by, settling_places, settling_steps}
+use Rattle.cartridge_laws.specs.Terms.{places_where, is_left_out, is_unsettled}
 use Rattle.cartridge_spec.specs.Shape.{sector_at}
-use Rattle.cartridge_spec.specs.Volumes.{Plain, Stands, entries_of}
+use Rattle.cartridge_spec.specs.Volumes.{Plain, entries_of}
 use Rattle.command_laws.proofs.MountedHeld.{settled_live}
 use Rattle.command_laws.proofs.MountedKeeping.{scrubbed_kept, worn_kept}
 use Rattle.command_laws.proofs.MountedStanding.{kept_appended, whole_appended}
@@ -28,14 +26,12 @@ use Rattle.command_laws.proofs.ScrubDone.{done_being_mended}
 use Rattle.command_laws.proofs.ScrubMending.{readable_stays, stopped_scrub}
 use Rattle.command_laws.proofs.ScrubStanding.{mending_stands}
 use Rattle.command_laws.specs.Intact.{AppendsLeaveIntact, IntactComesBack, IsIntact, ScrubsLeaveIntact, SettledIsIntact, WearsLeaveIntact}
-use Rattle.command_laws.specs.MountedKept.{IsKept, settle_and_append}
 use Rattle.command_laws.specs.ScrubMended.{IsBeingMended}
-use Rattle.command_spec.specs.OneLoss.{ComesBackAsOneOf}
+use Rattle.command_spec.specs.OneLoss.{ComesBackAsOneOf, SomeComeBack}
 use Rattle.command_spec.specs.Scrub.{looked_at}
 use Rattle.qic_base.specs.Acts.{steps_of}
 use Rattle.qic_base.specs.Cartridge.{Cartridge, view_at}
-use Rattle.qic_base.specs.Step.{Step, worn_view}
-use Rattle.qic_base.specs.Stop.{Torn}
+use Rattle.qic_base.specs.Step.{Step, worn_view, Torn}
 use Rattle.qic_base.specs.declared.tape.TapeInfo.{TapeInfo}
 
 -- ---- a whole table
@@ -65,6 +61,36 @@ intact_comes_back c plain f lost intact loses = whole_comes_back c plain intact.
 pub intact_is_one : (c : Cartridge) (plain other : Plain) (left : Option Cartridge) → IsIntact c plain → left ≡ Some c → IsSomeAnd left (ComesBackAsOneOf plain other)
 intact_is_one c plain other left intact is =
     some_and (ComesBackAsOneOf plain other) c left (λ f lost loses. inl (intact_comes_back c plain f lost intact loses)) is
+
+-- ---- of several plain cartridges
+
+-- as the first, or as the next one
+pub one_comes : (standing : ℕ → Plain) (n : ℕ) (left : Option Cartridge) → IsSomeAnd left (ComesBackAsOneOf (standing n) (standing n)) → SomeComeBack standing n n left
+one_comes standing n left comes = record { one = n; other = n; from = omega arith; next = (omega arith, omega arith); within = omega arith; comes = comes }
+
+-- from fewer volumes on
+pub less_comes : (standing : ℕ → Plain) (fewer least most : ℕ) (left : Option Cartridge) → fewer ≤ least → SomeComeBack standing least most left → SomeComeBack standing fewer most left
+less_comes standing fewer least most left less back = record {
+  one = back.one;
+  other = back.other;
+  from = (let least = back.from in omega arith);
+  next = back.next;
+  within = back.within;
+  comes = back.comes;
+}
+
+-- behind one volume more
+pub next_comes : (standing : ℕ → Plain) (least most : ℕ) (left : Option Cartridge) → SomeComeBack (λ n. standing (suc n)) least most left → SomeComeBack standing (suc least) (suc most) left
+next_comes standing least most left back = record {
+  one = suc back.one;
+  other = suc back.other;
+  from = (let least = back.from in omega arith);
+  next = (let next = back.next in (omega (arith, next.0), omega (arith, next.1)));
+  within = (let few = back.within in omega arith);
+  comes = back.comes;
+}
+
+-- ---- what makes it whole
 
 pub settled_is_intact : SettledIsIntact
 settled_is_intact c plain kept =

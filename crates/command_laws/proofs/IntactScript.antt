@@ -1,36 +1,43 @@
 -- A script, done or stopped, on a cartridge whose whole table holds what it should.
-use Rattle.std.proofs.Common.{◌≡◌, ◌∙◌, ◌⊎◌, ◌++◌, ◌+◌, ◌≤◌, ◌<◌, zero, suc, ℕ, List, [], ◌∷◌, All, Option, Some, IsSomeAnd, inl, inr, ap, sym, subst, refl, arith, length, take, drop, append-nil}
+use Rattle.std.proofs.Common.{◌≡◌, ◌∙◌, ◌++◌, ◌+◌, ◌<◌, zero, suc, ℕ, List, [], ◌∷◌, All, Option, Some, IsSomeAnd, inl, inr, ap, sym, subst, refl, arith, length, take, drop, append-nil, ◌≤◌, ◌⊎◌}
 use Rattle.std.proofs.lemmas.Bool.{cases_lt}
-use Rattle.std.proofs.lemmas.List.{drop_all, take_all}
+use Rattle.std.proofs.lemmas.List.{drop_all, take_all, length-append, length-take-le, take-take}
 use Rattle.cartridge_laws.proofs.AppendVolume.{free_writes_stand, last_end_least}
-use Rattle.cartridge_laws.proofs.FormatWriting.{effects-some, some_weaker}
+use Rattle.cartridge_laws.proofs.FormatWriting.{some_weaker, effects-some}
 use Rattle.cartridge_laws.proofs.MountStanding.{standing_data}
 use Rattle.cartridge_laws.proofs.OneLossComesBack.{whole_comes_back}
-use Rattle.cartridge_spec.specs.Appending.{last_end}
+use Rattle.cartridge_laws.specs.Terms.{last_end}
 use Rattle.cartridge_spec.specs.Settling.{changed_by, settling_steps}
 use Rattle.cartridge_spec.specs.Table.{Entry}
 use Rattle.cartridge_spec.specs.Volumes.{Plain, entries_of}
+use Rattle.command_laws.proofs.ScriptActs.{wears_behind}
 use Rattle.command_laws.proofs.CommandOneLoss.{kept_whole}
-use Rattle.command_laws.proofs.IntactKeeping.{intact_is_one, whole_needs_no_steps}
-use Rattle.command_laws.proofs.MountedKeeping.{acts_stopped}
-use Rattle.command_laws.proofs.ScriptAnswered.{parted_stop}
-use Rattle.command_laws.proofs.ScriptSpeaking.{as_many}
+use Rattle.command_laws.proofs.IntactKeeping.{intact_is_one, whole_needs_no_steps, less_comes, next_comes, one_comes}
+use Rattle.command_laws.proofs.MountedFronts.{ends_in}
+use Rattle.command_laws.proofs.MountedKeeping.{changed_by_acts}
+use Rattle.command_laws.proofs.ScriptAnswered.{parted_stop, StopsBehind, Tears, acts_are, first_do, first_have, first_speak, long, more_printed, speak, stops_behind, torn_there}
+use Rattle.command_laws.proofs.ScriptReached.{AllLeave, Reached, leave_weaker, reached_behind, reached_between}
+use Rattle.command_laws.proofs.ScriptReading.{cartridge_is}
+use Rattle.command_laws.proofs.ScriptSpeaking.{AllSpeak}
 use Rattle.command_laws.proofs.ScriptStanding.{ItemLeaves, early_entry, early_writes, item_leaves, items_have_bytes, next_do, next_is}
-use Rattle.command_laws.specs.Intact.{IsIntact, StoppedScriptComesBack}
+use Rattle.command_laws.specs.ActStops.{Behind, Between}
+use Rattle.command_laws.specs.Intact.{IsIntact, StoppedScriptComesBack, AnsweredScriptComesBack, DoneScriptComesBack}
 use Rattle.command_laws.specs.MountedHeld.{IsHeld}
 use Rattle.command_laws.specs.ScriptStanding.{HaveBytes, plain_after, plain_behind}
-use Rattle.command_spec.specs.Append.{Kept, append_acts, entry_acts, input_writes, kept_over, room_in, taking}
+use Rattle.command_spec.specs.Append.{Kept, entry_acts, input_writes, kept_over, room_in, taking}
 use Rattle.command_spec.specs.Input.{AtEnd, AtFault, AtStop, Ending, Item}
 use Rattle.command_spec.specs.Lines.{reply_behind}
-use Rattle.command_spec.specs.OneLoss.{ComesBackAsOneOf, SomeComeBack}
-use Rattle.command_spec.specs.Script.{Did, EndDoes, FaultDoes, Finds, ItemsDo, Meeting, Meets, Refuses, ScriptDoes, ScriptRun, acts_of, acts_on, cartridge_behind, entries_behind, place_behind}
-use Rattle.command_spec.specs.ScriptLists.{ItemsWearBehind, LineSpares, WearsBehind}
+use Rattle.command_spec.specs.OneLoss.{ComesBackAsOneOf, SomeComeBack, with_items}
+use Rattle.command_spec.specs.Script.{Did, EndDoes, Finds, ItemsDo, Meeting, Meets, Refuses, ScriptDoes, acts_of, acts_on, cartridge_behind, entries_behind, place_behind}
+use Rattle.command_laws.specs.CommandTerms.{FaultDoes, LineSpares, WearsBehind}
+use Rattle.command_spec.specs.Outcome.{CommandOutcome}
+use Rattle.command_spec.specs.ScriptLists.{ItemsWearBehind, CameFurther, GoesNoFurther, printed_by}
 use Rattle.command_spec.specs.declared.line.Line.{Line}
-use Rattle.qic_base.proofs.Joins.{steps_of-append}
-use Rattle.qic_base.specs.Acts.{Act, steps_of}
+use Rattle.qic_base.proofs.Joins.{steps_of-append, text_of-append}
+use Rattle.qic_base.proofs.Steps.{Torn-all, Torn-nothing}
+use Rattle.qic_base.specs.Acts.{Act, steps_of, next_steps, text_of}
 use Rattle.qic_base.specs.Cartridge.{Cartridge}
-use Rattle.qic_base.specs.Step.{Step}
-use Rattle.qic_base.specs.Stop.{Torn}
+use Rattle.qic_base.specs.Step.{Step, Torn}
 use Rattle.command_spec.specs.declared.line.Line.TheVariants as line
 
 -- ---- the first items
@@ -59,8 +66,8 @@ all_intact [] [] c plain intact has ran behind = record { intact = intact; entri
 all_intact [] (did ∷ dids) c plain intact has ran behind = absurd ran
 all_intact (item ∷ items) [] c plain intact has ran behind = absurd ran
 all_intact (item ∷ items) (did ∷ dids) c plain intact has ran behind =
-    let one : ItemLeaves c plain item did = leaves c plain item items did dids intact has ran behind.0 in
-    let now = one.intact behind.0 intact in
+    let one : ItemLeaves c plain item did = leaves c plain item items did dids intact has ran (wears_behind item.line behind.0) in
+    let now = one.intact (wears_behind item.line behind.0) intact in
     let d : Cartridge = changed_by (steps_of did.acts) c in
     let next : Plain = plain_after plain item did in
     let rest = all_intact items dids d next now.done has.1 (next_do d plain next items did.entries dids one.entries one.words ran.1) behind.1 in
@@ -71,49 +78,58 @@ all_intact (item ∷ items) (did ∷ dids) c plain intact has ran behind =
       words = ap (λ (p : Plain). p.words) (sym same) ∙ rest.words ∙ one.words;
     }
 
--- a stop among them
-none_stopped : (standing : ℕ → Plain) (n : ℕ) (c : Cartridge) (left : Option Cartridge) → IsIntact c (standing 0) → left ≡ Some c → SomeComeBack standing n left
-none_stopped standing n c left intact is = record {
-  one = 0;
-  other = 0;
-  next = (omega arith, omega arith);
-  within = omega arith;
-  comes = intact_is_one c (standing 0) (standing 0) left intact is;
-}
+-- acts behind them leave what comes back as the plain cartridge
+abbrev EndComes : Cartridge → Plain → List Act → Type 0
+EndComes d p last = (left : Option Cartridge) → Torn (steps_of last) (Some d) left → IsSomeAnd left (ComesBackAsOneOf p p)
 
-first_come_back : (n : ℕ) (items : List Item) (dids : List Did) (c : Cartridge) (plain : Plain) (left : Option Cartridge) → IsIntact c plain → HaveBytes items →
-    ItemsDo c plain.words (entries_of plain) items dids → ItemsWearBehind (take n items) → Torn (steps_of (acts_of (take n dids))) (Some c) left →
-    SomeComeBack (λ m. plain_behind plain (take m items) (take m dids)) n left
-first_come_back zero items dids c plain left intact has ran behind torn = none_stopped (λ m. plain_behind plain (take m items) (take m dids)) 0 c left intact torn
-first_come_back (suc n) [] [] c plain left intact has ran behind torn = none_stopped (λ m. plain_behind plain (take m []) (take m [])) (suc n) c left intact torn
-first_come_back (suc n) [] (did ∷ dids) c plain left intact has ran behind torn = absurd ran
-first_come_back (suc n) (item ∷ items) [] c plain left intact has ran behind torn = absurd ran
-first_come_back (suc n) (item ∷ items) (did ∷ dids) c plain left intact has ran behind torn =
-    let one : ItemLeaves c plain item did = leaves c plain item items did dids intact has ran behind.0 in
-    let now = one.intact behind.0 intact in
+-- so many items, and acts behind them, leave what comes back behind some of the items, by how much was printed
+items_come : (n : ℕ) (items : List Item) (dids : List Did) (c : Cartridge) (plain : Plain) (last : List Act) → n ≤ length items → IsIntact c plain → HaveBytes items →
+    ItemsDo c plain.words (entries_of plain) items dids → ItemsWearBehind (take n items) → EndComes (cartridge_behind c (take n dids)) (with_items plain items dids n) last →
+    AllLeave Tears (λ m. SomeComeBack (with_items plain items dids) m n) c (take n dids) last
+items_come zero items dids c plain last some intact has ran behind ends =
+    λ front rest left parts torn. one_comes (with_items plain items dids) 0 left (ends left (torn_there front rest last c left parts torn))
+items_come (suc n) [] dids c plain last some intact has ran behind ends = absurd (omega arith)
+items_come (suc n) (item ∷ items) [] c plain last some intact has ran behind ends = absurd ran
+items_come (suc n) (item ∷ items) (did ∷ dids) c plain last some intact has ran behind ends =
+    let one : ItemLeaves c plain item did = leaves c plain item items did dids intact has ran (wears_behind item.line behind.0) in
+    let now = one.intact (wears_behind item.line behind.0) intact in
     let d : Cartridge = changed_by (steps_of did.acts) c in
     let next : Plain = plain_after plain item did in
-    let same : (m : ℕ) → plain_behind next (take m items) (take m dids) ≡ plain_behind plain (take (suc m) (item ∷ items)) (take (suc m) (did ∷ dids)) =
-    λ m. next_is plain item did (take m items) (take m dids) one.entries in
-    elim (acts_stopped did.acts (acts_of (take n dids)) (did.acts ++ acts_of (take n dids)) c left refl torn) [
-      | inl here ↦ record {
-        one = 0;
-        other = 1;
-        next = (omega arith, omega arith);
-        within = omega arith;
-        comes = subst (λ (p : Plain). IsSomeAnd left (ComesBackAsOneOf plain p)) (same 0) (now.stopped left here);
-      }
-      | inr rest ↦
-          let back = first_come_back n items dids d next left now.done has.1 (next_do d plain next items did.entries dids one.entries one.words ran.1) behind.1 rest in
-          record {
-            one = suc back.one;
-            other = suc back.other;
-            next = (let next = back.next in (omega (arith, next.0), omega (arith, next.1)));
-            within = (let few = back.within in omega arith);
-            comes = subst (λ (p : Plain). IsSomeAnd left (ComesBackAsOneOf p (plain_behind plain (take (suc back.other) (item ∷ items)) (take (suc back.other) (did ∷ dids))))) (same back.one)
-                (subst (λ (p : Plain). IsSomeAnd left (ComesBackAsOneOf (plain_behind next (take back.one items) (take back.one dids)) p)) (same back.other) back.comes);
-          }
-    ]
+    let all : ℕ → Plain = with_items plain (item ∷ items) (did ∷ dids) in
+    let same : (m : ℕ) → with_items next items dids m ≡ all (suc m) = λ m. next_is plain item did (take m items) (take m dids) one.entries in
+    let shift : (m : ℕ) (left : Option Cartridge) → SomeComeBack (with_items next items dids) m n left → SomeComeBack all (suc m) (suc n) left =
+    λ m left back. next_comes all m n left (record {
+      one = back.one;
+      other = back.other;
+      from = back.from;
+      next = back.next;
+      within = back.within;
+      comes = subst (λ (p : Plain). IsSomeAnd left (ComesBackAsOneOf p (all (suc back.other)))) (same back.one)
+          (subst (λ (p : Plain). IsSomeAnd left (ComesBackAsOneOf (with_items next items dids back.one) p)) (same back.other) back.comes);
+    }) in (
+      record {
+        done = record {
+          one = 1;
+          other = 1;
+          from = omega arith;
+          next = (omega arith, omega arith);
+          within = omega arith;
+          comes = subst (λ (p : Plain). ComesBackAsOneOf p p d) (same 0) (intact_is_one d next next (Some d) now.done refl);
+        };
+        stopped = λ front act rest left whole torn. inl (record {
+          one = 0;
+          other = 1;
+          from = omega arith;
+          next = (omega arith, omega arith);
+          within = omega arith;
+          comes = subst (λ (p : Plain). IsSomeAnd left (ComesBackAsOneOf plain p)) (same 0)
+              (now.stopped left (torn_there front (act ∷ rest) did.acts c left whole torn));
+        });
+      },
+      leave_weaker Tears (λ m. SomeComeBack (with_items next items dids) m n) (λ m. SomeComeBack all (suc m) (suc n)) shift d (take n dids) last
+          (items_come n items dids d next last (omega arith) now.done has.1 (next_do d plain next items did.entries dids one.entries one.words ran.1) behind.1
+          (subst (λ (p : Plain). EndComes (cartridge_behind d (take n dids)) p last) (sym (same n)) ends)),
+    )
 
 -- ---- the last acts
 
@@ -153,43 +169,176 @@ last_comes c plain rest (AtFault number place) acts left intact does torn = faul
 
 -- ---- a script
 
-module _ (c : Cartridge) (plain : Plain) (input : List ℕ) (outcome : ScriptRun) (left : Option Cartridge) (intact : IsIntact c plain)
+module _ (c : Cartridge) (plain : Plain) (input : List ℕ) (outcome : CommandOutcome) (intact : IsIntact c plain)
     (does : ScriptDoes c plain.words (entries_of plain) input outcome) (content : All (λ b. b < 256) input) where
+  abbrev items : List Item
+  items = does.items
+
+  abbrev dids : List Did
+  dids = does.dids
+
+  abbrev standing : ℕ → Plain
+  standing = with_items plain items dids
+
+  held : IsHeld c plain
+  held = is_held c plain intact
+
+  has : HaveBytes items
+  has = items_have_bytes input items does.ending does.read content
+
+  as_long : length dids ≡ length items
+  as_long = long c plain input outcome held intact.kept.live does content
+
+  -- what comes behind the first items, and the last acts
+  abbrev rear : ℕ → List Act
+  rear n = acts_of (drop n dids) ++ does.last
+
+  parted : (n : ℕ) → outcome.acts ≡ acts_of (take n dids) ++ rear n
+  parted n = acts_are c plain input outcome held intact.kept.live does content n
+
+  none_behind : (n : ℕ) → n ≤ length items → ItemsWearBehind (take n items) → EndComes (cartridge_behind c (take n dids)) (standing n) []
+  none_behind n some behind left is =
+      let known = all_intact (take n items) (take n dids) c plain intact (first_have n items has) (first_do n items dids c plain.words (entries_of plain) does.did) behind in
+      intact_is_one (cartridge_behind c (take n dids)) (standing n) (standing n) left known.intact is
+
   -- behind all items
-  behind_all : (n : ℕ) → n ≡ length does.items → ItemsWearBehind (take n does.items) →
-      Torn (steps_of (acts_of (drop n does.dids) ++ does.last)) (Some (cartridge_behind c (take n does.dids))) left →
-      SomeComeBack (λ m. plain_behind plain (take m does.items) (take m does.dids)) n left
-  behind_all n all behind torn =
-      let long : length does.dids ≡ length does.items = as_many does.items does.dids c plain.words (entries_of plain) does.did in
-      let every : take n does.items ≡ does.items = take_all n does.items (omega arith) in
-      let did : take n does.dids ≡ does.dids = take_all n does.dids (omega arith) in
-      let none : drop n does.dids ≡ [] = drop_all n does.dids (omega arith) in
-      let p : Plain = plain_behind plain does.items does.dids in
-      let known = all_intact does.items does.dids c plain intact (items_have_bytes input does.items does.ending does.read content) does.did (subst ItemsWearBehind every behind) in
-      let rest : List ℕ = drop (place_behind 1 0 input does.items does.ending does.read) input in
-      let ends : EndDoes (cartridge_behind c does.dids) p.words (entries_of p) rest does.ending does.last =
-      subst (λ (ws : List ℕ). EndDoes (cartridge_behind c does.dids) ws (entries_of p) rest does.ending does.last) (sym known.words)
-      (subst (λ (es : List Entry). EndDoes (cartridge_behind c does.dids) plain.words es rest does.ending does.last) (sym known.entries) does.ends) in
-      let now : Torn (steps_of does.last) (Some (cartridge_behind c does.dids)) left =
-      subst (λ (ds : List Did). Torn (steps_of (acts_of ds ++ does.last)) (Some (cartridge_behind c does.dids)) left) none
-      (subst (λ (ds : List Did). Torn (steps_of (acts_of (drop n does.dids) ++ does.last)) (Some (cartridge_behind c ds)) left) did torn) in
-      let comes : IsSomeAnd left (ComesBackAsOneOf p p) = last_comes (cartridge_behind c does.dids) p rest does.ending does.last left known.intact ends now in
-      let same : p ≡ plain_behind plain (take n does.items) (take n does.dids) =
-      ap (λ (xs : List Item). plain_behind plain xs does.dids) (sym every) ∙ ap (λ (ds : List Did). plain_behind plain (take n does.items) ds) (sym did) in
-      record {
-        one = n;
-        other = n;
-        next = (omega arith, omega arith);
-        within = omega arith;
-        comes = subst (λ (q : Plain). IsSomeAnd left (ComesBackAsOneOf q q)) same comes;
-      }
+  all_behind : (n : ℕ) → n ≡ length items → ItemsWearBehind (take n items) → EndComes (cartridge_behind c (take n dids)) (standing n) (rear n)
+  all_behind n all behind left torn =
+      let every : take n items ≡ items = take_all n items (omega arith) in
+      let did : take n dids ≡ dids = take_all n dids (let many = as_long in omega arith) in
+      let none : drop n dids ≡ [] = drop_all n dids (let many = as_long in omega arith) in
+      let p : Plain = plain_behind plain items dids in
+      let known = all_intact items dids c plain intact has does.did (subst ItemsWearBehind every behind) in
+      let rest : List ℕ = drop (place_behind 1 0 input items does.ending does.read) input in
+      let ends : EndDoes (cartridge_behind c dids) p.words (entries_of p) rest does.ending does.last =
+      subst (λ (ws : List ℕ). EndDoes (cartridge_behind c dids) ws (entries_of p) rest does.ending does.last) (sym known.words)
+      (subst (λ (es : List Entry). EndDoes (cartridge_behind c dids) plain.words es rest does.ending does.last) (sym known.entries) does.ends) in
+      let now : Torn (steps_of does.last) (Some (cartridge_behind c dids)) left =
+      subst (λ (ds : List Did). Torn (steps_of (acts_of ds ++ does.last)) (Some (cartridge_behind c dids)) left) none
+      (subst (λ (ds : List Did). Torn (steps_of (rear n)) (Some (cartridge_behind c ds)) left) did torn) in
+      let comes : IsSomeAnd left (ComesBackAsOneOf p p) = last_comes (cartridge_behind c dids) p rest does.ending does.last left known.intact ends now in
+      let same : p ≡ standing n =
+      ap (λ (xs : List Item). plain_behind plain xs dids) (sym every) ∙ ap (λ (ds : List Did). plain_behind plain (take n items) ds) (sym did) in
+      subst (λ (q : Plain). IsSomeAnd left (ComesBackAsOneOf q q)) same comes
+
+  -- a stop among the acts of the first items
+  first_come_back : (n : ℕ) (left : Option Cartridge) → n ≤ length items → ItemsWearBehind (take n items) → Torn (steps_of (acts_of (take n dids))) (Some c) left → SomeComeBack standing 0 n left
+  first_come_back n left some behind torn =
+      let s : StopsBehind (acts_of (take n dids)) c left = stops_behind (acts_of (take n dids)) c left torn in
+      let r = reached_between Tears (λ m. SomeComeBack standing m n) (take n dids) c [] s.front s.rest left
+      (first_speak n dids (speak c plain input outcome held intact.kept.live does content))
+      (items_come n items dids c plain [] some intact has does.did behind (none_behind n some behind)) (s.parts ∙ sym (append-nil (acts_of (take n dids)))) s.torn in
+      less_comes standing 0 r.count n left (omega arith) r.holds
+
+  stopped_comes : (n : ℕ) (left : Option Cartridge) → n ≤ length items → ItemsWearBehind (take n items) → Torn (steps_of outcome.acts) (Some c) left →
+      CameFurther c items dids does.last n left ⊎ SomeComeBack standing 0 n left
+  stopped_comes n left some behind torn =
+      elim (parted_stop c plain input outcome held intact.kept.live does content n left torn) [
+        | inl first ↦ inr (first_come_back n left some behind first)
+        | inr rest ↦ elim (cases_lt n (length items)) [
+          | inl more ↦ inl (record { more = more; torn = rest })
+          | inr all ↦ inr (less_comes standing 0 n n left (omega arith) (one_comes standing n left (all_behind n (omega arith) behind left rest)))
+        ]
+      ]
+
+  -- ---- by what was printed
+
+  module _ (answered n : ℕ) (known : answered ≤ length items) (some : n ≤ length items) (behind : ItemsWearBehind (take n items)) where
+    spoken : AllSpeak (take n dids)
+    spoken = first_speak n dids (speak c plain input outcome held intact.kept.live does content)
+
+    -- those whose reply was written whole are among those that it went no further than
+    by_reached : (printed : ℕ) (left : Option Cartridge) → printed_by dids answered ≤ printed → GoesNoFurther items dids n printed →
+        Reached (λ m. SomeComeBack standing m n) (take n dids) printed left → SomeComeBack standing answered n left
+    by_reached printed left written further r =
+        let few : answered ≤ n = elim further [
+          | inl all ↦ omega arith
+          | inr less ↦ elim (cases_lt n answered) [
+            | inl more ↦ absurd (let grows = more_printed n answered dids (omega arith) in omega arith)
+            | inr fewer ↦ fewer
+          ]
+        ] in
+        let count : length (take n dids) ≡ n = length-take-le n dids (let many = as_long in omega arith) in
+        let reached : answered ≤ r.count = r.answered answered (omega arith)
+        (subst (λ (ds : List Did). length (text_of (acts_of ds)) ≤ printed) (sym (take-take answered n dids few)) written) in
+        less_comes standing answered r.count n left reached r.holds
+
+    all_come : n ≡ length items → AllLeave Tears (λ m. SomeComeBack standing m n) c (take n dids) (rear n)
+    all_come all = items_come n items dids c plain (rear n) some intact has does.did behind (all_behind n all behind)
+
+    first_come : AllLeave Tears (λ m. SomeComeBack standing m n) c (take n dids) []
+    first_come = items_come n items dids c plain [] some intact has does.did behind (none_behind n some behind)
+
+    -- no act behind the first items had a part of its text written
+    too_far : (front : List Act) (next : List Act) (printed : ℕ) → front ≡ acts_of (take n dids) ++ next → length (text_of front) ≤ printed → printed < printed_by dids n → ⊥
+    too_far front next printed is above less =
+        let text : length (text_of front) ≡ printed_by dids n + length (text_of next) =
+        ap (λ (xs : List Act). length (text_of xs)) is ∙ ap (λ (t : List ℕ). length t) (text_of-append (acts_of (take n dids)) next)
+        ∙ length-append (text_of (acts_of (take n dids))) (text_of next) in
+        absurd (omega arith)
+
+    between_comes : (text : List ℕ) (left : Option Cartridge) → printed_by dids answered ≤ length text → GoesNoFurther items dids n (length text) → Between c outcome.acts text left →
+        SomeComeBack standing answered n left
+    between_comes text left written further at =
+        let there : Torn (next_steps at.rest) (Some (changed_by (steps_of at.front) c)) left =
+        subst (λ (o : Option Cartridge). Torn (next_steps at.rest) o left) (effects-some (steps_of at.front) c) at.torn in
+        let long_text : length text ≡ length (text_of at.front) = ap (λ (t : List ℕ). length t) at.is_text in
+        by_reached (length text) left written further
+        (subst (λ (m : ℕ). Reached (λ k. SomeComeBack standing k n) (take n dids) m left) (sym long_text)
+        (elim further [
+          | inl all ↦
+              reached_between Tears (λ m. SomeComeBack standing m n) (take n dids) c (rear n) at.front at.rest left spoken (all_come all) (at.parts ∙ parted n) there
+          | inr less ↦ elim (ends_in at.front at.rest (acts_of (take n dids)) (rear n) (at.parts ∙ parted n)) [
+            | inl w ↦
+                reached_between Tears (λ m. SomeComeBack standing m n) (take n dids) c [] at.front (w.act ∷ w.behind) left spoken first_come
+                (w.whole ∙ sym (append-nil (acts_of (take n dids))))
+                (subst (λ (xs : List Act). Torn (next_steps xs) (Some (changed_by (steps_of at.front) c)) left) w.rest_is there)
+            | inr p ↦ absurd (too_far at.front p.next (length text) p.front_is (omega arith) less)
+          ]
+        ]))
+
+    behind_comes : (text : List ℕ) (left : Option Cartridge) → printed_by dids answered ≤ length text → GoesNoFurther items dids n (length text) → Behind c outcome.acts text left →
+        SomeComeBack standing answered n left
+    behind_comes text left written further at =
+        let there : left ≡ Some (changed_by (steps_of at.front ++ at.act.steps) c) = at.is ∙ effects-some (steps_of at.front ++ at.act.steps) c in
+        let long_text : length text ≡ length (text_of at.front) + length at.some = ap (λ (t : List ℕ). length t) at.is_text ∙ length-append (text_of at.front) at.some in
+        let act_text : length at.act.text ≡ length at.some + length at.more = ap (λ (t : List ℕ). length t) (sym at.written) ∙ length-append at.some at.more in
+        by_reached (length text) left written further
+        (elim further [
+          | inl all ↦
+              reached_behind Tears (λ ss d. Torn-nothing ss (Some d)) (λ m. SomeComeBack standing m n) (take n dids) c (rear n) at.front at.act at.rest left (length text) spoken (all_come all)
+              (at.parts ∙ parted n) there (omega arith) (omega arith)
+          | inr less ↦ elim (ends_in at.front (at.act ∷ at.rest) (acts_of (take n dids)) (rear n) (at.parts ∙ parted n)) [
+            | inl w ↦
+                let rest_is : at.act ∷ at.rest ≡ w.act ∷ (w.behind ++ rear n) = w.rest_is in
+                let same : at.act ≡ w.act = cc in
+                reached_behind Tears (λ ss d. Torn-nothing ss (Some d)) (λ m. SomeComeBack standing m n) (take n dids) c [] at.front at.act w.behind left (length text) spoken first_come
+                (ap (λ (a : Act). at.front ++ a ∷ w.behind) same ∙ w.whole ∙ sym (append-nil (acts_of (take n dids)))) there (omega arith) (omega arith)
+            | inr p ↦ absurd (too_far at.front p.next (length text) p.front_is (omega arith) less)
+          ]
+        ])
 
 pub stopped_script_comes_back : StoppedScriptComesBack
-stopped_script_comes_back c plain input outcome left intact does content n some behind torn =
-    elim (parted_stop c plain input outcome (is_held c plain intact) intact.kept.live does content n left torn) [
-      | inl first ↦ inr (first_come_back n does.items does.dids c plain left intact (items_have_bytes input does.items does.ending does.read content) does.did behind first)
-      | inr rest ↦ elim (cases_lt n (length does.items)) [
-        | inl more ↦ inl (record { more = more; torn = rest })
-        | inr all ↦ inr (behind_all c plain input outcome left intact does content n (omega arith) behind rest)
-      ]
-    ]
+stopped_script_comes_back c plain input outcome left intact does content n some behind torn = stopped_comes c plain input outcome intact does content n left some behind torn
+
+pub answered_script_comes_back : AnsweredScriptComesBack
+answered_script_comes_back c plain input outcome text left intact does content answered n known written some further behind (inl at) =
+    between_comes c plain input outcome intact does content answered n known some behind text left written further at
+answered_script_comes_back c plain input outcome text left intact does content answered n known written some further behind (inr at) =
+    behind_comes c plain input outcome intact does content answered n known some behind text left written further at
+
+pub done_script_comes_back : DoneScriptComesBack
+done_script_comes_back c plain input outcome intact does content behind =
+    let n : ℕ = length does.items in
+    let first : take n does.items ≡ does.items = take_all n does.items (omega arith) in
+    let left : Option Cartridge = Some (changed_by (steps_of outcome.acts) c) in
+    let there : cartridge_behind c (take n does.dids) ≡ changed_by (steps_of (acts_of (take n does.dids))) c = cartridge_is c (take n does.dids) in
+    let rest : List Act = rear c plain input outcome intact does content n in
+    let whole : changed_by (steps_of outcome.acts) c ≡ changed_by (steps_of rest) (cartridge_behind c (take n does.dids)) =
+    ap (λ (acts : List Act). changed_by (steps_of acts) c) (parted c plain input outcome intact does content n)
+    ∙ changed_by_acts (acts_of (take n does.dids)) rest c ∙ ap (λ (d : Cartridge). changed_by (steps_of rest) d) (sym there) in
+    one_comes (with_items plain does.items does.dids) n left
+    (all_behind c plain input outcome intact does content n refl (subst ItemsWearBehind (sym first) behind) left
+    (subst (λ (o : Option Cartridge). Torn (steps_of rest) (Some (cartridge_behind c (take n does.dids))) o)
+    (effects-some (steps_of rest) (cartridge_behind c (take n does.dids)) ∙ ap (λ (d : Cartridge). Some d) (sym whole))
+    (Torn-all (steps_of rest) (Some (cartridge_behind c (take n does.dids))))))

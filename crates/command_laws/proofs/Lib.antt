@@ -73,6 +73,7 @@ pub mod PromiseFollowing
 pub mod PulseMachineLaws
 pub mod PulseStopping
 pub mod PulseTrains
+pub mod ReadableRuns
 pub mod RestoreAppended
 pub mod RestoreCounts
 pub mod RestoreEndings

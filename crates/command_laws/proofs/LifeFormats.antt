@@ -3,11 +3,12 @@ use Rattle.std.proofs.Common.{append_assoc, ◌≡◌, ◌⊎◌, ℕ, inl, inr,
 use Rattle.cartridge_laws.proofs.ChangeLive.{steps_keep_live}
 use Rattle.cartridge_laws.proofs.FormatCopies.{new_has_no_header}
 use Rattle.cartridge_laws.specs.ChangeSteps.{HasNoRenew}
-use Rattle.cartridge_spec.specs.Formatting.{HasNoHeader, StandsCleanly, copy_writes, fresh_plain, segment_formats}
+use Rattle.cartridge_spec.specs.Formatting.{HasNoHeader, StandsCleanly, copy_writes, fresh_plain}
+use Rattle.cartridge_laws.specs.Terms.{segment_formats}
 use Rattle.cartridge_spec.specs.HeaderAndTable.{IsUnformatted}
 use Rattle.cartridge_spec.specs.Mounting.{IsTableLive}
 use Rattle.cartridge_spec.specs.Says.{with_parity}
-use Rattle.cartridge_spec.specs.Volumes.{Plain}
+use Rattle.cartridge_spec.specs.Volumes.{Plain, Stands}
 use Rattle.command_laws.proofs.CommandPlainLaws.{format_leaves}
 use Rattle.command_laws.proofs.CommandTable.{only_new_renews}
 use Rattle.command_laws.proofs.CommandVolumes.{cleared_is_bare, format_bare, format_standing, formatted_fresh}
@@ -16,19 +17,19 @@ use Rattle.command_laws.proofs.LifeUnformatted.{IsReferenced, formatting_referen
 use Rattle.command_laws.specs.CommandRecord.{NeitherReads}
 use Rattle.command_laws.proofs.ScriptAnswered.{next_torn}
 use Rattle.command_laws.specs.ActStops.{IsLeftBy}
+use Rattle.command_laws.specs.Terms.{IsBare, NewOutcome}
 use Rattle.command_laws.specs.Life.{Ended, Answered, Stopped, Becomes, IsReady, IsSound, IsWithout, Leaves, MayEnd, begun_by}
-use Rattle.command_spec.specs.Commands.Format.{FormatOutcome}
+use Rattle.command_spec.specs.Single.{FormatOutcome}
 use Rattle.command_spec.specs.Outcome.{CommandOutcome}
-use Rattle.command_spec.specs.Volumes.{IsBare, StandsEmpty, StandsFresh}
-use Rattle.command_spec.specs.Commands.New.{NewOutcome}
+use Rattle.command_spec.specs.Volumes.{StandsEmpty}
 use Rattle.command_spec.specs.declared.status.Status.{Status}
 use Rattle.command_spec.specs.declared.words.Words.{Words}
 use Rattle.qic_base.proofs.Joins.{steps_of-append}
 use Rattle.qic_base.proofs.Steps.{Torn-all, Torn-behind, Torn-front}
 use Rattle.qic_base.specs.Acts.{Act, steps_of}
-use Rattle.qic_base.specs.Cartridge.{Cartridge, IsCartridge, new_cartridge}
-use Rattle.qic_base.specs.Step.{Renew, Step, effects}
-use Rattle.qic_base.specs.Stop.{Torn}
+use Rattle.qic_base.specs.Cartridge.{Cartridge, new_cartridge}
+use Rattle.qic_base.specs.Terms.{IsCartridge}
+use Rattle.qic_base.specs.Step.{Renew, Step, effects, Torn}
 use Rattle.command_spec.specs.declared.status.Status.TheVariants as status
 use Rattle.command_spec.specs.declared.words.Words.TheVariants as words
 
@@ -103,7 +104,7 @@ module _ (label : List ℕ) (date : ℕ) (c : Cartridge) (input : List ℕ) (beg
   command = words.Format label date
 
   -- carried out, or refused
-  fresh_makes : (printed : List ℕ) (left : Option Cartridge) → IfSome left IsCartridge → IsSomeAnd left (StandsFresh c label date) → Makes command input (Answered status.Done printed) begun (Some c) left before
+  fresh_makes : (printed : List ℕ) (left : Option Cartridge) → IfSome left IsCartridge → IsSomeAnd left (StandsEmpty StandsCleanly c label date) → Makes command input (Answered status.Done printed) begun (Some c) left before
   fresh_makes printed None whole_left fresh = absurd fresh
   fresh_makes printed (Some d) whole_left fresh = (
     Some (fresh_plain c label date fresh.words fresh.area),
@@ -136,7 +137,7 @@ module _ (label : List ℕ) (date : ℕ) (c : Cartridge) (input : List ℕ) (beg
       let told : outcome.status ≡ status.Done = ap (λ (o : CommandOutcome). o.status) is in
       subst (λ (a : Status). Makes command input (Answered a printed) begun (Some c) left before) (sym told ∙ leaves.0)
       (fresh_makes printed left whole_left
-      (subst (λ (o : Option Cartridge). IsSomeAnd o (StandsFresh c label date)) (sym leaves.2) (formatted_fresh label date c outcome whole plain told)))
+      (subst (λ (o : Option Cartridge). IsSomeAnd o (StandsEmpty StandsCleanly c label date)) (sym leaves.2) (formatted_fresh label date c outcome whole plain told)))
 
   -- stopped before its first step, or behind it
   no_new : HasNoRenew (steps_of outcome.acts)
@@ -163,7 +164,7 @@ module _ (label : List ℕ) (date : ℕ) (c : Cartridge) (input : List ℕ) (beg
       let neither : NeitherReads d = neither_from_unformatted d none referenced in
       (None, inr (inl refl), record { whole = whole_left; first = neither.0; second = neither.1; bare = λ is. absurd (cc) })
 
-  stopped_empty : (printed : Option (List ℕ)) (d : Cartridge) → IsCartridge d → StandsEmpty c label date d → Stops printed (Some d)
+  stopped_empty : (printed : Option (List ℕ)) (d : Cartridge) → IsCartridge d → StandsEmpty Stands c label date d → Stops printed (Some d)
   stopped_empty printed d whole_left empty = (
     Some (fresh_plain c label date empty.words empty.area),
     inr (inr (record { words = empty.words; area = empty.area; fresh = empty.fresh; is = refl })),
@@ -187,7 +188,7 @@ standing_stops printed label date c input plain left ready outcome yields torn w
     live = steps_keep_live (steps_of outcome.acts) c left (only_new_renews (words.Format label date) (Some c) input outcome tt yields) ready.live torn
 
     by_left : (l : Option Cartridge) → IfSome l IsCartridge → IsSomeAnd l IsReferenced → IsSomeAnd l IsTableLive →
-        IsSomeAnd l (λ d. StandsCleanly d plain ⊎ IsUnformatted d ⊎ StandsEmpty c label date d) → Makes (words.Format label date) input (Stopped printed) false (Some c) l (Some plain)
+        IsSomeAnd l (λ d. StandsCleanly d plain ⊎ IsUnformatted d ⊎ StandsEmpty Stands c label date d) → Makes (words.Format label date) input (Stopped printed) false (Some c) l (Some plain)
     by_left None whole referenced live is = absurd is
     by_left (Some d) whole referenced live (inl stands) =
         (Some plain, inl refl, record { whole = whole; stands = stands.stands; live = live; clean = λ is. absurd (cc) })
@@ -206,7 +207,7 @@ without_stops printed label date c input left without outcome yields torn whole_
           (format_leaves label date (Some c) left outcome yields torn))
     ]
   where
-    by_left : (l : Option Cartridge) → IfSome l IsCartridge → IsSomeAnd l IsReferenced → IsSomeAnd l (λ d. IsUnformatted d ⊎ StandsEmpty c label date d) →
+    by_left : (l : Option Cartridge) → IfSome l IsCartridge → IsSomeAnd l IsReferenced → IsSomeAnd l (λ d. IsUnformatted d ⊎ StandsEmpty Stands c label date d) →
         Makes (words.Format label date) input (Stopped printed) false (Some c) l None
     by_left None whole referenced is = absurd is
     by_left (Some d) whole referenced (inl none) = stopped_without label date c input false None without.whole without outcome yields printed d whole referenced none

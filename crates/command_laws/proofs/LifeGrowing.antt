@@ -6,7 +6,7 @@ use Rattle.std.proofs.Math.Seq.{get_or-append_seam}
 use Rattle.cartridge_laws.proofs.AppendBytes.{done_bytes}
 use Rattle.cartridge_laws.specs.AppendSettled.{MayAppendTo}
 use Rattle.cartridge_spec.specs.Appending.{Content, appended_volume, volume_bytes, with_all, with_bytes}
-use Rattle.cartridge_spec.specs.Formatting.{fresh_plain}
+use Rattle.cartridge_spec.specs.Formatting.{fresh_plain, StandsCleanly}
 use Rattle.cartridge_spec.specs.Volumes.{Plain, Stands, Volume, entries_of}
 use Rattle.command_laws.proofs.CommandLeft.{leaves_whole}
 use Rattle.command_laws.proofs.CommandAppends.{course, done_fits, fits, kept_of}
@@ -19,15 +19,16 @@ use Rattle.command_laws.proofs.WholeSteps.{new_whole}
 use Rattle.command_laws.specs.Life.{Answered, Becomes, Ended, Event, Happens, IsEmptied, IsSound, Lives, Loses, Runs, Stopped, begun_behind}
 use Rattle.command_laws.specs.LifeLaws.{AnsweredRuns, AreKeeping, BackupsAreGivenBack, FormatBegins, GivesBytes, HasGrown, IsKeeping, NewAndFormatBegin, StoppedRuns, VolumesAreGivenBack, VolumesAreKept, run_of}
 use Rattle.command_spec.specs.Append.{room_in}
-use Rattle.command_spec.specs.Machine.{Yields}
-use Rattle.command_spec.specs.MadeVolumes.{made_contents}
+use Rattle.command_laws.specs.CommandTerms.{Yields}
+use Rattle.command_spec.specs.Make.{made_contents}
 use Rattle.command_spec.specs.Outcome.{CommandOutcome}
 use Rattle.command_spec.specs.ScriptLists.{all_added}
-use Rattle.command_spec.specs.Commands.RestoreCommand.{HasNumber}
-use Rattle.command_spec.specs.Volumes.{StandsFresh}
+use Rattle.command_spec.specs.Restore.{HasNumber}
+use Rattle.command_spec.specs.Volumes.{StandsEmpty}
 use Rattle.command_spec.specs.declared.words.Words.{Words}
 use Rattle.qic_base.specs.Acts.{steps_of}
-use Rattle.qic_base.specs.Cartridge.{Cartridge, IsCartridge, new_cartridge}
+use Rattle.qic_base.specs.Cartridge.{Cartridge, new_cartridge}
+use Rattle.qic_base.specs.Terms.{IsCartridge}
 use Rattle.qic_base.specs.Step.{effects}
 use Rattle.command_spec.specs.declared.status.Status.TheVariants as status
 use Rattle.command_spec.specs.declared.words.Words.TheVariants as words
@@ -47,7 +48,7 @@ stopped_runs ws told held left (inr (command, spelled, l)) =
 -- ---- the beginning of a life
 
 -- what stands fresh is sound
-fresh_begins : (label : List ℕ) (date : ℕ) (c : Cartridge) (left : Option Cartridge) → IfSome left IsCartridge → IsSomeAnd left (StandsFresh c label date) →
+fresh_begins : (label : List ℕ) (date : ℕ) (c : Cartridge) (left : Option Cartridge) → IfSome left IsCartridge → IsSomeAnd left (StandsEmpty StandsCleanly c label date) →
     (after : Option Plain) × IsEmptied c label date after × IsSound false left after
 fresh_begins label date c None whole fresh = absurd fresh
 fresh_begins label date c (Some d) whole fresh = (
@@ -62,7 +63,7 @@ format_begins label date input text begun c left whole life =
     fresh_begins label date c left (subst (λ (o : Option Cartridge). IfSome o IsCartridge) (sym life.2)
     (leaves_whole (words.Format label date) (Some c) life.0 input did.outcome did.values life.1.1.bytes whole did.plain
     (torn_by (Answered status.Done text) did.outcome (Some c) life.0 did.leaves)))
-    (subst (λ (o : Option Cartridge). IsSomeAnd o (StandsFresh c label date)) (sym did.leaves.2 ∙ sym life.2)
+    (subst (λ (o : Option Cartridge). IsSomeAnd o (StandsEmpty StandsCleanly c label date)) (sym did.leaves.2 ∙ sym life.2)
     (formatted_fresh label date c did.outcome whole did.plain did.leaves.0))
 
 pub new_and_format_begin : NewAndFormatBegin

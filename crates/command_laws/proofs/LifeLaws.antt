@@ -4,8 +4,7 @@ use Rattle.cartridge_laws.proofs.ChangeClean.{clean_less, worn_is_bare}
 use Rattle.cartridge_laws.proofs.ChangeLive.{steps_keep_live}
 use Rattle.cartridge_laws.proofs.ChangeStanding.{worn_stands}
 use Rattle.cartridge_laws.proofs.ChangeViews.{worn_reads_no_more}
-use Rattle.cartridge_spec.specs.Volumes.{Plain}
-use Rattle.cartridge_spec.specs.Wear.{worn}
+use Rattle.cartridge_spec.specs.Volumes.{Plain, worn}
 use Rattle.command_laws.proofs.CommandLeft.{leaves_whole}
 use Rattle.command_laws.proofs.CommandTable.{only_new_renews}
 use Rattle.command_laws.proofs.LifeFormats.{Makes, format_makes, new_makes, torn_by}
@@ -14,11 +13,13 @@ use Rattle.command_laws.proofs.CommandUnread.{worn_neither}
 use Rattle.command_laws.specs.CommandRecord.{NeitherReads}
 use Rattle.command_laws.proofs.WholeSteps.{worn_whole}
 use Rattle.command_laws.specs.Life.{ALife, CommandSpares, Ended, Event, EventBecomes, Happens, IsSound, Leaves, LossSpares, Loses, MayEnd, Runs, begun_behind, begun_by}
-use Rattle.command_spec.specs.Machine.{HasValues, Yields}
+use Rattle.command_spec.specs.Machine.{HasValues}
+use Rattle.command_laws.specs.CommandTerms.{Yields}
 use Rattle.command_spec.specs.Outcome.{CommandOutcome}
 use Rattle.command_spec.specs.declared.words.Words.{Words}
 use Rattle.qic_base.specs.Acts.{steps_of}
-use Rattle.qic_base.specs.Cartridge.{Cartridge, IsCartridge}
+use Rattle.qic_base.specs.Cartridge.{Cartridge}
+use Rattle.qic_base.specs.Terms.{IsCartridge}
 use Rattle.qic_base.specs.Step.{Wear, effect}
 use Rattle.command_spec.specs.declared.words.Words.TheVariants as words
 

@@ -24,19 +24,20 @@ use Rattle.command_laws.specs.Life.{Ended, Answered, Stopped, AnsweredAmong, Com
 use Rattle.command_laws.specs.MountedHeld.{IsHeld}
 use Rattle.command_spec.specs.Commands.{command_of}
 use Rattle.command_spec.specs.Input.{Item}
-use Rattle.command_spec.specs.Listing.{IsHeard}
-use Rattle.command_spec.specs.Machine.{HasValues, Yields}
-use Rattle.command_spec.specs.MadeVolumes.{made_contents}
+use Rattle.command_spec.specs.Several.{IsHeard}
+use Rattle.command_spec.specs.Machine.{HasValues}
+use Rattle.command_laws.specs.CommandTerms.{Yields}
+use Rattle.command_spec.specs.Make.{made_contents}
 use Rattle.command_spec.specs.Outcome.{CommandOutcome, output_of}
 use Rattle.command_spec.specs.Script.{Did, ScriptDoes, Scripting, ScriptOutcome}
 use Rattle.command_spec.specs.ScriptLists.{all_added}
-use Rattle.command_spec.specs.Volumes.{KeepsCopies, KeepsLive, KeepsVolumes}
+use Rattle.command_laws.specs.Terms.{KeepsCopies, KeepsLive, KeepsVolumes}
 use Rattle.command_spec.specs.declared.status.Status.{Status}
 use Rattle.command_spec.specs.declared.words.Words.{Words}
 use Rattle.qic_base.specs.Acts.{Act, steps_of, text_of}
-use Rattle.qic_base.specs.Cartridge.{Cartridge, IsCartridge}
-use Rattle.qic_base.specs.Step.{Step, Renew, WriteSector, effect, effects}
-use Rattle.qic_base.specs.Stop.{Halfway, Torn}
+use Rattle.qic_base.specs.Cartridge.{Cartridge}
+use Rattle.qic_base.specs.Terms.{IsCartridge}
+use Rattle.qic_base.specs.Step.{Step, Renew, WriteSector, effect, effects, Halfway, Torn}
 use Rattle.command_spec.specs.Script as scripts
 use Rattle.command_spec.specs.Several as several
 use Rattle.command_spec.specs.declared.status.Status.TheVariants as status
@@ -197,7 +198,7 @@ module _ (seed count : ℕ) (c : Cartridge) (input : List ℕ) (begun : Bool) (p
       )
 
   said_made : (text : List ℕ) → text ≢ [] → IsLeftBy c outcome.acts text left → StandsMade count left
-  said_made text some so = make_printed seed count few c plain ready.whole ready.stands outcome text left ready.live yields some so
+  said_made text some so = make_printed seed count few c plain ready.whole ready.stands outcome text left ready.live yields (inl (some, so))
 
   refused_makes : (answer : Status) (printed : List ℕ) → answer ≢ status.Done → Leaves (Answered answer printed) outcome (Some c) left → RunMakes (Answered answer printed)
   refused_makes answer [] other leaves =
@@ -264,7 +265,7 @@ module _ (c : Cartridge) (input : List ℕ) (begun : Bool) (plain : Plain) (left
       )
 
   -- its lines were carried out
-  some_lines : (ended : Ended) (came : scripts.ScriptRun) (does : ScriptDoes (settled plain.table_area c) plain.words (entries_of plain) input came) (n : ℕ) → n ≤ length does.items →
+  some_lines : (ended : Ended) (came : CommandOutcome) (does : ScriptDoes (settled plain.table_area c) plain.words (entries_of plain) input came) (n : ℕ) → n ≤ length does.items →
       AnsweredAmong ended does.items does.dids n → Torn (steps_of outcome.acts) (Some c) left →
       IsSomeAnd left (λ d. Stands d (with_all plain (all_added (entries_of plain) (take n does.items) (take n does.dids)))) → ScriptMakes ended
   some_lines ended came does n within answered torn stands = (
@@ -293,7 +294,7 @@ module _ (c : Cartridge) (input : List ℕ) (begun : Bool) (plain : Plain) (left
 
   lines_make : (ended : Ended) → CommandSpares words.Script ended input left c → WasMounted (Scripting input) c plain outcome → Leaves ended outcome (Some c) left → ScriptMakes ended
   lines_make (Answered answer printed) spares was (is, said, all) =
-      let came : scripts.ScriptRun = was.did.came in
+      let came : CommandOutcome = was.did.came in
       let does : ScriptDoes (settled plain.table_area c) plain.words (entries_of plain) input was.did.came = was.did.does in
       let held : IsHeld (settled plain.table_area c) plain = mounted_held c plain ready.whole ready.stands was.mounts in
       some_lines (Answered answer printed) was.did.came was.did.does (length does.items) (omega arith) (λ heard. refl)

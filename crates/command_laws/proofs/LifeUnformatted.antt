@@ -17,21 +17,18 @@ use Rattle.command_laws.proofs.CommandStep.{step_leaves}
 use Rattle.command_laws.proofs.CommandTable.ProtectCommand.{mark_keeps}
 use Rattle.command_laws.proofs.CommandTable.UpgradeCommand.{version_keeps}
 use Rattle.command_laws.specs.Life.{LossSpares}
-use Rattle.command_spec.specs.Append.{Appends}
-use Rattle.command_spec.specs.Commands.Info.{telling}
+use Rattle.command_laws.specs.Terms.{telling, listing, Mends}
+use Rattle.command_laws.specs.CommandTerms.{Appends, Yields}
 use Rattle.command_spec.specs.Lines.{protected_line, upgraded_line}
-use Rattle.command_spec.specs.Commands.ListCommand.{listing}
-use Rattle.command_spec.specs.Machine.{Yields}
 use Rattle.command_spec.specs.Make.{Making}
 use Rattle.command_spec.specs.Outcome.{CommandOutcome, Going, HasPlace, OpenOutcome, Opened, Shows, WritableOutcome}
 use Rattle.command_spec.specs.Restore.{Gives}
 use Rattle.command_spec.specs.Script.{Scripting}
-use Rattle.command_spec.specs.Scrub.{Mends}
 use Rattle.command_spec.specs.declared.words.Words.{Words}
 use Rattle.qic_base.specs.Acts.{steps_of}
 use Rattle.qic_base.specs.Cartridge.{Cartridge, view_at}
-use Rattle.qic_base.specs.Step.{Step, WriteSector, FormatSegment, SetReferenced, SetProtected, Renew, Wear, Spoil, Upgrade, changed, worn_view}
-use Rattle.qic_base.specs.Stop.{Halfway, HalfFormatted, Torn}
+use Rattle.qic_base.specs.Step.{Step, WriteSector, FormatSegment, SetReferenced, SetProtected, Renew, Wear, Spoil, Upgrade, changed, worn_view, Halfway, Torn}
+use Rattle.qic_base.specs.Terms.{HalfFormatted}
 use Rattle.cartridge_spec.specs.Mounting as mounting
 use Rattle.command_spec.specs.declared.words.Words.TheVariants as words
 

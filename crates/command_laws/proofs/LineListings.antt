@@ -6,7 +6,8 @@ use Rattle.cartridge_spec.specs.Table.{Entry}
 use Rattle.cartridge_spec.specs.Volumes.{volume_length}
 use Rattle.command_spec.specs.Lines.{volume_lines, volume_line, count_line, list_text}
 use Rattle.qic_base.proofs.Writing.{TakesBoth, Wrote-Wrote, Wrote-BrokeOff}
-use Rattle.qic_base.specs.Sink.{Meaning, Wrote, Writes}
+use Rattle.qic_base.specs.Sink.{Meaning, Wrote}
+use Rattle.qic_base.specs.SinkCalls.{Writes}
 
 -- a text written behind another
 pub Writes-after : {K T E : Type 0} {m : Meaning K} {a b : K} {xs : List ℕ} (c : K) (ys : List ℕ) (r : Result T E) → TakesBoth m →

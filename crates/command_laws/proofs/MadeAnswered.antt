@@ -11,16 +11,14 @@ use Rattle.command_laws.proofs.MadeStops.{StillBehind, behind_next, done_append_
 use Rattle.command_laws.proofs.MountedKeeping.{changed_by_acts, kept_open}
 use Rattle.command_laws.specs.MadeLaws.{MadeAreAnswered}
 use Rattle.command_laws.specs.MountedKept.{IsKept}
-use Rattle.command_spec.specs.Append.{input_acts, Kept, free_in, has_promised_room, input_writes, most_written, room_in, Taking, Fits, TooLong, TooShort, entry_acts, silently, append_acts, taking, kept_over}
-use Rattle.command_spec.specs.Generator.{made_length, made_bytes}
-use Rattle.command_spec.specs.MadeVolumes.{made_contents}
-use Rattle.command_spec.specs.Make.{AppendMade, made_name, Answer, StepDoes, MakeStep, appending, Done, Runs, ScrubAll, wearing_volumes, summing, made_list}
+use Rattle.command_spec.specs.Append.{input_acts, Kept, has_promised_room, input_writes, room_in, Taking, Fits, TooLong, TooShort, entry_acts, append_acts, taking, kept_over}
+use Rattle.command_laws.specs.CommandTerms.{free_in, most_written, silently}
+use Rattle.command_spec.specs.Make.{made_length, made_bytes, made_contents, AppendMade, made_name, Answer, StepDoes, MakeStep, appending, Done, Runs, ScrubAll, wearing_volumes, summing, made_list}
 use Rattle.qic_base.proofs.Joins.{text_of-append, steps_of-append}
 use Rattle.qic_base.proofs.Steps.{Torn-front, Torn-behind}
 use Rattle.qic_base.specs.Acts.{Act, text_of, steps_of, next_steps}
 use Rattle.qic_base.specs.Cartridge.{Cartridge}
-use Rattle.qic_base.specs.Step.{Step}
-use Rattle.qic_base.specs.Stop.{Torn}
+use Rattle.qic_base.specs.Step.{Step, Torn}
 
 -- ---- what is printed
 
@@ -64,7 +62,7 @@ next_torn : (rest : List Act) (held left : Option Cartridge) → Torn (next_step
 next_torn [] held left torn = torn
 next_torn (act ∷ rest) held left torn = Torn-front act.steps (steps_of rest) held left torn
 
-torn_behind : (front rest acts : List Act) (c : Cartridge) (left : Option Cartridge) → front ++ rest ≡ acts →
+pub torn_behind : (front rest acts : List Act) (c : Cartridge) (left : Option Cartridge) → front ++ rest ≡ acts →
     Torn (next_steps rest) (Some (changed_by (steps_of front) c)) left → Torn (steps_of acts) (Some c) left
 torn_behind front rest acts c left parts torn =
     subst (λ (steps : List Step). Torn steps (Some c) left) (sym (steps_of-append front rest) ∙ ap steps_of parts)
@@ -73,7 +71,7 @@ torn_behind front rest acts c left parts torn =
     (next_torn rest (Some (changed_by (steps_of front) c)) left torn)))
 
 -- of two fronts of one list one is a front of the other
-two_fronts : (xs ys us vs : List Act) → xs ++ ys ≡ us ++ vs →
+pub two_fronts : (xs ys us vs : List Act) → xs ++ ys ≡ us ++ vs →
     ((more : List Act) × (xs ++ more ≡ us)) ⊎ ((more : List Act) × (us ++ more ≡ xs) × (more ++ ys ≡ vs))
 two_fronts [] ys us vs same = inl (us, refl)
 two_fronts (x ∷ xs) ys [] vs same = inr (x ∷ xs, refl, same)

@@ -13,9 +13,8 @@ use Rattle.command_laws.proofs.RestoreStanding.{restores_byte_for_byte}
 use Rattle.command_laws.specs.MadeLaws.{MadeWhereThereIsRoom}
 use Rattle.command_laws.specs.MountedKept.{IsOpen}
 use Rattle.command_laws.specs.RestoreLaws.{HasVolume}
-use Rattle.command_spec.specs.Generator.{made_bytes}
-use Rattle.command_spec.specs.MadeVolumes.{before_sums, made_contents}
-use Rattle.command_spec.specs.Make.{MakeStep, AppendMade, WearSector, ScrubAll, SumVolume, wearing, first_two, wearing_in, wearing_volumes, after_items, Answer, Done, StepDoes, Runs, made_answer, appending, IsSummed, ending_answer, summing, made_list, making, made_name}
+use Rattle.command_spec.specs.Make.{made_bytes, made_contents, MakeStep, AppendMade, WearSector, ScrubAll, SumVolume, wearing, wearing_in, wearing_volumes, after_items, Answer, Done, StepDoes, Runs, made_answer, appending, ending_answer, summing, made_list, making, made_name}
+use Rattle.command_laws.specs.CommandTerms.{before_sums, first_two, IsSummed}
 use Rattle.command_spec.specs.Restore.{volume_at, LosesFew, pieces, Restores}
 use Rattle.qic_base.specs.Acts.{Act, steps_of, text_of}
 use Rattle.qic_base.specs.Cartridge.{Cartridge}
@@ -67,9 +66,9 @@ mending_after seed words es (SumVolume number ∷ items) mends = absurd mends.0
 mending_goes : (seed : ℕ) (c : Cartridge) (plain : Plain) (item : MakeStep) (acts : List Act) (answer : Answer) → IsMending item → IsOpen c plain →
     StepDoes seed c plain.words (entries_of plain) item acts answer → answer ≡ Done
 mending_goes seed c plain (AppendMade volume) acts answer mends held does = absurd mends
-mending_goes seed c plain (WearSector segment sector) acts answer mends held does = does.answered
+mending_goes seed c plain (WearSector segment sector) acts answer mends held does = does.1
 mending_goes seed c plain ScrubAll acts answer mends held (inl refused) = absurd (never_unlocked c refused.mark held.unprotected)
-mending_goes seed c plain ScrubAll acts answer mends held (inr (free, done)) = done.answered
+mending_goes seed c plain ScrubAll acts answer mends held (inr (free, done)) = done.1
 mending_goes seed c plain (SumVolume number) acts answer mends held does = absurd mends
 
 all_mending_go : (seed : ℕ) (items : List MakeStep) (c : Cartridge) (plain : Plain) (acts : List Act) (answer : Answer) → AreStill items → AreMending items → IsOpen c plain →
@@ -150,16 +149,16 @@ sum_goes : (d : Cartridge) (plain : Plain) (number : ℕ) (acts : List Act) (ans
 sum_goes d plain number acts answer stands few sum =
     let has : HasEntry plain sum.entry = has_entry plain number sum.entry sum.numbered in
     let there : HasVolume d plain has.volume = record { stands = stands; among = has.among } in
-    sum.answered ∙ ap ending_answer (restores_byte_for_byte d plain has.volume sum.given sum.ending there
+    sum.is.1 ∙ ap ending_answer (restores_byte_for_byte d plain has.volume sum.acts sum.ending there
     (subst (λ (e : Entry). All (LosesFew d plain.words) (pieces plain.words e)) (sym has.is) (few number sum.entry (omega arith) sum.numbered))
-    (subst (λ (e : Entry). Restores d plain.words (pieces plain.words e) sum.given sum.ending) (sym has.is) sum.restores)).0
+    (subst (λ (e : Entry). Restores d plain.words (pieces plain.words e) sum.acts sum.ending) (sym has.is) sum.restores)).0
 
 sums_go : (seed n : ℕ) (d : Cartridge) (plain : Plain) (number : ℕ) (acts : List Act) (answer : Answer) → Stands d plain → LoseFewFrom d plain number →
     Runs seed d plain.words (entries_of plain) (summing number n) acts answer → answer ≡ Done
 sums_go seed zero d plain number acts answer stands few (none, done) = done
 sums_go seed (suc n) d plain number acts answer stands few (inl (other, does)) = absurd (other (sum_goes d plain number acts answer stands few does))
 sums_go seed (suc n) d plain number acts answer stands few (inr (first, rest, parts, does, more)) =
-    let none : steps_of first ≡ [] = ap steps_of does.does ∙ sum_in_no_step number (volume_length plain.words does.entry) (text_of does.given) does.ending in
+    let none : steps_of first ≡ [] = ap steps_of does.is.0 ∙ sum_in_no_step number (volume_length plain.words does.entry) (text_of does.acts) does.ending in
     sums_go seed n d plain (number + 1) rest answer stands (λ m e later at. few m e (omega arith) at)
     (subst (λ (steps : List Step). Runs seed (changed_by steps d) plain.words (entries_of plain) (summing (number + 1) n) rest answer) none more)
 

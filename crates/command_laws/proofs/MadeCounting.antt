@@ -1,15 +1,25 @@
 -- How many volumes a run of `make` has appended, by its answer.
-use Rattle.std.proofs.Common.{◌≡◌, ◌≢◌, ℕ, zero, suc, ◌+◌, ◌<◌, List, [], ◌∷◌, ◌++◌, Bool, true, false, cond, Some, inl, inr, refl, ap, ◌∙◌, sym, subst, arith}
+use Rattle.std.proofs.Common.{◌≡◌, ◌≢◌, ℕ, suc, ◌+◌, ◌≤◌, List, [], ◌∷◌, ◌++◌, Bool, true, false, cond, Some, inl, inr, refl, ap, ◌∙◌, sym, subst, arith}
 use Rattle.cartridge_spec.specs.Settling.{changed_by}
 use Rattle.cartridge_spec.specs.Table.{Entry}
 use Rattle.command_laws.proofs.MadeStops.{AreStill, IsStill, still_after}
-use Rattle.command_spec.specs.Append.{has_promised_room, kept_in, room_in}
-use Rattle.command_spec.specs.Generator.{made_length}
-use Rattle.command_spec.specs.MadeVolumes.{AppendedFrom}
-use Rattle.command_spec.specs.Make.{MakeStep, AppendMade, WearSector, ScrubAll, SumVolume, Answer, Done, Full, Lost, Mismatch, Protected, TableMismatch, Runs, StepDoes, after_items, appending, ending_answer, made_answer, made_entry, make_status}
+use Rattle.command_spec.specs.Append.{has_promised_room, room_in}
+use Rattle.command_laws.specs.CommandTerms.{kept_in, AppendedFrom, made_entry}
+use Rattle.command_spec.specs.Make.{made_length, MakeStep, AppendMade, WearSector, ScrubAll, SumVolume, Answer, Done, Full, Lost, Mismatch, Protected, TableMismatch, Runs, StepDoes, after_items, appending, ending_answer, made_answer, make_status, AppendedBy}
 use Rattle.command_spec.specs.Restore.{GivingEnd, Restored, LostIn, MismatchIn}
+use Rattle.command_spec.specs.declared.status.Status.{Status}
 use Rattle.qic_base.specs.Acts.{Act, steps_of}
 use Rattle.qic_base.specs.Cartridge.{Cartridge}
+use Rattle.command_spec.specs.declared.status.Status.TheVariants as status
+
+-- so many of all volumes were appended
+pub appended_by : (seed count : ℕ) (words : List ℕ) (es : List Entry) (why : Status) (n : ℕ) → n ≤ count → AppendedFrom seed 1 count words es why n →
+    AppendedBy seed count words es why n
+appended_by seed count words es status.Done n within from = from
+appended_by seed count words es (status.Full need have) n within from = from
+appended_by seed count words es (status.Lost segment lost) n within from = (within, from)
+appended_by seed count words es (status.Mismatch segment) n within from = from
+appended_by seed count words es why n within from = within
 
 -- ---- steps that leave the volumes are never full
 
@@ -20,10 +30,10 @@ ending_not_full need have (MismatchIn segment) is = cc
 
 still_not_full : (seed : ℕ) (c : Cartridge) (words : List ℕ) (es : List Entry) (item : MakeStep) (acts : List Act) (need have : ℕ) → IsStill item → StepDoes seed c words es item acts (Full need have) → ⊥
 still_not_full seed c words es (AppendMade volume) acts need have still does = still
-still_not_full seed c words es (WearSector segment sector) acts need have still does = let same = does.answered in cc
+still_not_full seed c words es (WearSector segment sector) acts need have still does = let same = does.1 in cc
 still_not_full seed c words es ScrubAll acts need have still (inl refused) = let same = refused.answered in cc
-still_not_full seed c words es ScrubAll acts need have still (inr (free, done)) = let same = done.answered in cc
-still_not_full seed c words es (SumVolume number) acts need have still does = ending_not_full need have does.ending does.answered
+still_not_full seed c words es ScrubAll acts need have still (inr (free, done)) = let same = done.1 in cc
+still_not_full seed c words es (SumVolume number) acts need have still does = ending_not_full need have does.ending does.is.1
 
 stills_not_full : (seed : ℕ) (items : List MakeStep) (c : Cartridge) (words : List ℕ) (es : List Entry) (acts : List Act) (need have : ℕ) → AreStill items →
     Runs seed c words es items acts (Full need have) → ⊥

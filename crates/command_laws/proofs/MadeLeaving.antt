@@ -16,10 +16,9 @@ use Rattle.command_laws.proofs.MountedListed.{append_listed, scrub_listed, wear_
 use Rattle.command_laws.proofs.MountedListing.{append_front_lists, append_lists, scrub_lists, wear_lists}
 use Rattle.command_laws.specs.MadeLaws.{MakeLists, MadeAreListed}
 use Rattle.command_laws.specs.MountedListed.{IsListed, listed_behind}
-use Rattle.command_spec.specs.Append.{Kept, Taking, Fits, TooLong, TooShort, has_promised_room, room_in, silently, taking, kept_over}
-use Rattle.command_spec.specs.Generator.{made_length, made_bytes}
-use Rattle.command_spec.specs.MadeVolumes.{AppendedFrom}
-use Rattle.command_spec.specs.Make.{MakeStep, AppendMade, WearSector, ScrubAll, SumVolume, made_name, made_entry, Answer, Done, Full, StepDoes, IsAppended, made_acts, made_answer, Runs, after_items, appending, wearing_volumes, summing, made_list, make_status, Makes}
+use Rattle.command_spec.specs.Append.{Kept, Taking, Fits, TooLong, TooShort, has_promised_room, room_in, taking, kept_over}
+use Rattle.command_laws.specs.CommandTerms.{silently, made_entry, made_acts, Makes, AppendedFrom}
+use Rattle.command_spec.specs.Make.{made_length, made_bytes, MakeStep, AppendMade, WearSector, ScrubAll, SumVolume, made_name, Answer, Done, Full, StepDoes, IsAppended, made_answer, Runs, after_items, appending, wearing_volumes, summing, made_list, make_status}
 use Rattle.qic_base.proofs.Joins.{text_of-append}
 use Rattle.qic_base.specs.Acts.{Act, steps_of, text_of}
 use Rattle.qic_base.specs.Cartridge.{Cartridge}
@@ -109,22 +108,22 @@ module _ (seed : ℕ) (c : Cartridge) (header : Header) (words : List ℕ) (entr
   still_front : (item : MakeStep) (acts front rest : List Act) (answer : Answer) → IsStill item → StepDoes seed c words entries item acts answer → front ++ rest ≡ acts →
       Lists (changed_by (steps_of front) c) header words entries
   still_front (AppendMade volume) acts front rest answer still does parts = absurd still
-  still_front (WearSector segment sector) acts front rest answer still does parts = wear_front segment sector front rest still.0 still.1 (parts ∙ does.does)
+  still_front (WearSector segment sector) acts front rest answer still does parts = wear_front segment sector front rest still.0 still.1 (parts ∙ does.0)
   still_front ScrubAll acts front rest answer still (inl refused) parts = lists_by (steps_of front) (front_still front rest acts parts (ap steps_of refused.does))
-  still_front ScrubAll acts front rest answer still (inr (free, done)) parts = scrub_lists c header words entries acts front rest lists done.does parts
+  still_front ScrubAll acts front rest answer still (inr (free, done)) parts = scrub_lists c header words entries acts front rest lists done.0 parts
   still_front (SumVolume number) acts front rest answer still does parts =
       lists_by (steps_of front) (front_still front rest acts parts
-      (ap steps_of does.does ∙ sum_in_no_step number (volume_length words does.entry) (text_of does.given) does.ending))
+      (ap steps_of does.is.0 ∙ sum_in_no_step number (volume_length words does.entry) (text_of does.acts) does.ending))
 
   still_listed : (item : MakeStep) (acts : List Act) → IsStill item → StepDoes seed c words entries item acts Done → IsListed (changed_by (steps_of acts) c) words entries
   still_listed (AppendMade volume) acts still does = absurd still
   still_listed (WearSector segment sector) acts still does =
-      subst (λ (xs : List Act). IsListed (changed_by (steps_of xs) c) words entries) (sym does.does) (wear_listed c words entries segment sector listed)
+      subst (λ (xs : List Act). IsListed (changed_by (steps_of xs) c) words entries) (sym does.0) (wear_listed c words entries segment sector listed)
   still_listed ScrubAll acts still (inl refused) = absurd (let same = refused.answered in cc)
-  still_listed ScrubAll acts still (inr (free, done)) = scrub_listed c words entries acts listed free done.does
+  still_listed ScrubAll acts still (inr (free, done)) = scrub_listed c words entries acts listed free done.0
   still_listed (SumVolume number) acts still does =
       subst (λ (steps : List Step). IsListed (changed_by steps c) words entries)
-      (sym (ap steps_of does.does ∙ sum_in_no_step number (volume_length words does.entry) (text_of does.given) does.ending)) listed
+      (sym (ap steps_of does.is.0 ∙ sum_in_no_step number (volume_length words does.entry) (text_of does.acts) does.ending)) listed
 
 -- ---- several steps
 

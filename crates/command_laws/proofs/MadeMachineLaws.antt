@@ -10,7 +10,8 @@ use Rattle.cartridge_spec.specs.Volumes.{volume_length}
 use Rattle.command_laws.proofs.MountedKeeping.{changed_by_acts}
 use Rattle.command_laws.proofs.RestoreEndings.{restores_is_function}
 use Rattle.command_laws.proofs.ScrubTurns.{scrubs_is_function}
-use Rattle.command_spec.specs.Make.{Answer, Lost, IsAppended, IsTableLost, made_acts, made_answer, IsSummed, sum_acts, ending_answer, MakeStep, AppendMade, WearSector, ScrubAll, SumVolume, Done, Protected, StepDoes, after_item, after_items, Runs, TableMismatch, Full, Mismatch}
+use Rattle.command_spec.specs.Make.{Answer, Lost, IsAppended, IsTableLost, made_answer, sum_acts, ending_answer, MakeStep, AppendMade, WearSector, ScrubAll, SumVolume, Done, Protected, StepDoes, after_item, after_items, Runs, TableMismatch, Full, Mismatch}
+use Rattle.command_laws.specs.CommandTerms.{IsSummed, made_acts}
 use Rattle.command_spec.specs.Restore.{GivingEnd, Restores, pieces}
 use Rattle.qic_base.specs.Acts.{Act, text_of, steps_of}
 use Rattle.qic_base.specs.Cartridge.{Cartridge}
@@ -55,13 +56,13 @@ one_sum : (c : Cartridge) (words : List ℕ) (es : List Entry) (number : ℕ) (a
 one_sum c words es number a b x y one other =
     let there : Some one.entry ≡ Some other.entry = sym one.numbered ∙ other.numbered in
     let entry : one.entry ≡ other.entry = cc in
-    let same = restores_is_function c words (pieces words other.entry) one.given other.given one.ending other.ending
-    (subst (λ (e : Entry). Restores c words (pieces words e) one.given one.ending) entry one.restores) other.restores in
-    both_are a b x y (sum_acts number (volume_length words other.entry) (text_of other.given) other.ending) (ending_answer other.ending)
-    (one.does ∙ ap (λ (e : Entry). sum_acts number (volume_length words e) (text_of one.given) one.ending) entry
+    let same = restores_is_function c words (pieces words other.entry) one.acts other.acts one.ending other.ending
+    (subst (λ (e : Entry). Restores c words (pieces words e) one.acts one.ending) entry one.restores) other.restores in
+    both_are a b x y (sum_acts number (volume_length words other.entry) (text_of other.acts) other.ending) (ending_answer other.ending)
+    (one.is.0 ∙ ap (λ (e : Entry). sum_acts number (volume_length words e) (text_of one.acts) one.ending) entry
     ∙ ap (λ (given : List Act). sum_acts number (volume_length words other.entry) (text_of given) one.ending) same.0
-    ∙ ap (λ (ending : GivingEnd). sum_acts number (volume_length words other.entry) (text_of other.given) ending) same.1) other.does
-    (one.answered ∙ ap ending_answer same.1) other.answered
+    ∙ ap (λ (ending : GivingEnd). sum_acts number (volume_length words other.entry) (text_of other.acts) ending) same.1) other.is.0
+    (one.is.1 ∙ ap ending_answer same.1) other.is.1
 
 pub does_one : (seed : ℕ) (c : Cartridge) (words : List ℕ) (es : List Entry) (item : MakeStep) (a b : List Act) (x y : Answer) →
     StepDoes seed c words es item a x → StepDoes seed c words es item b y → Same a b x y
@@ -72,13 +73,13 @@ does_one seed c words es (AppendMade volume) a b x y (inr (free, one)) (inl othe
 does_one seed c words es (AppendMade volume) a b x y (inr (free, one)) (inr (again, other)) =
     one_append seed c words es volume a b x y one other
 does_one seed c words es (WearSector segment sector) a b x y one other =
-    both_are a b x y _ Done one.does other.does one.answered other.answered
+    both_are a b x y _ Done one.0 other.0 one.1 other.1
 does_one seed c words es ScrubAll a b x y (inl one) (inl other) =
     both_are a b x y [] Protected one.does other.does one.answered other.answered
 does_one seed c words es ScrubAll a b x y (inl one) (inr (free, other)) = absurd (never_unlocked c one.mark free)
 does_one seed c words es ScrubAll a b x y (inr (free, one)) (inl other) = absurd (never_unlocked c other.mark free)
 does_one seed c words es ScrubAll a b x y (inr (free, one)) (inr (again, other)) =
-    (scrubs_is_function c words es a b one.does other.does, one.answered ∙ sym other.answered)
+    (scrubs_is_function c words es a b one.0 other.0, one.1 ∙ sym other.1)
 does_one seed c words es (SumVolume number) a b x y one other = one_sum c words es number a b x y one other
 
 -- ---- steps one after the other

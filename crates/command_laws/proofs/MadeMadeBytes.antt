@@ -1,7 +1,7 @@
 -- How many made bytes there are.
 use Rattle.std.proofs.Common.{◌≡◌, ℕ, ◌+◌, ◌*◌, ◌%◌, length, sym, ap, ◌∙◌}
 use Rattle.command_laws.proofs.TextMaking.{length-made_from, made_bytes_from}
-use Rattle.command_spec.specs.Generator.{made_length, made_bytes}
+use Rattle.command_spec.specs.Make.{made_length, made_bytes}
 
 pub length-made_bytes : (seed volume : ℕ) → length (made_bytes seed volume) ≡ made_length seed volume
 length-made_bytes seed volume =

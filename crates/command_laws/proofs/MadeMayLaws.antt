@@ -2,7 +2,8 @@
 use Rattle.std.proofs.Common.{inl, inr, ℕ, List, [], ◌∷◌, ◌++◌, refl, sym, ap, ◌∙◌, subst, append_assoc, ◌≢◌, append-nil, ◌≡◌}
 use Rattle.cartridge_spec.specs.Table.{Entry}
 use Rattle.command_laws.proofs.MadeMachineLaws.{done_or_not}
-use Rattle.command_spec.specs.Make.{MakeStep, after_item, after_items, Answer, Done, MayRun, MayDo}
+use Rattle.command_spec.specs.Make.{MakeStep, AppendMade, after_item, after_items, Answer, Done, Full, Lost, Mismatch, Protected, TableMismatch, MayRun, MayDo}
+use Rattle.command_laws.specs.CommandTerms.{MayAppend}
 
 pub may_both : (seed : ℕ) (words : List ℕ) (es : List Entry) (xs ys : List MakeStep) (a b : List ℕ) (y : Answer) →
     MayRun seed words es xs a Done → MayRun seed words (after_items seed words es xs) ys b y → MayRun seed words es (xs ++ ys) (a ++ b) y
@@ -24,6 +25,15 @@ may_longer seed words es [] ys a x other (none, done) = absurd (other done)
 may_longer seed words es (item ∷ xs) ys a x other (inl refused) = inl refused
 may_longer seed words es (item ∷ xs) ys a x other (inr (first, rest, parts, does, more)) =
     inr (first, rest, parts, does, may_longer seed words (after_item seed words es item) xs ys rest x other more)
+
+pub may_append : (seed : ℕ) (words : List ℕ) (es : List Entry) (volume : ℕ) (text : List ℕ) (answer : Answer) → text ≡ [] → MayAppend seed words es volume answer →
+    MayDo seed words es (AppendMade volume) text answer
+may_append seed words es volume text Done none may = (none, may)
+may_append seed words es volume text Protected none may = none
+may_append seed words es volume text TableMismatch none may = none
+may_append seed words es volume text (Full need have) none may = (none, may)
+may_append seed words es volume text (Lost segment lost) none may = (none, may)
+may_append seed words es volume text (Mismatch segment) none may = may
 
 pub may_of : (seed : ℕ) (words : List ℕ) (es : List Entry) (item : MakeStep) (a : List ℕ) (x : Answer) →
     MayDo seed words es item a x → MayRun seed words es (item ∷ []) a x

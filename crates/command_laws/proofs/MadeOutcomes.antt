@@ -13,9 +13,9 @@ use Rattle.command_laws.proofs.MountedListed.{append_listed, listed_reads, scrub
 use Rattle.command_laws.proofs.MountedSaying.{restores_anyway, scrubs_anyway}
 use Rattle.command_laws.specs.MadeLaws.{MakesSomething}
 use Rattle.command_laws.specs.MountedListed.{IsListed, listed_behind}
-use Rattle.command_spec.specs.Append.{Kept, Taking, Fits, TooLong, TooShort, has_promised_room, room_in, silently, taking, kept_over}
-use Rattle.command_spec.specs.Generator.{made_length, made_bytes}
-use Rattle.command_spec.specs.Make.{MakeStep, AppendMade, WearSector, ScrubAll, SumVolume, after_item, Answer, Done, StepDoes, made_name, made_entry, Protected, Full, Lost, made_acts, made_answer, sum_acts, ending_answer, Runs, after_items, appending, wearing, first_two, wearing_in, wearing_volumes, summing, made_list, making}
+use Rattle.command_spec.specs.Append.{Kept, Taking, Fits, TooLong, TooShort, has_promised_room, room_in, taking, kept_over}
+use Rattle.command_laws.specs.CommandTerms.{silently, made_entry, made_acts, first_two}
+use Rattle.command_spec.specs.Make.{made_length, made_bytes, MakeStep, AppendMade, WearSector, ScrubAll, SumVolume, after_item, Answer, Done, StepDoes, made_name, Protected, Full, Lost, made_answer, sum_acts, ending_answer, Runs, after_items, appending, wearing, wearing_in, wearing_volumes, summing, made_list, making}
 use Rattle.command_spec.specs.Restore.{volume_at, pieces}
 use Rattle.qic_base.specs.Acts.{Act, steps_of, text_of}
 use Rattle.qic_base.specs.Cartridge.{Cartridge}
@@ -109,7 +109,7 @@ module _ (seed : ℕ) (c : Cartridge) (words : List ℕ) (entries : List Entry) 
   wear_does segment sector = record {
     acts = record { steps = Wear segment sector ∷ []; text = [] } ∷ [];
     answer = Done;
-    does = record { does = refl; answered = refl };
+    does = (refl, refl);
     next = λ is. wear_listed c words entries segment sector listed;
   }
 
@@ -127,7 +127,7 @@ module _ (seed : ℕ) (c : Cartridge) (words : List ℕ) (entries : List Entry) 
             record {
               acts = scrub.0;
               answer = Done;
-              does = inr (free, record { does = scrub.1; answered = refl });
+              does = inr (free, (scrub.1, refl));
               next = λ is. scrub_listed c words entries scrub.0 listed free scrub.1;
             }
       ]
@@ -138,7 +138,7 @@ module _ (seed : ℕ) (c : Cartridge) (words : List ℕ) (entries : List Entry) 
       record {
         acts = sum_acts number (volume_length words e) (text_of gives.0) gives.1;
         answer = ending_answer gives.1;
-        does = record { entry = e; numbered = there; given = gives.0; ending = gives.1; restores = gives.2; does = refl; answered = refl };
+        does = record { entry = e; numbered = there; acts = gives.0; ending = gives.1; restores = gives.2; is = (refl, refl) };
         next = λ is.
             subst (λ (steps : List Step). IsListed (changed_by steps c) words entries)
             (sym (sum_in_no_step number (volume_length words e) (text_of gives.0) gives.1)) listed;

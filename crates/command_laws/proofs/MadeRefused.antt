@@ -12,15 +12,13 @@ use Rattle.command_laws.proofs.MadeStops.{StillBehind, append_is, behind_is_stil
 use Rattle.command_laws.proofs.MountedKeeping.{changed_by_acts}
 use Rattle.command_laws.specs.MadeLaws.{AnsweredMakeStands}
 use Rattle.command_laws.specs.MountedKept.{IsOpen}
-use Rattle.command_spec.specs.Append.{has_promised_room, kept_in, room_in}
-use Rattle.command_spec.specs.Generator.{made_bytes, made_length}
-use Rattle.command_spec.specs.MadeVolumes.{AppendedFrom, made_contents}
-use Rattle.command_spec.specs.Make.{Answer, AppendMade, Done, Full, MakeStep, Runs, ScrubAll, StepDoes, appending, made_list, made_name, make_status, summing, wearing_volumes}
+use Rattle.command_spec.specs.Append.{has_promised_room, room_in}
+use Rattle.command_laws.specs.CommandTerms.{kept_in, AppendedFrom}
+use Rattle.command_spec.specs.Make.{made_bytes, made_length, made_contents, Answer, AppendMade, Done, Full, MakeStep, Runs, ScrubAll, StepDoes, appending, made_list, made_name, make_status, summing, wearing_volumes}
 use Rattle.qic_base.proofs.Steps.{Torn-all}
 use Rattle.qic_base.specs.Acts.{Act, steps_of}
 use Rattle.qic_base.specs.Cartridge.{Cartridge}
-use Rattle.qic_base.specs.Step.{Step}
-use Rattle.qic_base.specs.Stop.{Torn}
+use Rattle.qic_base.specs.Step.{Step, Torn}
 
 -- all steps done are a stop behind the last
 all_done : (steps : List Step) (c : Cartridge) → Torn steps (Some c) (Some (changed_by steps c))

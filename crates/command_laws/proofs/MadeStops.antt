@@ -18,8 +18,7 @@ use Rattle.cartridge_spec.specs.HeaderAndTable.{TableIs, last_segment}
 use Rattle.cartridge_spec.specs.Settling.{settling_steps, changed_by}
 use Rattle.cartridge_spec.specs.Shape.{mask_at, usable_places}
 use Rattle.cartridge_spec.specs.Table.{Entry}
-use Rattle.cartridge_spec.specs.Volumes.{Plain, entries_of, Stands, volume_length, carrying_segments, Volume}
-use Rattle.cartridge_spec.specs.Wear.{worn}
+use Rattle.cartridge_spec.specs.Volumes.{Plain, entries_of, Stands, volume_length, carrying_segments, Volume, worn}
 use Rattle.command_laws.proofs.MadeMachineLaws.{never_lost, never_unlocked, runs_one}
 use Rattle.command_laws.proofs.MadeMadeBytes.{length-made_bytes}
 use Rattle.command_laws.proofs.MountedKeeping.{kept_open, scrubbed_open, worn_open, acts_stopped, changed_by_acts}
@@ -27,17 +26,15 @@ use Rattle.command_laws.proofs.MountedStanding.{all_writes, no_writes, open_appe
 use Rattle.command_laws.proofs.ScrubMounted.{stopped_scrub_stands}
 use Rattle.command_laws.specs.MadeLaws.{StoppedMakeStands, DoneMakeStands, StopsInStep, StopsAreInSteps, MakesOneThing}
 use Rattle.command_laws.specs.MountedKept.{IsAppendable, IsOpen, settle_and_append, IsKept}
-use Rattle.command_spec.specs.Append.{Kept, append_acts, silently, room_in, kept_in, has_promised_room, kept_over}
-use Rattle.command_spec.specs.Generator.{made_length, made_byte, made_bytes}
-use Rattle.command_spec.specs.MadeVolumes.{made_contents}
-use Rattle.command_spec.specs.Make.{made_name, AppendMade, Answer, Done, Full, StepDoes, IsAppended, made_acts, made_answer, MakeStep, WearSector, ScrubAll, SumVolume, after_item, sum_acts, Runs, wearing, first_two, wearing_in, wearing_volumes, summing, made_entry, after_items, appending, made_list, making}
+use Rattle.command_spec.specs.Append.{Kept, append_acts, room_in, has_promised_room, kept_over}
+use Rattle.command_laws.specs.CommandTerms.{kept_in, silently, made_byte, made_acts, first_two, made_entry}
+use Rattle.command_spec.specs.Make.{made_length, made_bytes, made_contents, made_name, AppendMade, Answer, Done, Full, StepDoes, IsAppended, made_answer, MakeStep, WearSector, ScrubAll, SumVolume, after_item, sum_acts, Runs, wearing, wearing_in, wearing_volumes, summing, after_items, appending, made_list, making}
 use Rattle.command_spec.specs.Restore.{GivingEnd, Restored, LostIn, MismatchIn}
 use Rattle.qic_base.proofs.Steps.{Torn-all}
 use Rattle.qic_base.specs.Acts.{Act, steps_of, text_of}
 use Rattle.qic_base.specs.Cartridge.{Cartridge}
-use Rattle.qic_base.specs.Name.{filled}
-use Rattle.qic_base.specs.Step.{Step, Wear}
-use Rattle.qic_base.specs.Stop.{Torn}
+use Rattle.qic_base.specs.Field.{filled}
+use Rattle.qic_base.specs.Step.{Step, Wear, Torn}
 
 -- a fact of two or of one, of what a stop left
 some_split : (P Q : Cartridge → Type 0) (left : Option Cartridge) → IsSomeAnd left (λ d. P d ⊎ Q d) → IsSomeAnd left P ⊎ IsSomeAnd left Q
@@ -224,11 +221,11 @@ pub still_done : (seed : ℕ) (c : Cartridge) (plain : Plain) (item : MakeStep) 
     StepDoes seed c plain.words (entries_of plain) item acts Done → IsOpen (changed_by (steps_of acts) c) plain
 still_done seed c plain (AppendMade volume) acts still held does = absurd still
 still_done seed c plain (WearSector segment sector) acts still held does =
-    subst (λ (zs : List Act). IsOpen (changed_by (steps_of zs) c) plain) (sym does.does) (worn_open c plain segment sector held still.0 still.1)
+    subst (λ (zs : List Act). IsOpen (changed_by (steps_of zs) c) plain) (sym does.0) (worn_open c plain segment sector held still.0 still.1)
 still_done seed c plain ScrubAll acts still held (inl refused) = absurd (never_unlocked c refused.mark held.unprotected)
-still_done seed c plain ScrubAll acts still held (inr (free, done)) = scrubbed_open c plain acts held done.does
+still_done seed c plain ScrubAll acts still held (inr (free, done)) = scrubbed_open c plain acts held done.0
 still_done seed c plain (SumVolume number) acts still held does =
-    nothing_changed c plain acts (ap steps_of does.does ∙ sum_in_no_step number (volume_length plain.words does.entry) (text_of does.given) does.ending) held
+    nothing_changed c plain acts (ap steps_of does.is.0 ∙ sum_in_no_step number (volume_length plain.words does.entry) (text_of does.acts) does.ending) held
 
 stands_there : (c : Cartridge) (plain : Plain) (left : Option Cartridge) → IsOpen c plain → left ≡ Some c → IsSomeAnd left (λ d. Stands d plain)
 stands_there c plain left held is = some_and (λ d. Stands d plain) c left held.stands is
@@ -237,18 +234,18 @@ still_stopped : (seed : ℕ) (c : Cartridge) (plain : Plain) (item : MakeStep) (
     StepDoes seed c plain.words (entries_of plain) item acts answer → Torn (steps_of acts) (Some c) left → IsSomeAnd left (λ d. Stands d plain)
 still_stopped seed c plain (AppendMade volume) acts answer left still held does torn = absurd still
 still_stopped seed c plain (WearSector segment sector) acts answer left still held does torn =
-    by_torn (subst (λ (zs : List Act). Torn (steps_of zs) (Some c) left) does.does torn)
+    by_torn (subst (λ (zs : List Act). Torn (steps_of zs) (Some c) left) does.0 torn)
   where
     by_torn : Torn (Wear segment sector ∷ []) (Some c) left → IsSomeAnd left (λ d. Stands d plain)
     by_torn (inl is) = stands_there c plain left held is
     by_torn (inr (inl half)) = absurd half
     by_torn (inr (inr is)) = stands_there (worn segment sector c) plain left (worn_open c plain segment sector held still.0 still.1) is
 still_stopped seed c plain ScrubAll acts answer left still held (inl refused) torn = absurd (never_unlocked c refused.mark held.unprotected)
-still_stopped seed c plain ScrubAll acts answer left still held (inr (free, done)) torn = stopped_scrub_stands c plain acts left held.stands done.does torn
+still_stopped seed c plain ScrubAll acts answer left still held (inr (free, done)) torn = stopped_scrub_stands c plain acts left held.stands done.0 torn
 still_stopped seed c plain (SumVolume number) acts answer left still held does torn =
     stands_there c plain left held
     (subst (λ (steps : List Step). Torn steps (Some c) left)
-    (ap steps_of does.does ∙ sum_in_no_step number (volume_length plain.words does.entry) (text_of does.given) does.ending) torn)
+    (ap steps_of does.is.0 ∙ sum_in_no_step number (volume_length plain.words does.entry) (text_of does.acts) does.ending) torn)
 
 -- ---- several steps
 

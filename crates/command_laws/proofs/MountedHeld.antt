@@ -19,8 +19,7 @@ use Rattle.cartridge_spec.specs.Mounting.{settled, IsTableLive, Mounts, mounted_
 use Rattle.cartridge_spec.specs.Says.{whole_mask, with_parity}
 use Rattle.cartridge_spec.specs.Settling.{changed_by, settling_steps, writes_of}
 use Rattle.cartridge_spec.specs.Shape.{IsLive, usable_places}
-use Rattle.cartridge_spec.specs.Volumes.{Plain, Stands, entries_of}
-use Rattle.cartridge_spec.specs.Wear.{worn, WearSpares}
+use Rattle.cartridge_spec.specs.Volumes.{Plain, Stands, entries_of, worn, WearSpares}
 use Rattle.command_laws.proofs.MountedKeeping.{mended_live}
 use Rattle.command_laws.proofs.ScrubDone.{done_being_mended}
 use Rattle.command_laws.proofs.ScrubMending.{done_scrub_is_cartridge}
@@ -29,7 +28,8 @@ use Rattle.command_laws.specs.MountedHeld.{IsHeld}
 use Rattle.command_laws.specs.MountedKept.{IsOpen}
 use Rattle.command_spec.specs.Scrub.{Scrubs}
 use Rattle.qic_base.specs.Acts.{Act, steps_of}
-use Rattle.qic_base.specs.Cartridge.{Cartridge, IsCartridge, view_at, place_of}
+use Rattle.qic_base.specs.Cartridge.{Cartridge, view_at}
+use Rattle.qic_base.specs.Terms.{IsCartridge, place_of}
 use Rattle.qic_base.specs.Step.{worn_view}
 use Rattle.qic_base.specs.declared.tape.SectorView.{SectorView}
 use Rattle.qic_base.specs.declared.tape.SectorView.TheVariants.{Blank, Defect, Lost, Holds}

@@ -12,8 +12,7 @@ use Rattle.cartridge_spec.specs.Mounting.{IsTableLive}
 use Rattle.cartridge_spec.specs.Says.{Data, AsRead, ByCode, TableSays}
 use Rattle.cartridge_spec.specs.Settling.{changed_by}
 use Rattle.cartridge_spec.specs.Shape.{IsLive}
-use Rattle.cartridge_spec.specs.Volumes.{Plain, entries_of}
-use Rattle.cartridge_spec.specs.Wear.{worn}
+use Rattle.cartridge_spec.specs.Volumes.{Plain, entries_of, worn}
 use Rattle.command_laws.proofs.ScrubDone.{done_being_mended}
 use Rattle.command_laws.proofs.ScrubMending.{done_scrub_is_cartridge}
 use Rattle.command_laws.proofs.ScrubMounted.{done_scrub_stands, done_scrub_table}
@@ -24,8 +23,7 @@ use Rattle.qic_base.proofs.Joins.{steps_of-append}
 use Rattle.qic_base.proofs.Steps.{Torn-append}
 use Rattle.qic_base.specs.Acts.{Act, steps_of}
 use Rattle.qic_base.specs.Cartridge.{Cartridge, view_at}
-use Rattle.qic_base.specs.Step.{Step, worn_view}
-use Rattle.qic_base.specs.Stop.{Torn}
+use Rattle.qic_base.specs.Step.{Step, worn_view, Torn}
 use Rattle.qic_base.specs.declared.tape.SectorView.{SectorView}
 use Rattle.qic_base.specs.declared.tape.TapeInfo.{TapeInfo}
 

@@ -15,7 +15,7 @@ use Rattle.cartridge_laws.proofs.MountParts.{code_block}
 use Rattle.cartridge_laws.proofs.MountSettled.{settled_keeps_table}
 use Rattle.cartridge_laws.proofs.MountSettles.{settling_settles}
 use Rattle.cartridge_laws.proofs.MountStanding.{written_table, can_be_read}
-use Rattle.cartridge_laws.proofs.Sayings.{cartridge_sectors, block_from_data, data_of-parity}
+use Rattle.cartridge_laws.proofs.Sayings.{block_from_data, data_of-parity}
 use Rattle.cartridge_laws.proofs.Segments.{length-whole_cells}
 use Rattle.cartridge_laws.proofs.SlotBytes.{length-slot_bytes, slot_are_bytes}
 use Rattle.cartridge_laws.proofs.Slots.{slot_area}
@@ -24,15 +24,16 @@ use Rattle.cartridge_laws.proofs.TablePutting.{put_entry_is_shown}
 use Rattle.cartridge_laws.specs.AppendSettled.{IsSettledFor}
 use Rattle.cartridge_laws.specs.Slots.{FitsSlot}
 use Rattle.cartridge_laws.specs.Table.{IsSoundList}
-use Rattle.cartridge_spec.specs.Appending.{table_writes, free_segments, last_end, room, taken_by}
-use Rattle.cartridge_spec.specs.Code.{IsSector}
+use Rattle.cartridge_spec.specs.Appending.{table_writes, free_segments, room, taken_by}
+use Rattle.cartridge_laws.specs.Terms.{last_end, IsInForce, HasList, data_of, unreadable_data, slot_sector, with_slot}
+use Rattle.qic_base.specs.Cartridge.{IsSector, Cartridge, IsLength, view_at}
 use Rattle.cartridge_spec.specs.Formatting.{IsLabel}
 use Rattle.cartridge_spec.specs.Header.{has_signature}
-use Rattle.cartridge_spec.specs.HeaderAndTable.{IsArea, table_cells, IsInForce, last_segment, TableIs}
-use Rattle.cartridge_spec.specs.Mounting.{settled, HasList}
-use Rattle.cartridge_spec.specs.Says.{data_of, Agrees, Written, unreadable_count, unreadable_data, with_parity}
+use Rattle.cartridge_spec.specs.HeaderAndTable.{IsArea, table_cells, last_segment, TableIs}
+use Rattle.cartridge_spec.specs.Mounting.{settled}
+use Rattle.cartridge_spec.specs.Says.{Agrees, Written, unreadable_count, with_parity}
 use Rattle.cartridge_spec.specs.Settling.{changed_by, settling_steps}
-use Rattle.cartridge_spec.specs.Table.{Entry, Shows, slot_sector, slot_bytes, with_slot}
+use Rattle.cartridge_spec.specs.Table.{Entry, Shows, slot_bytes}
 use Rattle.cartridge_spec.specs.Volumes.{capacity_between}
 use Rattle.command_laws.proofs.MountedKeeping.{changed_by_acts}
 use Rattle.command_laws.proofs.ScrubApart.{looked_rise}
@@ -46,10 +47,10 @@ use Rattle.command_laws.proofs.StoreTaking.{both_true}
 use Rattle.command_laws.proofs.StoreWorn.{worn_list}
 use Rattle.command_laws.specs.MountedListed.{ListedReads, MountedListed, IsListed, listed_behind, AppendListed, WearListed, ScrubListed}
 use Rattle.command_laws.specs.ScrubMended.{IsBeingMended}
-use Rattle.command_spec.specs.Append.{Kept, Taking, Fits, TooLong, TooShort, append_acts, entry_acts, entry_for, input_writes, room_in, taking, kept_over}
+use Rattle.command_spec.specs.Append.{Kept, Taking, Fits, TooLong, TooShort, append_acts, entry_acts, input_writes, room_in, taking, kept_over}
+use Rattle.command_laws.specs.CommandTerms.{entry_for}
 use Rattle.command_spec.specs.Scrub.{looked_at, whole_segment}
 use Rattle.qic_base.specs.Acts.{Act, steps_of}
-use Rattle.qic_base.specs.Cartridge.{Cartridge, IsLength, view_at}
 use Rattle.qic_base.specs.Step.{Step}
 use Rattle.qic_base.specs.declared.tape.TapeInfo.{TapeInfo}
 
@@ -61,7 +62,7 @@ listed_area c entries has =
     let size : length (data_of has.block) ≡ length has.block - 3 = length-take-le (length has.block - 3) has.block (omega arith) in
     record {
       size = omega arith;
-      sectors = cartridge_sectors (data_of has.block) (All-take IsSector (length has.block - 3) has.block has.code.sectors);
+      sectors = (All-take IsSector (length has.block - 3) has.block has.code.sectors);
     }
 
 listed_written : (c : Cartridge) (entries : List Entry) (has : HasList c entries) → Written (table_cells c) (data_of has.block)

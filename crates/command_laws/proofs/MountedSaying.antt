@@ -4,18 +4,18 @@ use Rattle.std.proofs.lemmas.Bool.{cases_lt, cases_eq}
 use Rattle.std.proofs.lemmas.List.Elements.{All-nil, All-cons, All-head, All-tail, All-get_or}
 use Rattle.std.proofs.lemmas.Option.{slice_get_within, get_or_from_slice_get}
 use Rattle.cartridge_laws.proofs.Blocks.{says_always}
-use Rattle.cartridge_laws.proofs.Sayings.{cartridge_sector}
 use Rattle.cartridge_spec.specs.Code.{IsCodeBlock}
 use Rattle.cartridge_spec.specs.Says.{Agrees, Saying, LostSectors, Mismatch, Says, unreadable_count}
 use Rattle.cartridge_spec.specs.Settling.{changed_by}
 use Rattle.command_laws.proofs.RestoreEndings.{by_saying}
 use Rattle.command_laws.specs.MountedListed.{RestoresAnyway, ScrubsAnyway}
 use Rattle.command_spec.specs.Restore.{Restored, piece_cells}
-use Rattle.command_spec.specs.Scrub.{Looked, cells_at, steps_in, SayInTurn, looked_at, scrub_acts}
-use Rattle.qic_base.specs.Cartridge.{IsSector, IsView, Cartridge}
+use Rattle.command_spec.specs.Scrub.{Looked, cells_at, steps_in, SayInTurn, looked_at}
+use Rattle.command_laws.specs.Terms.{scrub_acts}
+use Rattle.qic_base.specs.Cartridge.{IsSector, Cartridge}
+use Rattle.qic_base.specs.Terms.{IsView}
 use Rattle.qic_base.specs.declared.tape.SectorView.{SectorView}
 use Rattle.qic_base.specs.declared.tape.SectorView.TheVariants.{Holds, Blank, Defect, Lost}
-use Rattle.cartridge_spec.specs.Code as code
 
 -- ---- cells
 
@@ -72,8 +72,8 @@ no_block : (cells : List SectorView) (block : List (List ℕ)) → HoldsNoSector
 no_block cells block other is agrees =
     let at : slice_get block other.place ≡ Some other.bytes = agrees.each other.place other.bytes other.held in
     let within : other.place < length block = slice_get_within block other.place other.bytes at in
-    other.none (cartridge_sector other.bytes (subst code.IsSector (get_or_from_slice_get block other.place other.bytes [] at)
-    (All-get_or code.IsSector block other.place [] within is.sectors)))
+    other.none (subst IsSector (get_or_from_slice_get block other.place other.bytes [] at)
+    (All-get_or IsSector block other.place [] within is.sectors))
 
 pub says_anyway : (cells : List SectorView) → (saying : Saying) × Says cells saying
 says_anyway cells =

@@ -12,27 +12,28 @@ use Rattle.cartridge_laws.proofs.FormatWriting.{changed_by-append}
 use Rattle.cartridge_laws.proofs.MountSettled.{settled_keeps_table}
 use Rattle.cartridge_laws.proofs.MountSettles.{settling_settles}
 use Rattle.cartridge_laws.specs.AppendBetween.{IsWhole}
-use Rattle.cartridge_laws.specs.AppendLaws.{new_table, IsReadyFor, MayAppend}
+use Rattle.cartridge_laws.specs.AppendLaws.{new_table, MayAppend}
 use Rattle.cartridge_laws.specs.AppendSettled.{MayAppendTo, IsSettledFor}
 use Rattle.cartridge_laws.specs.AppendSteps.{writes_into}
 use Rattle.cartridge_laws.specs.Shape.{Carries}
-use Rattle.cartridge_spec.specs.Appending.{table_writes, last_end, has_room, with_bytes}
+use Rattle.cartridge_spec.specs.Appending.{table_writes, has_room, with_bytes}
+use Rattle.cartridge_laws.specs.Terms.{last_end, slot_sector, with_slot}
 use Rattle.cartridge_spec.specs.Formatting.{IsLabel}
 use Rattle.cartridge_spec.specs.HeaderAndTable.{TableIs}
 use Rattle.cartridge_spec.specs.Mounting.{settled, IsTableLive}
 use Rattle.cartridge_spec.specs.Settling.{changed_by, settling_steps}
 use Rattle.cartridge_spec.specs.Shape.{mask_at, IsLive}
-use Rattle.cartridge_spec.specs.Table.{slot_bytes, slot_sector, with_slot}
+use Rattle.cartridge_spec.specs.Table.{slot_bytes}
 use Rattle.cartridge_spec.specs.Volumes.{Plain, Volume, entries_of, Stands}
 use Rattle.command_laws.proofs.InputActLaws.{volume_is_writes}
 use Rattle.command_laws.proofs.MountedKeeping.{kept_open, live_kept}
 use Rattle.command_laws.specs.MountedKept.{settle_and_append, IsOpen, AppendsLeaveOpen, IsKept}
-use Rattle.command_spec.specs.Append.{volume_acts, filled_acts, input_acts, Kept, Fits, TooLong, TooShort, entry_acts, entry_for, free_in, input_writes, room_in, silently, taking}
+use Rattle.command_spec.specs.Append.{volume_acts, filled_acts, input_acts, Kept, Fits, TooLong, TooShort, entry_acts, input_writes, room_in, taking}
+use Rattle.command_laws.specs.CommandTerms.{entry_for, free_in, silently}
 use Rattle.qic_base.proofs.Joins.{steps_of-append}
 use Rattle.qic_base.specs.Acts.{Act, steps_of}
 use Rattle.qic_base.specs.Cartridge.{Cartridge}
-use Rattle.qic_base.specs.Step.{Step}
-use Rattle.qic_base.specs.Stop.{Torn}
+use Rattle.qic_base.specs.Step.{Step, Torn}
 use Rattle.qic_base.specs.declared.tape.TapeInfo.{TapeInfo}
 use Rattle.cartridge_laws.specs.AppendLaws as appends
 

@@ -4,14 +4,13 @@ use Rattle.cartridge_laws.proofs.FormatWriting.{changed_by-append}
 use Rattle.cartridge_laws.proofs.MountSettles.{settling_settles}
 use Rattle.cartridge_laws.proofs.MountWhole.{settling_effects}
 use Rattle.cartridge_spec.specs.Appending.{with_bytes}
-use Rattle.cartridge_spec.specs.Mounting.{settled}
-use Rattle.cartridge_spec.specs.OneLoss.{ComesBackAs, LosesOneAlone}
+use Rattle.cartridge_spec.specs.Mounting.{settled, ComesBackAs, LosesOneAlone}
 use Rattle.cartridge_spec.specs.Settling.{changed_by, settling_steps}
 use Rattle.command_laws.proofs.CommandOneLoss.{append_survives, done_survives}
 use Rattle.command_laws.specs.MountedKept.{AppendedSurvive, AppendsSurvive}
 use Rattle.qic_base.proofs.Steps.{Torn-append}
 use Rattle.qic_base.specs.Cartridge.{Cartridge}
-use Rattle.qic_base.specs.Stop.{Torn}
+use Rattle.qic_base.specs.Step.{Torn}
 use Rattle.cartridge_laws.specs.AppendLaws as appends
 
 pub appends_survive : AppendsSurvive

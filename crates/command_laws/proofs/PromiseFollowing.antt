@@ -1,10 +1,18 @@
--- Where no count of faults rose, no fault of the outside was answered.
-use Rattle.std.proofs.Common.{◌≡◌, true, refl, inl, inr}
+-- Where no count of faults rose, no fault of the outside was answered; and what a script leaves over a source that tells nothing.
+use Rattle.std.proofs.Common.{◌≡◌, true, refl, inl, inr, ℕ, List, [], Option, Some, None, IfSome, subst}
 use Rattle.std.proofs.lemmas.Bool.{cases_Bool}
-use Rattle.command_laws.specs.PromiseLaws.{AnswersWhereNoneRose}
-use Rattle.command_spec.specs.Headline.{NoneRose}
-use Rattle.command_spec.specs.Runs.{is_fault, fault_of}
+use Rattle.command_laws.proofs.CommandEnds.{told_weaker}
+use Rattle.command_laws.proofs.CommandSeveral.{some_scripted}
+use Rattle.command_laws.proofs.CommandSurvives.{stopped_comes_back}
+use Rattle.command_laws.proofs.CommandTable.{has_values}
+use Rattle.command_laws.specs.PromiseLaws.{AnswersWhereNoneRose, ScriptsUntold}
+use Rattle.command_spec.specs.Headline.{NoneRose, EachLeft, WordsLeave}
+use Rattle.command_spec.specs.OneLoss.{StoppedComesBack}
+use Rattle.command_spec.specs.Several.{SomeScripted}
+use Rattle.command_spec.specs.Machine.{is_fault, fault_of}
 use Rattle.command_spec.specs.declared.status.Status.{Status}
+use Rattle.qic_base.specs.Cartridge.{Cartridge}
+use Rattle.qic_base.specs.Terms.{IsCartridge}
 use Rattle.qic_base.specs.Acts.{Outside, Failing, TapeFails, SourceFails, SinkFails, FailingRose}
 use Rattle.command_spec.specs.declared.status.Status.TheVariants as status
 use Rattle.qic_base.specs.Sink as sinks
@@ -29,3 +37,27 @@ module _ {T S K : Type 0} (t : tapes.Meaning T) (s : sources.Meaning S) (k : sin
         | inl fault ↦ absurd (let which = which_failed answer fault in none_failed old new which.0 none (promises.cause which.0 which.1))
         | inr sound ↦ promises.carried sound
       ]
+
+  -- what a stop leaves over a source that tells nothing, it leaves over some input
+  untold : (words : List (List ℕ)) (held left : Option Cartridge) → WordsLeave None words held left → (input : List ℕ) × WordsLeave (Some input) words held left
+  untold words held left (inl same) = ([], inl same)
+  untold words held left (inr (command, spelled, l)) = (
+    l.input,
+    inr (command, spelled, record { input = l.input; is_told = refl; bytes = λ appends. tt; outcome = l.outcome; plain = l.plain; torn = l.torn }),
+  )
+
+  pub scripts_untold : ScriptsUntold t s k
+  scripts_untold words old new answer promises none =
+      let each : EachLeft t old.tape new.tape (WordsLeave None words) = subst (λ (told : Option (List ℕ)). EachLeft t old.tape new.tape (WordsLeave told words)) none promises.stops in
+      let so : (held left : Option Cartridge) → WordsLeave None words held left → IfSome held IsCartridge →
+      (input : List ℕ) × SomeScripted (Some input) words held left × StoppedComesBack (Some input) words held left =
+      λ held left leaves whole.
+          let some = untold words held left leaves in (
+            some.0,
+            some_scripted (Some some.0) words held left whole some.1,
+            stopped_comes_back (Some some.0) words held left (λ command spells. has_values words command spells) whole some.1,
+          ) in
+      record {
+        told = λ held told. told_weaker (t.told new.tape) (λ left. so held left) (each.told held told);
+        since = λ held left telling told is. so held left (each.since held left telling told is);
+      }

@@ -1,13 +1,18 @@
 -- The laws of the plain machine of `pulses`.
-use Rattle.std.proofs.Common.{refl, sym, ap, ◌∙◌, ◌≡◌, ℕ, ◌+◌, ◌≤◌, List, [], ◌∷◌, ◌++◌, length, arith, append_assoc}
+use Rattle.std.proofs.Common.{Option, refl, sym, ap, ◌∙◌, ◌≡◌, ℕ, ◌+◌, ◌≤◌, List, [], ◌∷◌, ◌++◌, length, arith, append_assoc}
 use Rattle.std.proofs.lemmas.List.{length-append}
 use Rattle.command_laws.proofs.PulseTrains.{pulse_line, train_acts-append}
 use Rattle.command_laws.proofs.TextInputs.{one_reading, pulses}
 use Rattle.command_laws.proofs.TextReadings.{each_pulses}
 use Rattle.command_laws.specs.PulseLaws.{EachOutcome, OneOutcome, TrainsAreLines, FaultsAreBehind, FrontsDoFronts}
-use Rattle.command_spec.specs.Input.{IsPulse, Ending, HasItems, most_items, AtFault}
-use Rattle.command_spec.specs.Pulses.{outcome_of, train_line, train_lines, after_trains, train_acts}
+use Rattle.command_spec.specs.Input.{IsPulse, Ending, HasItems, most_items, AtEnd, AtStop, AtFault, input_status}
+use Rattle.command_spec.specs.Outcome.{CommandOutcome}
+use Rattle.command_laws.specs.PulseRuns.{PulseRun, PulsesOutcome, info_of, outcome_of, after_trains, pulses_answer, sent, sent_status}
+use Rattle.command_spec.specs.Pulses.{SentOutcome, pulses_taken, train_line, train_lines, train_acts}
+use Rattle.command_spec.specs.declared.status.Status.{Status}
 use Rattle.drive_spec.specs.Record.{power_on}
+use Rattle.qic_base.specs.Acts.{Act}
+use Rattle.qic_base.specs.Cartridge.{Cartridge}
 
 pub each_outcome : EachOutcome
 each_outcome known input =
@@ -21,6 +26,34 @@ one_outcome known input a b first second =
     let same = one_reading IsPulse pulses 1 0 input first.trains second.trains first.ending second.ending first.read second.read in
     first.comes ∙ ap (λ ps. outcome_of (power_on known) input ps first.ending) same.0
     ∙ ap (λ (e : Ending). outcome_of (power_on known) input second.trains e) same.1 ∙ sym second.comes
+
+-- the answer by what ended the input
+status_is : (ending : Ending) → input_status ending ≡ sent_status (pulses_answer ending)
+status_is AtEnd = refl
+status_is AtStop = refl
+status_is (AtFault line place) = refl
+
+abbrev answered : (acts : List Act) (taken : ℕ) → Status → CommandOutcome
+answered acts taken why = record { acts = acts; taken = taken; status = why }
+
+-- what the command does is a run of trains, ..
+pub run_of : (held : Option Cartridge) (input : List ℕ) (outcome : CommandOutcome) → SentOutcome held input outcome →
+    (came : PulseRun) × PulsesOutcome (info_of held) input came × (outcome ≡ sent came)
+run_of held input outcome sends = (
+  outcome_of (power_on (info_of held)) input sends.trains sends.ending,
+  record { trains = sends.trains; ending = sends.ending; read = sends.read; comes = refl },
+  sends.is ∙ ap (answered (train_acts (power_on (info_of held)) sends.trains) (pulses_taken input sends.trains sends.ending)) (status_is sends.ending),
+)
+
+-- .. and each run of trains is what the command does
+pub sends_of : (held : Option Cartridge) (input : List ℕ) (came : PulseRun) → PulsesOutcome (info_of held) input came → SentOutcome held input (sent came)
+sends_of held input came plain = record {
+  trains = plain.trains;
+  ending = plain.ending;
+  read = plain.read;
+  is = ap sent plain.comes
+      ∙ sym (ap (answered (train_acts (power_on (info_of held)) plain.trains) (pulses_taken input plain.trains plain.ending)) (status_is plain.ending));
+}
 
 -- from any line on
 lines_begin : (line place : ℕ) (input trains : List ℕ) (ending : Ending) → line ≤ most_items + 1 → HasItems IsPulse line place input trains ending →

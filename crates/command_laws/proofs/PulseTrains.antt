@@ -3,12 +3,14 @@ use Rattle.std.proofs.Common.{◌≡◌, ℕ, List, [], ◌∷◌, ◌++◌, ◌
 use Rattle.std.proofs.lemmas.List.{length_push}
 use Rattle.std.proofs.lemmas.Bool.Decides.{nat_tests}
 use Rattle.command_spec.specs.Input.{IsPulse}
-use Rattle.command_spec.specs.Pulses.{pulsed_row, after_trains, train_act, train_acts, train_line, train_lines, train_changes}
-use Rattle.drive_spec.specs.Deck.{refusal_of, is_streaming}
+use Rattle.command_spec.specs.Pulses.{pulsed_row, train_acts, train_line, train_lines, train_changes}
+use Rattle.command_laws.specs.PulseRuns.{train_act, after_trains}
+use Rattle.drive_spec.specs.Terms.{refusal_of, obeyed, idled, longer}
+use Rattle.drive_spec.specs.Deck.{is_streaming}
 use Rattle.drive_spec.specs.Effects.{given, reset, ticked}
-use Rattle.drive_spec.specs.Parameters.{longer, parameter_trains, parameter_values, parameter_code}
+use Rattle.drive_spec.specs.Parameters.{parameter_trains, parameter_values, parameter_code}
 use Rattle.drive_spec.specs.Record.{Record}
-use Rattle.drive_spec.specs.Row.{heard, by_command, by_refusal, given_more, moved_on, latched, showing, obeyed, idled, after_gap}
+use Rattle.drive_spec.specs.Row.{heard, by_command, by_refusal, given_more, moved_on, latched, showing, after_gap}
 use Rattle.drive_spec.specs.Steps.{gap_steps}
 use Rattle.drive_spec.specs.declared.under_way.Parameter.{Parameter}
 use Rattle.drive_spec.specs.declared.under_way.UnderWay.{UnderWay}

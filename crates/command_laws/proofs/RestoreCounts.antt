@@ -8,7 +8,7 @@ use Rattle.std.proofs.lemmas.Bool.{leb-true}
 use Rattle.std.proofs.lemmas.List.{length-take-le, take_all}
 use Rattle.cartridge_laws.proofs.AppendBytes.{carried_all, capacity_of, capacity_cons, between_carries}
 use Rattle.cartridge_laws.proofs.AppendSegments.{carrying_carry}
-use Rattle.cartridge_laws.proofs.Sayings.{said_are_sectors, cartridge_sectors}
+use Rattle.cartridge_laws.proofs.Sayings.{said_are_sectors}
 use Rattle.cartridge_laws.proofs.Segments.{count_of_cells}
 use Rattle.cartridge_laws.specs.SayingLaws.{AreDataSectors}
 use Rattle.cartridge_laws.specs.Shape.{Carries}
@@ -120,7 +120,7 @@ read_count c words piece act fits read =
     let size : length read.sectors + 3 ≡ length cells = are.size in
     let usable : length cells ≡ usable_count mask = count_of_cells c piece.segment mask in
     let long : length (bytes_in read.sectors) ≡ 1024 * length read.sectors =
-    length-bytes_in read.sectors (cartridge_sectors read.sectors are.each) in
+    length-bytes_in read.sectors are.each in
     let all : capacity mask ≡ 1024 * data_count mask = carried_all words piece.segment fits.carry in
     let within : piece.count ≤ capacity mask = fits.within in
     ap (λ (a : Act). length a.text) read.shown ∙ length-take-le piece.count (bytes_in read.sectors) (omega arith)

@@ -21,8 +21,7 @@ use Rattle.cartridge_spec.specs.Volumes.{Plain, Volume, entries_of, carrying_seg
 use Rattle.command_laws.proofs.RestoreStanding.{restores_byte_for_byte, restores_front, few_or_first_lost}
 use Rattle.command_laws.specs.RestoreLaws.{HasVolume, GivesFront}
 use Rattle.command_spec.specs.Outcome.{settling_act, CommandOutcome, Opened, output_of}
-use Rattle.command_spec.specs.Restore.{Piece, pieces_of, piece_cells, pieces_in, LosesFew, GivingEnd, Restores, ending_status, pieces, volume_at, Gives, RestoreOutcome, FirstLost, bytes_held}
-use Rattle.command_spec.specs.Commands.RestoreCommand.{HasNumber}
+use Rattle.command_spec.specs.Restore.{Piece, pieces_of, piece_cells, pieces_in, LosesFew, GivingEnd, Restores, ending_status, pieces, volume_at, Gives, RestoreOutcome, FirstLost, bytes_held, HasNumber}
 use Rattle.qic_base.specs.Acts.{Act}
 use Rattle.qic_base.specs.Cartridge.{Cartridge}
 use Rattle.qic_base.specs.declared.tape.SectorView.{SectorView}

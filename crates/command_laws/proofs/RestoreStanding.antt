@@ -9,16 +9,18 @@ use Rattle.std.proofs.lemmas.Bool.{cases_lt}
 use Rattle.cartridge_laws.proofs.AppendBytes.{carried_all, capacity_of, sectors_carry}
 use Rattle.cartridge_laws.proofs.AppendSegments.{carrying_carry}
 use Rattle.cartridge_laws.proofs.Places.{count_below}
-use Rattle.cartridge_laws.proofs.Sayings.{written_is_said, code_sectors, written_is_lost}
+use Rattle.cartridge_laws.proofs.Sayings.{written_is_said, written_is_lost}
 use Rattle.cartridge_laws.specs.Shape.{Carries}
 use Rattle.cartridge_spec.specs.Appending.{bytes_in, volume_bytes}
 use Rattle.cartridge_spec.specs.Says.{cells_of, Written, unreadable_count, Says, Data, LostSectors}
 use Rattle.cartridge_spec.specs.Shape.{mask_at, data_count, capacity, usable_count}
-use Rattle.cartridge_spec.specs.Volumes.{PartStands, parts_of, sectors_in, Part, Plain, Volume, VolumeStands, carrying_segments, volume_length}
+use Rattle.cartridge_laws.specs.Terms.{PartStands, sectors_in}
+use Rattle.cartridge_spec.specs.Volumes.{parts_of, Part, Plain, Volume, VolumeStands, carrying_segments, volume_length}
 use Rattle.command_laws.proofs.RestoreCounts.{length-bytes_in, length_within}
 use Rattle.command_laws.proofs.RestoreEndings.{restores_is_function}
 use Rattle.command_laws.specs.RestoreLaws.{HasVolume, VolumeIsLong, RestoresByteForByte, FewOrFirstLost, RestoresFront, NeverMismatch, StandingRestores}
-use Rattle.command_spec.specs.Restore.{Piece, Restored, Restores, LosesFew, pieces_of, act_of, LostIn, bytes_held, piece_cells, pieces_in, FirstLost, MismatchIn}
+use Rattle.command_spec.specs.Restore.{Piece, Restored, Restores, LosesFew, pieces_of, LostIn, bytes_held, piece_cells, pieces_in, FirstLost, MismatchIn}
+use Rattle.command_laws.specs.CommandTerms.{act_of}
 use Rattle.qic_base.specs.Acts.{Act, text_of}
 use Rattle.qic_base.specs.Cartridge.{Cartridge, IsSector}
 
@@ -77,7 +79,7 @@ first_says : (c : Cartridge) (words : List ℕ) (s : ℕ) (area : List (List ℕ
     Says (cells_of c s (mask_at words s)) (Data (take (data_count (mask_at words s)) area))
 first_says c words s area holds few =
     let sectors : List (List ℕ) = take (data_count (mask_at words s)) area in
-    written_is_said (cells_of c s (mask_at words s)) sectors holds.least holds.most (code_sectors sectors holds.sectors) holds.written few
+    written_is_said (cells_of c s (mask_at words s)) sectors holds.least holds.most holds.sectors holds.written few
 
 -- ---- bytes in parts
 

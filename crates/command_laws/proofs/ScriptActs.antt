@@ -5,10 +5,28 @@ use Rattle.std.proofs.lemmas.Bool.{cases_Bool}
 use Rattle.std.proofs.lemmas.List.{take_all, length-take-le}
 use Rattle.cartridge_spec.specs.Table.{Entry}
 use Rattle.command_laws.proofs.InputActLaws.{input_prints_nothing}
-use Rattle.command_spec.specs.Append.{Fits, TooLong, TooShort, taking, has_promised_room, input_acts, Kept, Taking, room_in, free_in, entry_acts, append_acts, most_written, input_writes, entry_for, silently, volume_acts, filled_acts}
+use Rattle.command_spec.specs.Append.{Fits, TooLong, TooShort, taking, has_promised_room, input_acts, Kept, Taking, room_in, entry_acts, append_acts, input_writes, volume_acts, filled_acts}
+use Rattle.command_laws.specs.CommandTerms.{entry_for, WearsBehind, LineSpares, free_in, most_written, silently}
 use Rattle.qic_base.proofs.Joins.{steps_of-append, text_of-append}
 use Rattle.qic_base.specs.Acts.{Act, text_of, steps_of}
+use Rattle.cartridge_spec.specs.Volumes.{Plain, WearSpares}
+use Rattle.command_spec.specs.declared.line.Line.{Line}
+use Rattle.qic_base.specs.Cartridge.{Cartridge, IsPlace}
 use Rattle.qic_base.specs.Step.{Step}
+use Rattle.command_spec.specs.declared.line.Line.TheVariants as line
+
+-- ---- lines that wear a sector
+
+pub wears_behind : (asked : Line) → ((segment sector : ℕ) → asked ≡ line.Lose segment sector → sector < 32 → 3 ≤ segment) → WearsBehind asked
+wears_behind (line.Lose segment sector) behind = behind segment sector refl
+wears_behind asked behind = tt
+
+pub line_spares : (c : Cartridge) (plain : Plain) (asked : Line) →
+    ((segment sector : ℕ) → asked ≡ line.Lose segment sector → IsPlace c.info.segments_per_track segment sector → WearSpares c plain segment sector) → LineSpares c plain asked
+line_spares c plain (line.Lose segment sector) spares = spares segment sector refl
+line_spares c plain asked spares = tt
+
+-- ---- acts
 
 -- an act that prints nothing
 abbrev pub quietly : List Step → Act

@@ -7,6 +7,7 @@ use Rattle.cartridge_spec.specs.Mounting.{IsTableLive}
 use Rattle.cartridge_spec.specs.Settling.{changed_by}
 use Rattle.cartridge_spec.specs.Table.{Entry}
 use Rattle.cartridge_spec.specs.Volumes.{Plain, Stands, entries_of}
+use Rattle.command_laws.proofs.ScriptActs.{line_spares}
 use Rattle.command_laws.proofs.MountedFronts.{ends_in}
 use Rattle.command_laws.proofs.MountedKeeping.{changed_by_acts}
 use Rattle.command_laws.proofs.ScriptReached.{AllLeave, Reached, reached_between, reached_behind, reached_none, leave_weaker}
@@ -16,14 +17,14 @@ use Rattle.command_laws.proofs.ScriptStanding.{fault_stands, items_have_bytes, i
 use Rattle.command_laws.specs.MountedHeld.{IsHeld}
 use Rattle.command_laws.specs.ScriptStanding.{HaveBytes, AnsweredBetween, AnsweredBehind, StoppedScriptStands, DoneScriptStands, plain_behind, plain_after}
 use Rattle.command_spec.specs.Input.{Ending, AtEnd, AtStop, AtFault, Item}
-use Rattle.command_spec.specs.Script.{EndDoes, ScriptRun, ScriptDoes, cartridge_behind, entries_behind, place_behind, Did, ItemsDo, acts_of}
+use Rattle.command_spec.specs.Script.{EndDoes, ScriptDoes, cartridge_behind, entries_behind, place_behind, Did, ItemsDo, acts_of}
+use Rattle.command_spec.specs.Outcome.{CommandOutcome}
 use Rattle.command_spec.specs.ScriptLists.{FirstSpare, ItemsSpare, StandsAnswered, printed_by}
 use Rattle.qic_base.proofs.Joins.{steps_of-append, text_of-append}
 use Rattle.qic_base.proofs.Steps.{Torn-front, Torn-behind, Torn-append, Torn-nothing, Torn-all}
 use Rattle.qic_base.specs.Acts.{Act, steps_of, next_steps, text_of}
 use Rattle.qic_base.specs.Cartridge.{Cartridge}
-use Rattle.qic_base.specs.Step.{Step}
-use Rattle.qic_base.specs.Stop.{Torn}
+use Rattle.qic_base.specs.Step.{Step, Torn}
 
 -- ---- stops among acts
 
@@ -32,7 +33,7 @@ next_torn [] held left torn = torn
 next_torn (act ∷ acts) held left torn = Torn-front act.steps (steps_of acts) held left torn
 
 -- a stop in the act behind a front
-torn_there : (front rest acts : List Act) (c : Cartridge) (left : Option Cartridge) → front ++ rest ≡ acts → Torn (next_steps rest) (Some (changed_by (steps_of front) c)) left →
+pub torn_there : (front rest acts : List Act) (c : Cartridge) (left : Option Cartridge) → front ++ rest ≡ acts → Torn (next_steps rest) (Some (changed_by (steps_of front) c)) left →
     Torn (steps_of acts) (Some c) left
 torn_there front rest acts c left parts torn =
     subst (λ (ss : List Step). Torn ss (Some c) left) (sym (steps_of-append front rest) ∙ ap steps_of parts)
@@ -41,13 +42,13 @@ torn_there front rest acts c left parts torn =
     (next_torn rest (Some (changed_by (steps_of front) c)) left torn)))
 
 -- a stop among acts is one in the act behind a front
-record StopsBehind (acts : List Act) (c : Cartridge) (left : Option Cartridge) : Type 0 where
-  front : List Act
-  rest : List Act
-  parts : front ++ rest ≡ acts
-  torn : Torn (next_steps rest) (Some (changed_by (steps_of front) c)) left
+pub record StopsBehind (acts : List Act) (c : Cartridge) (left : Option Cartridge) : Type 0 where
+  pub front : List Act
+  pub rest : List Act
+  pub parts : front ++ rest ≡ acts
+  pub torn : Torn (next_steps rest) (Some (changed_by (steps_of front) c)) left
 
-stops_behind : (acts : List Act) (c : Cartridge) (left : Option Cartridge) → Torn (steps_of acts) (Some c) left → StopsBehind acts c left
+pub stops_behind : (acts : List Act) (c : Cartridge) (left : Option Cartridge) → Torn (steps_of acts) (Some c) left → StopsBehind acts c left
 stops_behind [] c left torn = record { front = []; rest = []; parts = refl; torn = torn }
 stops_behind (act ∷ acts) c left torn =
     elim (Torn-append act.steps (steps_of acts) (Some c) left torn) [
@@ -81,7 +82,7 @@ end_stands d p rest AtStop last held is left torn =
     some_and (λ e. Stands e p) d left held.stands (subst (λ (xs : List Act). Torn (steps_of xs) (Some d) left) is torn)
 end_stands d p rest (AtFault number place) last held does left torn = fault_stands d p number rest last left held does torn
 
-ends_of : (c : Cartridge) (plain : Plain) (input : List ℕ) (outcome : ScriptRun) → IsHeld c plain → (does : ScriptDoes c plain.words (entries_of plain) input outcome) →
+ends_of : (c : Cartridge) (plain : Plain) (input : List ℕ) (outcome : CommandOutcome) → IsHeld c plain → (does : ScriptDoes c plain.words (entries_of plain) input outcome) →
     All (λ b. b < 256) input → ItemsSpare c plain does.items does.dids → EndStands (cartridge_behind c does.dids) (plain_behind plain does.items does.dids) does.last
 ends_of c plain input outcome held does content spares =
     let has : HaveBytes does.items = items_have_bytes input does.items does.ending does.read content in
@@ -96,7 +97,7 @@ ends_of c plain input outcome held does content spares =
 -- ---- what is left of a script
 
 -- a stop may leave whatever these steps leave
-abbrev Tears : List Step → Cartridge → Option Cartridge → Type 0
+abbrev pub Tears : List Step → Cartridge → Option Cartridge → Type 0
 Tears ss d left = Torn ss (Some d) left
 
 -- the plain cartridge behind so many items
@@ -110,7 +111,7 @@ all_stand [] [] c plain last held live has ran spares ends = λ front rest left 
 all_stand [] (did ∷ dids) c plain last held live has ran spares ends = absurd ran
 all_stand (item ∷ items) [] c plain last held live has ran spares ends = absurd ran
 all_stand (item ∷ items) (did ∷ dids) c plain last held live has ran spares ends =
-    let leaves : ItemLeaves c plain item did = item_leaves c plain item did held has.0 spares.0 ran.0 in
+    let leaves : ItemLeaves c plain item did = item_leaves c plain item did held has.0 (line_spares c plain item.line spares.0) ran.0 in
     let next : Plain = plain_after plain item did in
     let d : Cartridge = changed_by (steps_of did.acts) c in
     let first : Plain = plain_behind plain (item ∷ []) (did ∷ []) in
@@ -128,7 +129,7 @@ all_stand (item ∷ items) (did ∷ dids) c plain last held live has ran spares 
           (subst (λ (p : Plain). EndStands (cartridge_behind d dids) p last) (sym (next_is plain item did items dids leaves.entries)) ends)),
     )
 
-script_stands : (c : Cartridge) (plain : Plain) (input : List ℕ) (outcome : ScriptRun) → IsHeld c plain → IsTableLive c → (does : ScriptDoes c plain.words (entries_of plain) input outcome) →
+script_stands : (c : Cartridge) (plain : Plain) (input : List ℕ) (outcome : CommandOutcome) → IsHeld c plain → IsTableLive c → (does : ScriptDoes c plain.words (entries_of plain) input outcome) →
     All (λ b. b < 256) input → ItemsSpare c plain does.items does.dids → AllLeave Tears (StandsBehind plain does.items does.dids) c does.dids does.last
 script_stands c plain input outcome held live does content spares =
     all_stand does.items does.dids c plain does.last held live (items_have_bytes input does.items does.ending does.read content) does.did spares
@@ -157,12 +158,12 @@ first_do (suc n) [] (did ∷ dids) c words entries ran = absurd ran
 first_do (suc n) (item ∷ items) [] c words entries ran = absurd ran
 first_do (suc n) (item ∷ items) (did ∷ dids) c words entries ran = (ran.0, first_do n items dids (changed_by (steps_of did.acts) c) words did.entries ran.1)
 
-first_have : (n : ℕ) (items : List Item) → HaveBytes items → HaveBytes (take n items)
+pub first_have : (n : ℕ) (items : List Item) → HaveBytes items → HaveBytes (take n items)
 first_have zero items have = tt
 first_have (suc n) [] have = tt
 first_have (suc n) (item ∷ items) have = (have.0, first_have n items have.1)
 
-first_speak : (n : ℕ) (dids : List Did) → AllSpeak dids → AllSpeak (take n dids)
+pub first_speak : (n : ℕ) (dids : List Did) → AllSpeak dids → AllSpeak (take n dids)
 first_speak zero dids speak = tt
 first_speak (suc n) [] speak = tt
 first_speak (suc n) (did ∷ dids) speak = (speak.0, first_speak n dids speak.1)
@@ -175,7 +176,7 @@ acts_parted (suc n) (did ∷ dids) =
     append_assoc did.acts (acts_of (take n dids)) (acts_of (drop n dids)) ∙ ap (λ (acts : List Act). did.acts ++ acts) (acts_parted n dids)
 
 -- of more items more is printed
-more_printed : (n m : ℕ) (dids : List Did) → n ≤ m → printed_by dids n ≤ printed_by dids m
+pub more_printed : (n m : ℕ) (dids : List Did) → n ≤ m → printed_by dids n ≤ printed_by dids m
 more_printed n m dids less =
     let parts = ap (λ (acts : List Act). length (text_of acts)) (sym (acts_parted n (take m dids))) in
     let texts = ap (λ (text : List ℕ). length text) (text_of-append (acts_of (take n (take m dids))) (acts_of (drop n (take m dids)))) in
@@ -226,26 +227,26 @@ all_spare c plain items dids count long all spares =
     subst (λ (ds : List Did). ItemsSpare c plain items ds) (take_all count dids (omega arith))
     (subst (λ (xs : List Item). ItemsSpare c plain xs (take count dids)) (take_all count items (omega arith)) spares)
 
-module _ (c : Cartridge) (plain : Plain) (input : List ℕ) (outcome : ScriptRun) (held : IsHeld c plain) (live : IsTableLive c) (does : ScriptDoes c plain.words (entries_of plain) input outcome) (content : All (λ b. b < 256) input) where
+module _ (c : Cartridge) (plain : Plain) (input : List ℕ) (outcome : CommandOutcome) (held : IsHeld c plain) (live : IsTableLive c) (does : ScriptDoes c plain.words (entries_of plain) input outcome) (content : All (λ b. b < 256) input) where
   abbrev items : List Item
   items = does.items
 
   abbrev dids : List Did
   dids = does.dids
 
-  long : length dids ≡ length items
+  pub long : length dids ≡ length items
   long = as_many items dids c plain.words (entries_of plain) does.did
 
-  speak : AllSpeak dids
+  pub speak : AllSpeak dids
   speak = script_speaks c plain.words (entries_of plain) input outcome does
 
   has : HaveBytes items
   has = items_have_bytes input items does.ending does.read content
 
   -- the acts of the first items, and those behind
-  acts_are : (n : ℕ) → outcome.acts ≡ acts_of (take n dids) ++ (acts_of (drop n dids) ++ does.last)
+  pub acts_are : (n : ℕ) → outcome.acts ≡ acts_of (take n dids) ++ (acts_of (drop n dids) ++ does.last)
   acts_are n =
-      ap (λ (o : ScriptRun). o.acts) does.is ∙ ap (λ (acts : List Act). acts ++ does.last) (sym (acts_parted n dids))
+      ap (λ (o : CommandOutcome). o.acts) does.is ∙ ap (λ (acts : List Act). acts ++ does.last) (sym (acts_parted n dids))
       ∙ append_assoc (acts_of (take n dids)) (acts_of (drop n dids)) does.last
 
   between_all : (front rest : List Act) (left : Option Cartridge) → ItemsSpare c plain items dids → front ++ rest ≡ outcome.acts →
@@ -253,7 +254,7 @@ module _ (c : Cartridge) (plain : Plain) (input : List ℕ) (outcome : ScriptRun
   between_all front rest left spares parts torn =
       stands_answered c plain items dids (length (text_of front)) left does.did
       (reached_between Tears (StandsBehind plain items dids) dids c does.last front rest left speak
-      (script_stands c plain input outcome held live does content spares) (parts ∙ ap (λ (o : ScriptRun). o.acts) does.is) torn)
+      (script_stands c plain input outcome held live does content spares) (parts ∙ ap (λ (o : CommandOutcome). o.acts) does.is) torn)
 
   between_first : (n : ℕ) (front rest : List Act) (left : Option Cartridge) → n ≤ length items → length (text_of front) < printed_by dids n → FirstSpare c plain items dids n →
       front ++ rest ≡ outcome.acts → Torn (next_steps rest) (Some (changed_by (steps_of front) c)) left → StandsAnswered plain items dids (length (text_of front)) left
@@ -277,7 +278,7 @@ module _ (c : Cartridge) (plain : Plain) (input : List ℕ) (outcome : ScriptRun
       stands_answered c plain items dids printed left does.did
       (reached_behind Tears (λ ss d. Torn-nothing ss (Some d)) (StandsBehind plain items dids) dids c does.last front act rest left printed
       speak (script_stands c plain input outcome held live does content spares)
-      (parts ∙ ap (λ (o : ScriptRun). o.acts) does.is) is above below)
+      (parts ∙ ap (λ (o : CommandOutcome). o.acts) does.is) is above below)
 
   behind_first : (n : ℕ) (front : List Act) (act : Act) (rest : List Act) (left : Option Cartridge) (printed : ℕ) → n ≤ length items → printed < printed_by dids n → FirstSpare c plain items dids n →
       front ++ act ∷ rest ≡ outcome.acts → left ≡ Some (changed_by (steps_of front ++ act.steps) c) → length (text_of front) ≤ printed → printed ≤ length (text_of front) + length act.text →
@@ -341,7 +342,7 @@ answered_behind c plain input outcome front act rest left printed held live does
     behind_first c plain input outcome held live does content n front act rest left printed some less spares parts is above below
 
 -- where nothing was printed no item was answered
-pub none_answered : (c : Cartridge) (plain : Plain) (input : List ℕ) (outcome : ScriptRun) (left : Option Cartridge) → (does : ScriptDoes c plain.words (entries_of plain) input outcome) →
+pub none_answered : (c : Cartridge) (plain : Plain) (input : List ℕ) (outcome : CommandOutcome) (left : Option Cartridge) → (does : ScriptDoes c plain.words (entries_of plain) input outcome) →
     All (λ b. b < 256) input → IsSomeAnd left (λ d. Stands d plain) → StandsAnswered plain does.items does.dids 0 left
 none_answered c plain input outcome left does content stands =
     stands_answered c plain does.items does.dids 0 left does.did
@@ -370,7 +371,7 @@ done_script_stands c plain input outcome held does content spares =
     let d : Cartridge = cartridge_behind c does.dids in
     let p : Plain = plain_behind plain does.items does.dids in
     let behind : changed_by (steps_of outcome.acts) c ≡ changed_by (steps_of does.last) d =
-    ap (λ (o : ScriptRun). changed_by (steps_of o.acts) c) does.is ∙ changed_by_acts (acts_of does.dids) does.last c
+    ap (λ (o : CommandOutcome). changed_by (steps_of o.acts) c) does.is ∙ changed_by_acts (acts_of does.dids) does.last c
     ∙ ap (λ (e : Cartridge). changed_by (steps_of does.last) e) (sym (cartridge_is c does.dids)) in
     subst (λ (e : Cartridge). Stands e p) (sym behind)
     (ends_of c plain input outcome held does content spares (Some (changed_by (steps_of does.last) d))

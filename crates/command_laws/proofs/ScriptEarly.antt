@@ -4,7 +4,8 @@ use Rattle.std.proofs.lemmas.List.{append_cancel_left}
 use Rattle.command_laws.proofs.TextDeciding.{Decided, along, at_most, both, has_form}
 use Rattle.command_laws.proofs.TextLined.{one_before}
 use Rattle.command_laws.proofs.TextReadings.{Cut, cut, no_line_without}
-use Rattle.command_spec.specs.Input.{IsLine, line_forms, promised, words_of}
+use Rattle.command_laws.specs.CommandTerms.{IsLine, words_of}
+use Rattle.command_spec.specs.Input.{line_forms, promised}
 use Rattle.command_spec.specs.Script.{EndsEarly}
 use Rattle.command_spec.specs.declared.line.Line.{Line}
 use Rattle.command_spec.specs.declared.line.Line.TheVariants as line

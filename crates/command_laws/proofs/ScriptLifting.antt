@@ -4,8 +4,10 @@ use Rattle.command_spec.specs.Script.{reply}
 use Rattle.qic_base.proofs.Joins.{went_both, went_then_cut, sink_cut_one}
 use Rattle.qic_base.proofs.Steps.{Done-nothing}
 use Rattle.qic_base.proofs.Writing.{TakesBoth}
-use Rattle.qic_base.specs.Acts.{Outside, Act, Failing, TapeFails, SourceFails, SinkFails, Went, Cut, text_of, no_source, no_sink, around, reading}
+use Rattle.qic_base.specs.Acts.{Outside, Act, Failing, TapeFails, SourceFails, SinkFails, Went, Cut, text_of}
+use Rattle.qic_base.specs.Terms.{no_source, no_sink, around, reading}
 use Rattle.qic_base.specs.Sink as sinks
+use Rattle.qic_base.specs.SinkCalls as sink_calls
 use Rattle.qic_base.specs.Source as sources
 use Rattle.qic_base.specs.Tape as tapes
 
@@ -81,7 +83,7 @@ module _ {T S K : Type 0} (t : tapes.Meaning T) (s : sources.Meaning S) (k : sin
     source_later = omega arith;
   }
 
-  reply_broke : (b : T) (j : S) (x y : K) (text : List ℕ) → TakesNone k → sinks.BrokeOff k x y text → Cut t s k (out b j x) (out b j y) (reply text ∷ []) SinkFails
+  reply_broke : (b : T) (j : S) (x y : K) (text : List ℕ) → TakesNone k → sink_calls.BrokeOff k x y text → Cut t s k (out b j x) (out b j y) (reply text ∷ []) SinkFails
   reply_broke b j x y text none broke = sink_cut_one t s k (out b j x) (out b j y) (reply text) (Done-nothing t b) broke (omega arith)
 
   pub replied_went : TakesBoth k → (old : Outside T S K) (b : T) (j : S) (x y : K) (acts : List Act) (text : List ℕ) → Went t s k old (out b j x) acts →
@@ -90,7 +92,7 @@ module _ {T S K : Type 0} (t : tapes.Meaning T) (s : sources.Meaning S) (k : sin
       went_both t s k both old (out b j x) (out b j y) acts (reply text ∷ []) went (reply_alone b j x y text wrote)
 
   pub replied_cut : TakesBoth k → TakesNone k → (old : Outside T S K) (b : T) (j : S) (x y : K) (acts : List Act) (text : List ℕ) → Went t s k old (out b j x) acts →
-      sinks.BrokeOff k x y text → Cut t s k old (out b j y) (acts ++ reply text ∷ []) SinkFails
+      sink_calls.BrokeOff k x y text → Cut t s k old (out b j y) (acts ++ reply text ∷ []) SinkFails
   replied_cut both none old b j x y acts text went broke =
       went_then_cut t s k both old (out b j x) (out b j y) acts (reply text ∷ []) SinkFails went (reply_broke b j x y text none broke)
 

@@ -11,7 +11,7 @@ use Rattle.command_laws.proofs.MountedFronts.{no_nil, front_still, front_within}
 use Rattle.command_laws.proofs.MountedListed.{append_listed, scrub_listed, wear_listed}
 use Rattle.command_laws.proofs.MountedListing.{append_front_lists, append_lists, scrub_lists, wear_lists}
 use Rattle.command_laws.proofs.RestoreCounts.{framed_in_no_step}
-use Rattle.command_laws.proofs.ScriptActs.{fits_acts, front_acts, input_texts, took_enough}
+use Rattle.command_laws.proofs.ScriptActs.{wears_behind, fits_acts, front_acts, input_texts, took_enough}
 use Rattle.command_laws.proofs.ScriptCounted.{AllCount, weaker, Answered, answered_between, Broken, broken_behind, none_answered}
 use Rattle.command_laws.proofs.ScriptOutcomes.{replied, taken_listed}
 use Rattle.command_laws.proofs.ScriptReached.{front_steps}
@@ -21,11 +21,13 @@ use Rattle.command_laws.proofs.ScriptValues.{append_values}
 use Rattle.command_laws.specs.MountedListed.{IsListed, listed_behind}
 use Rattle.command_laws.specs.ScriptListing.{ListedBetween, ListedBehind, ListedDone, ListedNone}
 use Rattle.command_spec.specs.Append.{Kept, Taking, Fits, TooLong, TooShort, room_in, taking, kept_over}
-use Rattle.command_spec.specs.Input.{Item, IsLine, IsLined, IsItem, Ending, HasItems, AtEnd, AtStop, AtFault}
+use Rattle.command_spec.specs.Input.{Item, IsLined, IsItem, Ending, HasItems, AtEnd, AtStop, AtFault}
+use Rattle.command_laws.specs.CommandTerms.{IsLine, RestoreDoes, WearsBehind}
 use Rattle.command_spec.specs.Lines.{lost_line, reply_behind}
 use Rattle.command_spec.specs.Restore.{framed, pieces}
-use Rattle.command_spec.specs.Script.{Did, refusal_line, EndDoes, Finds, RestoreDoes, LineDoes, Meeting, Meets, Refuses, acts_on, append_did, line_refused, reply, taken_as, entries_behind, ItemsDo, cartridge_behind, ScriptRun, ScriptDoes, place_behind, acts_of}
-use Rattle.command_spec.specs.ScriptLists.{WearsBehind, ItemsWearBehind, ListsBehind, ListsAnswered}
+use Rattle.command_spec.specs.Script.{Did, refusal_line, EndDoes, Finds, LineDoes, Meeting, Meets, Refuses, acts_on, append_did, line_refused, reply, taken_as, entries_behind, ItemsDo, cartridge_behind, ScriptDoes, place_behind, acts_of}
+use Rattle.command_spec.specs.Outcome.{CommandOutcome}
+use Rattle.command_spec.specs.ScriptLists.{ItemsWearBehind, ListsBehind, ListsAnswered}
 use Rattle.command_spec.specs.Scrub.{Scrubs}
 use Rattle.command_spec.specs.declared.line.Line.{Line}
 use Rattle.qic_base.proofs.Joins.{text_of-append}
@@ -277,17 +279,17 @@ all_list header words bytes ending last (item ∷ items) (did ∷ dids) c entrie
     let first : ItemLists c header words entries Before Behind did = line_lists c header words entries Before lists listed item.line item.bytes did labelled.0 ran.0 in (
       record {
         stopped = λ front act rest parts before behind. first.stopped front act rest parts before;
-        spoken = λ front act rest parts some before behind. spoken_lists c header words entries Before Behind did first front act rest parts some before behind.0;
+        spoken = λ front act rest parts some before behind. spoken_lists c header words entries Before Behind did first front act rest parts some before (wears_behind item.line behind.0);
       },
       weaker (ListsThere (Before × Behind) header words did.entries items dids) (λ n. ListsThere Before header words entries (item ∷ items) (did ∷ dids) (suc n))
-          (λ n d there before behind. there (before, behind.0) behind.1) dids (changed_by (steps_of did.acts) c) last
+          (λ n d there before behind. there (before, wears_behind item.line behind.0) behind.1) dids (changed_by (steps_of did.acts) c) last
           (all_list header words bytes ending last items dids (changed_by (steps_of did.acts) c) did.entries (Before × Behind) (λ both. first.done both.0 both.1) first.listed labelled.1 ran.1 ends),
     )
 
 abbrev ListsAt : Header → (words : List ℕ) → List Entry → List Item → List Did → ℕ → Cartridge → Type 0
 ListsAt header words entries items dids n d = ListsThere (Unit {0}) header words entries items dids n d
 
-script_lists : (c : Cartridge) (header : Header) (words : List ℕ) (entries : List Entry) (input : List ℕ) (outcome : ScriptRun) → Lists c header words entries → IsListed c words entries →
+script_lists : (c : Cartridge) (header : Header) (words : List ℕ) (entries : List Entry) (input : List ℕ) (outcome : CommandOutcome) → Lists c header words entries → IsListed c words entries →
     (does : ScriptDoes c words entries input outcome) → AllCount (ListsAt header words entries does.items does.dids) c does.dids does.last
 script_lists c header words entries input outcome lists listed does =
     all_list header words (drop (place_behind 1 0 input does.items does.ending does.read) input) does.ending does.last does.items does.dids c entries (Unit {0}) (λ before. lists) listed
@@ -314,14 +316,14 @@ pub listed_between : ListedBetween
 listed_between c header words entries input outcome front rest left lists listed does parts is =
     lists_answered c header words entries does.items does.dids (length (text_of front)) (changed_by (steps_of front) c) left does.did is
     (answered_between (ListsAt header words entries does.items does.dids) does.dids c does.last front rest (script_speaks c words entries input outcome does)
-    (script_lists c header words entries input outcome lists listed does) (parts ∙ ap (λ (o : ScriptRun). o.acts) does.is))
+    (script_lists c header words entries input outcome lists listed does) (parts ∙ ap (λ (o : CommandOutcome). o.acts) does.is))
 
 pub listed_behind_act : ListedBehind
 listed_behind_act c header words entries input outcome front act rest left printed lists listed does parts is above below =
     let long : length does.dids ≡ length does.items = as_many does.items does.dids c words entries does.did in
     let b : Broken (ListsAt header words entries does.items does.dids) does.dids printed (changed_by (steps_of front ++ act.steps) c) =
     broken_behind (ListsAt header words entries does.items does.dids) does.dids c does.last front act rest printed
-    (script_lists c header words entries input outcome lists listed does) (parts ∙ ap (λ (o : ScriptRun). o.acts) does.is) above below in
+    (script_lists c header words entries input outcome lists listed does) (parts ∙ ap (λ (o : CommandOutcome). o.acts) does.is) above below in
     record {
       count = b.count;
       within = (let most = b.within in omega arith);
@@ -340,7 +342,7 @@ listed_done c header words entries input outcome left lists listed does behind i
     listed_between c header words entries input outcome outcome.acts [] left lists listed does (append-nil outcome.acts) is in
     let long : length does.dids ≡ length does.items = as_many does.items does.dids c words entries does.did in
     let first : take (length does.items) does.dids ≡ does.dids = take_all (length does.items) does.dids (omega arith) in
-    let acts : acts_of does.dids ++ does.last ≡ outcome.acts = sym (ap (λ (o : ScriptRun). o.acts) does.is) in
+    let acts : acts_of does.dids ++ does.last ≡ outcome.acts = sym (ap (λ (o : CommandOutcome). o.acts) does.is) in
     let texts : length (text_of (acts_of does.dids)) ≤ length (text_of outcome.acts) =
     subst (λ (xs : List Act). length (text_of (acts_of does.dids)) ≤ length (text_of xs)) acts (texts_within does.dids does.last) in
     let all : length does.items ≤ between.count =

@@ -9,15 +9,16 @@ use Rattle.command_laws.proofs.ScriptReading.{Reads, place_is, split_doing}
 use Rattle.command_laws.proofs.TextInputs.{one_reading}
 use Rattle.command_laws.specs.ScriptItems.{EarlyDoes}
 use Rattle.command_laws.specs.ScriptLaws.{OneOutcome, StopsInOne}
-use Rattle.command_spec.specs.Input.{Item, IsItem, Ending, HasItems, IsScript, AtEnd, AtStop, AtFault}
-use Rattle.command_spec.specs.Script.{place_behind, items_taken, Meeting, acts_on, FaultDoes, EndDoes, Did, ItemsDo, cartridge_behind, entries_behind, ScriptRun, acts_of, script_answer}
+use Rattle.command_spec.specs.Input.{Item, input_status, IsItem, Ending, HasItems, IsScript, AtEnd, AtStop, AtFault}
+use Rattle.command_spec.specs.Script.{place_behind, items_taken, Meeting, acts_on, EndDoes, Did, ItemsDo, cartridge_behind, entries_behind, acts_of}
+use Rattle.command_laws.specs.CommandTerms.{FaultDoes}
+use Rattle.command_spec.specs.Outcome.{CommandOutcome}
 use Rattle.command_spec.specs.declared.line.Line.{Line}
 use Rattle.qic_base.proofs.Joins.{steps_of-append}
 use Rattle.qic_base.proofs.Steps.{Torn-append}
 use Rattle.qic_base.specs.Acts.{Act, steps_of}
 use Rattle.qic_base.specs.Cartridge.{Cartridge}
-use Rattle.qic_base.specs.Step.{Step}
-use Rattle.qic_base.specs.Stop.{Torn}
+use Rattle.qic_base.specs.Step.{Step, Torn}
 use Rattle.command_spec.specs.declared.line.Line.TheVariants as line
 use Rattle.command_laws.proofs.TextInputs as inputs
 
@@ -88,8 +89,8 @@ one_doing c words entries items a b first second =
     nothing [] ran_so = append-nil a
     nothing (r ∷ rears) ran_so = absurd ran_so
 
-made : List Did → List Act → ℕ → Ending → ScriptRun
-made dids last taken ending = record { acts = acts_of dids ++ last; taken = taken; answer = script_answer ending }
+made : List Did → List Act → ℕ → Ending → CommandOutcome
+made dids last taken ending = record { acts = acts_of dids ++ last; taken = taken; status = input_status ending }
 
 pub one_outcome : OneOutcome
 unfolding made

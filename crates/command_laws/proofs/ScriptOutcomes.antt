@@ -14,10 +14,11 @@ use Rattle.command_laws.proofs.TextReadings.{each_script}
 use Rattle.command_laws.specs.MountedListed.{IsListed, listed_behind}
 use Rattle.command_laws.specs.ScriptLaws.{EachOutcome}
 use Rattle.command_spec.specs.Append.{Kept, Taking, Fits, TooLong, TooShort, room_in, taking, kept_over}
-use Rattle.command_spec.specs.Input.{Item, IsLineText, IsItem, Ending, HasItems, most_items, AtEnd, AtStop, AtFault}
+use Rattle.command_spec.specs.Input.{Item, input_status, IsLineText, IsItem, Ending, HasItems, most_items, AtEnd, AtStop, AtFault}
 use Rattle.command_spec.specs.Lines.{reply_behind, lost_line, list_text}
 use Rattle.command_spec.specs.Restore.{framed, pieces, volume_at}
-use Rattle.command_spec.specs.Script.{reply, Did, LineDoes, line_refused, taken_as, given_as, ItemsDo, cartridge_behind, entries_behind, Finds, Meeting, Meets, Refuses, acts_on, append_did, EndsEarly, FaultDoes, end_line, EndDoes, acts_of, script_answer, place_behind, items_taken}
+use Rattle.command_spec.specs.Script.{reply, Did, LineDoes, line_refused, taken_as, given_as, ItemsDo, cartridge_behind, entries_behind, Finds, Meeting, Meets, Refuses, acts_on, append_did, EndsEarly, end_line, EndDoes, acts_of, place_behind, items_taken}
+use Rattle.command_laws.specs.CommandTerms.{FaultDoes}
 use Rattle.command_spec.specs.declared.line.Line.{Line}
 use Rattle.qic_base.proofs.Joins.{steps_of-append}
 use Rattle.qic_base.specs.Acts.{Act, steps_of}
@@ -187,7 +188,7 @@ each_outcome c words entries input listed =
     let reading = each_script input in
     let all = items_done 1 0 c words entries input reading.0 reading.1.0 reading.1.1 listed in
     let last = end_does (cartridge_behind c all.dids) words (entries_behind entries all.dids) (drop (place_behind 1 0 input reading.0 reading.1.0 reading.1.1) input) reading.1.0 all.listed in (
-      record { acts = acts_of all.dids ++ last.0; taken = items_taken input reading.0 reading.1.0 reading.1.1; answer = script_answer reading.1.0 },
+      record { acts = acts_of all.dids ++ last.0; taken = items_taken input reading.0 reading.1.0 reading.1.1; status = input_status reading.1.0 },
       record {
         items = reading.0;
         ending = reading.1.0;

@@ -8,7 +8,8 @@ use Rattle.command_laws.proofs.RestoreEndings.{restores_is_function}
 use Rattle.command_laws.proofs.ScrubTurns.{scrubs_is_function}
 use Rattle.command_laws.proofs.StoreAgain.{table_one}
 use Rattle.command_spec.specs.Restore.{framed, pieces, Restores}
-use Rattle.command_spec.specs.Script.{Meeting, Refuses, Finds, Meets, Did, given_as, RestoreDoes, LineDoes, append_did}
+use Rattle.command_spec.specs.Script.{Meeting, Refuses, Finds, Meets, Did, given_as, LineDoes, append_did}
+use Rattle.command_laws.specs.CommandTerms.{RestoreDoes}
 use Rattle.command_spec.specs.declared.line.Line.{Line}
 use Rattle.qic_base.specs.Acts.{Act}
 use Rattle.qic_base.specs.Cartridge.{Cartridge}

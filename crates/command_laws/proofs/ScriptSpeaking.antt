@@ -4,14 +4,18 @@ use Rattle.std.proofs.lemmas.List.{length-append}
 use Rattle.std.proofs.lemmas.Bool.{cases_Bool, le-ltb}
 use Rattle.cartridge_spec.specs.Appending.{table_writes}
 use Rattle.cartridge_spec.specs.Settling.{changed_by}
-use Rattle.cartridge_spec.specs.Table.{Entry, slot_sector, table_with}
+use Rattle.cartridge_spec.specs.Table.{Entry, table_with}
+use Rattle.cartridge_laws.specs.Terms.{slot_sector}
 use Rattle.command_laws.proofs.ScriptActs.{fits_acts, front_acts, full_taking}
-use Rattle.command_spec.specs.Append.{Kept, Taking, Fits, TooLong, TooShort, append_acts, entry_for, has_promised_room, room_in, taking, kept_over}
+use Rattle.command_spec.specs.Append.{Kept, Taking, Fits, TooLong, TooShort, append_acts, has_promised_room, room_in, taking, kept_over}
+use Rattle.command_laws.specs.CommandTerms.{entry_for}
 use Rattle.command_spec.specs.Input.{promised, Item, IsItem, Ending, HasItems}
 use Rattle.command_spec.specs.Lines.{number_line, place_line, appended_line, list_text, count_line, volume_lines, reply_behind}
 use Rattle.command_spec.specs.Restore.{Restored, LostIn, MismatchIn}
-use Rattle.command_spec.specs.Script.{no_volume_line, refusal_line, line_refused, reply, given_as, taken_as, Did, LineDoes, Meeting, Finds, Refuses, append_did, ItemsDo, ScriptRun, ScriptDoes}
-use Rattle.command_spec.specs.Scrub.{Counts, counts_line, counts_of, last_act, looked_at, looking_acts}
+use Rattle.command_spec.specs.Script.{no_volume_line, refusal_line, line_refused, reply, given_as, taken_as, Did, LineDoes, Meeting, Finds, Refuses, append_did, ItemsDo, ScriptDoes}
+use Rattle.command_spec.specs.Outcome.{CommandOutcome}
+use Rattle.command_spec.specs.Scrub.{Counts, counts_line, looked_at, looking_acts}
+use Rattle.command_laws.specs.Terms.{counts_of, last_act}
 use Rattle.command_spec.specs.declared.line.Line.{Line}
 use Rattle.command_spec.specs.declared.refusal.Refusal.{Refusal}
 use Rattle.qic_base.proofs.Joins.{text_of-append}
@@ -194,7 +198,7 @@ all_speak number place input (item ∷ items) ending (did ∷ dids) c words entr
   all_speak (number + 1) (place + length text) behind items ending dids (changed_by (steps_of did.acts) c) words did.entries read ran.1,
 )
 
-pub script_speaks : (c : Cartridge) (words : List ℕ) (entries : List Entry) (input : List ℕ) (outcome : ScriptRun) → (does : ScriptDoes c words entries input outcome) → AllSpeak does.dids
+pub script_speaks : (c : Cartridge) (words : List ℕ) (entries : List Entry) (input : List ℕ) (outcome : CommandOutcome) → (does : ScriptDoes c words entries input outcome) → AllSpeak does.dids
 script_speaks c words entries input outcome does = all_speak 1 0 input does.items does.ending does.dids c words entries does.read does.did
 
 -- there are as many as there are lines

@@ -11,31 +11,32 @@ use Rattle.cartridge_laws.proofs.MountSettled.{settled_stands}
 use Rattle.cartridge_laws.proofs.MountStanding.{standing_data}
 use Rattle.cartridge_laws.proofs.MountWhole.{settling_effects}
 use Rattle.cartridge_laws.specs.AppendWrites.{AreWrites, IsFree}
-use Rattle.cartridge_spec.specs.Appending.{appended_volume, has_room, with_bytes, last_end, with_all, Content}
+use Rattle.cartridge_spec.specs.Appending.{appended_volume, has_room, with_bytes, with_all, Content}
+use Rattle.cartridge_laws.specs.Terms.{last_end}
 use Rattle.cartridge_spec.specs.Mounting.{IsTableLive, settled}
 use Rattle.cartridge_spec.specs.Settling.{changed_by, settling_steps}
 use Rattle.cartridge_spec.specs.Table.{Entry}
-use Rattle.cartridge_spec.specs.Volumes.{Plain, Stands, entries_of, Volume}
-use Rattle.cartridge_spec.specs.Wear.{worn, WearSpares}
+use Rattle.cartridge_spec.specs.Volumes.{Plain, Stands, entries_of, Volume, worn, WearSpares}
 use Rattle.command_laws.proofs.InputActLaws.{input_is_free}
 use Rattle.command_laws.proofs.IntactKeeping.{appends_leave_intact, intact_is_one, scrubs_leave_intact, wears_leave_intact, whole_needs_no_steps}
 use Rattle.command_laws.proofs.MountedHeld.{held_open, open_held, settled_held, settling_live, scrubbed_held, scrubbed_live, worn_held, worn_is_live}
 use Rattle.command_laws.proofs.MountedKeeping.{live_kept}
 use Rattle.command_laws.proofs.MountedStanding.{all_writes, kept_appended, open_appended, stopped_appended}
 use Rattle.command_laws.proofs.RestoreCounts.{framed_in_no_step}
-use Rattle.command_laws.proofs.ScriptActs.{full_acts, full_taking, replied_steps}
+use Rattle.command_laws.proofs.ScriptActs.{full_acts, full_taking, replied_steps, line_spares}
 use Rattle.command_laws.proofs.ScriptValues.{append_values}
 use Rattle.command_laws.proofs.ScrubMounted.{stopped_scrub_stands}
 use Rattle.command_laws.specs.Intact.{IsIntact}
 use Rattle.command_laws.specs.MountedHeld.{IsHeld}
 use Rattle.command_laws.specs.MountedKept.{IsAppendable, IsKept, IsOpen}
 use Rattle.command_laws.specs.ScriptStanding.{LineHasBytes, HaveBytes, ItemsHaveBytes, HasBytes, StoppedItemStands, ItemsStand, FaultStands, plain_after, plain_behind}
-use Rattle.command_spec.specs.Append.{Kept, Taking, Fits, TooLong, TooShort, append_acts, entry_for, room_in, taking, entry_acts, has_promised_room, input_acts, free_in, input_writes, kept_over}
-use Rattle.command_spec.specs.Input.{IsLine, IsLined, promised, Item, IsItem, Ending, HasItems}
+use Rattle.command_spec.specs.Append.{Kept, Taking, Fits, TooLong, TooShort, append_acts, room_in, taking, entry_acts, has_promised_room, input_acts, input_writes, kept_over}
+use Rattle.command_laws.specs.CommandTerms.{entry_for, free_in, IsLine, ItemDoes, RestoreDoes, LineSpares, WearsBehind}
+use Rattle.command_spec.specs.Input.{IsLined, promised, Item, IsItem, Ending, HasItems}
 use Rattle.command_spec.specs.Lines.{reply_behind, lost_line}
 use Rattle.command_spec.specs.Restore.{Restored, LostIn, MismatchIn, framed, pieces}
-use Rattle.command_spec.specs.Script.{Did, Meeting, Finds, Meets, Refuses, append_did, line_refused, taken_as, given_as, RestoreDoes, LineDoes, ItemDoes, ItemsDo, entries_behind, acts_on, cartridge_behind}
-use Rattle.command_spec.specs.ScriptLists.{LineSpares, WearsBehind, item_added, all_added, line_contents}
+use Rattle.command_spec.specs.Script.{Did, Meeting, Finds, Meets, Refuses, append_did, line_refused, taken_as, given_as, LineDoes, ItemsDo, entries_behind, acts_on, cartridge_behind}
+use Rattle.command_spec.specs.ScriptLists.{item_added, all_added, line_contents}
 use Rattle.command_spec.specs.OneLoss.{ComesBackAsOneOf}
 use Rattle.command_spec.specs.Scrub.{Scrubs}
 use Rattle.command_spec.specs.declared.line.Line.{Line}
@@ -44,8 +45,7 @@ use Rattle.qic_base.proofs.Joins.{steps_of-append}
 use Rattle.qic_base.proofs.Steps.{Torn-append}
 use Rattle.qic_base.specs.Acts.{steps_of, Act}
 use Rattle.qic_base.specs.Cartridge.{Cartridge}
-use Rattle.qic_base.specs.Step.{Step, Wear}
-use Rattle.qic_base.specs.Stop.{Torn}
+use Rattle.qic_base.specs.Step.{Step, Wear, Torn}
 use Rattle.command_spec.specs.declared.line.Line.TheVariants as line
 use Rattle.cartridge_laws.specs.AppendLaws as appends
 use Rattle.command_spec.specs.declared.refusal.Refusal.TheVariants as why
@@ -381,7 +381,7 @@ items_stand c plain [] [] held has ran spares = (held, refl, refl, λ live. live
 items_stand c plain [] (did ∷ dids) held has ran spares = absurd ran
 items_stand c plain (item ∷ items) [] held has ran spares = absurd ran
 items_stand c plain (item ∷ items) (did ∷ dids) held has ran spares =
-    let leaves : ItemLeaves c plain item did = item_leaves c plain item did held has.0 spares.0 ran.0 in
+    let leaves : ItemLeaves c plain item did = item_leaves c plain item did held has.0 (line_spares c plain item.line spares.0) ran.0 in
     let d : Cartridge = changed_by (steps_of did.acts) c in
     let next : Plain = plain_after plain item did in
     let rest = items_stand d next items dids leaves.done has.1 (next_do d plain next items did.entries dids leaves.entries leaves.words ran.1) spares.1 in

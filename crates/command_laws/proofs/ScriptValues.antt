@@ -4,9 +4,11 @@ use Rattle.std.proofs.lemmas.List.{length-append, length-replicate}
 use Rattle.std.proofs.lemmas.List.Elements.{All-append, All-replicate}
 use Rattle.cartridge_spec.specs.Formatting.{IsLabel}
 use Rattle.command_laws.proofs.TextCommands.{dated_cases, three_words}
-use Rattle.command_spec.specs.CommandWords.{IsDateWord, Date, Name, SpellsAll, Word, AnyNumber}
-use Rattle.command_spec.specs.Input.{words_of, IsLineText}
-use Rattle.qic_base.specs.Name.{IsPrintable, IsNameText, filled}
+use Rattle.command_spec.specs.Command.{IsDateWord, Date, Name, SpellsAll, Word, AnyNumber}
+use Rattle.command_laws.specs.CommandTerms.{words_of}
+use Rattle.command_spec.specs.Input.{IsLineText}
+use Rattle.qic_base.specs.Terms.{IsPrintable}
+use Rattle.qic_base.specs.Field.{IsNameText, filled}
 use Rattle.command_spec.specs.declared.line.Line.TheVariants as line
 
 -- a name is a label

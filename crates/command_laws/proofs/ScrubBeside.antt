@@ -9,24 +9,22 @@ use Rattle.cartridge_laws.proofs.AppendSegments.{carrying_from, carrying_carry}
 use Rattle.cartridge_laws.proofs.AppendVolume.{old_volumes}
 use Rattle.cartridge_laws.proofs.FormatStanding.{same_cells}
 use Rattle.cartridge_laws.proofs.Places.{count_below, usable_small}
-use Rattle.cartridge_laws.proofs.Sayings.{says_is_function, written_is_said, code_sectors, cartridge_sector}
+use Rattle.cartridge_laws.proofs.Sayings.{says_is_function, written_is_said}
 use Rattle.cartridge_laws.proofs.Segments.{count_of_cells, length-whole_cells, zero_does_not_read}
 use Rattle.cartridge_laws.proofs.Zeros.{zero_is_written, zero_sector-is_sector}
 use Rattle.cartridge_laws.specs.Shape.{Carries}
-use Rattle.cartridge_spec.specs.Appending.{last_end}
+use Rattle.cartridge_laws.specs.Terms.{last_end, CopiesAre, PartStands}
 use Rattle.cartridge_spec.specs.Code.{parity_sectors}
 use Rattle.cartridge_spec.specs.Header.{header_fault}
 use Rattle.cartridge_spec.specs.HeaderAndTable.{CopyReads, copy_cells, table_cells, IsArea}
 use Rattle.cartridge_spec.specs.Says.{cells_of, Says, Data, Mismatch, Written, Zero, ReadsAll, with_parity}
 use Rattle.cartridge_spec.specs.Shape.{usable_places, usable_count, mask_at, data_count}
 use Rattle.cartridge_spec.specs.Table.{slot_fault}
-use Rattle.cartridge_spec.specs.Volumes.{CopiesAre, Part, PartStands, parts_of, Volume, VolumeStands, carrying_segments, Plain, Stands, entries_of}
-use Rattle.cartridge_spec.specs.Wear.{worn}
+use Rattle.cartridge_spec.specs.Volumes.{Part, parts_of, Volume, VolumeStands, carrying_segments, Plain, Stands, entries_of, worn}
 use Rattle.command_laws.proofs.ScrubApart.{contains_cases}
 use Rattle.command_laws.proofs.ScrubSeen.{SameIn, IsFoundWrong}
 use Rattle.command_laws.proofs.ScrubStanding.{cell_at}
-use Rattle.command_spec.specs.Scrub.{Looked, cells_at, looked_at, looked_segments, looked_volumes, whole_segment}
-use Rattle.command_spec.specs.ScrubForms.{IsSearched, IsWrong}
+use Rattle.command_spec.specs.Scrub.{Looked, cells_at, looked_at, looked_segments, looked_volumes, whole_segment, IsSearched, IsWrong}
 use Rattle.command_spec.specs.declared.depth.Depth.{Depth}
 use Rattle.command_spec.specs.declared.depth.Depth.TheVariants.{Shallow, Deep}
 use Rattle.gf256_qic.proofs.Parities.{block_count, length-parity_sectors}
@@ -52,7 +50,7 @@ written_not_wrong c l xs sector ds are written wrong =
     let parts : length (with_parity xs) ≡ length xs + length (parity_sectors xs) = length-append xs (parity_sectors xs) in
     let three : length (parity_sectors xs) ≡ 3 = length-parity_sectors xs in
     let said : Says (cells_at c l) (Data xs) =
-    written_is_said (cells_at c l) xs (omega arith) (omega arith) (code_sectors xs are) written wrong.mismatch.0 in
+    written_is_said (cells_at c l) xs (omega arith) (omega arith) are written wrong.mismatch.0 in
     let both : Data xs ≡ Mismatch = says_is_function (cells_at c l) (Data xs) Mismatch said wrong.mismatch in
     absurd (cc)
 
@@ -60,7 +58,7 @@ written_not_wrong c l xs sector ds are written wrong =
 pub zero_not_wrong : (c : Cartridge) (copy sector : ℕ) (ds : List (List ℕ)) → Zero (copy_cells c copy) → IsWrong c (whole_segment copy) sector ds → ⊥
 zero_not_wrong c copy sector ds zeros wrong =
     written_not_wrong c (whole_segment copy) (replicate 29 zero_sector) sector ds
-    (All-replicate IsSector 29 zero_sector (cartridge_sector zero_sector zero_sector-is_sector))
+    (All-replicate IsSector 29 zero_sector zero_sector-is_sector)
     (zero_is_written (copy_cells c copy) 29 zeros (length-whole_cells c copy) (omega arith) (omega arith)) wrong
 
 -- ---- wrong sectors of a cartridge that stands

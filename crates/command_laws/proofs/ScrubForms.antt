@@ -13,7 +13,7 @@ use Rattle.cartridge_spec.specs.Settling.{changed_by}
 use Rattle.cartridge_spec.specs.Shape.{IsLive, is_unreadable, sector_at}
 use Rattle.cartridge_spec.specs.Table.{Entry}
 use Rattle.cartridge_laws.specs.Table.{IsSoundList}
-use Rattle.cartridge_spec.specs.Wear.{worn}
+use Rattle.cartridge_spec.specs.Volumes.{worn}
 use Rattle.command_laws.proofs.ScrubApart.{looked_rise}
 use Rattle.command_laws.proofs.ScrubAtOnce.{IsPlaced, at_once_placed}
 use Rattle.command_laws.proofs.ScrubDone.{scrubbed_at_once}
@@ -24,16 +24,16 @@ use Rattle.command_laws.specs.DeepScrubLaws.{ShallowIsScrub, FoundMayBe, FindsAt
 use Rattle.command_laws.specs.ScrubFound.{FindAtOnce, without_all, IsBeingScrubbed}
 use Rattle.command_laws.specs.ScrubMended.{IsMended, IsBeingMended, IsScrubbed}
 use Rattle.command_laws.specs.ScrubSayings.{Rise, SayAtOnce, acts_at_once}
-use Rattle.command_spec.specs.Scrub.{reads, Looked, looked_at, SayInTurn, looking_acts, scrub_acts, steps_in, look_act, unread_count, last_act}
-use Rattle.command_spec.specs.ScrubForms.{MayFind, Finding, FindInTurn, HasFound, ScrubsAs, finding_acts, acts_for, counts_for, sayings_of, steps_for, without}
+use Rattle.command_spec.specs.Scrub.{reads, Looked, looked_at, SayInTurn, looking_acts, steps_in, unread_count, MayFind, Finding, FindInTurn, HasFound, ScrubsAs, finding_acts, sayings_of, steps_for, without}
+use Rattle.command_laws.specs.Terms.{last_act, scrub_acts, look_act, acts_for, counts_for}
 use Rattle.command_spec.specs.declared.depth.Depth.{Depth}
 use Rattle.command_spec.specs.declared.depth.Depth.TheVariants.{Shallow}
 use Rattle.qic_base.proofs.Joins.{steps_of-append}
 use Rattle.qic_base.proofs.Steps.{Torn-all}
 use Rattle.qic_base.specs.Acts.{Act, steps_of}
-use Rattle.qic_base.specs.Cartridge.{Cartridge, view_at, with_view, IsCartridge}
-use Rattle.qic_base.specs.Step.{Step, WriteSector, FormatSegment, SetReferenced, SetProtected, Renew, Wear, Spoil, Upgrade, changed, written_view, worn_view, effects}
-use Rattle.qic_base.specs.Stop.{Halfway, Torn}
+use Rattle.qic_base.specs.Cartridge.{Cartridge, view_at, with_view}
+use Rattle.qic_base.specs.Terms.{IsCartridge}
+use Rattle.qic_base.specs.Step.{Step, WriteSector, FormatSegment, SetReferenced, SetProtected, Renew, Wear, Spoil, Upgrade, changed, written_view, worn_view, effects, Halfway, Torn}
 use Rattle.qic_base.specs.declared.tape.SectorView.{SectorView}
 use Rattle.qic_base.specs.declared.tape.SectorView.TheVariants.{Blank, Lost, Holds}
 

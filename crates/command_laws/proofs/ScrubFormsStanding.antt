@@ -4,7 +4,8 @@ use Rattle.cartridge_laws.proofs.FormatStanding.{same_cells}
 use Rattle.cartridge_laws.proofs.FormatWriting.{some_weaker, effects-some}
 use Rattle.cartridge_laws.proofs.Sayings.{says_is_function}
 use Rattle.cartridge_spec.specs.Formatting.{IsCleanCopy, StandsCleanly}
-use Rattle.cartridge_spec.specs.HeaderAndTable.{CopyReads, IsInForce, last_segment, IsArea}
+use Rattle.cartridge_spec.specs.HeaderAndTable.{CopyReads, last_segment, IsArea}
+use Rattle.cartridge_laws.specs.Terms.{IsInForce}
 use Rattle.cartridge_spec.specs.Says.{Says, Data, Mismatch}
 use Rattle.cartridge_spec.specs.Volumes.{Plain, Stands, entries_of}
 use Rattle.command_laws.proofs.ScrubBeside.{beside_stands, standing_wrong, written_not_wrong, zero_not_wrong}
@@ -16,8 +17,7 @@ use Rattle.command_laws.specs.DeepScrubLaws.{StoppedFormStands, DoneFormStands, 
 use Rattle.command_laws.specs.ScrubFound.{without_all}
 use Rattle.command_laws.specs.ScrubMended.{IsBeingMended}
 use Rattle.command_laws.specs.ScrubSayings.{Rise}
-use Rattle.command_spec.specs.Scrub.{Looked, looked_at, whole_segment, cells_at}
-use Rattle.command_spec.specs.ScrubForms.{Finding, IsSearched, IsWrong}
+use Rattle.command_spec.specs.Scrub.{Looked, looked_at, whole_segment, cells_at, Finding, IsSearched, IsWrong}
 use Rattle.command_spec.specs.declared.depth.Depth.{Depth}
 use Rattle.qic_base.proofs.Steps.{Torn-all}
 use Rattle.qic_base.specs.Acts.{steps_of}

@@ -13,8 +13,7 @@ use Rattle.command_laws.proofs.ScrubSettled.{mending_settled}
 use Rattle.command_laws.proofs.ScrubStanding.{table_kept, looks_in_front}
 use Rattle.command_laws.specs.DeepScrubLaws.{StoppedFormTable, DoneFormTable, StoppedFormIsSettled, DoneFormIsSettled}
 use Rattle.command_laws.specs.ScrubFound.{without_all}
-use Rattle.command_spec.specs.Scrub.{Looked, looked_at, whole_segment}
-use Rattle.command_spec.specs.ScrubForms.{Finding}
+use Rattle.command_spec.specs.Scrub.{Looked, looked_at, whole_segment, Finding}
 use Rattle.command_spec.specs.declared.depth.Depth.{Depth}
 use Rattle.qic_base.proofs.Steps.{Torn-all}
 use Rattle.qic_base.specs.Acts.{steps_of}

@@ -11,15 +11,16 @@ use Rattle.cartridge_laws.proofs.Sayings.{block_from_data}
 use Rattle.cartridge_laws.proofs.Segments.{count_of_cells}
 use Rattle.cartridge_laws.specs.Segment.{IsUnreadable}
 use Rattle.cartridge_laws.specs.Writes.{named_writes}
-use Rattle.cartridge_spec.specs.Says.{data_of, with_parity}
+use Rattle.cartridge_laws.specs.Terms.{data_of, sectors_of}
+use Rattle.cartridge_spec.specs.Says.{with_parity}
 use Rattle.cartridge_spec.specs.Settling.{writes_of}
-use Rattle.cartridge_spec.specs.Shape.{sector_at, sectors_of, usable_places, is_unreadable, usable_count}
+use Rattle.cartridge_spec.specs.Shape.{sector_at, usable_places, is_unreadable, usable_count}
 use Rattle.command_laws.proofs.ScrubStanding.{cell_at}
 use Rattle.command_laws.specs.ScrubLaws.{CountOfNamed, StepsByPlaces}
 use Rattle.command_spec.specs.Scrub.{mending_writes, Looked, cells_at}
 use Rattle.qic_base.proofs.LostSetLaws.{lost_places-above}
-use Rattle.qic_base.specs.Cartridge.{Cartridge, view_at}
-use Rattle.qic_base.specs.LostSet.{lost_places, IsLost}
+use Rattle.qic_base.specs.Cartridge.{Cartridge, view_at, lost_places}
+use Rattle.qic_base.specs.Terms.{IsLost}
 use Rattle.qic_base.specs.Step.{Step, WriteSector}
 use Rattle.qic_base.specs.declared.tape.SectorView.{SectorView}
 

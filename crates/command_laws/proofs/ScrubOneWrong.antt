@@ -15,17 +15,18 @@ use Rattle.cartridge_laws.proofs.Whole.{with_view_whole, worn_is_view}
 use Rattle.cartridge_spec.specs.Says.{Saying, Says, Data, LostSectors, Mismatch, unreadable_count, Agrees}
 use Rattle.cartridge_spec.specs.Settling.{changed_by}
 use Rattle.cartridge_spec.specs.Shape.{is_unreadable, usable_places, usable_count}
-use Rattle.cartridge_spec.specs.Wear.{worn}
+use Rattle.cartridge_spec.specs.Volumes.{worn}
 use Rattle.command_laws.proofs.ScrubSeen.{worn_here, worn_elsewhere, finds_says}
 use Rattle.command_laws.proofs.ScrubStanding.{cell_at, same_place}
 use Rattle.command_laws.proofs.ScrubTurns.{steps_whole}
 use Rattle.command_laws.specs.DeepScrubLaws.{FormIsFunction, FormAlways}
-use Rattle.command_spec.specs.Scrub.{Looked, cells_at, reads, looked_at}
-use Rattle.command_spec.specs.ScrubForms.{Finding, IsSearched, IsWrong, HasFound, Finds, FindInTurn, acts_for, steps_for, without}
+use Rattle.command_spec.specs.Scrub.{Looked, cells_at, reads, looked_at, Finding, IsSearched, IsWrong, HasFound, FindInTurn, steps_for, without}
+use Rattle.command_laws.specs.Terms.{Finds, acts_for}
 use Rattle.command_spec.specs.declared.depth.Depth.{Depth}
 use Rattle.command_spec.specs.declared.depth.Depth.TheVariants.{Shallow, Deep}
 use Rattle.qic_base.proofs.Steps.{Torn-all}
-use Rattle.qic_base.specs.Cartridge.{Cartridge, IsCartridge, view_at}
+use Rattle.qic_base.specs.Cartridge.{Cartridge, view_at}
+use Rattle.qic_base.specs.Terms.{IsCartridge}
 use Rattle.qic_base.specs.Step.{Step, worn_view, effects}
 use Rattle.qic_base.specs.declared.tape.SectorView.{SectorView}
 use Rattle.qic_base.specs.declared.tape.SectorView.TheVariants.{Blank, Defect, Lost, Holds}

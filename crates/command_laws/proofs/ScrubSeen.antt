@@ -7,14 +7,14 @@ use Rattle.cartridge_laws.proofs.FormatViews.{view_of_sector, view_of_other_sect
 use Rattle.cartridge_laws.proofs.Places.{usable_small}
 use Rattle.cartridge_spec.specs.Says.{Saying, Says, Data, Mismatch, unreadable_count}
 use Rattle.cartridge_spec.specs.Settling.{changed_by}
-use Rattle.cartridge_spec.specs.Wear.{worn}
+use Rattle.cartridge_spec.specs.Volumes.{worn}
 use Rattle.command_laws.proofs.ScrubApart.{contains_cases, contains_first, contains_more}
 use Rattle.command_laws.proofs.ScrubAtOnce.{AreAlike, steps_alike, steps_stay, alike}
 use Rattle.cartridge_laws.proofs.AppendKeeping.{steps_kept}
 use Rattle.command_laws.specs.ScrubFound.{FindAtOnce, finds_at_once, without_all}
 use Rattle.command_laws.specs.ScrubSayings.{Rise, SayAtOnce, acts_at_once}
-use Rattle.command_spec.specs.Scrub.{Looked, cells_at}
-use Rattle.command_spec.specs.ScrubForms.{Finding, IsSearched, IsWrong, HasFound, Finds, FindInTurn, finding_acts, find_act, steps_for, line_for, sayings_of, without}
+use Rattle.command_spec.specs.Scrub.{Looked, cells_at, Finding, IsSearched, IsWrong, HasFound, FindInTurn, finding_acts, steps_for, line_for, sayings_of, without}
+use Rattle.command_laws.specs.Terms.{Finds, find_act}
 use Rattle.command_spec.specs.declared.depth.Depth.{Depth}
 use Rattle.qic_base.specs.Acts.{Act, steps_of}
 use Rattle.qic_base.specs.Cartridge.{Cartridge, view_at}

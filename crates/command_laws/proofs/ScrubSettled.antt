@@ -8,11 +8,12 @@ use Rattle.cartridge_laws.proofs.FormatCopies.{held_view}
 use Rattle.cartridge_laws.proofs.FormatWriting.{some_weaker}
 use Rattle.cartridge_laws.proofs.MountParts.{length-block}
 use Rattle.cartridge_laws.proofs.MountStanding.{can_be_read}
-use Rattle.cartridge_laws.proofs.Sayings.{written_is_said, code_sectors}
+use Rattle.cartridge_laws.proofs.Sayings.{written_is_said}
 use Rattle.cartridge_laws.proofs.Segments.{length-whole_cells}
 use Rattle.cartridge_laws.specs.AppendSettled.{IsSettledFor}
 use Rattle.cartridge_spec.specs.HeaderAndTable.{IsArea, table_cells}
-use Rattle.cartridge_spec.specs.Says.{unreadable_count, Written, with_parity, unreadable_data}
+use Rattle.cartridge_spec.specs.Says.{unreadable_count, Written, with_parity}
+use Rattle.cartridge_laws.specs.Terms.{unreadable_data}
 use Rattle.cartridge_spec.specs.Settling.{changed_by}
 use Rattle.cartridge_spec.specs.Shape.{is_unreadable, sector_at, IsLive}
 use Rattle.command_laws.proofs.ScrubApart.{looked_rise}
@@ -66,7 +67,7 @@ few_unreadable c (inr few) = few
 pub settled_table_reads : SettledTableReads
 settled_table_reads c area is_area known =
     let size : length area ≡ 29 = is_area.size in
-    written_is_said (table_cells c) area (omega arith) (omega arith) (code_sectors area is_area.sectors) (settled_written c area is_area known)
+    written_is_said (table_cells c) area (omega arith) (omega arith) is_area.sectors (settled_written c area is_area known)
     (few_unreadable c (can_be_read c area known.table))
 
 -- ---- it stays settled

@@ -10,15 +10,16 @@ use Rattle.cartridge_laws.proofs.FormatStanding.{same_cells}
 use Rattle.cartridge_laws.proofs.Hiding.{nothing_is_hidden}
 use Rattle.cartridge_laws.proofs.MountStanding.{written_table}
 use Rattle.cartridge_laws.proofs.Places.{usable_apart, count_below, usable_small}
-use Rattle.cartridge_laws.proofs.Sayings.{says_is_function, written_is_said, code_sectors, said_is_written, said_are_sectors, cartridge_sectors}
+use Rattle.cartridge_laws.proofs.Sayings.{says_is_function, written_is_said, said_is_written, said_are_sectors}
 use Rattle.cartridge_laws.proofs.Segments.{count_of_cells, length-whole_cells, zero_does_not_read}
 use Rattle.cartridge_spec.specs.Code.{parity_sectors}
 use Rattle.cartridge_spec.specs.Header.{header_fault}
-use Rattle.cartridge_spec.specs.HeaderAndTable.{IsArea, CopyReads, copy_cells, CopyDoesNotRead, IsInForce, table_cells, TableIs}
+use Rattle.cartridge_spec.specs.HeaderAndTable.{IsArea, CopyReads, copy_cells, CopyDoesNotRead, table_cells, TableIs}
+use Rattle.cartridge_laws.specs.Terms.{IsInForce, CopiesAre, PartStands}
 use Rattle.cartridge_spec.specs.Says.{cells_of, Data, Says, Written, with_parity, unreadable_count, whole_mask, Zero, ReadsAll, HasBlock, HasNoBlock, TableSays, AsRead, ByCode}
 use Rattle.cartridge_spec.specs.Shape.{usable_places, usable_count, mask_at, data_count}
 use Rattle.cartridge_spec.specs.Table.{Entry, slot_fault}
-use Rattle.cartridge_spec.specs.Volumes.{CopiesAre, Part, PartStands, parts_of, Volume, VolumeStands, carrying_segments, Plain, Stands, entries_of}
+use Rattle.cartridge_spec.specs.Volumes.{Part, parts_of, Volume, VolumeStands, carrying_segments, Plain, Stands, entries_of}
 use Rattle.command_laws.proofs.ScrubApart.{one_looked, contains_first, contains_more}
 use Rattle.command_laws.proofs.ScrubMending.{readable_stays}
 use Rattle.command_laws.proofs.ScrubTurns.{copy_is_looked_at}
@@ -60,7 +61,7 @@ same_data cells xs ds few are written says =
     let whole : length (with_parity xs) ≡ length cells = written.size in
     let parts : length (with_parity xs) ≡ length xs + length (parity_sectors xs) = length-append xs (parity_sectors xs) in
     let three : length (parity_sectors xs) ≡ 3 = length-parity_sectors xs in
-    let said : Says cells (Data xs) = written_is_said cells xs (omega arith) (omega arith) (code_sectors xs are) written says.0 in
+    let said : Says cells (Data xs) = written_is_said cells xs (omega arith) (omega arith) are written says.0 in
     let both : Data ds ≡ Data xs = says_is_function cells (Data ds) (Data xs) says said in
     cc
 
@@ -154,7 +155,7 @@ pub said_kept : (looked : List Looked) (c d : Cartridge) (l : Looked) (ds : List
     IsBeingMended looked c d →
     Says (cells_at c l) (Data ds) → Written (cells_at d l) ds
 said_kept looked c d l ds rise among way says =
-    written_kept looked c d l ds rise among (cartridge_sectors ds (said_are_sectors (cells_at c l) ds says).each) way
+    written_kept looked c d l ds rise among ((said_are_sectors (cells_at c l) ds says).each) way
     (said_is_written (cells_at c l) ds says)
 
 -- ---- the header copies
@@ -164,7 +165,7 @@ said_area c segment area says =
     let are = said_are_sectors (cells_of c segment whole_mask) area says in
     let size : length area + 3 ≡ length (cells_of c segment whole_mask) = are.size in
     let cells : length (cells_of c segment whole_mask) ≡ 32 = length-whole_cells c segment in
-    record { size = omega arith; sectors = cartridge_sectors area are.each }
+    record { size = omega arith; sectors = are.each }
 
 pub copy_reads : (looked : List Looked) (c d : Cartridge) (copy : ℕ) (area : List (List ℕ)) → Rise looked → Contains looked (whole_segment copy) →
     IsBeingMended looked c d → CopyReads c copy area → CopyReads d copy area

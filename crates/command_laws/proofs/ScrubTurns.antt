@@ -5,7 +5,7 @@ use Rattle.std.proofs.lemmas.Bool.{lt-ltb, false≢true}
 use Rattle.cartridge_laws.proofs.AppendWhole.{sector_writes_are_cartridge}
 use Rattle.cartridge_laws.proofs.Blocks.{says_always}
 use Rattle.cartridge_laws.proofs.FormatWriting.{effects-some}
-use Rattle.cartridge_laws.proofs.Sayings.{says_is_function, said_are_sectors, cartridge_sectors}
+use Rattle.cartridge_laws.proofs.Sayings.{says_is_function, said_are_sectors}
 use Rattle.cartridge_laws.proofs.Segments.{cells_are_views}
 use Rattle.cartridge_laws.specs.AppendWrites.{AreWrites, IsOfSector}
 use Rattle.cartridge_spec.specs.Code.{parity_sectors}
@@ -15,10 +15,12 @@ use Rattle.cartridge_spec.specs.Says.{Saying, Data, Says, with_parity, LostSecto
 use Rattle.cartridge_spec.specs.Settling.{changed_by}
 use Rattle.cartridge_spec.specs.Shape.{is_unreadable, usable_places}
 use Rattle.command_laws.specs.ScrubLaws.{ScrubsIsFunction, ScrubsAlways, CopyIsLookedAt}
-use Rattle.command_spec.specs.Scrub.{Looked, cells_at, steps_in, SayInTurn, looked_at, scrub_acts, mending_writes, reads, whole_segment}
+use Rattle.command_spec.specs.Scrub.{Looked, cells_at, steps_in, SayInTurn, looked_at, mending_writes, reads, whole_segment}
+use Rattle.command_laws.specs.Terms.{scrub_acts}
 use Rattle.gf256_qic.proofs.Parities.{parity_sectors-are_sectors}
 use Rattle.qic_base.proofs.Steps.{Torn-all}
-use Rattle.qic_base.specs.Cartridge.{Cartridge, IsSector, view_at, IsCartridge}
+use Rattle.qic_base.specs.Cartridge.{Cartridge, IsSector, view_at}
+use Rattle.qic_base.specs.Terms.{IsCartridge}
 use Rattle.qic_base.specs.Step.{Step, WriteSector, effects}
 
 -- ---- one list of acts
@@ -63,8 +65,8 @@ pub block_sectors : (c : Cartridge) (l : Looked) (sectors : List (List ℕ)) →
     All IsSector (with_parity sectors)
 block_sectors c l sectors says =
     let are = (said_are_sectors (cells_at c l) sectors says).each in
-    All-append IsSector sectors (parity_sectors sectors) (cartridge_sectors sectors are)
-    (cartridge_sectors (parity_sectors sectors) (parity_sectors-are_sectors sectors are))
+    All-append IsSector sectors (parity_sectors sectors) are
+    (parity_sectors-are_sectors sectors are)
 
 pub steps_whole : (c : Cartridge) (l : Looked) (s : Saying) → Says (cells_at c l) s → AreWrites IsOfSector (steps_in c l s)
 steps_whole c l (Data sectors) says =

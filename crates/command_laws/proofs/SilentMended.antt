@@ -9,17 +9,17 @@ use Rattle.cartridge_laws.proofs.ChangeViews.{held_before, worn_reads_no_more}
 use Rattle.cartridge_laws.proofs.FormatCopies.{written_reads}
 use Rattle.cartridge_laws.proofs.FormatStanding.{same_cells}
 use Rattle.cartridge_laws.proofs.Places.{count_below, usable_small}
-use Rattle.cartridge_laws.proofs.Sayings.{says_is_function, written_is_said, code_sectors}
+use Rattle.cartridge_laws.proofs.Sayings.{says_is_function, written_is_said}
 use Rattle.cartridge_laws.proofs.Segments.{count_of_cells, count_of_whole}
 use Rattle.cartridge_spec.specs.Code.{parity_sectors, IsCodeBlock}
 use Rattle.cartridge_spec.specs.Header.{has_signature, header_fault}
-use Rattle.cartridge_spec.specs.HeaderAndTable.{CopyReads, IsInForce, copy_cells, last_segment, TableIs}
+use Rattle.cartridge_spec.specs.HeaderAndTable.{CopyReads, copy_cells, last_segment, TableIs}
+use Rattle.cartridge_laws.specs.Terms.{IsInForce}
 use Rattle.cartridge_spec.specs.Says.{Saying, Says, Data, Mismatch, TableSays, AsRead, ByCode, Written, with_parity, unreadable_count, Agrees, HasNoBlock}
 use Rattle.cartridge_spec.specs.Settling.{changed_by}
 use Rattle.cartridge_spec.specs.Shape.{usable_count}
 use Rattle.cartridge_spec.specs.Table.{slot_fault}
-use Rattle.cartridge_spec.specs.Volumes.{Plain, Stands, entries_of}
-use Rattle.cartridge_spec.specs.Wear.{worn}
+use Rattle.cartridge_spec.specs.Volumes.{Plain, Stands, entries_of, worn}
 use Rattle.command_laws.proofs.ScrubApart.{contains_cases, contains_first, one_looked, looked_rise}
 use Rattle.command_laws.proofs.ScrubBeside.{beside_stands, written_before, written_not_wrong, not_the_table, HasWritten, volumes_written}
 use Rattle.command_laws.proofs.ScrubForms.{as_seen, mended_as_seen}
@@ -31,8 +31,8 @@ use Rattle.command_laws.specs.DeepScrubLaws.{SilentSectorsAreMended, SilentSecto
 use Rattle.command_laws.specs.ScrubFound.{FindAtOnce, without_all}
 use Rattle.command_laws.specs.ScrubSayings.{Rise}
 use Rattle.command_laws.specs.SilentSectors.{IsSameIn, HasOneSilent, IsSilentIn, HasCopy, DiffersSilently}
-use Rattle.command_spec.specs.Scrub.{Looked, cells_at, reads, looked_at, looked_volumes, whole_segment}
-use Rattle.command_spec.specs.ScrubForms.{Finding, IsSearched, IsWrong, HasFound, Finds, without}
+use Rattle.command_spec.specs.Scrub.{Looked, cells_at, reads, looked_at, looked_volumes, whole_segment, Finding, IsSearched, IsWrong, HasFound, without}
+use Rattle.command_laws.specs.Terms.{Finds}
 use Rattle.command_spec.specs.declared.depth.Depth.{Depth}
 use Rattle.command_spec.specs.declared.depth.Depth.TheVariants.{Deep}
 use Rattle.gf256_qic.proofs.Parities.{parity_block, length-parity_sectors}
@@ -85,8 +85,8 @@ silent_wrong k c l known one =
     let count : unreadable_count (cells_at d l) ≤ unreadable_count (cells_at c l) + 1 = worn_count c l one.place one.sector is in
     let one_few : unreadable_count (cells_at c l) ≤ 1 = one.few in
     let few : unreadable_count (cells_at d l) ≤ 3 = omega arith in
-    let code : IsCodeBlock (with_parity xs) = parity_block xs (omega arith) (omega arith) (code_sectors xs known.has.are) in
-    let said : Says (cells_at d l) (Data xs) = written_is_said (cells_at d l) xs (omega arith) (omega arith) (code_sectors xs known.has.are) less few in
+    let code : IsCodeBlock (with_parity xs) = parity_block xs (omega arith) (omega arith) known.has.are in
+    let said : Says (cells_at d l) (Data xs) = written_is_said (cells_at d l) xs (omega arith) (omega arith) known.has.are less few in
     let none : HasNoBlock (cells_at c l) = λ block block_code agrees.
     let agrees_less : Agrees (cells_at d l) block = record {
       size = agrees.size ∙ count_of_cells c l.segment l.mask ∙ sym (count_of_cells d l.segment l.mask);

@@ -5,8 +5,8 @@ use Rattle.std.proofs.lemmas.Option.{get_or_from_slice_get}
 use Rattle.cartridge_laws.proofs.Segments.{length-whole_cells}
 use Rattle.cartridge_laws.proofs.TableSayings.{table_says_is_function, said_is_table}
 use Rattle.cartridge_spec.specs.HeaderAndTable.{table_cells, TableIs}
-use Rattle.cartridge_spec.specs.Mounting.{HasList}
-use Rattle.cartridge_spec.specs.Says.{Data, AsRead, ByCode, ReadsAll, Agrees, data_of, TableSays, HasBlock}
+use Rattle.cartridge_laws.specs.Terms.{HasList, data_of}
+use Rattle.cartridge_spec.specs.Says.{Data, AsRead, ByCode, ReadsAll, Agrees, TableSays, HasBlock}
 use Rattle.cartridge_spec.specs.Table.{Entry, Shows}
 use Rattle.qic_base.specs.Cartridge.{Cartridge}
 

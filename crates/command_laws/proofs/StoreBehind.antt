@@ -8,10 +8,12 @@ use Rattle.cartridge_laws.proofs.AppendKeeping.{AreIn, parts_of_segments, in_app
 use Rattle.cartridge_laws.proofs.AppendParts.{length-in_sectors}
 use Rattle.cartridge_laws.proofs.AppendSegments.{carrying_from}
 use Rattle.cartridge_laws.specs.AppendSettled.{IsSettledFor}
-use Rattle.cartridge_spec.specs.Appending.{part_writes, in_sectors, last_end}
+use Rattle.cartridge_spec.specs.Appending.{part_writes, in_sectors}
+use Rattle.cartridge_laws.specs.Terms.{last_end}
 use Rattle.cartridge_spec.specs.Settling.{changed_by}
 use Rattle.cartridge_spec.specs.Shape.{mask_at, data_count, capacity}
-use Rattle.command_spec.specs.Append.{segment_act, volume_acts, filled_acts, input_acts, Kept, input_writes, room_in, free_in, most_written, has_promised_room}
+use Rattle.command_spec.specs.Append.{segment_act, volume_acts, filled_acts, input_acts, Kept, input_writes, room_in, has_promised_room}
+use Rattle.command_laws.specs.CommandTerms.{free_in, most_written}
 use Rattle.qic_base.proofs.Joins.{steps_of-append}
 use Rattle.qic_base.specs.Acts.{Act, steps_of}
 use Rattle.qic_base.specs.Cartridge.{Cartridge}

@@ -4,9 +4,9 @@ use Rattle.std.proofs.lemmas.Bool.Decides.{nat_tests}
 use Rattle.std.specs.Str.Parse.{digits_value}
 use Rattle.std.proofs.lemmas.Fmt.{decimal_is_IsNumeral}
 use Rattle.command_laws.proofs.TextDates.{HasPair, fields_of}
-use Rattle.command_spec.specs.CommandWords.{Part, SpellsAll, HasForm, Date, dated, SpellsPart, IsNumber, IsDateWord}
+use Rattle.command_spec.specs.Command.{Part, SpellsAll, HasForm, Date, dated, SpellsPart, IsNumber, IsDateWord}
 use Rattle.command_spec.specs.declared.words.Words.{Words}
-use Rattle.qic_base.specs.Date.{date_word}
+use Rattle.qic_base.specs.Field.{date_word}
 
 -- the only form
 pub only : (ws : List (List ℕ)) (form : List Part) → HasForm ws (form ∷ []) → SpellsAll ws form

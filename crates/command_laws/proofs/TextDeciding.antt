@@ -5,10 +5,10 @@ use Rattle.std.proofs.lemmas.Slice.Eq.{bytes_eq-Decides}
 use Rattle.std.proofs.lemmas.Bool.Decides.{nat_tests}
 use Rattle.command_laws.proofs.TextCommands.{pair_value, pair_is}
 use Rattle.command_laws.proofs.TextDates.{fields_of}
-use Rattle.command_spec.specs.CommandWords.{IsNumber, IsDateWord, Part, Word, Number, Name, Date, SpellsPart, SpellsAll, HasForm}
+use Rattle.command_spec.specs.Command.{IsNumber, IsDateWord, Part, Word, Number, Name, Date, SpellsPart, SpellsAll, HasForm}
 use Rattle.command_spec.specs.Lines.{date_form}
-use Rattle.qic_base.specs.Date.{IsDate, date_word}
-use Rattle.qic_base.specs.Name.{IsPrintable, IsNameText, filled}
+use Rattle.qic_base.specs.Field.{IsDate, date_word, IsNameText, filled}
+use Rattle.qic_base.specs.Terms.{IsPrintable}
 
 -- a fact that holds or not
 abbrev pub Decided : Type 0 → Type 0

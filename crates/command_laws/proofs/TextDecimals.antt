@@ -3,7 +3,7 @@ use Rattle.std.proofs.Common.{ℕ, ◌≤◌, ◌+◌, ◌%◌, ◌^◌, ◌<◌
 use Rattle.std.proofs.lemmas.Fmt.{decimal_by_steps, decimal_is_IsNumeral}
 use Rattle.std.proofs.lemmas.List.Elements.{All-push, All-get_or}
 use Rattle.std.specs.Str.Parse.{digits_value}
-use Rattle.command_spec.specs.CommandWords.{IsNumber}
+use Rattle.command_spec.specs.Command.{IsNumber}
 
 abbrev IsDigit : ℕ → Type 0
 IsDigit b = (48 ≤ b) × (b ≤ 57)

@@ -3,10 +3,10 @@ use Rattle.std.proofs.Common.{◌≡◌, ℕ, List, [], ◌∷◌, refl, codes, 
 use Rattle.std.specs.Str.{bytes_eq}
 use Rattle.command_laws.proofs.TextCommands.{number_value, date_value, only, dated_cases, one_word, two_words, three_words, IsNumber-value, IsDateWord-value}
 use Rattle.command_laws.specs.TextInput.{OneLine}
-use Rattle.command_spec.specs.CommandWords.{Part, SpellsPart, SpellsAll, Word, Name, IsDateWord, AnyNumber}
-use Rattle.command_spec.specs.Input.{HasLineForm}
+use Rattle.command_spec.specs.Command.{Part, SpellsPart, SpellsAll, Word, Name, IsDateWord, AnyNumber}
+use Rattle.command_laws.specs.CommandTerms.{HasLineForm}
 use Rattle.command_spec.specs.declared.line.Line.{Line}
-use Rattle.qic_base.specs.Name.{filled}
+use Rattle.qic_base.specs.Field.{filled}
 use Rattle.command_spec.specs.declared.line.Line.TheVariants as line
 
 pub record Four (ws : List (List ℕ)) (p q r s : Part) : Type 0 where

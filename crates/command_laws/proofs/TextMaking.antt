@@ -3,7 +3,8 @@ use Rattle.std.proofs.Common.{◌≡◌, ℕ, ◌+◌, ◌%◌, length, ◌*◌,
 use Rattle.std.proofs.lemmas.List.FromFn.{length-map-range_with_len, get_or-map-range_with_len, fill_by_all}
 use Rattle.std.specs.List.{range_with_len}
 use Rattle.command_laws.specs.TextGenerator.{made_from}
-use Rattle.command_spec.specs.Generator.{made_bytes, made_byte, made_length}
+use Rattle.command_spec.specs.Make.{made_bytes, made_length}
+use Rattle.command_laws.specs.CommandTerms.{made_byte}
 
 pub length-made_from : (first count : ℕ) → length (made_from first count) ≡ count
 unfolding made_from

@@ -7,8 +7,9 @@ use Rattle.command_laws.proofs.TextInputs.{AreItems, items, pulses}
 use Rattle.command_laws.proofs.TextLined.{one_before}
 use Rattle.command_laws.specs.TextInput.{EachReading}
 use Rattle.command_laws.specs.TextReading.{NoNewline}
-use Rattle.command_spec.specs.CommandWords.{Number}
-use Rattle.command_spec.specs.Input.{IsLined, IsTrain, IsPulse, HasItem, IsLine, words_of, line_forms, promised, IsItem, HasStop, Ending, HasItems, AtEnd, AtStop, AtFault, most_items}
+use Rattle.command_spec.specs.Command.{Number}
+use Rattle.command_spec.specs.Input.{IsLined, IsPulse, line_forms, promised, IsItem, HasStop, Ending, HasItems, AtEnd, AtStop, AtFault, most_items}
+use Rattle.command_laws.specs.CommandTerms.{IsTrain, HasItem, IsLine, words_of}
 use Rattle.command_spec.specs.declared.line.Line.{Line}
 use Rattle.command_spec.specs.declared.line.Line.TheVariants as line
 use Rattle.command_laws.proofs.TextLines as lines

@@ -1,7 +1,9 @@
 -- The printed texts.
-use Rattle.std.proofs.Common.{◌≡◌, ℕ, ◌+◌, ◌-◌, true, List, [], ◌∷◌, ◌++◌, refl, ap, false, ◌∙◌, ◌<◌, ◌≤◌, length, take, get_or, arith, sym}
+use Rattle.std.proofs.Common.{◌≡◌, ◌==◌, ℕ, ◌+◌, ◌-◌, true, List, [], ◌∷◌, ◌++◌, refl, ap, false, ◌∙◌, ◌<◌, ◌≤◌, length, take, get_or, arith, sym}
+use Rattle.std.proofs.lemmas.Bool.Decides.{nat_tests}
 use Rattle.std.proofs.lemmas.List.{take_more}
-use Rattle.command_spec.specs.Lines.{is_filler, before_cut, trimmed}
+use Rattle.command_laws.specs.CommandTerms.{is_filler, before_cut}
+use Rattle.command_spec.specs.Lines.{trimmed}
 
 -- filling at the end is cut
 pub trimmed-filler : (xs : List ℕ) (b : ℕ) → is_filler b ≡ true → trimmed (xs ++ b ∷ []) ≡ trimmed xs
@@ -9,9 +11,12 @@ unfolding trimmed
 trimmed-filler [] b filler = rw filler refl
 trimmed-filler (x ∷ xs) b filler = ap (before_cut x) (trimmed-filler xs b filler)
 
+before_cut-some : (x : ℕ) (bytes : List ℕ) → 0 < length bytes → before_cut x bytes ≡ x ∷ bytes
+before_cut-some x bytes some = let more : (length bytes == 0) ≡ false = grind (arith, nat_tests) in rw more refl
+
 before_cut-more : (x : ℕ) (xs : List ℕ) (b : ℕ) → before_cut x (xs ++ b ∷ []) ≡ x ∷ (xs ++ b ∷ [])
-before_cut-more x [] b = refl
-before_cut-more x (y ∷ ys) b = refl
+before_cut-more x [] b = before_cut-some x (b ∷ []) (omega arith)
+before_cut-more x (y ∷ ys) b = before_cut-some x (y ∷ (ys ++ b ∷ [])) (omega arith)
 
 -- nothing in front of another byte is
 trimmed-kept : (xs : List ℕ) (b : ℕ) → is_filler b ≡ false → trimmed (xs ++ b ∷ []) ≡ xs ++ b ∷ []

@@ -4,10 +4,11 @@ use Rattle.command_laws.proofs.CommandTable.{guess, guess_is}
 use Rattle.command_laws.proofs.TextCommands.{date_value, dated_cases}
 use Rattle.command_laws.proofs.TextDeciding.{has_form}
 use Rattle.command_laws.specs.TextWords.{OneCommand, IsNoCommand}
-use Rattle.command_spec.specs.CommandWords.{IsDateWord, Word, Name}
-use Rattle.command_spec.specs.Commands.{IsCommand, word_forms}
+use Rattle.command_spec.specs.Command.{IsDateWord, Word, Name}
+use Rattle.command_spec.specs.Commands.{IsCommand}
+use Rattle.command_laws.specs.Terms.{word_forms}
 use Rattle.command_spec.specs.declared.words.Words.{Words}
-use Rattle.qic_base.specs.Name.{filled}
+use Rattle.qic_base.specs.Field.{filled}
 use Rattle.command_spec.specs.declared.words.Words.TheVariants as words
 
 pub one_command : OneCommand

@@ -1,5 +1,5 @@
 -- Which lists of steps leave a whole cartridge, done or stopped.
-use Rattle.std.proofs.Common.{◌≡◌, ◌⊎◌, ℕ, ◌+◌, ◌*◌, ◌<◌, ◌≤◌, List, [], ◌∷◌, ◌++◌, All, Option, Some, None, IsSomeAnd, IfSome, inl, inr, refl, sym, ap, ◌∙◌, subst, arith, map, take, drop, length, slice_get, get_or, replicate, length-append, length-take, length-drop, ◌-◌, ◌^◌, Bool, true, false, cond, is_some}
+use Rattle.std.proofs.Common.{◌≡◌, ℕ, ◌+◌, ◌*◌, ◌<◌, List, [], ◌∷◌, ◌++◌, All, Option, Some, None, IsSomeAnd, inl, inr, refl, sym, ap, ◌∙◌, subst, arith, map, take, drop, length, slice_get, length-append, length-take, length-drop, ◌-◌, ◌^◌, Bool, true, false, cond, is_some}
 use Rattle.std.specs.Prelude.{unwrap_or}
 use Rattle.std.proofs.lemmas.Bool.{cases_lt}
 use Rattle.std.proofs.lemmas.Option.{unwrap_or-slice_get}
@@ -11,7 +11,6 @@ use Rattle.cartridge_laws.proofs.FormatDone.{length-with_parity}
 use Rattle.cartridge_laws.proofs.FormatWriting.{some_and}
 use Rattle.cartridge_laws.proofs.MountSettles.{settling_settles}
 use Rattle.cartridge_laws.proofs.MountWhole.{settled_is_cartridge, stopped_is_cartridge}
-use Rattle.cartridge_laws.proofs.Sayings.{cartridge_sectors, code_sectors}
 use Rattle.cartridge_laws.proofs.Segments.{view_of_cartridge}
 use Rattle.cartridge_laws.proofs.Whole.{with_view_whole, worn_is_view}
 use Rattle.cartridge_laws.specs.AppendWrites.{AreWrites, IsOfSector}
@@ -24,17 +23,19 @@ use Rattle.cartridge_spec.specs.Mounting.{settled}
 use Rattle.cartridge_spec.specs.Says.{with_parity}
 use Rattle.cartridge_spec.specs.Settling.{changed_by, settling_steps, writes_of}
 use Rattle.cartridge_spec.specs.Shape.{sector_at}
-use Rattle.cartridge_spec.specs.Table.{Entry, slot_bytes, slot_sector, with_slot}
+use Rattle.cartridge_spec.specs.Table.{Entry, slot_bytes}
+use Rattle.cartridge_laws.specs.Terms.{slot_sector, with_slot}
 use Rattle.command_laws.proofs.CommandClean.{Leaves, both_leave, leaves_done}
 use Rattle.command_laws.proofs.InputActLaws.{input_is_of_sectors, writes_whole}
 use Rattle.command_laws.proofs.MountedListed.{entry_area, slot_free}
 use Rattle.command_laws.specs.MountedListed.{IsListed}
-use Rattle.command_spec.specs.Append.{Fits, Kept, Taking, TooLong, TooShort, append_acts, entry_acts, entry_for, free_in, has_promised_room, input_acts, input_writes, kept_over, most_written, room_in, taking}
+use Rattle.command_spec.specs.Append.{Fits, Kept, Taking, TooLong, TooShort, append_acts, entry_acts, has_promised_room, input_acts, input_writes, kept_over, room_in, taking}
+use Rattle.command_laws.specs.CommandTerms.{entry_for, free_in, most_written}
 use Rattle.qic_base.proofs.Joins.{steps_of-append}
 use Rattle.qic_base.specs.Acts.{Act, steps_of}
-use Rattle.qic_base.specs.Cartridge.{Cartridge, IsCartridge, IsLength, IsSector, IsVersion, IsView, new_cartridge, place_of, view_at, with_segment, zero_sector}
-use Rattle.qic_base.specs.Step.{FormatSegment, SetProtected, SetReferenced, Spoil, Step, Upgrade, Wear, changed, formatted_view, spoiled_view, worn_view}
-use Rattle.qic_base.specs.Stop.{ClosingView, HalfFormatted, OpeningView, SegmentBecame, Torn}
+use Rattle.qic_base.specs.Cartridge.{Cartridge, IsLength, IsSector, new_cartridge, view_at, zero_sector}
+use Rattle.qic_base.specs.Terms.{IsVersion, IsCartridge, IsView, place_of, with_segment, HalfFormatted}
+use Rattle.qic_base.specs.Step.{FormatSegment, SetProtected, SetReferenced, Spoil, Step, Upgrade, Wear, changed, formatted_view, spoiled_view, worn_view, ClosingView, OpeningView, SegmentBecame}
 use Rattle.qic_base.specs.declared.tape.TapeInfo.{TapeInfo}
 use Rattle.qic_base.specs.declared.tape.SectorView.{SectorView}
 use Rattle.qic_base.specs.declared.tape.SectorView.TheVariants.{Blank, Defect, Lost, Holds}
@@ -187,7 +188,7 @@ clearing_leaves n c whole left (inr (inr torn)) = formats_leave (range_with_len 
 
 pub block_sectors : (area : List (List ℕ)) → IsArea area → All IsSector (with_parity area)
 block_sectors area is =
-    All-append IsSector area (parity_sectors area) is.sectors (cartridge_sectors (parity_sectors area) (parity_sectors-are_sectors area (code_sectors area is.sectors)))
+    All-append IsSector area (parity_sectors area) is.sectors (parity_sectors-are_sectors area is.sectors)
 
 writes_more : (xs ys : List Step) → AreWrites IsOfSector xs → AreWrites IsOfSector ys → AreWrites IsOfSector (xs ++ ys)
 writes_more [] ys front rear = rear

@@ -2,8 +2,7 @@
 use Rattle.std.specs.Prelude.{◌≡◌, ◌≢◌, ◌⊎◌, ℕ, List, [], ◌∷◌, ◌++◌, Option, Some}
 use Rattle.qic_base.specs.Acts.{Act, next_steps, steps_of, text_of}
 use Rattle.qic_base.specs.Cartridge.{Cartridge}
-use Rattle.qic_base.specs.Step.{effects}
-use Rattle.qic_base.specs.Stop.{Torn}
+use Rattle.qic_base.specs.Step.{effects, Torn}
 
 -- a front of them was done and written, and a stop came among the steps of the next one
 pub record Between (c : Cartridge) (acts : List Act) (text : List ℕ) (left : Option Cartridge) : Type 0 where

@@ -1,12 +1,11 @@
 -- What comes between an append and the loss of one sector more of the table's segment, and doesn't mount the cartridge without its
 -- protect mark: what would come back, comes back, as facts (this project's own).
 use Rattle.std.specs.Prelude.{◌≡◌, ◌⊎◌, ◌<◌, ◌≤◌, ℕ, true, false}
-use Rattle.cartridge_spec.specs.Mounting.{IsTableLive, Mounts, mounted_as}
-use Rattle.cartridge_spec.specs.OneLoss.{LosesOneAlone}
+use Rattle.cartridge_spec.specs.Mounting.{IsTableLive, Mounts, mounted_as, LosesOneAlone}
 use Rattle.cartridge_spec.specs.Volumes.{Plain}
 use Rattle.command_spec.specs.OneLoss.{ComesBackAsOneOf}
 use Rattle.qic_base.specs.Cartridge.{Cartridge}
-use Rattle.qic_base.specs.Step.{SetProtected, SetReferenced, Step, Upgrade, Wear, changed}
+use Rattle.qic_base.specs.Step.{SetProtected, SetReferenced, Spoil, Step, Upgrade, Wear, changed}
 
 abbrev pub without_mark : Cartridge → Cartridge
 without_mark c = changed (SetProtected false) c
@@ -16,12 +15,14 @@ pub record MayComeBack (one other : Plain) (c : Cartridge) : Type 0 where
   pub comes : ComesBackAsOneOf one other (without_mark c)
   pub live : IsTableLive c
 
--- the mark and the version change, the reference bursts are there already, or a sector is worn behind the table's segment
+-- The mark and the version change, the reference bursts are there already, a sector is worn behind the table's segment,
+-- or one is made a defect: only one that was never formatted becomes one, so none of the table's segment does.
 abbrev pub IsBetween : Cartridge → Step → Type 0
 IsBetween c (SetProtected on) = Unit {0}
 IsBetween c Upgrade = Unit {0}
 IsBetween c SetReferenced = c.info.referenced ≡ true
 IsBetween c (Wear segment sector) = (3 ≤ segment) × (sector < 32)
+IsBetween c (Spoil segment sector) = sector < 32
 IsBetween c step = ⊥
 
 -- such a step carries it on

@@ -3,14 +3,16 @@ use Rattle.std.specs.Prelude.{All, ◌<◌, ◌≡◌, ℕ, List, Option, Some, 
 use Rattle.cartridge_laws.specs.ChangeSteps.{HasNoRenew}
 use Rattle.cartridge_spec.specs.Formatting.{HasCleanCopies, HasNoHeader}
 use Rattle.cartridge_spec.specs.HeaderAndTable.{IsArea}
-use Rattle.command_spec.specs.Machine.{Step, Yields, HasValues, CanBeDone}
+use Rattle.command_spec.specs.Machine.{Step, HasValues}
+use Rattle.command_laws.specs.CommandTerms.{Yields, CanBeDone}
 use Rattle.command_spec.specs.Outcome.{CommandOutcome}
-use Rattle.command_spec.specs.Volumes.{KeepsCopies, KeepsLive}
+use Rattle.command_laws.specs.Terms.{KeepsCopies, KeepsLive}
 use Rattle.command_spec.specs.declared.status.Status.{Status}
 use Rattle.command_spec.specs.declared.words.Words.{Words}
 use Rattle.qic_base.specs.Acts.{steps_of}
-use Rattle.qic_base.specs.Cartridge.{Cartridge, IsCartridge}
-use Rattle.qic_base.specs.Stop.{Torn}
+use Rattle.qic_base.specs.Cartridge.{Cartridge}
+use Rattle.qic_base.specs.Terms.{IsCartridge}
+use Rattle.qic_base.specs.Step.{Torn}
 use Rattle.command_spec.specs.declared.status.Status.TheVariants as status
 
 -- two outcomes of a step are one: what is held then, the output, how many bytes were taken, and the status

@@ -7,13 +7,13 @@ use Rattle.cartridge_spec.specs.HeaderAndTable.{CopyDoesNotRead, IsUnformatted, 
 use Rattle.cartridge_spec.specs.Mounting.{Mounted, Mounts}
 use Rattle.cartridge_spec.specs.Table.{Entry}
 use Rattle.cartridge_spec.specs.Volumes.{Plain, Stands}
-use Rattle.command_spec.specs.Command.{Command}
-use Rattle.command_spec.specs.CommandWords.{HasForm}
+use Rattle.command_spec.specs.Command.{Command, HasForm}
 use Rattle.command_spec.specs.Outcome.{CommandOutcome, refused}
 use Rattle.command_spec.specs.declared.status.Status.{Status}
 use Rattle.qic_base.specs.Acts.{steps_of}
-use Rattle.qic_base.specs.Cartridge.{Cartridge, IsCartridge}
-use Rattle.qic_base.specs.Stop.{Torn}
+use Rattle.qic_base.specs.Cartridge.{Cartridge}
+use Rattle.qic_base.specs.Terms.{IsCartridge}
+use Rattle.qic_base.specs.Step.{Torn}
 use Rattle.command_spec.specs.declared.status.Status.TheVariants as status
 
 -- What it prints hangs together: before its first act nothing is printed, and nothing is a front of its text; so is all of it, a

@@ -13,16 +13,16 @@ use Rattle.command_laws.specs.ScrubFound.{FindAtOnce, finds_at_once, without_all
 use Rattle.command_laws.specs.ScrubLaws.{AreAllLive}
 use Rattle.command_laws.specs.ScrubMended.{IsScrubbed}
 use Rattle.command_laws.specs.SilentSectors.{DiffersSilently}
-use Rattle.command_spec.specs.Commands.DeepScrubCommand.{IsFirstCopyRight}
-use Rattle.command_spec.specs.Machine.{Yields}
+use Rattle.command_laws.specs.Terms.{IsFirstCopyRight, ScrubsDeepOn}
+use Rattle.command_laws.specs.CommandTerms.{Yields}
 use Rattle.command_spec.specs.Outcome.{CommandOutcome}
-use Rattle.command_spec.specs.Scrub.{Scrubs, Looked, looked_at}
-use Rattle.command_spec.specs.ScrubForms.{Finding, FindInTurn, MayBeFound, ScrubsAs, ScrubsDeepOn, finding_acts}
+use Rattle.command_spec.specs.Scrub.{Scrubs, Looked, looked_at, Finding, FindInTurn, MayBeFound, ScrubsAs, finding_acts}
 use Rattle.command_spec.specs.declared.depth.Depth.{Depth}
 use Rattle.command_spec.specs.declared.depth.Depth.TheVariants.{Shallow, Deep}
 use Rattle.qic_base.specs.Acts.{Act, steps_of}
-use Rattle.qic_base.specs.Cartridge.{Cartridge, IsCartridge}
-use Rattle.qic_base.specs.Stop.{Torn}
+use Rattle.qic_base.specs.Cartridge.{Cartridge}
+use Rattle.qic_base.specs.Terms.{IsCartridge}
+use Rattle.qic_base.specs.Step.{Torn}
 use Rattle.command_spec.specs.declared.status.Status.TheVariants as status
 use Rattle.command_spec.specs.declared.words.Words.TheVariants as commands
 

@@ -1,24 +1,23 @@
 -- A mounted cartridge whose whole table holds what it should, so that one sector more of the table's segment may be lost; and what
 -- generated runs and scripts leave of it, as facts (this project's own).
-use Rattle.std.specs.Prelude.{◌≡◌, ◌⊎◌, ◌+◌, ◌<◌, ◌≤◌, ℕ, List, All, Option, Some, IsSomeAnd, length, take, true}
+use Rattle.std.specs.Prelude.{◌≡◌, ◌⊎◌, ◌<◌, ◌≤◌, ℕ, List, All, Option, Some, IsSomeAnd, length, take, true, ◌≢◌, ◌++◌, []}
 use Rattle.cartridge_laws.specs.AppendBetween.{IsWhole}
-use Rattle.cartridge_spec.specs.Appending.{has_room, with_all, with_bytes}
-use Rattle.cartridge_spec.specs.Mounting.{settled}
-use Rattle.cartridge_spec.specs.OneLoss.{ComesBackAs, LosesOneAlone}
+use Rattle.cartridge_spec.specs.Appending.{has_room, with_bytes}
+use Rattle.cartridge_spec.specs.Mounting.{settled, ComesBackAs, LosesOneAlone}
 use Rattle.cartridge_spec.specs.Settling.{changed_by}
-use Rattle.cartridge_spec.specs.Volumes.{Plain, entries_of}
-use Rattle.cartridge_spec.specs.Wear.{worn}
+use Rattle.cartridge_spec.specs.Volumes.{Plain, entries_of, worn}
+use Rattle.command_laws.specs.ActStops.{IsLeftBy}
 use Rattle.command_laws.specs.MountedKept.{IsAppendable, IsKept, settle_and_append}
-use Rattle.command_laws.specs.ScriptStanding.{plain_behind}
-use Rattle.command_spec.specs.MadeVolumes.{made_contents}
-use Rattle.command_spec.specs.Make.{Answer, Done, Makes}
-use Rattle.command_spec.specs.OneLoss.{ComesBackAsOneOf, SomeComeBack}
-use Rattle.command_spec.specs.Script.{ScriptDoes, ScriptRun}
-use Rattle.command_spec.specs.ScriptLists.{CameFurther, ItemsWearBehind}
+use Rattle.command_spec.specs.Make.{Answer, Done}
+use Rattle.command_laws.specs.CommandTerms.{Makes}
+use Rattle.command_spec.specs.OneLoss.{ComesBackAsOneOf, SomeComeBack, with_items, with_made}
+use Rattle.command_spec.specs.Script.{ScriptDoes}
+use Rattle.command_spec.specs.Outcome.{CommandOutcome}
+use Rattle.command_spec.specs.ScriptLists.{CameFurther, ItemsWearBehind, GoesNoFurther, printed_by}
 use Rattle.command_spec.specs.Scrub.{Scrubs}
-use Rattle.qic_base.specs.Acts.{Act, steps_of}
+use Rattle.qic_base.specs.Acts.{Act, steps_of, next_steps, text_of}
 use Rattle.qic_base.specs.Cartridge.{Cartridge}
-use Rattle.qic_base.specs.Stop.{Torn}
+use Rattle.qic_base.specs.Step.{Torn}
 
 -- all 32 sectors of its table's segment hold their parts of the table
 pub record IsIntact (c : Cartridge) (plain : Plain) : Type 0 where
@@ -58,25 +57,60 @@ abbrev pub ScrubsLeaveIntact : Type 0
 ScrubsLeaveIntact =
     (c : Cartridge) (plain : Plain) (acts : List Act) → IsIntact c plain → Scrubs c plain.words (entries_of plain) acts → ScrubLeavesIntact c plain acts
 
--- a generated run that is stopped leaves what comes back with some of its volumes, and one that was carried out with all
+-- ---- generated runs
+
+-- one that is stopped leaves what comes back with some of its volumes, ..
 abbrev pub StoppedMakeComesBack : Type 0
 StoppedMakeComesBack =
-    (seed count : ℕ) (c : Cartridge) (plain : Plain) (acts : List Act) (answer : Answer) (left : Option Cartridge) → count ≤ 200 →
-    IsIntact c plain → Makes seed count c plain.words (entries_of plain) acts answer → Torn (steps_of acts) (Some c) left →
-    SomeComeBack (λ n. with_all plain (made_contents seed 1 n)) count left
+    (seed count : ℕ) (c : Cartridge) (plain : Plain) (acts : List Act) (answer : Answer) (left : Option Cartridge) →
+    count ≤ 200 → IsIntact c plain → Makes seed count c plain.words (entries_of plain) acts answer →
+    Torn (steps_of acts) (Some c) left → SomeComeBack (with_made plain seed) 0 count left
 
+-- .. with all, where something was printed before the stop, which may come inside the steps of the next act, ..
+abbrev pub PrintedMakeComesBack : Type 0
+PrintedMakeComesBack =
+    (seed count : ℕ) (c : Cartridge) (plain : Plain) (acts front rest : List Act) (answer : Answer)
+    (left : Option Cartridge) → count ≤ 200 → IsIntact c plain →
+    Makes seed count c plain.words (entries_of plain) acts answer → front ++ rest ≡ acts → text_of front ≢ [] →
+    Torn (next_steps rest) (Some (changed_by (steps_of front) c)) left →
+    SomeComeBack (with_made plain seed) count count left
+
+-- .. and where it was carried out
 abbrev pub DoneMakeIsIntact : Type 0
 DoneMakeIsIntact =
     (seed count : ℕ) (c : Cartridge) (plain : Plain) (acts : List Act) → count ≤ 200 → IsIntact c plain →
     Makes seed count c plain.words (entries_of plain) acts Done →
-    IsIntact (changed_by (steps_of acts) c) (with_all plain (made_contents seed 1 count))
+    IsIntact (changed_by (steps_of acts) c) (with_made plain seed count)
 
--- A script whose first lines wear no sector of the segments 0 to 2 leaves what comes back behind some of these, or the stop came
--- further.
+-- ---- scripts
+
+-- One whose first lines wear no sector of the segments 0 to 2 leaves what comes back behind some of these, or the stop
+-- came further.
 abbrev pub StoppedScriptComesBack : Type 0
 StoppedScriptComesBack =
-    (c : Cartridge) (plain : Plain) (input : List ℕ) (outcome : ScriptRun) (left : Option Cartridge) → IsIntact c plain →
-    (does : ScriptDoes c plain.words (entries_of plain) input outcome) → All (λ b. b < 256) input →
-    (count : ℕ) → count ≤ length does.items → ItemsWearBehind (take count does.items) → Torn (steps_of outcome.acts) (Some c) left →
+    (c : Cartridge) (plain : Plain) (input : List ℕ) (outcome : CommandOutcome) (left : Option Cartridge) →
+    IsIntact c plain → (does : ScriptDoes c plain.words (entries_of plain) input outcome) → All (λ b. b < 256) input →
+    (count : ℕ) → count ≤ length does.items → ItemsWearBehind (take count does.items) →
+    Torn (steps_of outcome.acts) (Some c) left →
     CameFurther c does.items does.dids does.last count left
-    ⊎ SomeComeBack (λ n. plain_behind plain (take n does.items) (take n does.dids)) count left
+    ⊎ SomeComeBack (with_items plain does.items does.dids) 0 count left
+
+-- Where it was cut off once this was written, and the lines that it went no further than are these, all lines whose
+-- reply was written whole are among those.
+abbrev pub AnsweredScriptComesBack : Type 0
+AnsweredScriptComesBack =
+    (c : Cartridge) (plain : Plain) (input : List ℕ) (outcome : CommandOutcome) (text : List ℕ) (left : Option Cartridge) →
+    IsIntact c plain → (does : ScriptDoes c plain.words (entries_of plain) input outcome) → All (λ b. b < 256) input →
+    (answered count : ℕ) → answered ≤ length does.items → printed_by does.dids answered ≤ length text →
+    count ≤ length does.items → GoesNoFurther does.items does.dids count (length text) →
+    ItemsWearBehind (take count does.items) → IsLeftBy c outcome.acts text left →
+    SomeComeBack (with_items plain does.items does.dids) answered count left
+
+-- and all lines, where all of it was done
+abbrev pub DoneScriptComesBack : Type 0
+DoneScriptComesBack =
+    (c : Cartridge) (plain : Plain) (input : List ℕ) (outcome : CommandOutcome) → IsIntact c plain →
+    (does : ScriptDoes c plain.words (entries_of plain) input outcome) → All (λ b. b < 256) input →
+    ItemsWearBehind does.items →
+    SomeComeBack (with_items plain does.items does.dids) (length does.items) (length does.items)
+    (Some (changed_by (steps_of outcome.acts) c))

@@ -2,6 +2,7 @@ pub mod ActStops
 pub mod Between
 pub mod CommandLaws
 pub mod CommandRecord
+pub mod CommandTerms
 pub mod CopyLaws
 pub mod DeepScrubLaws
 pub mod InputLaws
@@ -17,7 +18,10 @@ pub mod OutputLaws
 pub mod OutputText
 pub mod PromiseLaws
 pub mod PulseLaws
+pub mod PulseRuns
+pub mod ReadableLaws
 pub mod RestoreLaws
+pub mod ScriptAnswers
 pub mod ScriptItems
 pub mod ScriptLaws
 pub mod ScriptListing
@@ -27,6 +31,7 @@ pub mod ScrubLaws
 pub mod ScrubMended
 pub mod ScrubSayings
 pub mod SilentSectors
+pub mod Terms
 pub mod TextGenerator
 pub mod TextInput
 pub mod TextLaws

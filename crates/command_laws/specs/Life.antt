@@ -5,22 +5,22 @@ use Rattle.cartridge_spec.specs.Appending.{with_all, with_bytes}
 use Rattle.cartridge_spec.specs.Formatting.{HasCleanCopies, HasNoHeader, IsFreshFor, fresh_plain}
 use Rattle.cartridge_spec.specs.HeaderAndTable.{CopyDoesNotRead}
 use Rattle.cartridge_spec.specs.Mounting.{IsTableLive, settled}
-use Rattle.cartridge_spec.specs.Volumes.{Plain, Stands, entries_of}
-use Rattle.cartridge_spec.specs.Wear.{WearSpares}
+use Rattle.cartridge_spec.specs.Volumes.{Plain, Stands, entries_of, WearSpares}
 use Rattle.command_laws.specs.ActStops.{IsLeftBy}
 use Rattle.command_spec.specs.Input.{Item}
-use Rattle.command_spec.specs.Listing.{IsHeard}
-use Rattle.command_spec.specs.Machine.{HasValues, Yields}
-use Rattle.command_spec.specs.MadeVolumes.{made_contents}
+use Rattle.command_spec.specs.Several.{IsHeard}
+use Rattle.command_spec.specs.Machine.{HasValues}
+use Rattle.command_laws.specs.CommandTerms.{Yields}
+use Rattle.command_spec.specs.Make.{made_contents}
 use Rattle.command_spec.specs.Outcome.{CommandOutcome, HasPlace, output_of}
-use Rattle.command_spec.specs.Script.{Did, ScriptDoes, ScriptRun}
+use Rattle.command_spec.specs.Script.{Did, ScriptDoes}
 use Rattle.command_spec.specs.ScriptLists.{CameFurther, FirstSpare, GoesNoFurther, ItemsSpare, all_added, printed_by}
 use Rattle.command_spec.specs.declared.status.Status.{Status}
 use Rattle.command_spec.specs.declared.words.Words.{Words}
 use Rattle.qic_base.specs.Acts.{Act, steps_of}
-use Rattle.qic_base.specs.Cartridge.{Cartridge, IsCartridge}
-use Rattle.qic_base.specs.Step.{Wear, effect, effects}
-use Rattle.qic_base.specs.Stop.{Torn}
+use Rattle.qic_base.specs.Cartridge.{Cartridge}
+use Rattle.qic_base.specs.Terms.{IsCartridge}
+use Rattle.qic_base.specs.Step.{Wear, effect, effects, Torn}
 use Rattle.command_spec.specs.declared.status.Status.TheVariants as status
 use Rattle.command_spec.specs.declared.words.Words.TheVariants as commands
 
@@ -107,7 +107,7 @@ LinesSpare (Stopped printed) c plain items dids last left =
 abbrev pub CommandSpares : Words → Ended → (input : List ℕ) → (left : Option Cartridge) → Cartridge → Type 0
 CommandSpares (commands.Lose segment sector) ended input left c = HasPlace c segment sector → LossSpares c segment sector
 CommandSpares commands.Script ended input left c =
-    (plain : Plain) (run : ScriptRun) → Stands c plain →
+    (plain : Plain) (run : CommandOutcome) → Stands c plain →
     (does : ScriptDoes (settled plain.table_area c) plain.words (entries_of plain) input run) →
     LinesSpare ended (settled plain.table_area c) plain does.items does.dids does.last left
 CommandSpares command ended input left c = Unit {0}
@@ -211,7 +211,7 @@ AnsweredAmong (Stopped None) items dids count = Unit {0}
 
 -- the appends of the first lines, by what the plain machine did
 pub record SomeLines (c : Cartridge) (input : List ℕ) (plain : Plain) (ended : Ended) (after : Option Plain) : Type 0 where
-  pub run : ScriptRun
+  pub run : CommandOutcome
   pub does : ScriptDoes (settled plain.table_area c) plain.words (entries_of plain) input run
   pub count : ℕ
   pub within : count ≤ length does.items

@@ -5,12 +5,14 @@ use Rattle.cartridge_spec.specs.Mounting.{CanBeRead}
 use Rattle.cartridge_spec.specs.Volumes.{Plain, Volume}
 use Rattle.command_laws.specs.Life.{Answered, Ended, Event, HasRun, IsEmptied, IsSound, Lives, Loses, Run, Runs, Stopped, begun_behind_all}
 use Rattle.command_spec.specs.Headline.{WordsLeave}
-use Rattle.command_spec.specs.Machine.{Spells, SpellsNone, Step, Yields}
+use Rattle.command_spec.specs.Machine.{Spells, SpellsNone, Step}
+use Rattle.command_laws.specs.CommandTerms.{Yields}
 use Rattle.command_spec.specs.Outcome.{CommandOutcome, output_of}
 use Rattle.command_spec.specs.Restore.{LosesFew, pieces_in}
 use Rattle.command_spec.specs.declared.status.Status.{Status}
 use Rattle.command_spec.specs.declared.words.Words.{Words}
-use Rattle.qic_base.specs.Cartridge.{Cartridge, IsCartridge, new_cartridge}
+use Rattle.qic_base.specs.Cartridge.{Cartridge, new_cartridge}
+use Rattle.qic_base.specs.Terms.{IsCartridge}
 use Rattle.command_spec.specs.declared.status.Status.TheVariants as status
 use Rattle.command_spec.specs.declared.words.Words.TheVariants as commands
 

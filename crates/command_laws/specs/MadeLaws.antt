@@ -8,11 +8,11 @@ use Rattle.cartridge_spec.specs.Table.{Entry}
 use Rattle.cartridge_spec.specs.Volumes.{Plain, Stands, entries_of}
 use Rattle.command_laws.specs.MountedKept.{IsKept, IsOpen}
 use Rattle.command_laws.specs.MountedListed.{IsListed}
-use Rattle.command_spec.specs.MadeVolumes.{AppendedFrom, HaveRoom, LoseFewBehind, made_contents}
-use Rattle.command_spec.specs.Make.{Answer, Makes, MakeStep, after_items, Done, StepDoes, Runs, made_list, make_status}
+use Rattle.command_laws.specs.CommandTerms.{AppendedFrom, Makes}
+use Rattle.command_spec.specs.Make.{HaveRoom, LoseFewBehind, made_contents, Answer, MakeStep, after_items, Done, StepDoes, Runs, made_list, make_status}
 use Rattle.qic_base.specs.Acts.{Act, steps_of, text_of, next_steps}
 use Rattle.qic_base.specs.Cartridge.{Cartridge}
-use Rattle.qic_base.specs.Stop.{Torn}
+use Rattle.qic_base.specs.Step.{Torn}
 
 -- ---- any cartridge
 

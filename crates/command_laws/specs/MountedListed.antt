@@ -5,16 +5,19 @@ use Rattle.cartridge_laws.specs.Table.{IsSoundList}
 use Rattle.cartridge_spec.specs.Formatting.{IsLabel}
 use Rattle.cartridge_spec.specs.Header.{Header}
 use Rattle.cartridge_spec.specs.HeaderAndTable.{last_segment, TableIs, table_cells}
-use Rattle.cartridge_spec.specs.Mounting.{Mounted, Mounts, settled, HasList}
+use Rattle.cartridge_spec.specs.Mounting.{Mounted, Mounts, settled}
+use Rattle.cartridge_laws.specs.Terms.{HasList}
 use Rattle.cartridge_spec.specs.Says.{ByCode, LostSectors, TableSays}
 use Rattle.cartridge_spec.specs.Settling.{changed_by}
 use Rattle.cartridge_spec.specs.Table.{Entry, Shows}
-use Rattle.cartridge_spec.specs.Wear.{worn}
-use Rattle.command_spec.specs.Append.{Kept, Taking, Fits, TooLong, TooShort, entry_for, append_acts, room_in, taking, kept_over}
+use Rattle.cartridge_spec.specs.Volumes.{worn}
+use Rattle.command_spec.specs.Append.{Kept, Taking, Fits, TooLong, TooShort, append_acts, room_in, taking, kept_over}
+use Rattle.command_laws.specs.CommandTerms.{entry_for}
 use Rattle.command_spec.specs.Restore.{GivingEnd, Piece, Restores}
 use Rattle.command_spec.specs.Scrub.{Scrubs}
 use Rattle.qic_base.specs.Acts.{steps_of, Act}
-use Rattle.qic_base.specs.Cartridge.{Cartridge, IsLength, IsCartridge}
+use Rattle.qic_base.specs.Cartridge.{Cartridge, IsLength}
+use Rattle.qic_base.specs.Terms.{IsCartridge}
 
 -- what a store knows of its cartridge: the list is in order, and where the cartridge may be written the sectors of the table's
 -- segment that can be read are those of a code block that shows the list

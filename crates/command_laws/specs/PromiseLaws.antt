@@ -1,14 +1,18 @@
 -- What follows of the promises of a run and is no clause of them, as a fact (this project's own).
-use Rattle.std.specs.Prelude.{◌≡◌, IsSomeAnd, List, Some, ℕ}
+use Rattle.std.specs.Prelude.{◌≡◌, IsSomeAnd, List, Some, ℕ, IfSome, None}
 use Rattle.cartridge_laws.specs.AppendSettled.{IsSettledFor}
 use Rattle.cartridge_spec.specs.Volumes.{Plain, Stands}
 use Rattle.command_laws.specs.SilentSectors.{DiffersSilently}
-use Rattle.command_spec.specs.Headline.{Answers, NoneRose, ToldNow}
+use Rattle.command_laws.specs.Terms.{Answers}
+use Rattle.command_spec.specs.Headline.{NoneRose, ToldNow, EachLeft}
 use Rattle.command_spec.specs.Machine.{Spells}
+use Rattle.command_spec.specs.OneLoss.{StoppedComesBack}
 use Rattle.command_spec.specs.Promises.{Promises}
+use Rattle.command_spec.specs.Several.{SomeScripted}
 use Rattle.command_spec.specs.declared.status.Status.{Status}
 use Rattle.qic_base.specs.Acts.{Outside}
 use Rattle.qic_base.specs.Cartridge.{Cartridge}
+use Rattle.qic_base.specs.Terms.{IsCartridge}
 use Rattle.qic_base.specs.Sink as sinks
 use Rattle.qic_base.specs.Source as sources
 use Rattle.qic_base.specs.Tape as tapes
@@ -29,3 +33,11 @@ DeepScrubRunMends {T} {S} {K} t s k =
     Promises t s k words old new answer → Spells words commands.ScrubDeep → answer ≡ status.Done → t.told old.tape ≡ Some (Some c) →
     Stands whole plain → IsSettledFor whole plain.table_area → DiffersSilently whole c plain →
     ToldNow t new.tape (λ left. IsSomeAnd left (λ d. Stands d plain))
+
+-- Over a source that tells nothing, what a run of a script leaves, at its end or at any moment of it, is what one leaves
+-- over some input; so what the clauses say of that input, if it is one of bytes, holds of it.
+abbrev pub ScriptsUntold : {T S K : Type 0} → tapes.Meaning T → sources.Meaning S → sinks.Meaning K → Type 0
+ScriptsUntold {T} {S} {K} t s k =
+    (words : List (List ℕ)) (old new : Outside T S K) (answer : Status) → Promises t s k words old new answer →
+    s.left old.source ≡ None → EachLeft t old.tape new.tape (λ held left. IfSome held IsCartridge →
+    (input : List ℕ) × SomeScripted (Some input) words held left × StoppedComesBack (Some input) words held left)

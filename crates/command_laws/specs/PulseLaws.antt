@@ -1,12 +1,12 @@
 -- The laws of the plain machine of `pulses`, as facts (this project's own).
 use Rattle.std.specs.Prelude.{ℕ, List, Option, ◌≡◌, ◌+◌, ◌≤◌, ◌++◌, length, ◌⊎◌}
 use Rattle.command_spec.specs.Input.{most_items, Ending, IsPulses, AtFault}
-use Rattle.command_spec.specs.Pulses.{PulseRun, PulsesOutcome, train_lines, train_acts}
+use Rattle.command_laws.specs.PulseRuns.{PulseRun, PulsesOutcome}
+use Rattle.command_spec.specs.Pulses.{train_lines, train_acts}
 use Rattle.drive_spec.specs.Record.{Record}
 use Rattle.qic_base.specs.Acts.{steps_of}
 use Rattle.qic_base.specs.Cartridge.{Cartridge}
-use Rattle.qic_base.specs.Step.{SetReferenced, effect}
-use Rattle.qic_base.specs.Stop.{Torn}
+use Rattle.qic_base.specs.Step.{SetReferenced, effect, Torn}
 use Rattle.qic_base.specs.declared.tape.TapeInfo.{TapeInfo}
 
 -- each input has an outcome, over each cartridge and none

@@ -8,7 +8,8 @@ use Rattle.cartridge_spec.specs.Table.{Entry}
 use Rattle.cartridge_spec.specs.Volumes.{volume_length, Plain, Volume, Stands}
 use Rattle.command_spec.specs.Restore.{Piece, GivingEnd, Restores, framed, pieces, bytes_held, Restored, LosesFew, pieces_in, FirstLost, LostIn, piece_cells, MismatchIn, IsRead, PieceEnds, GivenBytes}
 use Rattle.qic_base.specs.Acts.{Act, steps_of, text_of}
-use Rattle.qic_base.specs.Cartridge.{Cartridge, IsCartridge}
+use Rattle.qic_base.specs.Cartridge.{Cartridge}
+use Rattle.qic_base.specs.Terms.{IsCartridge}
 use Rattle.cartridge_laws.specs.AppendLaws as appends
 
 -- ---- over any cartridge

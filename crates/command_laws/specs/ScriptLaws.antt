@@ -2,22 +2,23 @@
 use Rattle.std.specs.Prelude.{◌≡◌, ℕ, List, ◌∷◌, ◌++◌, Option, Some, ◌⊎◌}
 use Rattle.cartridge_spec.specs.Table.{Entry}
 use Rattle.command_laws.specs.MountedListed.{IsListed}
-use Rattle.command_spec.specs.Script.{ScriptRun, ScriptDoes, Did, cartridge_behind, acts_of}
+use Rattle.command_spec.specs.Outcome.{CommandOutcome}
+use Rattle.command_spec.specs.Script.{ScriptDoes, Did, cartridge_behind, acts_of}
 use Rattle.qic_base.specs.Acts.{steps_of, Act}
 use Rattle.qic_base.specs.Cartridge.{Cartridge}
-use Rattle.qic_base.specs.Stop.{Torn}
+use Rattle.qic_base.specs.Step.{Torn}
 
 -- an input has at most one outcome over a cartridge with this map and these volumes
 abbrev pub OneOutcome : Type 0
 OneOutcome =
-    (c : Cartridge) (words : List ℕ) (entries : List Entry) (input : List ℕ) (a b : ScriptRun) →
+    (c : Cartridge) (words : List ℕ) (entries : List Entry) (input : List ℕ) (a b : CommandOutcome) →
     ScriptDoes c words entries input a → ScriptDoes c words entries input b → a ≡ b
 
 -- .. and it has one, any list of numbers as the input, where a store knows the cartridge's volume table
 abbrev pub EachOutcome : Type 0
 EachOutcome =
     (c : Cartridge) (words : List ℕ) (entries : List Entry) (input : List ℕ) → IsListed c words entries →
-    (outcome : ScriptRun) × ScriptDoes c words entries input outcome
+    (outcome : CommandOutcome) × ScriptDoes c words entries input outcome
 
 -- a stop in one of some items, with those before it done
 pub record StopsIn (c : Cartridge) (dids : List Did) (left : Option Cartridge) : Type 0 where

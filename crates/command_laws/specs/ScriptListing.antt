@@ -5,7 +5,8 @@ use Rattle.cartridge_spec.specs.Mounting.{Lists}
 use Rattle.cartridge_spec.specs.Settling.{changed_by}
 use Rattle.cartridge_spec.specs.Table.{Entry}
 use Rattle.command_laws.specs.MountedListed.{IsListed}
-use Rattle.command_spec.specs.Script.{ScriptRun, ScriptDoes, entries_behind}
+use Rattle.command_spec.specs.Outcome.{CommandOutcome}
+use Rattle.command_spec.specs.Script.{ScriptDoes, entries_behind}
 use Rattle.command_spec.specs.ScriptLists.{ListsAnswered, ListsBroken, ItemsWearBehind}
 use Rattle.qic_base.specs.Acts.{Act, steps_of, text_of}
 use Rattle.qic_base.specs.Cartridge.{Cartridge}
@@ -13,7 +14,7 @@ use Rattle.qic_base.specs.Cartridge.{Cartridge}
 -- so it is behind each front of the acts, with their texts written, over any input
 abbrev pub ListedBetween : Type 0
 ListedBetween =
-    (c : Cartridge) (header : Header) (words : List ℕ) (entries : List Entry) (input : List ℕ) (outcome : ScriptRun)
+    (c : Cartridge) (header : Header) (words : List ℕ) (entries : List Entry) (input : List ℕ) (outcome : CommandOutcome)
     (front rest : List Act) (left : Option Cartridge) → Lists c header words entries → IsListed c words entries →
     (does : ScriptDoes c words entries input outcome) → front ++ rest ≡ outcome.acts →
     left ≡ Some (changed_by (steps_of front) c) →
@@ -22,7 +23,7 @@ ListedBetween =
 -- .. behind the steps of the next act, with a part of its text written and not the whole
 abbrev pub ListedBehind : Type 0
 ListedBehind =
-    (c : Cartridge) (header : Header) (words : List ℕ) (entries : List Entry) (input : List ℕ) (outcome : ScriptRun)
+    (c : Cartridge) (header : Header) (words : List ℕ) (entries : List Entry) (input : List ℕ) (outcome : CommandOutcome)
     (front : List Act) (act : Act) (rest : List Act) (left : Option Cartridge) (printed : ℕ) → Lists c header words entries →
     IsListed c words entries → (does : ScriptDoes c words entries input outcome) →
     front ++ act ∷ rest ≡ outcome.acts → left ≡ Some (changed_by (steps_of front ++ act.steps) c) →
@@ -32,7 +33,7 @@ ListedBehind =
 -- .. with the list behind all items, where all acts were done
 abbrev pub ListedDone : Type 0
 ListedDone =
-    (c : Cartridge) (header : Header) (words : List ℕ) (entries : List Entry) (input : List ℕ) (outcome : ScriptRun)
+    (c : Cartridge) (header : Header) (words : List ℕ) (entries : List Entry) (input : List ℕ) (outcome : CommandOutcome)
     (left : Option Cartridge) → Lists c header words entries → IsListed c words entries →
     (does : ScriptDoes c words entries input outcome) → ItemsWearBehind does.items →
     left ≡ Some (changed_by (steps_of outcome.acts) c) →
@@ -41,6 +42,6 @@ ListedDone =
 -- .. and where nothing was done, nor printed
 abbrev pub ListedNone : Type 0
 ListedNone =
-    (c d : Cartridge) (header : Header) (words : List ℕ) (entries : List Entry) (input : List ℕ) (outcome : ScriptRun) →
+    (c d : Cartridge) (header : Header) (words : List ℕ) (entries : List Entry) (input : List ℕ) (outcome : CommandOutcome) →
     (does : ScriptDoes c words entries input outcome) → Lists d header words entries →
     ListsAnswered header words entries does.items does.dids 0 (Some d)

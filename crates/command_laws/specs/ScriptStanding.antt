@@ -7,12 +7,14 @@ use Rattle.cartridge_spec.specs.Volumes.{Plain, entries_of, Stands}
 use Rattle.command_laws.specs.MountedHeld.{IsHeld}
 use Rattle.command_laws.specs.MountedKept.{IsAppendable}
 use Rattle.command_spec.specs.Input.{Item, Ending, IsScript}
-use Rattle.command_spec.specs.Script.{Did, ItemsDo, entries_behind, cartridge_behind, ItemDoes, FaultDoes, ScriptRun, ScriptDoes}
-use Rattle.command_spec.specs.ScriptLists.{CameFurther, FirstSpare, GoesNoFurther, ItemsSpare, LineSpares, StandsAnswered, item_added, all_added}
+use Rattle.command_spec.specs.Script.{Did, ItemsDo, entries_behind, cartridge_behind, ScriptDoes}
+use Rattle.command_laws.specs.CommandTerms.{ItemDoes, FaultDoes, LineSpares}
+use Rattle.command_spec.specs.Outcome.{CommandOutcome}
+use Rattle.command_spec.specs.ScriptLists.{CameFurther, FirstSpare, GoesNoFurther, ItemsSpare, StandsAnswered, item_added, all_added}
 use Rattle.command_spec.specs.declared.line.Line.{Line}
 use Rattle.qic_base.specs.Acts.{steps_of, Act, text_of, next_steps}
 use Rattle.qic_base.specs.Cartridge.{Cartridge}
-use Rattle.qic_base.specs.Stop.{Torn}
+use Rattle.qic_base.specs.Step.{Torn}
 use Rattle.command_spec.specs.declared.line.Line.TheVariants as line
 
 -- a line's name is a label, its date a date word, and the bytes that follow it are bytes, as many as it promises
@@ -72,7 +74,7 @@ FaultStands =
 -- all of it done, the cartridge stands for the plain one behind all items, also where sectors of the table's segment take no write
 abbrev pub DoneScriptStands : Type 0
 DoneScriptStands =
-    (c : Cartridge) (plain : Plain) (input : List ℕ) (outcome : ScriptRun) → IsHeld c plain →
+    (c : Cartridge) (plain : Plain) (input : List ℕ) (outcome : CommandOutcome) → IsHeld c plain →
     (does : ScriptDoes c plain.words (entries_of plain) input outcome) → All (λ b. b < 256) input →
     ItemsSpare c plain does.items does.dids →
     Stands (changed_by (steps_of outcome.acts) c) (plain_behind plain does.items does.dids)
@@ -86,7 +88,7 @@ WentNoFurther c plain items dids printed =
 -- cartridge behind some of these, or it came further
 abbrev pub StoppedScriptStands : Type 0
 StoppedScriptStands =
-    (c : Cartridge) (plain : Plain) (input : List ℕ) (outcome : ScriptRun) (left : Option Cartridge) → IsHeld c plain → IsTableLive c →
+    (c : Cartridge) (plain : Plain) (input : List ℕ) (outcome : CommandOutcome) (left : Option Cartridge) → IsHeld c plain → IsTableLive c →
     (does : ScriptDoes c plain.words (entries_of plain) input outcome) → All (λ b. b < 256) input →
     (count : ℕ) → count ≤ length does.items → FirstSpare c plain does.items does.dids count → Torn (steps_of outcome.acts) (Some c) left →
     CameFurther c does.items does.dids does.last count left
@@ -96,7 +98,7 @@ StoppedScriptStands =
 -- their texts written
 abbrev pub AnsweredBetween : Type 0
 AnsweredBetween =
-    (c : Cartridge) (plain : Plain) (input : List ℕ) (outcome : ScriptRun) (front rest : List Act) (left : Option Cartridge) →
+    (c : Cartridge) (plain : Plain) (input : List ℕ) (outcome : CommandOutcome) (front rest : List Act) (left : Option Cartridge) →
     IsHeld c plain → IsTableLive c → (does : ScriptDoes c plain.words (entries_of plain) input outcome) → All (λ b. b < 256) input →
     WentNoFurther c plain does.items does.dids (length (text_of front)) → front ++ rest ≡ outcome.acts →
     Torn (next_steps rest) (Some (changed_by (steps_of front) c)) left →
@@ -105,7 +107,7 @@ AnsweredBetween =
 -- and after an act's steps, with some of its text written
 abbrev pub AnsweredBehind : Type 0
 AnsweredBehind =
-    (c : Cartridge) (plain : Plain) (input : List ℕ) (outcome : ScriptRun) (front : List Act) (act : Act) (rest : List Act)
+    (c : Cartridge) (plain : Plain) (input : List ℕ) (outcome : CommandOutcome) (front : List Act) (act : Act) (rest : List Act)
     (left : Option Cartridge) (printed : ℕ) →
     IsHeld c plain → IsTableLive c → (does : ScriptDoes c plain.words (entries_of plain) input outcome) → All (λ b. b < 256) input →
     WentNoFurther c plain does.items does.dids printed → front ++ act ∷ rest ≡ outcome.acts →

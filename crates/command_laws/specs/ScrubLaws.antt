@@ -10,18 +10,20 @@ use Rattle.cartridge_spec.specs.Formatting.{StandsCleanly}
 use Rattle.cartridge_spec.specs.Header.{Header}
 use Rattle.cartridge_spec.specs.HeaderAndTable.{IsArea, table_cells, copy_cells, CopyReads, TableIs}
 use Rattle.cartridge_spec.specs.Mounting.{Mounted, Mounts}
-use Rattle.cartridge_spec.specs.Says.{Data, Says, Saying, data_of}
+use Rattle.cartridge_spec.specs.Says.{Data, Says, Saying}
+use Rattle.cartridge_laws.specs.Terms.{data_of, sectors_of}
 use Rattle.cartridge_spec.specs.Settling.{changed_by}
-use Rattle.cartridge_spec.specs.Shape.{usable_count, sectors_of, IsLive}
+use Rattle.cartridge_spec.specs.Shape.{usable_count, IsLive}
 use Rattle.cartridge_spec.specs.Table.{Entry}
 use Rattle.cartridge_spec.specs.Volumes.{Plain, Stands, entries_of}
 use Rattle.command_laws.specs.ScrubMended.{IsScrubbed, IsBeingMended}
 use Rattle.command_laws.specs.ScrubSayings.{Rise, SayAtOnce, acts_at_once}
-use Rattle.command_spec.specs.Scrub.{Scrubs, looked_at, whole_segment, reads, looking_acts, Looked, look_act, SayInTurn, unread_count, cells_at, steps_in}
+use Rattle.command_spec.specs.Scrub.{Scrubs, looked_at, whole_segment, reads, looking_acts, Looked, SayInTurn, unread_count, cells_at, steps_in}
+use Rattle.command_laws.specs.Terms.{look_act}
 use Rattle.qic_base.specs.Acts.{Act, steps_of}
-use Rattle.qic_base.specs.Cartridge.{Cartridge, IsCartridge, view_at}
-use Rattle.qic_base.specs.LostSet.{IsLost}
-use Rattle.qic_base.specs.Stop.{Torn}
+use Rattle.qic_base.specs.Cartridge.{Cartridge, view_at}
+use Rattle.qic_base.specs.Terms.{IsCartridge, IsLost}
+use Rattle.qic_base.specs.Step.{Torn}
 use Rattle.qic_base.specs.declared.tape.SectorView.TheVariants.{Holds}
 
 -- ---- what it does

@@ -5,7 +5,7 @@ use Rattle.cartridge_spec.specs.Table.{Entry}
 use Rattle.command_spec.specs.Copying.{Side, copied_entry, difference}
 use Rattle.command_spec.specs.CopyPromises.{copy_text}
 use Rattle.qic_base.specs.Cartridge.{Cartridge}
-use Rattle.qic_base.specs.Name.{filled}
+use Rattle.qic_base.specs.Field.{filled}
 
 -- volumes of 10 bytes and of none, with the date word 0
 abbrev pub ten_bytes : (name : List ℕ) → (segment : ℕ) → Entry

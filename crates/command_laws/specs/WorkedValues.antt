@@ -7,22 +7,22 @@ use Rattle.cartridge_spec.specs.Formatting.{fresh_header}
 use Rattle.cartridge_spec.specs.Says.{LostSectors, Mismatch}
 use Rattle.cartridge_spec.specs.Table.{Entry}
 use Rattle.cartridge_spec.specs.Volumes.{carrying}
-use Rattle.command_spec.specs.Append.{append_acts, kept_in, entry_for, taking, bytes_taken, append_status, TooLong, TooShort}
+use Rattle.command_spec.specs.Append.{append_acts, taking, TooLong, TooShort}
+use Rattle.command_laws.specs.CommandTerms.{kept_in, entry_for, bytes_taken, append_status, made_byte, words_of}
 use Rattle.command_spec.specs.Commands.{IsCommand}
-use Rattle.command_spec.specs.CommandWords.{IsNumber}
-use Rattle.command_spec.specs.Generator.{made_length, made_byte}
-use Rattle.command_spec.specs.Input.{IsScript, AtStop, words_of}
+use Rattle.command_spec.specs.Command.{IsNumber}
+use Rattle.command_spec.specs.Make.{made_length, sum_line, made_name, wearing_in, WearSector}
+use Rattle.command_spec.specs.Input.{IsScript, AtStop}
 use Rattle.command_spec.specs.Lines.{blank_line, defect_line, lost_line, protected_line, upgraded_line, formatted_line, list_text, info_text, reply_behind, date_text, name_text}
-use Rattle.command_spec.specs.Make.{sum_line, made_name, wearing_in, WearSector}
-use Rattle.command_spec.specs.Pulses.{after_trains, train_acts}
+use Rattle.command_laws.specs.PulseRuns.{after_trains}
+use Rattle.command_spec.specs.Pulses.{train_acts}
 use Rattle.command_spec.specs.Restore.{pieces, framed, Restored}
 use Rattle.command_spec.specs.Script.{refusal_line, given_as}
-use Rattle.command_spec.specs.Scrub.{counts_line, header_line, fault_line, looked_at}
-use Rattle.command_spec.specs.ScrubForms.{wrong_line}
-use Rattle.drive_spec.specs.Deck.{status_word, power_on_deck}
+use Rattle.command_spec.specs.Scrub.{counts_line, header_line, fault_line, looked_at, wrong_line}
+use Rattle.drive_spec.specs.Terms.{status_word, power_on_deck}
 use Rattle.drive_spec.specs.Record.{Record, power_on}
 use Rattle.qic_base.specs.Acts.{text_of}
-use Rattle.qic_base.specs.Name.{filled}
+use Rattle.qic_base.specs.Field.{filled}
 use Rattle.qic_base.specs.declared.tape.TapeInfo.{TapeInfo}
 use Rattle.command_spec.specs.declared.line.Line.TheVariants as line
 use Rattle.command_spec.specs.declared.refusal.Refusal.TheVariants as why

@@ -2,8 +2,10 @@
 //! lost. Each law is the contract of a function that does nothing; their proofs import the lemmas of this crate's `proofs`.
 
 ghost use Rattle.command_laws.specs.Intact.{SettledIsIntact, IntactComesBack, AppendsLeaveIntact, WearsLeaveIntact, ScrubsLeaveIntact};
+ghost use Rattle.command_laws.specs.ReadableLaws.{ComesBackCanBeRead, LeftCanBeRead};
 ghost use Rattle.command_laws.specs.Between.{FreeMayComeBack, StepsBetweenCarryOn, MountsWhileProtected, ComesBackOnceFree};
-ghost use Rattle.command_laws.specs.Intact.{StoppedMakeComesBack, DoneMakeIsIntact, StoppedScriptComesBack};
+ghost use Rattle.command_laws.specs.Intact.{StoppedMakeComesBack, PrintedMakeComesBack, DoneMakeIsIntact};
+ghost use Rattle.command_laws.specs.Intact.{StoppedScriptComesBack, AnsweredScriptComesBack, DoneScriptComesBack};
 
 /// A cartridge is intact once its table was settled, where each sector of the table's segment takes a write; and then it
 /// comes back where one of these sectors is lost.
@@ -20,23 +22,35 @@ pub fn appends_wears_and_scrubs_leave_it_intact()
     ensures scrubs { ScrubsLeaveIntact }
 {}
 
-/// A generated run leaves a cartridge that comes back, wherever it is stopped.
+/// A generated run leaves a cartridge that comes back, wherever it is stopped: with all of its volumes once it has
+/// printed anything.
 pub fn a_run_comes_back()
     ensures stopped { StoppedMakeComesBack }
+    ensures printed { PrintedMakeComesBack }
     ensures done { DoneMakeIsIntact }
 {}
 
-/// So does a script whose lines lose no sector of the segments 0 to 2, as far as it came.
+/// So does a script whose lines lose no sector of the segments 0 to 2, as far as it came: with the appends of all lines
+/// whose reply was written whole.
 pub fn a_script_comes_back()
-    ensures { StoppedScriptComesBack }
+    ensures stopped { StoppedScriptComesBack }
+    ensures answered { AnsweredScriptComesBack }
+    ensures done { DoneScriptComesBack }
 {}
 
 /// Up to the next mount of it without its protect mark, a mark that is set or cleared, a newer version, the reference
-/// bursts again and a sector that is worn behind the table's segment carry on that a cartridge comes back. While it is
-/// protected it is mounted with one of the two lists.
+/// bursts again, a sector that is worn behind the table's segment and a further defect carry on that a cartridge comes
+/// back. While it is protected it is mounted with one of the two lists.
 pub fn what_comes_between_carries_on()
     ensures begins { FreeMayComeBack }
     ensures steps { StepsBetweenCarryOn }
     ensures mounts { MountsWhileProtected }
     ensures comes { ComesBackOnceFree }
+{}
+
+/// What comes back with any one sector of its table's segment lost can be read without a loss, and so can each
+/// cartridge that an append, a generated run or a script leaves of one that could be read.
+pub fn what_comes_back_can_be_read()
+    ensures comes { ComesBackCanBeRead }
+    ensures left { LeftCanBeRead }
 {}

@@ -1,6 +1,7 @@
 //! What follows of the promises of a run and is no clause of them. Each is the contract of a function that does nothing.
 
-ghost use Rattle.command_laws.specs.PromiseLaws.{AnswersWhereNoneRose, DeepScrubRunMends};
+ghost use Rattle.command_laws.specs.PromiseLaws.{AnswersWhereNoneRose, DeepScrubRunMends, ScriptsUntold};
+ghost use Rattle.command_laws.specs.ReadableLaws.{FormatsLeaveReadable, FormattedCanBeRead, RunsKeepReadable};
 
 use qic_base::{Sink, Source, Tape};
 
@@ -12,4 +13,23 @@ pub fn a_run_without_a_failure_answers<T: Tape, S: Source, K: Sink>()
 /// A run of `scrub deep` that is answered Done mends sectors that silently hold other bytes.
 pub fn a_run_that_scrubs_deep_mends<T: Tape, S: Source, K: Sink>()
     ensures { DeepScrubRunMends T.means S.means K.means }
+{}
+
+/// Behind a formatting that was carried out the volume table can be read; and what one leaves that was stopped is
+/// unformatted or can be read.
+pub fn a_formatted_table_can_be_read<T: Tape, S: Source, K: Sink>()
+    ensures done { FormattedCanBeRead T.means S.means K.means }
+    ensures stopped { FormatsLeaveReadable T.means S.means K.means }
+{}
+
+/// Where the volume table can be read, and each sector of its segment takes a write, it can be read in each cartridge
+/// that a run leaves, but for `new`, `format`, what loses sectors of the segments 0 to 2, and a script on a protected
+/// cartridge.
+pub fn a_run_leaves_the_table_readable<T: Tape, S: Source, K: Sink>()
+    ensures { RunsKeepReadable T.means S.means K.means }
+{}
+
+/// What a script leaves over a source that tells nothing is what one leaves over some input.
+pub fn a_script_over_nothing_told<T: Tape, S: Source, K: Sink>()
+    ensures { ScriptsUntold T.means S.means K.means }
 {}

@@ -1,16 +1,18 @@
 -- The plain machine of `append`: what is taken of the input, and the acts that write the volume and its entry (this project's own).
-use Rattle.std.specs.Prelude.{ℕ, List, [], ◌∷◌, length, drop, nat_le, if◌then◌else◌, ◌&&◌, Bool, take, nat_lt, Option, Some, None, ◌+◌, min, is_some, ◌++◌, ◌≡◌}
-use Rattle.cartridge_spec.specs.Appending.{part_writes, in_sectors, room, free_segments, new_entry, taken_by, table_writes}
+use Rattle.std.specs.Prelude.{ℕ, List, [], ◌∷◌, length, drop, nat_le, if◌then◌else◌, ◌&&◌, Bool, take, nat_lt, Option, Some, None, ◌+◌, min, is_some, ◌++◌, ◌≡◌, ◌/◌, unwrap_or, true, ◌<◌, ◌^◌, codes, IsSomeAnd}
+use Rattle.cartridge_spec.specs.Appending.{part_writes, in_sectors, room, free_segments, new_entry, taken_by, table_writes, has_room}
 use Rattle.cartridge_spec.specs.Mounting.{settled}
 use Rattle.cartridge_spec.specs.Settling.{settling_steps}
 use Rattle.cartridge_spec.specs.Shape.{mask_at, data_count, capacity}
-use Rattle.cartridge_spec.specs.Table.{Entry, slot_sector, table_with}
-use Rattle.command_spec.specs.Lines.{reply_behind}
-use Rattle.command_spec.specs.Outcome.{settling_act, CommandOutcome, Going, WritableOutcome}
-use Rattle.command_spec.specs.declared.status.Status.{Status}
+use Rattle.cartridge_spec.specs.Table.{Entry, table_with}
+use Rattle.command_spec.specs.Lines.{reply_behind, appended_line}
+use Rattle.command_spec.specs.Outcome.{settling_act, CommandOutcome, WritableOutcome}
 use Rattle.qic_base.specs.Acts.{Act}
 use Rattle.qic_base.specs.Cartridge.{Cartridge}
 use Rattle.qic_base.specs.Step.{Step}
+use Rattle.cartridge_spec.specs.Formatting.{IsLabel}
+use Rattle.cartridge_spec.specs.Volumes.{Plain}
+use Rattle.command_spec.specs.Command.{Command, plain_command, IsUnprotected, ReadsAs, none_of_them, Word, Name, dated}
 use Rattle.command_spec.specs.declared.status.Status.TheVariants as status
 
 -- ---- the acts
@@ -68,19 +70,7 @@ taking have (Some n) input =
     then (if nat_lt (length input) n then TooShort n (length input) else Fits (take n input))
     else TooLong n have
 
--- how many bytes are taken
-abbrev pub bytes_taken : (promised : Option ℕ) → Taking → ℕ
-bytes_taken promised (Fits bytes) = length bytes
-bytes_taken None (TooLong need have) = need
-bytes_taken (Some n) (TooLong need have) = 0
-bytes_taken promised (TooShort n read) = read
-
--- at most so many bytes are written
-abbrev pub most_written : (have : ℕ) → (promised : Option ℕ) → ℕ
-most_written have None = have
-most_written have (Some n) = n
-
--- ---- the acts
+-- ---- all acts
 
 -- what an append goes by: the words of the map, the list, the table's data, and the steps that settle it
 pub record Kept : Type 0 where
@@ -89,29 +79,35 @@ pub record Kept : Type 0 where
   pub table : List (List ℕ)
   pub settling : List Step
 
+-- what it goes by over a cartridge whose table has these data
+abbrev pub kept_over : Cartridge → (words : List ℕ) → (entries : List Entry) → (table : List (List ℕ)) → Kept
+kept_over c words entries table =
+    record { words = words; entries = entries; table = table; settling = settling_steps table c }
+
 abbrev pub room_in : Kept → ℕ
 room_in kept = room kept.words kept.entries
-
-abbrev pub free_in : Kept → List ℕ
-free_in kept = free_segments kept.words kept.entries
 
 -- the segments that the bytes of the input fill, where there is room: one act for each
 abbrev pub input_writes : Kept → (promised : Option ℕ) → (input : List ℕ) → List Act
 input_writes kept promised input =
     if has_promised_room (room_in kept) promised
-    then input_acts kept.words (free_in kept) (most_written (room_in kept) promised) (is_some promised) input
+    then
+      input_acts kept.words (free_segments kept.words kept.entries) (unwrap_or promised (room_in kept))
+      (is_some promised) input
     else []
 
--- the entry of a volume of these bytes
-abbrev pub entry_for : Kept → (name : List ℕ) → (date : ℕ) → (bytes : List ℕ) → Entry
-entry_for kept name date bytes = new_entry (taken_by kept.words (length bytes) (free_in kept)) name date (length bytes)
+-- the entry of a volume of these bytes behind the others
+abbrev pub entry_behind : (words : List ℕ) → List Entry → (name : List ℕ) → (date : ℕ) → (bytes : List ℕ) → Entry
+entry_behind words entries name date bytes =
+    new_entry (taken_by words (length bytes) (free_segments words entries)) name date (length bytes)
 
 -- last, where all bytes are there, the writes of the table, and the reply
 abbrev pub entry_acts : Kept → (name : List ℕ) → (date : ℕ) → (reply : Entry → List ℕ) → Taking → List Act
 entry_acts kept name date reply (Fits bytes) =
+    let entry : Entry = entry_behind kept.words kept.entries name date bytes in
     record {
-      steps = table_writes (slot_sector (length kept.entries)) (table_with kept.table (length kept.entries) (entry_for kept name date bytes));
-      text = reply (entry_for kept name date bytes);
+      steps = table_writes (length kept.entries / 8) (table_with kept.table (length kept.entries) entry);
+      text = reply entry;
     } ∷ []
 entry_acts kept name date reply (TooLong need have) = []
 entry_acts kept name date reply (TooShort promised read) = []
@@ -122,36 +118,45 @@ append_acts kept name date promised reply input =
     record { steps = kept.settling; text = [] }
     ∷ (input_writes kept promised input ++ entry_acts kept name date reply (taking (room_in kept) promised input))
 
--- no reply
-abbrev pub silently : Entry → List ℕ
-silently entry = []
+-- ---- the outcome
 
--- ---- how the input was taken
-
--- what an append goes by but for the table
-abbrev pub kept_in : (words : List ℕ) → (entries : List Entry) → Kept
-kept_in words entries = record { words = words; entries = entries; table = []; settling = [] }
-
--- what it goes by over a cartridge whose table has these data
-abbrev pub kept_over : Cartridge → (words : List ℕ) → (entries : List Entry) → (table : List (List ℕ)) → Kept
-kept_over c words entries table = record (kept_in words entries) { table = table; settling = settling_steps table c }
-
--- the answer, with room for so many bytes: full where there is none for all of the input, or for no byte
-abbrev pub append_status : (have : ℕ) → (input : List ℕ) → Status
-append_status have input =
-    if nat_le 1 have && nat_le (length input) have then status.Done else status.Full (min (length input) (have + 1)) have
-
--- the table is settled, and the whole input appended: a sector of the table that takes no write is written again
+-- The table is settled, and the whole input appended: a sector of the table that takes no write is written again. The
+-- cartridge is full where there is no room for all of the input, or for no byte.
 abbrev pub appended : (name : List ℕ) → (date : ℕ) → (input : List ℕ) → Cartridge → (words : List ℕ) → (table : List (List ℕ)) → List Entry → CommandOutcome
 appended name date input c words table entries =
-    let kept : Kept = kept_over (settled table c) words entries table in record {
-      acts = settling_act table c ∷ append_acts kept name date None (reply_behind (length entries)) input;
-      taken = bytes_taken None (taking (room_in kept) None input);
-      status = append_status (room_in kept) input;
+    let have : ℕ = room words entries in
+    let taken : ℕ = min (length input) (have + 1) in record {
+      acts = settling_act table c
+          ∷ append_acts (kept_over (settled table c) words entries table) name date None (reply_behind (length entries)) input;
+      taken = taken;
+      status = if nat_le 1 have && nat_le (length input) have then status.Done else status.Full taken have;
     }
 
-abbrev pub Appends : (name : List ℕ) → (date : ℕ) → (input : List ℕ) → Going
-Appends name date input c header words table entries outcome = outcome ≡ appended name date input c words table entries
-
 abbrev pub AppendOutcome : (name : List ℕ) → (date : ℕ) → Option Cartridge → (input : List ℕ) → CommandOutcome → Type 0
-AppendOutcome name date held input outcome = WritableOutcome (Appends name date input) held outcome
+AppendOutcome name date held input outcome =
+    WritableOutcome (λ c header words table entries outcome. outcome ≡ appended name date input c words table entries)
+    held outcome
+
+-- ---- The command `append`: what it needs, what it prints and what it keeps (this project's own).
+
+-- It needs room for one byte at least, and for all of the input. It asks for at most one byte beyond the room that there is, and adds
+-- a volume, but to a protected cartridge.
+abbrev pub append_command : (name : List ℕ) → (date : ℕ) → Command
+append_command name date =
+    record (plain_command (dated (Word (codes "append") ∷ Name name ∷ []) date) (AppendOutcome name date)
+    (λ text. (number : ℕ) × ((bytes : ℕ) × ((start : ℕ) × ((end : ℕ) × (text ≡ appended_line number bytes start end)))))) {
+      values = IsLabel name × (date < 2 ^ 32);
+      traits = record none_of_them {
+        reads = true;
+        memory = true;
+        cartridge = true;
+        writable = true;
+        mounts = true;
+        appends = true;
+      };
+      needs = λ held input. IsSomeAnd held (λ c. IsUnprotected c
+          × ((plain : Plain) × ReadsAs c plain × (has_room plain (length input) ≡ true)));
+      keeps_volumes = λ c plain. c.info.protected ≡ true;
+      keeps_list = λ c. c.info.protected ≡ true;
+      is_full = λ need have. nat_le need (have + 1);
+    }

@@ -1,11 +1,119 @@
--- All that is said of a command, in one record (this project's own).
-use Rattle.std.specs.Prelude.{ℕ, List, [], ◌++◌, ◌≡◌, Option, Bool, false}
-use Rattle.cartridge_spec.specs.Volumes.{Plain}
-use Rattle.command_spec.specs.CommandWords.{Part}
+-- The forms of words, and how numbers, dates and names are spelled in them (this project's own).
+use Rattle.std.specs.Prelude.{◌≡◌, ℕ, ◌≤◌, List, decimal, [], ◌∷◌, ◌⊎◌, ◌==◌, ◌++◌, if◌then◌else◌, Bool, false, Option}
+use Rattle.command_spec.specs.Lines.{date_form}
+use Rattle.qic_base.specs.Field.{IsDate, date_word, IsNameText, filled}
+use Rattle.cartridge_spec.specs.Mounting.{CanBeRead}
+use Rattle.cartridge_spec.specs.Volumes.{Plain, Stands}
 use Rattle.command_spec.specs.Outcome.{CommandOutcome}
-use Rattle.command_spec.specs.Traits.{Traits, none_of_them}
 use Rattle.command_spec.specs.declared.status.Status.{Status}
 use Rattle.qic_base.specs.Cartridge.{Cartridge}
+
+-- ---- a word
+
+-- a number in decimal digits, as it is printed: without a leading zero, and at most nine of them
+pub record IsNumber (word : List ℕ) (n : ℕ) : Type 0 where
+  pub digits : word ≡ decimal n
+  pub nine : n ≤ 999999999
+
+-- a date, all of its digits written, and its date word
+pub record IsDateWord (word : List ℕ) (date : ℕ) : Type 0 where
+  pub year : ℕ
+  pub month : ℕ
+  pub day : ℕ
+  pub hour : ℕ
+  pub minute : ℕ
+  pub second : ℕ
+  pub a_date : IsDate year month day hour minute second
+  pub written : word ≡ date_form year month day hour minute second
+  pub stamped : date ≡ date_word year month day hour minute second
+
+-- what stands at one place of a form, with the value that it stands for there
+pub data Part : Type 0 where
+  -- this word itself
+  Word : List ℕ → Part
+  -- a number from the first to the second, and its value
+  Number : ℕ → ℕ → ℕ → Part
+  -- the text of a name, and the 44 bytes of the name
+  Name : List ℕ → Part
+  -- a date, and its date word
+  Date : ℕ → Part
+
+-- the word stands for the part
+abbrev pub SpellsPart : List ℕ → Part → Type 0
+SpellsPart word (Word text) = word ≡ text
+SpellsPart word (Number least greatest n) = IsNumber word n × (least ≤ n) × (n ≤ greatest)
+SpellsPart word (Name name) = IsNameText word × (name ≡ filled word)
+SpellsPart word (Date date) = IsDateWord word date
+
+-- ---- words
+
+-- the words stand for the parts, each for its own
+abbrev pub SpellsAll : List (List ℕ) → List Part → Type 0
+SpellsAll [] [] = Unit {0}
+SpellsAll [] (part ∷ parts) = ⊥
+SpellsAll (word ∷ words) [] = ⊥
+SpellsAll (word ∷ words) (part ∷ parts) = SpellsPart word part × SpellsAll words parts
+
+-- the words have one of the forms
+abbrev pub HasForm : List (List ℕ) → List (List Part) → Type 0
+HasForm words [] = ⊥
+HasForm words (form ∷ forms) = SpellsAll words form ⊎ HasForm words forms
+
+-- a form with a date at its end; the date may be left out where its word is 0
+abbrev pub dated : List Part → ℕ → List (List Part)
+dated form date = (form ++ Date date ∷ []) ∷ (if date == 0 then form ∷ [] else [])
+
+-- any number that a word can be
+abbrev pub AnyNumber : ℕ → Part
+AnyNumber n = Number 0 999999999 n
+
+-- ---- All that is said of a command, in one record: what kind of a command it is, what it needs, does, prints and keeps (this
+-- project's own).
+
+-- ---- its traits
+
+pub record Traits : Type 0 where
+  -- it reads the input; which is one of lines, one of which may be at fault
+  pub reads : Bool
+  pub lines : Bool
+  -- it prints as it goes, where the others print once all else is done; it takes memory
+  pub goes : Bool
+  pub memory : Bool
+  -- a missing cartridge stops it; a protected one does
+  pub cartridge : Bool
+  pub writable : Bool
+  -- it names a sector; one that was never formatted
+  pub sector : Bool
+  pub blank : Bool
+  -- it formats; mounts the cartridge; appends its whole input as a volume; gives volumes back, so it reads their segments
+  pub formats : Bool
+  pub mounts : Bool
+  pub appends : Bool
+  pub restores : Bool
+
+-- one with none of them
+abbrev pub none_of_them : Traits
+none_of_them = record {
+  reads = false; lines = false; goes = false; memory = false; cartridge = false; writable = false;
+  sector = false; blank = false; formats = false; mounts = false; appends = false; restores = false;
+}
+
+-- ---- what it may need of a cartridge
+
+-- the cartridge takes writes
+abbrev pub IsUnprotected : Cartridge → Type 0
+IsUnprotected c = c.info.protected ≡ false
+
+-- it stands for this plain one, and its volume table can be read
+pub record ReadsAs (c : Cartridge) (plain : Plain) : Type 0 where
+  pub stands : Stands c plain
+  pub reads : CanBeRead c
+
+-- it stands for some plain one, and its volume table can be read
+abbrev pub CanBeMounted : Cartridge → Type 0
+CanBeMounted c = (plain : Plain) × ReadsAs c plain
+
+-- ---- the record
 
 -- a command with its values
 pub record Command : Type 1 where
@@ -20,11 +128,14 @@ pub record Command : Type 1 where
   pub prints : List ℕ → Type 0
   -- what it may have printed wherever a fault cuts it off
   pub fronts : List ℕ → Type 0
-  -- what it has printed that was refused with an answer
+  -- what it has printed that was refused with an answer: most of them nothing; the levels of the trains, or the replies
+  -- to the lines, before a fault of the input, or before a volume table that doesn't show the list; the bytes of a
+  -- volume before a segment that doesn't read; and the lines of a generated run before the step that was refused
   pub refused : Status → List ℕ → Type 0
   -- the fault of its input: the number of the line, counted from 1, and how many bytes stand before it
   pub fault : (input : List ℕ) → (line place : ℕ) → Type 0
-  -- all is there that it needs
+  -- All is there that it needs. A new cartridge and trains need none that is held; a line of a script that is refused
+  -- is answered by its reply, so the lines need nothing more.
   pub needs : (held : Option Cartridge) (input : List ℕ) → Type 0
   -- it keeps what a cartridge stands for; what it is mounted as, whether it stands for a plain one or not; its header copies; where
   -- it keeps these, that none of them can be read; and that each sector of the table's segment takes a write

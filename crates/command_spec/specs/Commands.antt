@@ -1,38 +1,13 @@
--- The commands: the record of each, in a file of its own, and its words and traits by that (this project's own).
-pub mod AppendCommand
-pub mod DeepScrubCommand
-pub mod Defect
-pub mod Format
-pub mod Info
-pub mod ListCommand
-pub mod Lose
-pub mod MakeCommand
-pub mod New
-pub mod Protect
-pub mod PulsesCommand
-pub mod RestoreCommand
-pub mod ScriptCommand
-pub mod ScrubCommand
-pub mod Upgrade
+-- The commands: the record of each, in a file of the folder, and its words and traits by that (this project's own).
 use Rattle.std.specs.Prelude.{ℕ, List}
-use Rattle.command_spec.specs.Commands.AppendCommand.{append_command}
-use Rattle.command_spec.specs.Command.{Command}
-use Rattle.command_spec.specs.CommandWords.{Part, HasForm}
-use Rattle.command_spec.specs.Commands.DeepScrubCommand.{deep_scrub_command}
-use Rattle.command_spec.specs.Commands.Defect.{defect_command}
-use Rattle.command_spec.specs.Commands.Format.{format_command}
-use Rattle.command_spec.specs.Commands.Info.{info_command}
-use Rattle.command_spec.specs.Commands.ListCommand.{list_command}
-use Rattle.command_spec.specs.Commands.Lose.{lose_command}
-use Rattle.command_spec.specs.Commands.MakeCommand.{make_command}
-use Rattle.command_spec.specs.Commands.New.{new_command}
-use Rattle.command_spec.specs.Commands.Protect.{protect_command}
-use Rattle.command_spec.specs.Commands.PulsesCommand.{pulses_command}
-use Rattle.command_spec.specs.Commands.RestoreCommand.{restore_command}
-use Rattle.command_spec.specs.Commands.ScriptCommand.{script_command}
-use Rattle.command_spec.specs.Commands.ScrubCommand.{scrub_command}
-use Rattle.command_spec.specs.Traits.{Traits}
-use Rattle.command_spec.specs.Commands.Upgrade.{upgrade_command}
+use Rattle.command_spec.specs.Append.{append_command}
+use Rattle.command_spec.specs.Command.{Command, Traits, HasForm}
+use Rattle.command_spec.specs.Scrub.{deep_scrub_command, scrub_command}
+use Rattle.command_spec.specs.Single.{defect_command, format_command, info_command, list_command, lose_command, new_command, protect_command, upgrade_command}
+use Rattle.command_spec.specs.Make.{make_command}
+use Rattle.command_spec.specs.Pulses.{pulses_command}
+use Rattle.command_spec.specs.Restore.{restore_command}
+use Rattle.command_spec.specs.Script.{script_command}
 use Rattle.command_spec.specs.declared.words.Words.{Words}
 use Rattle.command_spec.specs.declared.words.Words.TheVariants as words
 
@@ -55,12 +30,9 @@ command_of words.Upgrade = upgrade_command
 
 -- ---- words and traits
 
-abbrev pub word_forms : Words → List (List Part)
-word_forms command = (command_of command).forms
-
 -- the words are those of the command
 abbrev pub IsCommand : List (List ℕ) → Words → Type 0
-IsCommand words command = HasForm words (word_forms command)
+IsCommand words command = HasForm words (command_of command).forms
 
 abbrev pub traits_of : Words → Traits
 traits_of command = (command_of command).traits

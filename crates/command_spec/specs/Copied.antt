@@ -4,7 +4,7 @@ use Rattle.cartridge_spec.specs.Appending.{Content, has_room, volume_bytes, with
 use Rattle.cartridge_spec.specs.Mounting.{IsTableLive}
 use Rattle.cartridge_spec.specs.Table.{Entry}
 use Rattle.cartridge_spec.specs.Volumes.{Plain, Stands, Volume, entries_of, volume_length}
-use Rattle.command_spec.specs.Complete.{IsUnprotected, ReadsAs}
+use Rattle.command_spec.specs.Command.{IsUnprotected, ReadsAs}
 use Rattle.command_spec.specs.Copying.{copied_line, difference}
 use Rattle.command_spec.specs.Restore.{LosesFew, pieces_in}
 use Rattle.qic_base.specs.Cartridge.{Cartridge}

@@ -2,11 +2,11 @@
 use Rattle.std.specs.Prelude.{ℕ, ◌+◌, ◌<◌, List, [], ◌++◌, ◌≡◌, ◌≢◌, ◌⊎◌, ◌↔◌, ◌≤◌, ◌==◌, ◌&&◌, ◌||◌, Bool, true, false, nat_lt, length, Option, None, Some, Contains, IfSome, IsSomeAnd, is_some}
 use Rattle.cartridge_spec.specs.Appending.{room}
 use Rattle.cartridge_spec.specs.Header.{Header}
-use Rattle.cartridge_spec.specs.Mounting.{IsTableLive, Mounting, Mounts, settled}
+use Rattle.cartridge_spec.specs.Mounting.{Mounting, Mounts, settled, IsTableLive}
 use Rattle.cartridge_spec.specs.Settling.{settling_steps}
 use Rattle.cartridge_spec.specs.Table.{Entry}
 use Rattle.cartridge_spec.specs.Volumes.{Plain, Stands}
-use Rattle.command_spec.specs.Copied.{BeginsLike, CanBeCopied, StandAlike, StandsPrinted, StandsUpTo, copied, copied_lines}
+use Rattle.command_spec.specs.Copied.{CanBeCopied, StandAlike, StandsPrinted, StandsUpTo, copied, copied_lines, BeginsLike}
 use Rattle.command_spec.specs.Copying.{CopyOutcome, CopyYields, foreign_fault, giving_status}
 use Rattle.command_spec.specs.Headline.{EachLeft, StopsGoOn, ToldNow}
 use Rattle.command_spec.specs.Lines.{count_line}
@@ -14,10 +14,11 @@ use Rattle.command_spec.specs.Outcome.{is_refused}
 use Rattle.command_spec.specs.Restore.{GivingEnd, Restores, pieces}
 use Rattle.command_spec.specs.declared.copy_fault.CopyFault.{CopyFault}
 use Rattle.command_spec.specs.declared.copy_status.CopyStatus.{CopyStatus}
-use Rattle.qic_base.specs.Acts.{Act, SinkCut, TapeCut, Went, around, no_source, steps_of}
+use Rattle.qic_base.specs.Acts.{Act, SinkCut, TapeCut, Went, steps_of}
+use Rattle.qic_base.specs.Terms.{around, no_source}
 use Rattle.qic_base.specs.Cartridge.{Cartridge}
-use Rattle.qic_base.specs.Cause.{Rose}
-use Rattle.qic_base.specs.Stop.{Torn}
+use Rattle.qic_base.specs.Tape.{Rose}
+use Rattle.qic_base.specs.Step.{Torn}
 use Rattle.cartridge_spec.specs.Mounting as mounting
 use Rattle.command_spec.specs.declared.copy_fault.CopyFault.TheVariants as fault
 use Rattle.command_spec.specs.declared.copy_status.CopyStatus.TheVariants as status

@@ -1,21 +1,18 @@
 -- The clauses of the headline, one by one (this project's own).
-use Rattle.std.specs.Prelude.{◌≡◌, ℕ, List, ◌++◌, Option, Some, ◌⊎◌, true, IsSomeAnd, IfSome, ◌≤◌, is_some, Bool, false}
+use Rattle.std.specs.Prelude.{◌≡◌, ℕ, List, ◌++◌, Option, Some, ◌⊎◌, true, IsSomeAnd, IfSome, ◌≤◌, is_some}
 use Rattle.std.specs.Option.{option_map}
-use Rattle.command_spec.specs.Commands.{traits_of}
-use Rattle.command_spec.specs.Machine.{Step, Yields, Spells, HasInputFault, CommandPrints, RefusedPrints, FrontPrints}
+use Rattle.command_spec.specs.Commands.{command_of}
+use Rattle.command_spec.specs.Machine.{Step, Spells, InputLeft, OverTold, IsCutOff, IsOfBytes}
 use Rattle.command_spec.specs.Outcome.{CommandOutcome}
-use Rattle.command_spec.specs.Runs.{InputLeft, OverTold, IsCutOff, IsOfBytes}
-use Rattle.command_spec.specs.Traits.{Traits}
 use Rattle.command_spec.specs.declared.status.Status.{Status}
 use Rattle.command_spec.specs.declared.words.Words.{Words}
 use Rattle.qic_base.specs.Acts.{Outside, Failing, steps_of, NoneFell}
 use Rattle.qic_base.specs.Cartridge.{Cartridge}
-use Rattle.qic_base.specs.Cause.{Rose}
-use Rattle.qic_base.specs.Stop.{Torn}
+use Rattle.qic_base.specs.Tape.{Rose}
+use Rattle.qic_base.specs.Step.{Torn}
 use Rattle.qic_base.specs.Sink as sinks
 use Rattle.qic_base.specs.Source as sources
 use Rattle.qic_base.specs.Tape as tapes
-use Rattle.command_spec.specs.declared.status.Status.TheVariants as status
 
 -- ---- a step of the plain machine
 
@@ -30,11 +27,6 @@ pub record Stepped {T S K : Type 0} (t : tapes.Meaning T) (s : sources.Meaning S
   pub took : k.took old.sink output new.sink
   pub written : k.written new.sink ≡ option_map (λ bytes. bytes ++ output) (k.written old.sink)
 
--- the answer is want of memory, or the step was made
-abbrev pub Answers : {T S K : Type 0} (t : tapes.Meaning T) (s : sources.Meaning S) (k : sinks.Meaning K) (words : List (List ℕ)) (old new : Outside T S K) → Status → Type 0
-Answers t s k words old new answer =
-    OverTold t s old (λ held input. (answer ≡ status.NoMemory) ⊎ Stepped t s k words held input old new answer)
-
 -- no count of faults rose
 pub record NoneRose {T S K : Type 0} (t : tapes.Meaning T) (s : sources.Meaning S) (k : sinks.Meaning K) (old new : Outside T S K) : Type 0 where
   pub tape : ¬ (Rose (t.faults old.tape) (t.faults new.tape))
@@ -43,16 +35,11 @@ pub record NoneRose {T S K : Type 0} (t : tapes.Meaning T) (s : sources.Meaning 
 
 -- ---- a fault of the outside
 
--- it cut off the acts of the plain machine's outcome
-pub record WasCut {T S K : Type 0} (t : tapes.Meaning T) (s : sources.Meaning S) (k : sinks.Meaning K) (command : Words) (held : Option Cartridge) (input : List ℕ) (old new : Outside T S K) (failing : Failing) : Type 0 where
-  pub outcome : CommandOutcome
-  pub plain : Yields command held input outcome
-  pub off : IsCutOff t s k command old new failing outcome
-
--- of a command that the words spell, over what is told
+-- it cut off the acts of the plain machine's outcome, of a command that the words spell, over what is told
 abbrev pub IsCut : {T S K : Type 0} (t : tapes.Meaning T) (s : sources.Meaning S) (k : sinks.Meaning K) (words : List (List ℕ)) (old new : Outside T S K) → Failing → Type 0
 IsCut t s k words old new failing =
-    (command : Words) × Spells words command × OverTold t s old (λ held input. WasCut t s k command held input old new failing)
+    (command : Words) × Spells words command × OverTold t s old (λ held input.
+    (outcome : CommandOutcome) × (command_of command).yields held input outcome × IsCutOff t s k command old new failing outcome)
 
 -- ---- a stop
 
@@ -73,7 +60,7 @@ pub record StopLeaves (told : Option (List ℕ)) (command : Words) (held left : 
   pub is_told : IfSome told (λ bytes. input ≡ bytes)
   pub bytes : IsOfBytes command told input
   pub outcome : CommandOutcome
-  pub plain : Yields command held input outcome
+  pub plain : (command_of command).yields held input outcome
   pub torn : Torn (steps_of outcome.acts) held left
 
 -- what a run leaves: what stood, or what a stop in its command leaves
@@ -100,44 +87,3 @@ pub record Joins {T S K : Type 0} (t : tapes.Meaning T) (s : sources.Meaning S) 
   pub source : is_some (s.left new.source) ≡ is_some (s.left old.source)
   pub sink : is_some (k.written new.sink) ≡ is_some (k.written old.sink)
   pub stops : StopsGoOn t old.tape new.tape
-
--- ---- what is answered and printed over any tape, source and sink
-
--- the words are those of a command with this trait
-abbrev pub SpellsOne : (words : List (List ℕ)) → (Traits → Bool) → Type 0
-SpellsOne words trait = (command : Words) × Spells words command × (trait (traits_of command) ≡ true)
-
--- they are of none with it
-abbrev pub SpellsNoneThat : (words : List (List ℕ)) → (Traits → Bool) → Type 0
-SpellsNoneThat words trait = (command : Words) → Spells words command → trait (traits_of command) ≡ false
-
--- a fault of the input comes from a command that reads lines of it, and is where it is named
-abbrev pub HasNamedFault : (told : Option (List ℕ)) (words : List (List ℕ)) (line place : ℕ) → Type 0
-HasNamedFault told words line place =
-    (command : Words) × Spells words command × ((traits_of command).lines ≡ true)
-    × IfSome told (λ input. HasInputFault command input line place)
-
--- the input has none
-abbrev pub HasNoFault : (told : Option (List ℕ)) (words : List (List ℕ)) → Type 0
-HasNoFault told words =
-    (command : Words) → Spells words command → IfSome told (λ input. (line place : ℕ) → ¬ (HasInputFault command input line place))
-
--- the sink took the text of a command that was carried out
-pub record PrintsText {K : Type 0} (k : sinks.Meaning K) (words : List (List ℕ)) (old new : K) : Type 0 where
-  pub command : Words
-  pub spelled : Spells words command
-  pub text : List ℕ
-  pub is_text : CommandPrints command text
-  pub took : k.took old text new
-
--- it took what a command prints that was refused with this answer
-pub record PrintsRefused {K : Type 0} (k : sinks.Meaning K) (command : Words) (answer : Status) (old new : K) : Type 0 where
-  pub text : List ℕ
-  pub is_text : RefusedPrints command answer text
-  pub took : k.took old text new
-
--- it took a front of the text of a command that was carried out
-pub record PrintsFront {K : Type 0} (k : sinks.Meaning K) (command : Words) (old new : K) : Type 0 where
-  pub text : List ℕ
-  pub is_front : FrontPrints command text
-  pub took : k.took old text new

@@ -1,9 +1,11 @@
 -- The inputs of `script` and of `pulses`: items, and what ends them (this project's own).
 use Rattle.std.specs.Prelude.{◌≡◌, ◌≢◌, ℕ, ◌+◌, ◌≤◌, List, [], ◌∷◌, ◌++◌, length, All, ◌==◌, codes}
 use Rattle.std.specs.List.{slice_split}
-use Rattle.command_spec.specs.CommandWords.{Part, Word, Name, dated, AnyNumber, HasForm, SpellsPart, Number}
+use Rattle.command_spec.specs.Command.{Part, Word, Name, dated, AnyNumber, HasForm, SpellsPart, Number}
 use Rattle.command_spec.specs.declared.line.Line.{Line}
+use Rattle.command_spec.specs.declared.status.Status.{Status}
 use Rattle.command_spec.specs.declared.line.Line.TheVariants as line
+use Rattle.command_spec.specs.declared.status.Status.TheVariants as status
 
 -- ---- lines
 
@@ -15,10 +17,6 @@ pub record IsLined (P : List ℕ → Type 0) (text : List ℕ) : Type 0 where
   pub whole : text ≡ before ++ 0x0A ∷ []
   pub has : P before
 
--- the words of a line: what stands before, between and behind its spaces, so that one space parts each two
-abbrev pub words_of : List ℕ → List (List ℕ)
-words_of text = slice_split (λ b. b == 0x20) text
-
 -- the forms of a script's lines
 abbrev pub line_forms : Line → List (List Part)
 line_forms (line.Append name length date) = dated (Word (codes "append") ∷ Name name ∷ AnyNumber length ∷ []) date
@@ -28,17 +26,10 @@ line_forms line.Scrub = (Word (codes "scrub") ∷ []) ∷ []
 line_forms (line.Lose segment sector) = (Word (codes "lose") ∷ AnyNumber segment ∷ AnyNumber sector ∷ []) ∷ []
 line_forms line.End = (Word (codes "end") ∷ []) ∷ []
 
--- the words are those of a line
-abbrev pub HasLineForm : List (List ℕ) → Line → Type 0
-HasLineForm words line = HasForm words (line_forms line)
-
--- the bytes before a newline are those of a script's line
-abbrev pub IsLine : List ℕ → Line → Type 0
-IsLine before line = HasLineForm (words_of before) line
-
--- the bytes before a newline are a number of pulses
-abbrev pub IsTrain : List ℕ → ℕ → Type 0
-IsTrain before pulses = SpellsPart before (Number 0 255 pulses)
+-- a line of a script, with its newline: its words are what stands before, between and behind its spaces, so that one
+-- space parts each two
+abbrev pub IsLineText : List ℕ → Line → Type 0
+IsLineText text line = IsLined (λ before. HasForm (slice_split (λ b. b == 0x20) before) (line_forms line)) text
 
 -- ---- items
 
@@ -59,14 +50,14 @@ pub record Item : Type 0 where
 -- the text of an item: any line but `end`, with its newline, and then the bytes that it promises
 pub record IsItem (text : List ℕ) (item : Item) : Type 0 where
   pub front : List ℕ
-  pub lined : IsLined (λ before. IsLine before item.line) front
+  pub lined : IsLineText front item.line
   pub not_end : item.line ≢ line.End
   pub whole : text ≡ front ++ item.bytes
   pub kept : length item.bytes ≡ promised item.line
 
--- the text of an item of `pulses`: a number, with its newline
+-- the text of an item of `pulses`: a number of pulses, with its newline
 abbrev pub IsPulse : List ℕ → ℕ → Type 0
-IsPulse text pulses = IsLined (λ before. IsTrain before pulses) text
+IsPulse text pulses = IsLined (λ before. SpellsPart before (Number 0 255 pulses)) text
 
 -- ---- inputs
 
@@ -81,20 +72,23 @@ pub data Ending : Type 0 where
   AtStop : Ending
   AtFault : ℕ → ℕ → Ending
 
+-- how an input is answered that was carried out up to there
+abbrev pub input_status : Ending → Status
+input_status AtEnd = status.Done
+input_status AtStop = status.Done
+input_status (AtFault line place) = status.ScriptFault line place
+
 -- the line `end`, and anything behind it
 abbrev pub HasStop : List ℕ → Type 0
 HasStop input = (rest : List ℕ) × (input ≡ codes "end\n" ++ rest)
-
--- an item begins the input
-abbrev pub HasItem : {I : Type 0} → (List ℕ → I → Type 0) → List ℕ → Type 0
-HasItem {I} Spelled input = (item : I) × ((text : List ℕ) × ((rest : List ℕ) × ((input ≡ text ++ rest) × Spelled text item)))
 
 -- No line is read here: some bytes are left, not those of the line `end`, and no item begins them or none may come any
 -- more.
 pub record IsFault {I : Type 0} (Spelled : List ℕ → I → Type 0) (line : ℕ) (input : List ℕ) : Type 0 where
   pub some : input ≢ []
   pub no_stop : ¬ (HasStop input)
-  pub no_item : line ≤ most_items → ¬ (HasItem Spelled input)
+  pub no_item : line ≤ most_items →
+      ¬ ((item : I) × ((text : List ℕ) × ((rest : List ℕ) × ((input ≡ text ++ rest) × Spelled text item))))
 
 -- how the items end, in front of the line with this number
 abbrev pub ItemsEnd : {I : Type 0} → (List ℕ → I → Type 0) → (line place : ℕ) → List ℕ → Ending → Type 0
@@ -117,7 +111,3 @@ IsScript input items ending = HasItems IsItem 1 0 input items ending
 
 abbrev pub IsPulses : List ℕ → List ℕ → Ending → Type 0
 IsPulses input trains ending = HasItems IsPulse 1 0 input trains ending
-
--- a line of a script, with its newline
-abbrev pub IsLineText : List ℕ → Line → Type 0
-IsLineText text line = IsLined (λ before. IsLine before line) text

@@ -1,23 +1,37 @@
--- The plain machine of `make`: the steps of a generated run, what each does, and what a run may print (this project's own).
-use Rattle.std.specs.Prelude.{ℕ, ◌+◌, List, ◌++◌, codes, decimal, [], ◌∷◌, zero, suc, take, ◌%◌, ◌==◌, if◌then◌else◌, length, drop, Some, ◌≡◌, true, ◌^◌, sum, ◌⊎◌, false, ◌≢◌, ◌<◌, Option}
+-- The bytes of the volumes that `make` appends, and their sums (this project's own).
+use Rattle.std.specs.Prelude.{ℕ, ◌+◌, ◌*◌, ◌%◌, List, map, ◌++◌, codes, decimal, [], ◌∷◌, zero, suc, take, ◌==◌, if◌then◌else◌, length, drop, Some, ◌≡◌, true, slice_get, IsSomeAnd, ◌^◌, sum, ◌⊎◌, false, ◌≢◌, ◌<◌, Option, ◌≤◌, All, nat_lt}
+use Rattle.std.specs.List.{range_with_len}
+use Rattle.cartridge_spec.specs.Appending.{room, Content}
+use Rattle.cartridge_spec.specs.Header.{Header}
 use Rattle.cartridge_spec.specs.HeaderAndTable.{TableIs, table_cells}
 use Rattle.cartridge_spec.specs.Mounting.{settled}
 use Rattle.cartridge_spec.specs.Says.{LostSectors, ByCode, TableSays}
 use Rattle.cartridge_spec.specs.Settling.{changed_by}
 use Rattle.cartridge_spec.specs.Shape.{mask_at, usable_places}
 use Rattle.cartridge_spec.specs.Table.{Entry}
-use Rattle.cartridge_spec.specs.Volumes.{carrying_segments, volume_length}
-use Rattle.command_spec.specs.Append.{kept_in, entry_for, append_acts, silently, room_in, has_promised_room, kept_over}
-use Rattle.command_spec.specs.Generator.{made_bytes, made_length}
-use Rattle.command_spec.specs.Outcome.{settling_act, CommandOutcome, Going, WritableOutcome}
-use Rattle.command_spec.specs.Restore.{GivingEnd, Restored, LostIn, MismatchIn, Restores, pieces, volume_at, EndsAt}
+use Rattle.cartridge_spec.specs.Volumes.{carrying_segments, volume_length, Plain, entries_of}
+use Rattle.command_spec.specs.Append.{entry_behind, append_acts, has_promised_room, kept_over}
+use Rattle.command_spec.specs.Outcome.{settling_act, CommandOutcome, WritableOutcome}
+use Rattle.command_spec.specs.Restore.{GivingEnd, Restored, LostIn, MismatchIn, RestoresVolume, pieces, volume_at, LosesFew}
 use Rattle.command_spec.specs.Scrub.{Scrubs, Counts, looked_at, IsScrubText}
 use Rattle.command_spec.specs.declared.status.Status.{Status}
 use Rattle.qic_base.specs.Acts.{Act, text_of, steps_of}
 use Rattle.qic_base.specs.Cartridge.{Cartridge}
-use Rattle.qic_base.specs.Name.{filled}
+use Rattle.qic_base.specs.Field.{filled}
 use Rattle.qic_base.specs.Step.{Wear}
+use Rattle.command_spec.specs.Command.{Command, plain_command, IsUnprotected, ReadsAs, none_of_them, Word, AnyNumber, Number}
 use Rattle.command_spec.specs.declared.status.Status.TheVariants as status
+
+-- ---- what is made
+
+-- a made volume's number of bytes
+abbrev pub made_length : (seed volume : ℕ) → ℕ
+made_length seed volume = 1000 * (1 + (seed * 37 + volume * 101) % 20000)
+
+unfoldable pub made_bytes : (seed volume : ℕ) → List ℕ
+made_bytes seed volume = map (λ place. (place + 31 * volume + seed) % 251) (range_with_len 0 (made_length seed volume))
+
+-- ---- The plain machine of `make`: the steps of a generated run, what each does, and what a run may print (this project's own).
 
 -- A step of a run: the made volume with this number is appended; a sector is worn; all is scrubbed; the volume with this
 -- number in the list is restored, and summed.
@@ -33,13 +47,10 @@ pub data MakeStep : Type 0 where
 abbrev pub made_name : (volume : ℕ) → List ℕ
 made_name volume = filled (codes "made-" ++ decimal volume)
 
--- its entry behind these volumes, with the date word 0
-abbrev pub made_entry : (seed : ℕ) → (words : List ℕ) → List Entry → (volume : ℕ) → Entry
-made_entry seed words entries volume = entry_for (kept_in words entries) (made_name volume) 0 (made_bytes seed volume)
-
--- the volumes behind a step that was carried out
+-- the volumes behind a step that was carried out: a made one has the date word 0
 abbrev pub after_item : (seed : ℕ) → (words : List ℕ) → List Entry → MakeStep → List Entry
-after_item seed words entries (AppendMade volume) = entries ++ made_entry seed words entries volume ∷ []
+after_item seed words entries (AppendMade volume) =
+    entries ++ entry_behind words entries (made_name volume) 0 (made_bytes seed volume) ∷ []
 after_item seed words entries (WearSector segment sector) = entries
 after_item seed words entries ScrubAll = entries
 after_item seed words entries (SumVolume number) = entries
@@ -61,14 +72,11 @@ abbrev pub wearing : (segment : ℕ) → (sectors : List ℕ) → List MakeStep
 wearing segment [] = []
 wearing segment (sector ∷ sectors) = WearSector segment sector ∷ wearing segment sectors
 
--- the first two usable sectors of a segment
-abbrev pub first_two : (words : List ℕ) → (segment : ℕ) → List ℕ
-first_two words segment = take 2 (usable_places (mask_at words segment))
-
--- they are worn in each of these segments whose number is a multiple of 100
+-- the first two usable sectors are worn in each of these segments whose number is a multiple of 100
 abbrev pub wearing_in : (words segments : List ℕ) → List MakeStep
 wearing_in words [] = []
-wearing_in words (s ∷ ss) = (if s % 100 == 0 then wearing s (first_two words s) else []) ++ wearing_in words ss
+wearing_in words (s ∷ ss) =
+    (if s % 100 == 0 then wearing s (take 2 (usable_places (mask_at words s))) else []) ++ wearing_in words ss
 
 -- .. and so in the carrying segments of these volumes
 abbrev pub wearing_volumes : (words : List ℕ) → List Entry → List MakeStep
@@ -104,22 +112,19 @@ pub data Answer : Type 0 where
 
 -- ---- an append
 
--- the table is settled, and a volume's bytes are appended, as many as are promised
-abbrev pub made_acts : (seed : ℕ) → Cartridge → (words : List ℕ) → List Entry → (table : List (List ℕ)) → (volume : ℕ) → List Act
-made_acts seed c words entries table volume =
-    append_acts (kept_over c words entries table) (made_name volume) 0 (Some (made_length seed volume)) silently (made_bytes seed volume)
-
 -- it is full where fewer bytes have room than are promised
 abbrev pub made_answer : (seed : ℕ) → (words : List ℕ) → List Entry → (volume : ℕ) → Answer
 made_answer seed words entries volume =
-    if has_promised_room (room_in (kept_in words entries)) (Some (made_length seed volume)) then Done
-    else Full (made_length seed volume) (room_in (kept_in words entries))
+    if has_promised_room (room words entries) (Some (made_length seed volume)) then Done
+    else Full (made_length seed volume) (room words entries)
 
--- the volume table reads, and the volume is appended or has no room
+-- The volume table reads, and is settled; and the volume's bytes are appended, as many as are promised, without a reply,
+-- or it has no room.
 pub record IsAppended (seed : ℕ) (c : Cartridge) (words : List ℕ) (entries : List Entry) (volume : ℕ) (acts : List Act) (answer : Answer) : Type 0 where
   pub table : List (List ℕ)
   pub reads : TableIs c table
-  pub does : acts ≡ made_acts seed c words entries table volume
+  pub does : acts ≡ append_acts (kept_over c words entries table) (made_name volume) 0 (Some (made_length seed volume))
+      (λ entry. []) (made_bytes seed volume)
   pub answered : answer ≡ made_answer seed words entries volume
 
 -- it has lost more than three sectors
@@ -134,16 +139,6 @@ pub record IsRefused (c : Cartridge) (acts : List Act) (answer : Answer) : Type 
   pub mark : c.info.protected ≡ true
   pub does : acts ≡ []
   pub answered : answer ≡ Protected
-
--- ---- a worn sector, and a scrub
-
-pub record IsWorn (segment sector : ℕ) (acts : List Act) (answer : Answer) : Type 0 where
-  pub does : acts ≡ record { steps = Wear segment sector ∷ []; text = [] } ∷ []
-  pub answered : answer ≡ Done
-
-pub record IsScrubbed (c : Cartridge) (words : List ℕ) (entries : List Entry) (acts : List Act) (answer : Answer) : Type 0 where
-  pub does : Scrubs c words entries acts
-  pub answered : answer ≡ Done
 
 -- ---- a volume's sum
 
@@ -163,15 +158,6 @@ ending_answer Restored = Done
 ending_answer (LostIn segment lost) = Lost segment lost
 ending_answer (MismatchIn segment) = Mismatch segment
 
-pub record IsSummed (c : Cartridge) (words : List ℕ) (entries : List Entry) (number : ℕ) (acts : List Act) (answer : Answer) : Type 0 where
-  pub entry : Entry
-  pub numbered : volume_at entries number ≡ Some entry
-  pub given : List Act
-  pub ending : GivingEnd
-  pub restores : Restores c words (pieces words entry) given ending
-  pub does : acts ≡ sum_acts number (volume_length words entry) (text_of given) ending
-  pub answered : answer ≡ ending_answer ending
-
 -- ---- one step, and a run
 
 -- what a step does on a cartridge with this map and these volumes, and how it is answered
@@ -179,10 +165,14 @@ abbrev pub StepDoes : (seed : ℕ) → Cartridge → (words : List ℕ) → List
 StepDoes seed c words entries (AppendMade volume) acts answer =
     IsRefused c acts answer
     ⊎ ((c.info.protected ≡ false) × (IsAppended seed c words entries volume acts answer ⊎ IsTableLost c acts answer))
-StepDoes seed c words entries (WearSector segment sector) acts answer = IsWorn segment sector acts answer
+StepDoes seed c words entries (WearSector segment sector) acts answer =
+    (acts ≡ record { steps = Wear segment sector ∷ []; text = [] } ∷ []) × (answer ≡ Done)
 StepDoes seed c words entries ScrubAll acts answer =
-    IsRefused c acts answer ⊎ ((c.info.protected ≡ false) × IsScrubbed c words entries acts answer)
-StepDoes seed c words entries (SumVolume number) acts answer = IsSummed c words entries number acts answer
+    IsRefused c acts answer ⊎ ((c.info.protected ≡ false) × (Scrubs c words entries acts × (answer ≡ Done)))
+StepDoes seed c words entries (SumVolume number) acts answer =
+    RestoresVolume c words entries number
+    (λ entry given ending.
+    (acts ≡ sum_acts number (volume_length words entry) (text_of given) ending) × (answer ≡ ending_answer ending))
 
 -- Steps, one after the other, each on the cartridge that the ones before it leave. The first refusal ends them, and is the
 -- answer.
@@ -193,35 +183,29 @@ Runs seed c words entries (item ∷ items) acts answer =
     ⊎ ((first : List Act) × (rest : List Act) × (first ++ rest ≡ acts) × StepDoes seed c words entries item first Done
     × Runs seed (changed_by (steps_of first) c) words (after_item seed words entries item) items rest answer)
 
--- the plain machine over a mounted cartridge with this map and these volumes
-abbrev pub Makes : (seed count : ℕ) → Cartridge → (words : List ℕ) → List Entry → List Act → Answer → Type 0
-Makes seed count c words entries acts answer = Runs seed c words entries (making seed count words entries) acts answer
-
--- an append is carried out, or full, by the map and the volumes; else its table was refused, or the cartridge is protected
-abbrev pub MayAppend : (seed : ℕ) → (words : List ℕ) → List Entry → (volume : ℕ) → Answer → Type 0
-MayAppend seed words entries volume Done = made_answer seed words entries volume ≡ Done
-MayAppend seed words entries volume (Full need have) = made_answer seed words entries volume ≡ Full need have
-MayAppend seed words entries volume Protected = Unit {0}
-MayAppend seed words entries volume TableMismatch = Unit {0}
-MayAppend seed words entries volume (Lost segment lost) = (segment ≡ 2) × (3 < lost)
-MayAppend seed words entries volume (Mismatch segment) = ⊥
-
-abbrev pub MayScrub : (words : List ℕ) → List Entry → (text : List ℕ) → Answer → Type 0
-MayScrub words entries text Done = (counts : Counts) × IsScrubText (looked_at words entries) counts text
-MayScrub words entries text Protected = text ≡ []
-MayScrub words entries text answer = ⊥
-
 -- a volume's line has its number and its length; a segment that ends a restore is one of the volume's
 abbrev pub MaySum : (words : List ℕ) → (number : ℕ) → Entry → (text : List ℕ) → Answer → Type 0
 MaySum words number e text Done = (total : ℕ) × (total < 2 ^ 32) × (text ≡ sum_line number (volume_length words e) total)
-MaySum words number e text (Lost segment lost) = (text ≡ []) × ((read : ℕ) × EndsAt (pieces words e) read (LostIn segment lost))
-MaySum words number e text (Mismatch segment) = (text ≡ []) × ((read : ℕ) × EndsAt (pieces words e) read (MismatchIn segment))
+MaySum words number e text (Lost segment lost) =
+    (text ≡ [])
+    × ((read : ℕ) × ((3 < lost) × IsSomeAnd (slice_get (pieces words e) read) (λ piece. piece.segment ≡ segment)))
+MaySum words number e text (Mismatch segment) =
+    (text ≡ []) × ((read : ℕ) × IsSomeAnd (slice_get (pieces words e) read) (λ piece. piece.segment ≡ segment))
 MaySum words number e text answer = ⊥
 
+-- A step may print this and be answered so, over any cartridge. An append is carried out, or full, by the map and the
+-- volumes; else its table was refused, or the cartridge is protected.
 abbrev pub MayDo : (seed : ℕ) → (words : List ℕ) → List Entry → MakeStep → (text : List ℕ) → Answer → Type 0
-MayDo seed words entries (AppendMade volume) text answer = (text ≡ []) × MayAppend seed words entries volume answer
+MayDo seed words entries (AppendMade volume) text Done = (text ≡ []) × (made_answer seed words entries volume ≡ Done)
+MayDo seed words entries (AppendMade volume) text (Full need have) =
+    (text ≡ []) × (made_answer seed words entries volume ≡ Full need have)
+MayDo seed words entries (AppendMade volume) text (Lost segment lost) = (text ≡ []) × ((segment ≡ 2) × (3 < lost))
+MayDo seed words entries (AppendMade volume) text (Mismatch segment) = ⊥
+MayDo seed words entries (AppendMade volume) text answer = text ≡ []
 MayDo seed words entries (WearSector segment sector) text answer = (text ≡ []) × (answer ≡ Done)
-MayDo seed words entries ScrubAll text answer = MayScrub words entries text answer
+MayDo seed words entries ScrubAll text Done = (counts : Counts) × IsScrubText (looked_at words entries) counts text
+MayDo seed words entries ScrubAll text Protected = text ≡ []
+MayDo seed words entries ScrubAll text answer = ⊥
 MayDo seed words entries (SumVolume number) text answer =
     (e : Entry) × (volume_at entries number ≡ Some e) × MaySum words number e text answer
 
@@ -242,19 +226,86 @@ make_status (Full need have) = status.Full need have
 make_status (Lost segment lost) = status.Lost segment lost
 make_status (Mismatch segment) = status.Mismatch segment
 
--- the settling of the table, and then these acts
-abbrev pub made_on : (table : List (List ℕ)) → Cartridge → List Act → Answer → CommandOutcome
-made_on table c acts answer = record { acts = settling_act table c ∷ acts; taken = 0; status = make_status answer }
-
--- the steps of a run are carried out on the settled cartridge
-pub record MakesOn (seed count : ℕ) (c : Cartridge) (words : List ℕ) (table : List (List ℕ)) (entries : List Entry) (outcome : CommandOutcome) : Type 0 where
+-- the table is settled, and the steps of a run are carried out on the settled cartridge
+pub record Making (seed count : ℕ) (c : Cartridge) (header : Header) (words : List ℕ) (table : List (List ℕ)) (entries : List Entry) (outcome : CommandOutcome) : Type 0 where
   pub acts : List Act
   pub answer : Answer
-  pub makes : Makes seed count (settled table c) words entries acts answer
-  pub is : outcome ≡ made_on table c acts answer
-
-abbrev pub Making : (seed count : ℕ) → Going
-Making seed count c header words table entries outcome = MakesOn seed count c words table entries outcome
+  pub makes : Runs seed (settled table c) words entries (making seed count words entries) acts answer
+  pub is : outcome ≡ record { acts = settling_act table c ∷ acts; taken = 0; status = make_status answer }
 
 abbrev pub MakeOutcome : (seed count : ℕ) → Option Cartridge → CommandOutcome → Type 0
 MakeOutcome seed count held outcome = WritableOutcome (Making seed count) held outcome
+
+-- ---- The volumes that `make` appends, how many it has appended by its answer, and what it needs to be carried out (this project's own).
+
+-- so many made volumes, from this one on
+abbrev pub made_contents : (seed volume count : ℕ) → List Content
+made_contents seed volume zero = []
+made_contents seed volume (suc count) =
+    record { name = made_name volume; date = 0; bytes = made_bytes seed volume } ∷ made_contents seed (volume + 1) count
+
+-- ---- how many were appended
+
+-- So many of the volumes were appended by a run that is answered so: all of them where it was carried out, or one of
+-- them was not given back; those in front of the one that has no room; or some, where the volume table does not read.
+abbrev pub AppendedBy : (seed count : ℕ) → (words : List ℕ) → List Entry → Status → (n : ℕ) → Type 0
+AppendedBy seed count words entries status.Done n = n ≡ count
+AppendedBy seed count words entries (status.Full need have) n =
+    (n < count) × (made_answer seed words (made_list seed n words entries) (1 + n) ≡ Full need have)
+AppendedBy seed count words entries (status.Lost segment lost) n = (n ≤ count) × (segment ≢ 2 → n ≡ count)
+AppendedBy seed count words entries (status.Mismatch segment) n = n ≡ count
+AppendedBy seed count words entries other n = n ≤ count
+
+-- ---- a run that is carried out
+
+-- each of the made volumes has room when its turn comes
+abbrev pub HaveRoom : (seed count : ℕ) → Plain → Type 0
+HaveRoom seed count plain =
+    (n : ℕ) → n < count → made_answer seed plain.words (made_list seed n plain.words (entries_of plain)) (1 + n) ≡ Done
+
+-- behind the appends, the worn sectors and the scrub no segment that holds some of a made volume has more than three
+-- unreadable sectors
+abbrev pub LoseFewBehind : (seed count : ℕ) → Cartridge → Plain → Type 0
+LoseFewBehind seed count c plain =
+    let entries : List Entry = entries_of plain in
+    let made : List Entry = made_list seed count plain.words entries in
+    (acts : List Act) (number : ℕ) (e : Entry) →
+    Runs seed c plain.words entries
+    (appending 1 count ++ (wearing_volumes plain.words (drop (length entries) made) ++ ScrubAll ∷ [])) acts Done →
+    length entries < number → volume_at made number ≡ Some e →
+    All (LosesFew (changed_by (steps_of acts) c) plain.words) (pieces plain.words e)
+
+-- ---- The command `make`: what it needs, and what it prints (this project's own).
+
+-- Each of the generated volumes has room when its turn comes, and no segment that holds some of their bytes has more than three
+-- unreadable sectors once they were appended, worn and scrubbed.
+pub record CanMake (c : Cartridge) (seed count : ℕ) : Type 0 where
+  pub plain : Plain
+  pub mounts : ReadsAs c plain
+  pub room : HaveRoom seed count plain
+  pub few : LoseFewBehind seed count (settled plain.table_area c) plain
+
+-- Where it is refused, the lines before the step that was refused are printed; where it is cut off, they may be any. A volume is
+-- full that is longer than the room that there is. Volumes are added, but to a protected cartridge.
+abbrev pub make_command : (seed count : ℕ) → Command
+make_command seed count =
+    record (plain_command ((Word (codes "make") ∷ AnyNumber seed ∷ Number 1 200 count ∷ []) ∷ [])
+    (λ held input outcome. MakeOutcome seed count held outcome)
+    (λ text. (words : List ℕ) × ((entries : List Entry) × MayRun seed words entries (making seed count words entries) text Done))) {
+      values = count ≤ 200;
+      traits = record none_of_them {
+        goes = true;
+        memory = true;
+        cartridge = true;
+        writable = true;
+        mounts = true;
+        restores = true;
+      };
+      fronts = λ text. Unit {0};
+      refused = λ answer text. (text ≡ []) ⊎ ((words : List ℕ) × ((entries : List Entry) × ((why : Answer)
+          × (answer ≡ make_status why) × MayRun seed words entries (making seed count words entries) text why)));
+      needs = λ held input. IsSomeAnd held (λ c. IsUnprotected c × CanMake c seed count);
+      keeps_volumes = λ c plain. c.info.protected ≡ true;
+      keeps_list = λ c. c.info.protected ≡ true;
+      is_full = λ need have. nat_lt have need;
+    }

@@ -1,87 +1,112 @@
--- What becomes of a cartridge that an append, a generated run or a script left, done or stopped, where then one sector more of its
--- table's segment is lost (this project's own).
-use Rattle.std.specs.Prelude.{◌⊎◌, ℕ, List, Option, ◌≡◌, ◌≤◌, ◌+◌, Some, IsSomeAnd, length, take, false}
-use Rattle.cartridge_spec.specs.Appending.{with_all, with_bytes}
-use Rattle.cartridge_spec.specs.Mounting.{IsTableLive, settled}
-use Rattle.cartridge_spec.specs.OneLoss.{ComesBackAs, LosesOneAlone}
+-- What becomes of a cartridge that an append, a generated run or a script left, done or stopped, where then one sector
+-- more of its table's segment is lost (this project's own).
+use Rattle.std.specs.Prelude.{◌⊎◌, ℕ, List, Option, ◌≡◌, ◌≢◌, ◌≤◌, ◌+◌, Some, IsSomeAnd, [], ◌∷◌, length, take, false}
+use Rattle.cartridge_spec.specs.Appending.{with_all}
+use Rattle.cartridge_spec.specs.Mounting.{IsTableLive, settled, ComesBackAs, LosesOneAlone}
 use Rattle.cartridge_spec.specs.Settling.{settling_steps}
 use Rattle.cartridge_spec.specs.Volumes.{Plain, Stands, entries_of}
 use Rattle.command_spec.specs.Headline.{EachLeft, ToldNow}
+use Rattle.command_spec.specs.Input.{Item}
+use Rattle.command_spec.specs.Several.{IsHeard, Scripted}
 use Rattle.command_spec.specs.Machine.{Spells}
-use Rattle.command_spec.specs.MadeVolumes.{made_contents}
-use Rattle.command_spec.specs.ScriptLists.{CameFurther, ItemsWearBehind, all_added}
-use Rattle.command_spec.specs.Several.{Generated, Scripted}
+use Rattle.command_spec.specs.Make.{made_contents}
+use Rattle.command_spec.specs.Script.{Did}
+use Rattle.command_spec.specs.ScriptLists.{CameFurther, GoesNoFurther, ItemsWearBehind, all_added, printed_by}
 use Rattle.command_spec.specs.Volumes.{IsInput, AreBytes, IsCarriedOut}
 use Rattle.command_spec.specs.declared.status.Status.{Status}
 use Rattle.qic_base.specs.Cartridge.{Cartridge}
-use Rattle.qic_base.specs.Stop.{Torn}
-use Rattle.command_spec.specs.declared.status.Status.TheVariants as status
+use Rattle.qic_base.specs.Step.{Torn}
 use Rattle.command_spec.specs.declared.words.Words.TheVariants as commands
+use Rattle.qic_base.specs.Sink as sinks
 use Rattle.qic_base.specs.Tape as tapes
 
--- whichever one sector of its table's segment is lost, and nothing else, it is mounted as the plain cartridge, and stands for it
--- once it is settled; or it does so as that with the volume of the input
-pub record ComesBackEither (told : Option (List ℕ)) (name : List ℕ) (date : ℕ) (c : Cartridge) (plain : Plain) (d : Cartridge) : Type 0 where
-  pub input : List ℕ
-  pub is_told : IsInput told input
-  pub comes : (f : Cartridge) (lost : ℕ) → LosesOneAlone d f lost → ComesBackAs f plain ⊎ ComesBackAs f (with_bytes plain name date input)
-
--- it does so as that with the volume
-pub record ComesBackNew (told : Option (List ℕ)) (name : List ℕ) (date : ℕ) (c : Cartridge) (plain : Plain) (d : Cartridge) : Type 0 where
-  pub input : List ℕ
-  pub is_told : IsInput told input
-  pub comes : (f : Cartridge) (lost : ℕ) → LosesOneAlone d f lost → ComesBackAs f (with_bytes plain name date input)
-
--- whichever one sector of its table's segment is lost, and nothing else, it comes back as one of these two plain cartridges
+-- whichever one sector of its table's segment is lost, and nothing else, it comes back as one of these two plain
+-- cartridges
 abbrev pub ComesBackAsOneOf : Plain → Plain → Cartridge → Type 0
-ComesBackAsOneOf one other d = (f : Cartridge) (lost : ℕ) → LosesOneAlone d f lost → ComesBackAs f one ⊎ ComesBackAs f other
+ComesBackAsOneOf one other d =
+    (f : Cartridge) (lost : ℕ) → LosesOneAlone d f lost → ComesBackAs f one ⊎ ComesBackAs f other
 
--- .. as this one
-abbrev pub ComesBackOnly : Plain → Cartridge → Type 0
-ComesBackOnly plain d = (f : Cartridge) (lost : ℕ) → LosesOneAlone d f lost → ComesBackAs f plain
-
--- of plain cartridges, each with one volume or none more than the one before it, as one or as the next one, up to so many
-pub record SomeComeBack (standing : ℕ → Plain) (count : ℕ) (left : Option Cartridge) : Type 0 where
+-- Of plain cartridges, each with one volume or none more than the one before it, it comes back as one or as the next
+-- one: from so many volumes on, up to so many.
+pub record SomeComeBack (standing : ℕ → Plain) (least most : ℕ) (left : Option Cartridge) : Type 0 where
   pub one : ℕ
   pub other : ℕ
+  pub from : least ≤ one
   pub next : one ≤ other × other ≤ one + 1
-  pub within : other ≤ count
+  pub within : other ≤ most
   pub comes : IsSomeAnd left (ComesBackAsOneOf (standing one) (standing other))
 
--- What words of appending leave of a cartridge that stood for a plain one, each sector of whose table's segment takes a write:
--- one whose table was not yet settled, or one that comes back.
-abbrev pub StoppedComesBack : (told : Option (List ℕ)) → (words : List (List ℕ)) → (held left : Option Cartridge) → Type 0
+-- So it is with what is left of a cartridge, but where its table was not yet settled, and none of the volumes has to be
+-- there.
+abbrev pub LeftComesBack : Cartridge → (standing : ℕ → Plain) (least most : ℕ) (left : Option Cartridge) → Type 0
+LeftComesBack c standing least most left =
+    ((least ≡ 0) × Torn (settling_steps (standing 0).table_area c) (Some c) left)
+    ⊎ SomeComeBack standing least most left
+
+-- ---- the plain cartridges
+
+-- without the volume of an append, and with it
+abbrev pub with_one : Plain → (name : List ℕ) (date : ℕ) (input : List ℕ) (n : ℕ) → Plain
+with_one plain name date input n =
+    with_all plain (take n (record { name = name; date = date; bytes = input } ∷ []))
+
+-- with the first ones of the volumes of a generated run
+abbrev pub with_made : Plain → (seed n : ℕ) → Plain
+with_made plain seed n = with_all plain (made_contents seed 1 n)
+
+-- with the appends of the first items of a script
+abbrev pub with_items : Plain → List Item → List Did → (n : ℕ) → Plain
+with_items plain items dids n = with_all plain (all_added (entries_of plain) (take n items) (take n dids))
+
+-- ---- what is left
+
+-- What words that append leave of a cartridge that stands for a plain one, each sector of whose table's segment takes a
+-- write. Of a script the cartridge is not protected, and the first lines wear no sector of the segments 0 to 2; or the
+-- stop came further.
+pub record AppendingLeaves (told : Option (List ℕ)) (words : List (List ℕ)) (c : Cartridge) (plain : Plain)
+    (left : Option Cartridge) : Type 0 where
+  pub append : (name : List ℕ) (date : ℕ) → Spells words (commands.Append name date) → AreBytes told →
+      (input : List ℕ) × IsInput told input × LeftComesBack c (with_one plain name date input) 0 1 left
+  pub make : (seed count : ℕ) → Spells words (commands.Make seed count) →
+      LeftComesBack c (with_made plain seed) 0 count left
+  pub script : (script : Scripted told words c plain) → c.info.protected ≡ false →
+      (count : ℕ) → count ≤ length script.does.items → ItemsWearBehind (take count script.does.items) →
+      CameFurther (settled plain.table_area c) script.does.items script.does.dids script.does.last count left
+      ⊎ LeftComesBack c (with_items plain script.does.items script.does.dids) 0 count left
+
+abbrev pub StoppedComesBack : (told : Option (List ℕ)) → List (List ℕ) → (held left : Option Cartridge) → Type 0
 StoppedComesBack told words held left =
-    (name : List ℕ) (date : ℕ) (c : Cartridge) (plain : Plain) → Spells words (commands.Append name date) → held ≡ Some c →
-    AreBytes told → Stands c plain → IsTableLive c →
-    Torn (settling_steps plain.table_area c) (Some c) left ⊎ IsSomeAnd left (ComesBackEither told name date c plain)
+    (c : Cartridge) (plain : Plain) → held ≡ Some c → Stands c plain → IsTableLive c →
+    AppendingLeaves told words c plain left
 
--- What words of a generated run leave of such a cartridge: one whose table was not yet settled, or one that comes back with the first
--- ones of the volumes, or with one more.
-abbrev pub StoppedMakeComesBack : (words : List (List ℕ)) → (held left : Option Cartridge) → Type 0
-StoppedMakeComesBack words held left =
-    (seed count : ℕ) (c : Cartridge) (plain : Plain) → held ≡ Some c → Generated words seed count c plain → IsTableLive c →
-    Torn (settling_steps plain.table_area c) (Some c) left ⊎ SomeComeBack (λ n. with_all plain (made_contents seed 1 n)) count left
+-- What stands when such words are over, and this was printed: with the volume of an append that was carried out; with
+-- all volumes of a generated run that was, or has printed anything; with all lines of a script whose reply was written
+-- whole, and none behind those that it went no further than; with all lines, once its input was carried out.
+pub record AppendingLeft {T K : Type 0} (t : tapes.Meaning T) (k : sinks.Meaning K)
+    (told : Option (List ℕ)) (words : List (List ℕ)) (c : Cartridge) (plain : Plain)
+    (new : T) (before behind : K) (answer : Status) : Type 0 where
+  pub text : List ℕ
+  pub took : k.took before text behind
+  pub append : (name : List ℕ) (date : ℕ) → Spells words (commands.Append name date) → AreBytes told →
+      IsCarriedOut answer →
+      (input : List ℕ) × IsInput told input × ToldNow t new (SomeComeBack (with_one plain name date input) 1 1)
+  pub make : (seed count : ℕ) → Spells words (commands.Make seed count) → (text ≢ []) ⊎ IsCarriedOut answer →
+      ToldNow t new (SomeComeBack (with_made plain seed) count count)
+  pub script : (script : Scripted told words c plain) → c.info.protected ≡ false →
+      (answered count : ℕ) → answered ≤ length script.does.items →
+      printed_by script.does.dids answered ≤ length text → count ≤ length script.does.items →
+      GoesNoFurther script.does.items script.does.dids count (length text) →
+      ItemsWearBehind (take count script.does.items) →
+      ToldNow t new (LeftComesBack c (with_items plain script.does.items script.does.dids) answered count)
+  pub heard : (script : Scripted told words c plain) → c.info.protected ≡ false → IsHeard answer →
+      ItemsWearBehind script.does.items →
+      ToldNow t new (SomeComeBack (with_items plain script.does.items script.does.dids)
+      (length script.does.items) (length script.does.items))
 
--- What words of a script leave of such a cartridge that is not protected, where the first lines wear no sector of the segments 0 to
--- 2: one whose table was not yet settled, or one that comes back behind some of these lines; or the stop came further.
-abbrev pub StoppedScriptComesBack : (told : Option (List ℕ)) → (words : List (List ℕ)) → (held left : Option Cartridge) → Type 0
-StoppedScriptComesBack told words held left =
-    (c : Cartridge) (plain : Plain) → held ≡ Some c → (script : Scripted told words c plain) → IsTableLive c → c.info.protected ≡ false →
-    (count : ℕ) → count ≤ length script.does.items → ItemsWearBehind (take count script.does.items) →
-    CameFurther (settled plain.table_area c) script.does.items script.does.dids script.does.last count left
-    ⊎ Torn (settling_steps plain.table_area c) (Some c) left
-    ⊎ SomeComeBack (λ n. with_all plain (all_added (entries_of plain) (take n script.does.items) (take n script.does.dids))) count left
-
--- A sector of the table's segment may be lost behind an append, of a generated run or of a script, too: each cartridge that a run
--- leaves behind the settling comes back, and that of an append or of a generated run that was carried out comes back with what it
--- appended. The settled cartridge itself comes back, whatever left it.
-pub record SurvivesOneLoss {T : Type 0} (t : tapes.Meaning T) (told : Option (List ℕ)) (words : List (List ℕ)) (old new : T) (answer : Status) : Type 0 where
+-- A sector of the table's segment may be lost behind an append, a generated run or a script, too: each cartridge that a
+-- run leaves comes back so, and so does what stands when it is over.
+pub record SurvivesOneLoss {T K : Type 0} (t : tapes.Meaning T) (k : sinks.Meaning K) (told : Option (List ℕ))
+    (words : List (List ℕ)) (old new : T) (before behind : K) (answer : Status) : Type 0 where
   pub stopped : EachLeft t old new (StoppedComesBack told words)
-  pub done : (name : List ℕ) (date : ℕ) (c : Cartridge) (plain : Plain) → IsCarriedOut answer → Spells words (commands.Append name date) →
-      t.told old ≡ Some (Some c) → AreBytes told → Stands c plain → IsTableLive c →
-      ToldNow t new (λ left. IsSomeAnd left (ComesBackNew told name date c plain))
-  pub makes : EachLeft t old new (StoppedMakeComesBack words)
-  pub made : (seed count : ℕ) (c : Cartridge) (plain : Plain) → answer ≡ status.Done → t.told old ≡ Some (Some c) → Generated words seed count c plain →
-      IsTableLive c → ToldNow t new (λ left. IsSomeAnd left (ComesBackOnly (with_all plain (made_contents seed 1 count))))
-  pub scripts : EachLeft t old new (StoppedScriptComesBack told words)
+  pub over : (c : Cartridge) (plain : Plain) → t.told old ≡ Some (Some c) → Stands c plain → IsTableLive c →
+      AppendingLeft t k told words c plain new before behind answer

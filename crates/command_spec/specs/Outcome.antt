@@ -1,6 +1,6 @@
 -- The outcome of a command, and how the opening of a cartridge ends (this project's own).
 use Rattle.std.specs.Prelude.{ℕ, List, ◌≡◌, Option, Some, None, ◌⊎◌, true, false, [], ◌==◌, nat_lt, Bool, not, ◌∷◌}
-use Rattle.cartridge_spec.specs.Header.{HeaderFault, Header}
+use Rattle.cartridge_spec.specs.Header.{Header}
 use Rattle.cartridge_spec.specs.Mounting.{Mounting, Mounts}
 use Rattle.cartridge_spec.specs.Settling.{settling_steps}
 use Rattle.cartridge_spec.specs.Table.{Entry}
@@ -19,10 +19,7 @@ HasPlace c segment sector = IsPlace c.info.segments_per_track segment sector
 
 -- ---- the plain machine
 
--- a fault of the header or of the table's slots, as an answer
-abbrev pub foreign : HeaderFault → Status
-foreign fault = status.Foreign fault.field fault.value
-
+-- the acts of a command, how many bytes of its input it took, and its answer
 pub record CommandOutcome : Type 0 where
   pub acts : List Act
   pub taken : ℕ
@@ -39,7 +36,7 @@ refused why = record { acts = []; taken = 0; status = why }
 -- what it does by what the mounting gives
 abbrev pub Opened : Going → Cartridge → Mounting → CommandOutcome → Type 0
 Opened goes c mounting.NotFormatted outcome = outcome ≡ refused status.NotFormatted
-Opened goes c (mounting.Foreign fault) outcome = outcome ≡ refused (foreign fault)
+Opened goes c (mounting.Foreign fault) outcome = outcome ≡ refused (status.Foreign fault.field fault.value)
 Opened goes c (mounting.TableLost lost) outcome = outcome ≡ refused (status.Lost 2 lost)
 Opened goes c mounting.TableMismatch outcome = outcome ≡ refused status.TableMismatch
 Opened goes c (mounting.Mounted header words table entries) outcome = goes c header words table entries outcome
@@ -60,16 +57,12 @@ WritableOutcome goes (Some c) outcome =
 abbrev pub settling_act : (table : List (List ℕ)) → Cartridge → Act
 settling_act table c = record { steps = settling_steps table c; text = [] }
 
--- what is printed of a header, the words of its map and the volumes
-abbrev pub Printing : Type 0
-Printing = Header → (words : List ℕ) → List Entry → List ℕ
-
 -- one act was done
 abbrev pub acted : List Step → (text : List ℕ) → CommandOutcome
 acted steps text = record { acts = record { steps = steps; text = text } ∷ []; taken = 0; status = status.Done }
 
--- a command that prints this once the cartridge is open
-abbrev pub Shows : Printing → Going
+-- a command that prints this of the header, the words of its map and the volumes, once the cartridge is open
+abbrev pub Shows : (prints : Header → (words : List ℕ) → List Entry → List ℕ) → Going
 Shows prints c header words table entries outcome = outcome ≡ acted (settling_steps table c) (prints header words entries)
 
 -- A drive that reports some number of segments per track refuses such a value of this field. Two fields go by that number, so that

@@ -1,17 +1,18 @@
 -- The plain machine of `restore`: a volume's bytes, segment by segment, and how their giving ends (this project's own).
-use Rattle.std.specs.Prelude.{ℕ, zero, suc, ◌-◌, List, [], ◌∷◌, min, sum_by, ◌≤◌, take, ◌≡◌, ◌++◌, codes, decimal, ◌<◌, All, length, slice_get, IsSomeAnd, Option, None, Some, ◌⊎◌, replicate}
+use Rattle.std.specs.Prelude.{ℕ, zero, suc, ◌-◌, List, [], ◌∷◌, min, sum_by, ◌≤◌, take, ◌≡◌, ◌++◌, codes, decimal, ◌<◌, All, length, slice_get, Option, None, Some, ◌⊎◌, replicate, ◌==◌, ◌&&◌, Bool, true, nat_le, IsSomeAnd}
 use Rattle.cartridge_spec.specs.Appending.{bytes_in}
-use Rattle.cartridge_spec.specs.Mounting.{settled}
+use Rattle.cartridge_spec.specs.Mounting.{settled, CanBeRead}
 use Rattle.cartridge_spec.specs.Says.{cells_of, unreadable_count, Saying, Says, Data, LostSectors, Mismatch}
 use Rattle.cartridge_spec.specs.Settling.{settling_steps}
 use Rattle.cartridge_spec.specs.Shape.{mask_at, capacity}
 use Rattle.cartridge_spec.specs.Table.{Entry}
-use Rattle.cartridge_spec.specs.Volumes.{carrying_segments, volume_length, Plain, Volume}
+use Rattle.cartridge_spec.specs.Volumes.{carrying_segments, volume_length, Plain, Volume, Stands}
 use Rattle.command_spec.specs.Outcome.{settling_act, CommandOutcome, Going, refused_behind, OpenOutcome}
 use Rattle.command_spec.specs.declared.status.Status.{Status}
 use Rattle.qic_base.specs.Acts.{Act}
 use Rattle.qic_base.specs.Cartridge.{Cartridge}
 use Rattle.qic_base.specs.declared.tape.SectorView.{SectorView}
+use Rattle.command_spec.specs.Command.{Command, plain_command, none_of_them, Word, AnyNumber}
 use Rattle.command_spec.specs.declared.status.Status.TheVariants as status
 
 -- ---- the segments that are read
@@ -47,15 +48,12 @@ piece_cells c words piece = cells_of c piece.segment (mask_at words piece.segmen
 abbrev pub LosesFew : Cartridge → (words : List ℕ) → Piece → Type 0
 LosesFew c words piece = unreadable_count (piece_cells c words piece) ≤ 3
 
--- the first bytes of a segment's data, as many as it holds of the volume; no step changes the tape
-abbrev pub act_of : Piece → (sectors : List (List ℕ)) → Act
-act_of piece sectors = record { steps = []; text = take piece.count (bytes_in sectors) }
-
--- the segment says data, and the act is of them
+-- The segment says data; and the act prints the first bytes of them, as many as it holds of the volume. No step changes
+-- the tape.
 pub record IsRead (c : Cartridge) (words : List ℕ) (piece : Piece) (act : Act) : Type 0 where
   pub sectors : List (List ℕ)
   pub says : Says (piece_cells c words piece) (Data sectors)
-  pub shown : act ≡ act_of piece sectors
+  pub shown : act ≡ record { steps = []; text = take piece.count (bytes_in sectors) }
 
 -- how a restore ends: all was read; a segment has so many unreadable sectors, more than three; or at most three, and the
 -- others are those of no code block
@@ -94,18 +92,13 @@ GivenBytes c words (piece ∷ needed) bytes =
 
 -- ---- the framed form
 
--- an act with the line `part K` before its text, where K is the count of its piece
-abbrev pub framed_act : Piece → Act → Act
-framed_act piece act = record {
-  steps = act.steps;
-  text = codes "part " ++ decimal piece.count ++ codes "\n" ++ act.text;
-}
-
--- each act of these pieces in that form
+-- each act of these pieces with the line `part K` before its text, where K is the count of its piece
 abbrev pub framed : List Piece → List Act → List Act
 framed [] acts = []
 framed (piece ∷ needed) [] = []
-framed (piece ∷ needed) (act ∷ acts) = framed_act piece act ∷ framed needed acts
+framed (piece ∷ needed) (act ∷ acts) =
+    record { steps = act.steps; text = codes "part " ++ decimal piece.count ++ codes "\n" ++ act.text }
+    ∷ framed needed acts
 
 -- its pieces
 abbrev pub pieces_in : Plain → Volume → List Piece
@@ -120,12 +113,6 @@ pub record FirstLost (c : Cartridge) (words : List ℕ) (needed : List Piece) : 
   pub few : All (LosesFew c words) front
   pub many : 3 < unreadable_count (piece_cells c words piece)
 
--- with so many pieces read: all of them, or the next one's segment is the one that says no data
-abbrev pub EndsAt : List Piece → (done : ℕ) → GivingEnd → Type 0
-EndsAt needed done Restored = done ≡ length needed
-EndsAt needed done (LostIn segment lost) = (3 < lost) × IsSomeAnd (slice_get needed done) (λ piece. piece.segment ≡ segment)
-EndsAt needed done (MismatchIn segment) = IsSomeAnd (slice_get needed done) (λ piece. piece.segment ≡ segment)
-
 -- the volume with a number, counted from 1
 abbrev pub volume_at : List Entry → (number : ℕ) → Option Entry
 volume_at entries zero = None
@@ -137,19 +124,55 @@ ending_status Restored = status.Done
 ending_status (LostIn segment lost) = status.Lost segment lost
 ending_status (MismatchIn segment) = status.Mismatch segment
 
--- there is such a volume, and the settled cartridge gives this of it
-pub record RestoresOn (c : Cartridge) (words : List ℕ) (table : List (List ℕ)) (entries : List Entry) (number : ℕ) (outcome : CommandOutcome) : Type 0 where
+-- there is a volume with this number, the cartridge gives these acts of it, and they come to this
+pub record RestoresVolume (c : Cartridge) (words : List ℕ) (entries : List Entry) (number : ℕ) (Comes : Entry → List Act → GivingEnd → Type 0) : Type 0 where
   pub entry : Entry
   pub numbered : volume_at entries number ≡ Some entry
   pub acts : List Act
   pub ending : GivingEnd
-  pub restores : Restores (settled table c) words (pieces words entry) acts ending
-  pub is : outcome ≡ record { acts = settling_act table c ∷ acts; taken = 0; status = ending_status ending }
+  pub restores : Restores c words (pieces words entry) acts ending
+  pub is : Comes entry acts ending
 
 abbrev pub Gives : (number : ℕ) → Going
 Gives number c header words table entries outcome =
     ((volume_at entries number ≡ None) × (outcome ≡ refused_behind (settling_steps table c) (status.NoVolume number (length entries))))
-    ⊎ RestoresOn c words table entries number outcome
+    ⊎ RestoresVolume (settled table c) words entries number
+      (λ entry acts ending.
+      outcome ≡ record { acts = settling_act table c ∷ acts; taken = 0; status = ending_status ending })
 
 abbrev pub RestoreOutcome : (number : ℕ) → Option Cartridge → CommandOutcome → Type 0
 RestoreOutcome number held outcome = OpenOutcome (Gives number) held outcome
+
+-- ---- The command `restore`: what it needs, what it prints and which volumes there are not (this project's own).
+
+-- a cartridge stands for a plain one that has this volume of the number, counted from 1, and its volume table can be read
+pub record HasNumber (c : Cartridge) (plain : Plain) (number : ℕ) (volume : Volume) : Type 0 where
+  pub stands : Stands c plain
+  pub reads : CanBeRead c
+  pub place : ℕ
+  pub numbered : number ≡ suc place
+  pub is : slice_get plain.volumes place ≡ Some volume
+
+-- a number, counted from 1, is that of none of so many volumes
+abbrev pub is_past : (number count : ℕ) → Bool
+is_past zero count = true
+is_past (suc n) count = nat_le count n
+
+-- the bytes of a volume may have been printed before a segment that doesn't read
+abbrev pub restore_refused : Status → List ℕ → Type 0
+restore_refused (status.Lost segment lost) text = Unit {0}
+restore_refused (status.Mismatch segment) text = Unit {0}
+restore_refused answer text = text ≡ []
+
+-- It needs a volume of the number, no segment of which, where it holds some of its bytes, has more than three unreadable sectors. The
+-- bytes of a volume may be any; the number that is refused is the one that was asked for.
+abbrev pub restore_command : (number : ℕ) → Command
+restore_command number =
+    record (plain_command ((Word (codes "restore") ∷ AnyNumber number ∷ []) ∷ [])
+    (λ held input outcome. RestoreOutcome number held outcome) (λ text. Unit {0})) {
+      traits = record none_of_them { goes = true; memory = true; cartridge = true; mounts = true; restores = true };
+      refused = restore_refused;
+      needs = λ held input. IsSomeAnd held (λ c. (plain : Plain) × ((volume : Volume) × HasNumber c plain number volume
+          × All (LosesFew c plain.words) (pieces_in plain volume)));
+      is_no_volume = λ named count. (named == number) && is_past number count;
+    }

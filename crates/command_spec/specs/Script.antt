@@ -1,31 +1,29 @@
 -- The plain machine of `script`: its lines, one after the other, over a mounted cartridge, and their replies (this project's own).
-use Rattle.std.specs.Prelude.{ℕ, List, codes, ◌++◌, decimal, [], ◌+◌, ◌∷◌, ◌≡◌, true, false, length, Some, ◌⊎◌, None, ◌<◌, ◌≤◌, drop, Option}
+use Rattle.std.specs.Prelude.{ℕ, List, codes, ◌++◌, decimal, [], ◌+◌, ◌∷◌, ◌≡◌, true, false, length, Some, ◌⊎◌, None, ◌<◌, ◌≤◌, drop, Option, IsSomeAnd}
+use Rattle.cartridge_spec.specs.Appending.{room}
+use Rattle.cartridge_spec.specs.Header.{Header}
 use Rattle.cartridge_spec.specs.HeaderAndTable.{table_cells, TableIs}
 use Rattle.cartridge_spec.specs.Mounting.{settled}
 use Rattle.cartridge_spec.specs.Says.{ByCode, LostSectors, TableSays}
 use Rattle.cartridge_spec.specs.Settling.{changed_by}
 use Rattle.cartridge_spec.specs.Table.{Entry}
 use Rattle.cartridge_spec.specs.Volumes.{volume_length}
-use Rattle.command_spec.specs.Append.{Kept, append_acts, Taking, Fits, TooLong, TooShort, entry_for, room_in, taking, kept_over}
-use Rattle.command_spec.specs.Input.{Item, IsLineText, most_items, Ending, AtEnd, AtStop, AtFault, IsItem, HasItems, IsScript}
+use Rattle.command_spec.specs.Append.{Kept, append_acts, Taking, Fits, TooLong, TooShort, entry_behind, taking, kept_over}
+use Rattle.command_spec.specs.Input.{Item, IsLineText, most_items, Ending, AtEnd, AtStop, AtFault, IsItem, HasItems, IsScript, input_status}
 use Rattle.command_spec.specs.Lines.{place_line, number_line, reply_behind, lost_line, list_text}
-use Rattle.command_spec.specs.Outcome.{settling_act, CommandOutcome, Going, OpenOutcome}
-use Rattle.command_spec.specs.Restore.{Restored, LostIn, MismatchIn, Restores, framed, pieces, volume_at}
+use Rattle.command_spec.specs.Outcome.{settling_act, CommandOutcome, OpenOutcome}
+use Rattle.command_spec.specs.Restore.{GivingEnd, Restored, LostIn, MismatchIn, RestoresVolume, framed, pieces, volume_at}
 use Rattle.command_spec.specs.Scrub.{Scrubs}
 use Rattle.command_spec.specs.declared.line.Line.{Line}
 use Rattle.command_spec.specs.declared.refusal.Refusal.{Refusal}
-use Rattle.command_spec.specs.declared.status.Status.{Status}
 use Rattle.qic_base.specs.Acts.{Act, steps_of}
 use Rattle.qic_base.specs.Cartridge.{Cartridge, IsPlace}
 use Rattle.qic_base.specs.Step.{Wear}
+use Rattle.command_spec.specs.Command.{Command, plain_command, CanBeMounted, none_of_them, Word}
+use Rattle.command_spec.specs.declared.status.Status.{Status}
 use Rattle.command_spec.specs.declared.refusal.Refusal.TheVariants as why
-use Rattle.command_spec.specs.Restore as restoring
 use Rattle.command_spec.specs.declared.line.Line.TheVariants as line
 use Rattle.command_spec.specs.declared.status.Status.TheVariants as status
-
--- a volume that was given back: its number, and its length in bytes
-abbrev pub restored_line : (number bytes : ℕ) → List ℕ
-restored_line number bytes = place_line (codes "restored") number bytes
 
 -- what is there of what was asked for
 unfoldable pub no_volume_line : (number count : ℕ) → List ℕ
@@ -83,7 +81,8 @@ acts_on c words entries name promised date bytes (Finds table) =
 
 -- what it has done then, by what became of the bytes
 abbrev pub taken_as : Kept → (name : List ℕ) → (date : ℕ) → List Act → Taking → Did
-taken_as kept name date acts (Fits bytes) = record { acts = acts; entries = kept.entries ++ entry_for kept name date bytes ∷ [] }
+taken_as kept name date acts (Fits bytes) =
+    record { acts = acts; entries = kept.entries ++ entry_behind kept.words kept.entries name date bytes ∷ [] }
 taken_as kept name date acts (TooLong need have) = line_refused acts kept.entries (why.Full need have)
 taken_as kept name date acts (TooShort promised read) = record { acts = acts; entries = kept.entries }
 
@@ -92,61 +91,36 @@ abbrev pub append_did : Cartridge → (words : List ℕ) → List Entry → (nam
 append_did c words entries name promised date bytes (Refuses why) = line_refused [] entries why
 append_did c words entries name promised date bytes (Finds table) =
     let kept : Kept = kept_over c words entries table in
-    taken_as kept name date (acts_on c words entries name promised date bytes (Finds table)) (taking (room_in kept) (Some promised) bytes)
-
-abbrev pub AppendDoes : Cartridge → (words : List ℕ) → List Entry → (name : List ℕ) → (promised date : ℕ) → (bytes : List ℕ) → Did → Type 0
-AppendDoes c words entries name promised date bytes did =
-    (meeting : Meeting) × Meets c meeting × (did ≡ append_did c words entries name promised date bytes meeting)
+    taken_as kept name date (acts_on c words entries name promised date bytes (Finds table)) (taking (room words entries) (Some promised) bytes)
 
 -- ---- restore
 
--- what a restore has done that printed these parts
-abbrev pub given_as : (words : List ℕ) → List Entry → (number : ℕ) → Entry → List Act → restoring.GivingEnd → Did
+-- what a restore has done that printed these parts: behind all of them come the volume's number and its length in bytes
+abbrev pub given_as : (words : List ℕ) → List Entry → (number : ℕ) → Entry → List Act → GivingEnd → Did
 given_as words entries number e parts Restored =
-    record { acts = parts ++ reply (restored_line number (volume_length words e)) ∷ []; entries = entries }
+    record { acts = parts ++ reply (place_line (codes "restored") number (volume_length words e)) ∷ []; entries = entries }
 given_as words entries number e parts (LostIn segment lost) = line_refused parts entries (why.Lost segment lost)
 given_as words entries number e parts (MismatchIn segment) = line_refused parts entries (why.Mismatch segment)
-
--- the volume with this number, as the cartridge gives it
-pub record RestoreDoes (c : Cartridge) (words : List ℕ) (entries : List Entry) (number : ℕ) (did : Did) : Type 0 where
-  pub entry : Entry
-  pub numbered : volume_at entries number ≡ Some entry
-  pub acts : List Act
-  pub ending : restoring.GivingEnd
-  pub restores : Restores c words (pieces words entry) acts ending
-  pub is : did ≡ given_as words entries number entry (framed (pieces words entry) acts) ending
-
-abbrev pub Restores_one : Cartridge → (words : List ℕ) → List Entry → (number : ℕ) → Did → Type 0
-Restores_one c words entries number did =
-    ((volume_at entries number ≡ None) × (did ≡ line_refused [] entries (why.NoVolume number (length entries))))
-    ⊎ RestoreDoes c words entries number did
-
--- ---- scrub, lose and list
-
-abbrev pub ScrubDoes : Cartridge → (words : List ℕ) → List Entry → Did → Type 0
-ScrubDoes c words entries did =
-    ((c.info.protected ≡ true) × (did ≡ line_refused [] entries why.Protected))
-    ⊎ ((c.info.protected ≡ false) × ((acts : List Act) × Scrubs c words entries acts × (did ≡ record { acts = acts; entries = entries })))
-
-abbrev pub Loses : Cartridge → List Entry → (segment sector : ℕ) → Did → Type 0
-Loses c entries segment sector did =
-    (¬ (IsPlace c.info.segments_per_track segment sector) × (did ≡ line_refused [] entries (why.Place segment sector)))
-    ⊎ (IsPlace c.info.segments_per_track segment sector
-    × (did ≡ record { acts = record { steps = Wear segment sector ∷ []; text = lost_line segment sector } ∷ []; entries = entries }))
 
 -- ---- an item
 
 -- what a line does on a cartridge with this map and these volumes, with the bytes that follow it
 abbrev pub LineDoes : Cartridge → (words : List ℕ) → List Entry → Line → (bytes : List ℕ) → Did → Type 0
-LineDoes c words entries (line.Append name promised date) bytes did = AppendDoes c words entries name promised date bytes did
+LineDoes c words entries (line.Append name promised date) bytes did =
+    (meeting : Meeting) × Meets c meeting × (did ≡ append_did c words entries name promised date bytes meeting)
 LineDoes c words entries line.List bytes did = did ≡ record { acts = reply (list_text words entries) ∷ []; entries = entries }
-LineDoes c words entries (line.Restore number) bytes did = Restores_one c words entries number did
-LineDoes c words entries line.Scrub bytes did = ScrubDoes c words entries did
-LineDoes c words entries (line.Lose segment sector) bytes did = Loses c entries segment sector did
+LineDoes c words entries (line.Restore number) bytes did =
+    ((volume_at entries number ≡ None) × (did ≡ line_refused [] entries (why.NoVolume number (length entries))))
+    ⊎ RestoresVolume c words entries number
+      (λ entry acts ending. did ≡ given_as words entries number entry (framed (pieces words entry) acts) ending)
+LineDoes c words entries line.Scrub bytes did =
+    ((c.info.protected ≡ true) × (did ≡ line_refused [] entries why.Protected))
+    ⊎ ((c.info.protected ≡ false) × ((acts : List Act) × Scrubs c words entries acts × (did ≡ record { acts = acts; entries = entries })))
+LineDoes c words entries (line.Lose segment sector) bytes did =
+    (¬ (IsPlace c.info.segments_per_track segment sector) × (did ≡ line_refused [] entries (why.Place segment sector)))
+    ⊎ (IsPlace c.info.segments_per_track segment sector
+    × (did ≡ record { acts = record { steps = Wear segment sector ∷ []; text = lost_line segment sector } ∷ []; entries = entries }))
 LineDoes c words entries line.End bytes did = ⊥
-
-abbrev pub ItemDoes : Cartridge → (words : List ℕ) → List Entry → Item → Did → Type 0
-ItemDoes c words entries item did = LineDoes c words entries item.line item.bytes did
 
 -- ---- items one after the other
 
@@ -171,7 +145,7 @@ ItemsDo c words entries [] [] = Unit {0}
 ItemsDo c words entries [] (did ∷ dids) = ⊥
 ItemsDo c words entries (item ∷ items) [] = ⊥
 ItemsDo c words entries (item ∷ items) (did ∷ dids) =
-    ItemDoes c words entries item did × ItemsDo (changed_by (steps_of did.acts) c) words did.entries items dids
+    LineDoes c words entries item.line item.bytes did × ItemsDo (changed_by (steps_of did.acts) c) words did.entries items dids
 
 -- ---- the end
 
@@ -186,31 +160,17 @@ pub record EndsEarly (rest : List ℕ) : Type 0 where
   pub parts : rest ≡ text ++ bytes
   pub short : length bytes < promised
 
--- the acts in front of a fault in the line with this number, which begins these bytes: those of an append whose bytes end
--- early, and none where no line is read
-abbrev pub FaultDoes : Cartridge → (words : List ℕ) → List Entry → (number : ℕ) → (rest : List ℕ) → List Act → Type 0
-FaultDoes c words entries number rest acts =
+-- The last acts, behind which these bytes are left: the reply `end`; or in front of a fault in the line with this number,
+-- which begins these bytes, those of an append whose bytes end early, and none where no line is read.
+abbrev pub EndDoes : Cartridge → (words : List ℕ) → List Entry → (rest : List ℕ) → Ending → List Act → Type 0
+EndDoes c words entries rest AtEnd acts = acts ≡ reply end_line ∷ []
+EndDoes c words entries rest AtStop acts = acts ≡ reply end_line ∷ []
+EndDoes c words entries rest (AtFault number place) acts =
     ((number ≤ most_items) × ((early : EndsEarly rest) × ((meeting : Meeting) × Meets c meeting
     × (acts ≡ acts_on c words entries early.name early.promised early.date early.bytes meeting))))
     ⊎ (((number ≤ most_items) → ¬ (EndsEarly rest)) × (acts ≡ []))
 
--- the last acts, behind which these bytes are left: the reply `end`, but for a fault
-abbrev pub EndDoes : Cartridge → (words : List ℕ) → List Entry → (rest : List ℕ) → Ending → List Act → Type 0
-EndDoes c words entries rest AtEnd acts = acts ≡ reply end_line ∷ []
-EndDoes c words entries rest AtStop acts = acts ≡ reply end_line ∷ []
-EndDoes c words entries rest (AtFault number place) acts = FaultDoes c words entries number rest acts
-
 -- ---- the outcome
-
--- how a run is answered: all was carried out; or this line, counted from 1, is at fault, with so many bytes before it
-pub data Answer : Type 0 where
-  AllDone : Answer
-  FaultIn : (number place : ℕ) → Answer
-
-abbrev pub script_answer : Ending → Answer
-script_answer AtEnd = AllDone
-script_answer AtStop = AllDone
-script_answer (AtFault number place) = FaultIn number place
 
 -- how many bytes of the input stand before what ends the items
 abbrev pub place_behind : (number place : ℕ) (input : List ℕ) (items : List Item) (ending : Ending) → HasItems IsItem number place input items ending → ℕ
@@ -224,13 +184,8 @@ items_taken input items AtEnd read = length input
 items_taken input items AtStop read = place_behind 1 0 input items AtStop read + length (codes "end\n")
 items_taken input items (AtFault number place) read = place
 
-pub record ScriptRun : Type 0 where
-  pub acts : List Act
-  pub taken : ℕ
-  pub answer : Answer
-
 -- The plain machine: an input over a mounted cartridge with this map and these volumes.
-pub record ScriptDoes (c : Cartridge) (words : List ℕ) (entries : List Entry) (input : List ℕ) (outcome : ScriptRun) : Type 0 where
+pub record ScriptDoes (c : Cartridge) (words : List ℕ) (entries : List Entry) (input : List ℕ) (outcome : CommandOutcome) : Type 0 where
   pub items : List Item
   pub ending : Ending
   pub read : IsScript input items ending
@@ -238,25 +193,36 @@ pub record ScriptDoes (c : Cartridge) (words : List ℕ) (entries : List Entry) 
   pub did : ItemsDo c words entries items dids
   pub last : List Act
   pub ends : EndDoes (cartridge_behind c dids) words (entries_behind entries dids) (drop (place_behind 1 0 input items ending read) input) ending last
-  pub is : outcome ≡ record { acts = acts_of dids ++ last; taken = items_taken input items ending read; answer = script_answer ending }
+  pub is : outcome ≡ record { acts = acts_of dids ++ last; taken = items_taken input items ending read; status = input_status ending }
 
--- how a script's answer is answered
-abbrev pub script_status : Answer → Status
-script_status AllDone = status.Done
-script_status (FaultIn number place) = status.ScriptFault number place
-
--- the settling of the table, and then what the lines did
-abbrev pub scripted_on : (table : List (List ℕ)) → Cartridge → ScriptRun → CommandOutcome
-scripted_on table c came = record { acts = settling_act table c ∷ came.acts; taken = came.taken; status = script_status came.answer }
-
--- the lines of an input are carried out on the settled cartridge
-pub record ScriptsOn (input : List ℕ) (c : Cartridge) (words : List ℕ) (table : List (List ℕ)) (entries : List Entry) (outcome : CommandOutcome) : Type 0 where
-  pub came : ScriptRun
+-- the table is settled, and the lines of an input are carried out on the settled cartridge
+pub record Scripting (input : List ℕ) (c : Cartridge) (header : Header) (words : List ℕ) (table : List (List ℕ)) (entries : List Entry) (outcome : CommandOutcome) : Type 0 where
+  pub came : CommandOutcome
   pub does : ScriptDoes (settled table c) words entries input came
-  pub is : outcome ≡ scripted_on table c came
-
-abbrev pub Scripting : (input : List ℕ) → Going
-Scripting input c header words table entries outcome = ScriptsOn input c words table entries outcome
+  pub is : outcome ≡ record came { acts = settling_act table c ∷ came.acts }
 
 abbrev pub ScriptOutcome : Option Cartridge → (input : List ℕ) → CommandOutcome → Type 0
 ScriptOutcome held input outcome = OpenOutcome (Scripting input) held outcome
+
+-- ---- The command `script` (this project's own).
+
+-- the replies to the lines before a fault of the input, or before a volume table that doesn't show the list
+abbrev pub script_refused : Status → List ℕ → Type 0
+script_refused (status.ScriptFault line place) text = Unit {0}
+script_refused status.TableMismatch text = Unit {0}
+script_refused answer text = text ≡ []
+
+-- The lines of a script, each append's with its bytes, go up to the end of the input or to the line `end`. The replies to them may be
+-- any. A line that is refused is answered by its reply, so they need nothing but a cartridge that can be mounted; and they may add
+-- volumes.
+abbrev pub script_command : Command
+script_command =
+    record (plain_command ((Word (codes "script") ∷ []) ∷ []) ScriptOutcome (λ text. (replies : List ℕ) × (text ≡ replies ++ end_line))) {
+      traits = record none_of_them { reads = true; lines = true; goes = true; memory = true; cartridge = true; mounts = true };
+      refused = script_refused;
+      fault = λ input line place. (items : List Item) × IsScript input items (AtFault line place);
+      needs = λ held input. IsSomeAnd held CanBeMounted
+          × ((items : List Item) × (IsScript input items AtEnd ⊎ IsScript input items AtStop));
+      keeps_volumes = λ c plain. ⊥;
+      keeps_list = λ c. ⊥;
+    }

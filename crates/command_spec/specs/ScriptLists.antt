@@ -6,14 +6,13 @@ use Rattle.cartridge_spec.specs.Header.{Header}
 use Rattle.cartridge_spec.specs.Mounting.{Lists}
 use Rattle.cartridge_spec.specs.Settling.{changed_by}
 use Rattle.cartridge_spec.specs.Table.{Entry}
-use Rattle.cartridge_spec.specs.Volumes.{Plain, entries_of, Stands}
-use Rattle.cartridge_spec.specs.Wear.{WearSpares}
+use Rattle.cartridge_spec.specs.Volumes.{Plain, entries_of, Stands, WearSpares}
 use Rattle.command_spec.specs.Input.{Item}
 use Rattle.command_spec.specs.Script.{Did, acts_of, cartridge_behind, entries_behind}
 use Rattle.command_spec.specs.declared.line.Line.{Line}
 use Rattle.qic_base.specs.Acts.{Act, steps_of, text_of}
 use Rattle.qic_base.specs.Cartridge.{Cartridge, IsPlace}
-use Rattle.qic_base.specs.Stop.{Torn}
+use Rattle.qic_base.specs.Step.{Torn}
 use Rattle.command_spec.specs.declared.line.Line.TheVariants as line
 
 -- ---- what items append
@@ -36,17 +35,14 @@ all_added entries (item ∷ items) (did ∷ dids) = item_added entries item did 
 
 -- ---- what is asked of the items
 
--- a sector that a line wears spares the header and the table, on the cartridge as it then stands
-abbrev pub LineSpares : Cartridge → Plain → Line → Type 0
-LineSpares c plain (line.Lose segment sector) =
-    IsPlace c.info.segments_per_track segment sector → WearSpares c plain segment sector
-LineSpares c plain other = Unit {0}
-
+-- each sector that a line wears spares the header and the table, on the cartridge as it then stands
 abbrev pub ItemsSpare : Cartridge → Plain → List Item → List Did → Type 0
 ItemsSpare c plain [] dids = Unit {0}
 ItemsSpare c plain (item ∷ items) [] = Unit {0}
 ItemsSpare c plain (item ∷ items) (did ∷ dids) =
-    LineSpares c plain item.line × ItemsSpare (changed_by (steps_of did.acts) c) (with_all plain (item_added (entries_of plain) item did)) items dids
+    ((segment sector : ℕ) → item.line ≡ line.Lose segment sector →
+      IsPlace c.info.segments_per_track segment sector → WearSpares c plain segment sector)
+    × ItemsSpare (changed_by (steps_of did.acts) c) (with_all plain (item_added (entries_of plain) item did)) items dids
 
 -- the first ones do
 abbrev pub FirstSpare : Cartridge → Plain → List Item → List Did → (count : ℕ) → Type 0
@@ -79,14 +75,11 @@ pub record StandsAnswered (plain : Plain) (items : List Item) (dids : List Did) 
   pub answered : (n : ℕ) → n ≤ length items → printed_by dids n ≤ printed → n ≤ count
   pub most : (n : ℕ) → suc n ≤ count → printed_by dids n ≤ printed
 
--- a sector that a line wears lies behind the table's segment; each cartridge has the segments in front
-abbrev pub WearsBehind : Line → Type 0
-WearsBehind (line.Lose segment sector) = sector < 32 → 3 ≤ segment
-WearsBehind other = Unit {0}
-
+-- each sector that a line wears lies behind the table's segment; each cartridge has the segments in front
 abbrev pub ItemsWearBehind : List Item → Type 0
 ItemsWearBehind [] = Unit {0}
-ItemsWearBehind (item ∷ items) = WearsBehind item.line × ItemsWearBehind items
+ItemsWearBehind (item ∷ items) =
+    ((segment sector : ℕ) → item.line ≡ line.Lose segment sector → sector < 32 → 3 ≤ segment) × ItemsWearBehind items
 
 -- what is left is mounted with the list behind so many items, where none of them wore a sector of header or table
 abbrev pub ListsBehind : Header → (words : List ℕ) → List Entry → List Item → List Did → (count : ℕ) → (left : Option Cartridge) → Type 0

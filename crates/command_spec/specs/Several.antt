@@ -1,23 +1,72 @@
--- What runs of several items leave of the plain cartridge that a cartridge stands for: generated runs, and scripts (this project's
--- own).
-use Rattle.std.specs.Prelude.{ℕ, List, ◌≡◌, ◌≤◌, Option, Some, IsSomeAnd, ◌≢◌, ◌⊎◌, [], ◌<◌, All, length, take, false}
-use Rattle.cartridge_spec.specs.Appending.{with_all}
-use Rattle.cartridge_spec.specs.Mounting.{IsTableLive, settled}
-use Rattle.cartridge_spec.specs.Volumes.{Plain, Stands, entries_of}
-use Rattle.command_spec.specs.Headline.{ToldNow, EachLeft}
-use Rattle.command_spec.specs.Listing.{IsHeard}
-use Rattle.command_spec.specs.Machine.{Spells}
-use Rattle.command_spec.specs.MadeVolumes.{AppendedBy, made_contents}
-use Rattle.command_spec.specs.Runs.{is_fault}
-use Rattle.command_spec.specs.Script.{ScriptDoes}
-use Rattle.command_spec.specs.ScriptLists.{CameFurther, FirstSpare, GoesNoFurther, ItemsSpare, StandsAnswered, all_added}
+-- What a cartridge is mounted with when a run is over that adds volumes, whether it stands for a plain cartridge or not (this
+-- project's own).
+use Rattle.std.specs.Prelude.{◌≡◌, ℕ, List, IsSomeAnd, [], ◌∷◌, ◌++◌, Option, ◌≢◌, ◌⊎◌, ◌≤◌, length, false, Some, ◌<◌, All, take}
+use Rattle.cartridge_spec.specs.Header.{Header}
+use Rattle.cartridge_spec.specs.Mounting.{Lists, settled, IsTableLive}
+use Rattle.cartridge_spec.specs.Table.{Entry}
+use Rattle.command_spec.specs.Append.{entry_behind}
+use Rattle.command_spec.specs.Headline.{ToldNow}
+use Rattle.command_spec.specs.Input.{Item}
+use Rattle.command_spec.specs.Machine.{Spells, is_fault}
+use Rattle.command_spec.specs.Make.{AppendedBy, made_list, made_contents}
+use Rattle.command_spec.specs.Outcome.{CommandOutcome}
+use Rattle.command_spec.specs.Script.{Did, entries_behind, ScriptDoes}
+use Rattle.command_spec.specs.ScriptLists.{ItemsWearBehind, ListsAnswered, ListsBroken, CameFurther, FirstSpare, GoesNoFurther, ItemsSpare, StandsAnswered, all_added}
+use Rattle.command_spec.specs.Volumes.{IsInput, IsCarriedOut}
 use Rattle.command_spec.specs.declared.status.Status.{Status}
 use Rattle.qic_base.specs.Cartridge.{Cartridge}
-use Rattle.command_spec.specs.declared.words.Words.TheVariants as commands
-use Rattle.qic_base.specs.Sink as sinks
+use Rattle.cartridge_spec.specs.Appending.{with_all}
+use Rattle.cartridge_spec.specs.Volumes.{Plain, Stands, entries_of}
 use Rattle.qic_base.specs.Tape as tapes
+use Rattle.qic_base.specs.Sink as sinks
 use Rattle.command_spec.specs.declared.status.Status.TheVariants as status
-use Rattle.command_spec.specs.Script as scripts
+use Rattle.command_spec.specs.declared.words.Words.TheVariants as commands
+
+-- each cartridge that stands when a run is over is mounted with this list
+abbrev pub NowLists : {T : Type 0} (t : tapes.Meaning T) (new : T) → Header → (words : List ℕ) → List Entry → Type 0
+NowLists t new header words entries = ToldNow t new (λ left. IsSomeAnd left (λ d. Lists d header words entries))
+
+-- the list with the first ones of the made volumes; with those that were appended by the answer, where no fault of the outside ended
+-- it; with all of them, where anything was printed, the sink failed, or all was carried out
+pub record ListsMade {T K : Type 0} (t : tapes.Meaning T) (k : sinks.Meaning K) (new : T) (before behind : K) (answer : Status) (header : Header) (words : List ℕ) (entries : List Entry) (seed count : ℕ) : Type 0 where
+  pub text : List ℕ
+  pub took : k.took before text behind
+  pub some : (n : ℕ) × (n ≤ count) × NowLists t new header words (made_list seed n words entries)
+  pub answered : is_fault answer ≡ false →
+      (n : ℕ) × AppendedBy seed count words entries answer n × NowLists t new header words (made_list seed n words entries)
+  pub all : (text ≢ []) ⊎ IsCarriedOut answer → NowLists t new header words (made_list seed count words entries)
+
+-- the input of a script was carried out, up to its end or to the line at fault
+abbrev pub IsHeard : Status → Type 0
+IsHeard answer = (answer ≡ status.Done) ⊎ ((line place : ℕ) × (answer ≡ status.ScriptFault line place))
+
+-- The list with the appends of those lines whose reply was written whole; and, where the sink failed, of the next one, whose reply
+-- it broke off; of all lines, where the input was carried out. None of these lines may have worn a sector of the segments 0 to 2.
+pub record ListsLines {T K : Type 0} (t : tapes.Meaning T) (k : sinks.Meaning K) (new : T) (before behind : K) (answer : Status) (header : Header) (words : List ℕ) (entries : List Entry) (items : List Item) (dids : List Did) : Type 0 where
+  pub text : List ℕ
+  pub took : k.took before text behind
+  pub answered : answer ≢ status.SinkFault → ToldNow t new (ListsAnswered header words entries items dids (length text))
+  pub broken : answer ≡ status.SinkFault → ToldNow t new (ListsBroken header words entries items dids (length text))
+  pub all : IsHeard answer → ItemsWearBehind items → NowLists t new header words (entries_behind entries dids)
+
+-- When a run is over that no fault of the tape ended, the cartridge is mounted with the old list and the appends that were carried
+-- out: that of `append` after Done and after a fault of the sink; those of the made volumes; those of the script's lines, by what
+-- these do. The input is that which the source tells, or some input where it tells none.
+pub record ListsAppends {T K : Type 0} (t : tapes.Meaning T) (k : sinks.Meaning K) (told : Option (List ℕ)) (words : List (List ℕ)) (new : T) (before behind : K) (answer : Status) (c : Cartridge) (header : Header) (map_words : List ℕ) (table : List (List ℕ)) (entries : List Entry) : Type 0 where
+  pub appended : (name : List ℕ) (date : ℕ) → Spells words (commands.Append name date) → IsCarriedOut answer →
+      (input : List ℕ) × IsInput told input
+      × NowLists t new header map_words (entries ++ entry_behind map_words entries name date input ∷ [])
+  pub unchanged : (name : List ℕ) (date : ℕ) → Spells words (commands.Append name date) → answer ≢ status.Done → answer ≢ status.SinkFault →
+      NowLists t new header map_words entries
+  pub made : (seed count : ℕ) → Spells words (commands.Make seed count) →
+      ListsMade t k new before behind answer header map_words entries seed count
+  pub scripted : Spells words commands.Script →
+      (input : List ℕ) × IsInput told input
+      × ((outcome : CommandOutcome) (does : ScriptDoes (settled table c) map_words entries input outcome) →
+      ListsLines t k new before behind answer header map_words entries does.items does.dids)
+
+-- ---- What runs of several items leave of the plain cartridge that a cartridge stands for: generated runs, and scripts (this project's
+-- own).
 
 -- ---- a generated run
 
@@ -36,18 +85,14 @@ SomeMade words held left =
 -- When it is over this was printed; and where no fault of the outside ended it, as many of the volumes are there as were appended by
 -- its answer, all of them once it was carried out. Where each sector of the table's segment takes a write, all are there, too, where
 -- anything was printed, or the sink failed.
-pub record AllMade {T K : Type 0} (t : tapes.Meaning T) (k : sinks.Meaning K) (old new : T) (before behind : K) (answer : Status) (seed count : ℕ) (c : Cartridge) (plain : Plain) : Type 0 where
+pub record AllMade {T K : Type 0} (t : tapes.Meaning T) (k : sinks.Meaning K) (new : T) (before behind : K) (answer : Status) (seed count : ℕ) (c : Cartridge) (plain : Plain) : Type 0 where
   pub text : List ℕ
   pub took : k.took before text behind
   pub answered : is_fault answer ≡ false →
-      (n : ℕ) × AppendedBy seed count plain.words (entries_of plain) answer n × ToldNow t new (λ left. IsSomeAnd left (λ d. Stands d (with_all plain (made_contents seed 1 n))))
-  pub all : IsTableLive c → (text ≢ []) ⊎ (answer ≡ status.SinkFault) → ToldNow t new (λ left. IsSomeAnd left (λ d. Stands d (with_all plain (made_contents seed 1 count))))
-
--- A generated run may be stopped: each cartridge that it leaves is so; and so it is when it is over.
-pub record MakesVolumes {T K : Type 0} (t : tapes.Meaning T) (k : sinks.Meaning K) (words : List (List ℕ)) (old new : T) (before behind : K) (answer : Status) : Type 0 where
-  pub stopped : EachLeft t old new (SomeMade words)
-  pub over : (seed count : ℕ) (c : Cartridge) (plain : Plain) → t.told old ≡ Some (Some c) → Generated words seed count c plain →
-      AllMade t k old new before behind answer seed count c plain
+      (n : ℕ) × AppendedBy seed count plain.words (entries_of plain) answer n
+      × ToldNow t new (λ left. IsSomeAnd left (λ d. Stands d (with_all plain (made_contents seed 1 n))))
+  pub all : IsTableLive c → (text ≢ []) ⊎ (answer ≡ status.SinkFault) →
+      ToldNow t new (λ left. IsSomeAnd left (λ d. Stands d (with_all plain (made_contents seed 1 count))))
 
 -- ---- a script
 
@@ -59,7 +104,7 @@ pub record Scripted (told : Option (List ℕ)) (words : List (List ℕ)) (c : Ca
   pub is_told : told ≡ Some input
   pub bytes : All (λ b. b < 256) input
   pub stands : Stands c plain
-  pub outcome : scripts.ScriptRun
+  pub outcome : CommandOutcome
   pub does : ScriptDoes (settled plain.table_area c) plain.words (entries_of plain) input outcome
 
 -- each sector that the first lines wear spares the header and the table, on the cartridge as it then stands
@@ -80,15 +125,11 @@ SomeScripted told words held left =
 -- When it is over, whatever it answered, this was printed. Where each sector of the table's segment takes a write, and the lines that
 -- it went no further than spare header and table, all lines whose reply was written whole are among these, and at most one more; and
 -- all lines, also where some of these sectors take none, once the input was carried out, if all lines spare them.
-pub record AllAnswered {T K : Type 0} (t : tapes.Meaning T) (k : sinks.Meaning K) {told : Option (List ℕ)} {words : List (List ℕ)} {c : Cartridge} {plain : Plain} (old new : T) (before behind : K) (answer : Status) (script : Scripted told words c plain) : Type 0 where
+pub record AllAnswered {T K : Type 0} (t : tapes.Meaning T) (k : sinks.Meaning K) {told : Option (List ℕ)} {words : List (List ℕ)} {c : Cartridge} {plain : Plain} (new : T) (before behind : K) (answer : Status) (script : Scripted told words c plain) : Type 0 where
   pub text : List ℕ
   pub took : k.took before text behind
-  pub answered : IsTableLive c → (count : ℕ) → GoesNoFurther script.does.items script.does.dids count (length text) → FirstLinesSpare script count →
-      ToldNow t new (StandsAnswered plain script.does.items script.does.dids (length text))
-  pub all : IsHeard answer → ItemsSpare (settled plain.table_area c) plain script.does.items script.does.dids → ToldNow t new (λ left. IsSomeAnd left (λ d. Stands d (with_all plain (all_added (entries_of plain) script.does.items script.does.dids))))
-
--- A script may be stopped: each cartridge that it leaves is so; and so it is when it is over.
-pub record CarriesOutLines {T K : Type 0} (t : tapes.Meaning T) (k : sinks.Meaning K) (told : Option (List ℕ)) (words : List (List ℕ)) (old new : T) (before behind : K) (answer : Status) : Type 0 where
-  pub stopped : EachLeft t old new (SomeScripted told words)
-  pub over : (c : Cartridge) (plain : Plain) → t.told old ≡ Some (Some c) → (script : Scripted told words c plain) →
-      AllAnswered t k old new before behind answer script
+  pub answered : IsTableLive c → (count : ℕ) → GoesNoFurther script.does.items script.does.dids count (length text) →
+      FirstLinesSpare script count → ToldNow t new (StandsAnswered plain script.does.items script.does.dids (length text))
+  pub all : IsHeard answer → ItemsSpare (settled plain.table_area c) plain script.does.items script.does.dids →
+      ToldNow t new (λ left. IsSomeAnd left (λ d.
+      Stands d (with_all plain (all_added (entries_of plain) script.does.items script.does.dids))))

@@ -5,3 +5,4 @@ pub mod Record
 pub mod Reports
 pub mod Row
 pub mod Steps
+pub mod Terms

@@ -1,10 +1,9 @@
--- The parameters of commands: their trains, the values that these may have, and the number that they make (QIC-117).
-use Rattle.std.specs.Prelude.{ℕ, ◌+◌, ◌*◌, ◌^◌}
+-- The parameters of commands: their trains, and the values that these may have (QIC-117).
+use Rattle.std.specs.Prelude.{ℕ}
 use Rattle.qic117_commands.specs.declared.command.Command.{Command}
 use Rattle.qic117_commands.specs.declared.command.Command.TheVariants.{SeekTrack, SkipReverse, SkipForward, SetFormatSegments}
 use Rattle.qic117_commands.specs.declared.error_code.ErrorCode.{ErrorCode}
 use Rattle.qic117_commands.specs.declared.error_code.ErrorCode.TheVariants.{UndefinedCommand, IllegalTrack}
-use Rattle.drive_spec.specs.declared.under_way.Parameter.{Parameter}
 
 -- how many trains make up a command's parameter; 0 where it takes none
 abbrev pub parameter_trains : Command → ℕ
@@ -23,7 +22,3 @@ parameter_values command = 16
 abbrev pub parameter_code : Command → ErrorCode
 parameter_code SeekTrack = IllegalTrack
 parameter_code command = UndefinedCommand
-
--- a parameter with one more value, of which the first is the lowest
-abbrev pub longer : Parameter → (value : ℕ) → Parameter
-longer a value = record a { taken = a.taken + 1; value = a.value + value * 16 ^ a.taken }

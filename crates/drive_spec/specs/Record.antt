@@ -1,10 +1,11 @@
 -- The record of the state table: all that a drive is in (this project's profile of QIC-117).
-use Rattle.std.specs.Prelude.{ℕ, Bool, false, Option}
+use Rattle.std.specs.Prelude.{ℕ, Bool, true, false, Option, is_some}
 use Rattle.qic_base.specs.declared.tape.TapeInfo.{TapeInfo}
+use Rattle.qic117_commands.specs.declared.view.Mode.TheVariants.{Primary}
 use Rattle.drive_spec.specs.declared.deck.Deck.{Deck}
+use Rattle.drive_spec.specs.declared.deck.Motion.TheVariants.{Stopped}
 use Rattle.drive_spec.specs.declared.under_way.UnderWay.{UnderWay}
 use Rattle.drive_spec.specs.declared.under_way.UnderWay.TheVariants.{Nothing}
-use Rattle.drive_spec.specs.Deck.{power_on_deck}
 
 pub record Record : Type 0 where
   -- the part that a typed drive holds: cartridge, mode, place, motion, error word and format segments
@@ -18,4 +19,19 @@ pub record Record : Type 0 where
 
 -- after the cartridge was put in
 abbrev pub power_on : Option TapeInfo → Record
-power_on cartridge = record { deck = power_on_deck cartridge; train = 0; line = false; under_way = Nothing }
+power_on cartridge = record {
+  deck = record {
+    cartridge = cartridge;
+    mode = Primary;
+    at_load_point = true;
+    track = 0;
+    offset = 0;
+    motion = Stopped;
+    fresh = is_some cartridge;
+    error = 0;
+    format_segments = 0;
+  };
+  train = 0;
+  line = false;
+  under_way = Nothing;
+}

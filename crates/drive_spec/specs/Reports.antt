@@ -1,13 +1,11 @@
 -- The reports: how many bits each has, and the word that it shows (QIC-117; the words are this project's profile).
-use Rattle.std.specs.Prelude.{ℕ, ◌+◌, ◌==◌, Bool, if◌then◌else◌, nat_lt}
+use Rattle.std.specs.Prelude.{ℕ, ◌+◌, ◌==◌, not, if◌then◌else◌}
+use Rattle.qic117_commands.specs.StatusWord.{status_of}
+use Rattle.qic117_commands.specs.Views.{is_format}
 use Rattle.qic117_commands.specs.declared.command.Command.{Command}
 use Rattle.qic117_commands.specs.declared.command.Command.TheVariants.{ReportStatus, ReportError, ReportConfiguration, ReportRom, ReportVendor, ReportTapeStatus, ReportFormatSegments}
 use Rattle.drive_spec.specs.declared.deck.Deck.{Deck}
-use Rattle.drive_spec.specs.Deck.{segments_per_track, status_word, told_segments}
-
--- QIC-80, by the tape's length: 205 ft has 100 segments per track, 307.5 ft has 150
-abbrev pub tape_status : (segments_per_track : ℕ) → ℕ
-tape_status n = 0x02 + (if n == 100 then 0x10 else if n == 150 then 0x20 else 0x30)
+use Rattle.drive_spec.specs.Deck.{segments_per_track, view_of, is_at_bot, is_at_eot}
 
 -- how many bits a report has; 0 where the command asks for none
 abbrev pub report_width : Command → ℕ
@@ -20,16 +18,14 @@ report_width ReportTapeStatus = 8
 report_width ReportFormatSegments = 16
 report_width command = 0
 
--- the word that a report shows
+-- the word that a report shows; of the tape, by its length: 205 ft has 100 segments per track, 307.5 ft has 150
 abbrev pub report_word : Command → Deck → ℕ
-report_word ReportStatus d = status_word d
+report_word ReportStatus d = status_of (view_of d) (not (d.error == 0)) (is_at_bot d) (is_at_eot d)
 report_word ReportError d = d.error
 report_word ReportConfiguration d = 0x00
 report_word ReportRom d = 0x01
 report_word ReportVendor d = 0x0080
-report_word ReportTapeStatus d = tape_status (segments_per_track d)
-report_word ReportFormatSegments d = told_segments d
+report_word ReportTapeStatus d =
+    0x02 + (if segments_per_track d == 100 then 0x10 else if segments_per_track d == 150 then 0x20 else 0x30)
+report_word ReportFormatSegments d = if is_format d.mode then d.format_segments else segments_per_track d
 report_word command d = 0
-
-abbrev pub is_report : Command → Bool
-is_report command = nat_lt 0 (report_width command)

@@ -1,45 +1,44 @@
 -- What a gap does to the record: the state table, for a whole train at once (this project's profile of QIC-117).
-use Rattle.std.specs.Prelude.{ℕ, ◌-◌, ◌==◌, Bool, false, List, [], ◌∷◌, Option, Some, None, if◌then◌else◌, nat_lt}
+use Rattle.std.specs.Prelude.{ℕ, ◌+◌, ◌-◌, ◌*◌, ◌^◌, ◌==◌, Bool, true, false, List, [], ◌∷◌, ◌++◌, Option, Some, None, if◌then◌else◌, nat_lt}
 use Rattle.qic117_commands.specs.Commands.{number_of, command_at}
 use Rattle.qic117_commands.specs.declared.command.Command.{Command}
-use Rattle.qic117_commands.specs.declared.command.Command.TheVariants.{Reset, ReportNextBit}
+use Rattle.qic117_commands.specs.declared.command.Command.TheVariants.{Reset, ReportNextBit, LogicalForward}
 use Rattle.qic117_commands.specs.declared.error_code.ErrorCode.{ErrorCode}
-use Rattle.qic117_commands.specs.declared.error_code.ErrorCode.TheVariants.{UndefinedCommand, IllegalInReport}
-use Rattle.report_bits.specs.Report.{levels_of}
-use Rattle.drive_spec.specs.declared.deck.Deck.{Deck}
+use Rattle.qic117_commands.specs.declared.error_code.ErrorCode.TheVariants.{UndefinedCommand, IllegalInReport, LogicalEot}
+use Rattle.qic117_commands.specs.Refusals.{first_refusal}
+use Rattle.report_bits.specs.Digits.{digits}
+use Rattle.drive_spec.specs.declared.deck.Motion.TheVariants.{Stopped, Streaming}
 use Rattle.drive_spec.specs.declared.under_way.Parameter.{Parameter}
 use Rattle.drive_spec.specs.declared.under_way.UnderWay.{UnderWay}
 use Rattle.drive_spec.specs.declared.under_way.UnderWay.TheVariants.{Nothing, Report, Awaited}
-use Rattle.drive_spec.specs.Deck.{is_streaming, refusal_of}
-use Rattle.drive_spec.specs.Effects.{error_word, accepted, given, reset, ticked, ends_early, run_on}
+use Rattle.drive_spec.specs.Deck.{is_streaming, view_of, limit}
+use Rattle.drive_spec.specs.Effects.{error_word, accepted, given, reset, ticked, ends_early}
 use Rattle.drive_spec.specs.Record.{Record}
-use Rattle.drive_spec.specs.Reports.{report_width, report_word, is_report}
-use Rattle.drive_spec.specs.Parameters.{parameter_trains, parameter_values, parameter_code, longer}
+use Rattle.drive_spec.specs.Reports.{report_width, report_word}
+use Rattle.drive_spec.specs.Parameters.{parameter_trains, parameter_values, parameter_code}
 
 -- an error: it replaces an older one, and ends a report under way or the wait for a parameter
 abbrev pub latched : Record → ErrorCode → (command : ℕ) → Record
 latched r code command = record r { deck = record r.deck { error = error_word code command }; under_way = Nothing }
 
--- what an accepted command leaves under way
-abbrev pub begun : Command → Deck → UnderWay
-begun command d =
-    if is_report command then Report (levels_of (report_width command) (report_word command d))
-    else if nat_lt 0 (parameter_trains command) then Awaited record { command = command; taken = 0; value = 0 }
-    else Nothing
-
--- an accepted command; a report is acknowledged by the level 1
-abbrev pub obeying : Record → Command → Record
-obeying r command = record r { deck = accepted command r.deck; line = is_report command; under_way = begun command r.deck }
-
--- refused with the code of the first row that refuses, or accepted
+-- Refused with the code of the first row that refuses, or accepted. A report is acknowledged by the level 1; its word's
+-- digits and the final 1 are left to show.
 abbrev pub by_refusal : Record → Command → Option ErrorCode → Record
-by_refusal r command None = obeying r command
+by_refusal r command None = record r {
+  deck = accepted command r.deck;
+  line = nat_lt 0 (report_width command);
+  under_way =
+    if nat_lt 0 (report_width command)
+    then Report (digits (report_width command) (report_word command r.deck) ++ true ∷ [])
+    else if nat_lt 0 (parameter_trains command) then Awaited record { command = command; taken = 0; value = 0 }
+    else Nothing;
+}
 by_refusal r command (Some code) = latched r code (number_of command)
 
 -- a number that no command has is refused
 abbrev pub by_command : Record → (train : ℕ) → Option Command → Record
 by_command r train None = latched r UndefinedCommand train
-by_command r train (Some command) = by_refusal r command (refusal_of r.deck command)
+by_command r train (Some command) = by_refusal r command (first_refusal (view_of r.deck) command)
 
 -- the command is carried out when its parameter is whole
 abbrev pub given_more : Record → Parameter → Record
@@ -48,11 +47,11 @@ given_more r a =
     then record r { deck = given a.command a.value r.deck; under_way = Nothing }
     else record r { under_way = Awaited a }
 
--- a value of a parameter, which is sent as the train of two pulses more
+-- a value of a parameter, of which the first is the lowest; it is sent as the train of two pulses more
 abbrev pub taking : Record → Parameter → (value : ℕ) → Record
 taking r a value =
     if nat_lt value (parameter_values a.command)
-    then given_more r (longer a value)
+    then given_more r (record a { taken = a.taken + 1; value = a.value + value * 16 ^ a.taken })
     else latched r (parameter_code a.command) (number_of a.command)
 
 -- a report under way shows its next level, and is over after the last
@@ -68,33 +67,25 @@ heard r train (Report levels) =
     if train == number_of ReportNextBit then showing r levels else latched r IllegalInReport train
 heard r train Nothing = by_command r train (command_at train)
 
--- a train of one pulse or more
-abbrev pub obeyed : Record → (train : ℕ) → Record
-obeyed r train =
-    if train == number_of Reset
-    then record r { deck = reset r.deck; under_way = Nothing }
-    else heard r train r.under_way
-
--- the tape has run on by a segment; an error that this latches ends what is under way
+-- the tape has run on by a segment, and stops at the limit; an error that this latches ends what is under way
 abbrev pub moved_on : Record → Record
 moved_on r = record r {
-  deck = run_on r.deck;
+  deck = record r.deck {
+    offset = r.deck.offset + 1;
+    motion = if nat_lt (r.deck.offset + 1) (limit r.deck) then Streaming 0 else Stopped;
+    error = if ends_early r.deck then error_word LogicalEot (number_of LogicalForward) else r.deck.error;
+  };
   under_way = if ends_early r.deck then Nothing else r.under_way;
 }
 
--- a gap after no pulse
-abbrev pub idled : Record → Record
-idled r = if is_streaming r.deck.motion then moved_on r else r
-
--- after the seek's gap was counted: the train, and nothing is counted then
+-- after the seek's gap was counted: a gap after no pulse lets the tape run on, a train is heard, and none is counted then
 abbrev pub after_tick : Record → (train : ℕ) → Record
 after_tick r train =
-    if train == 0 then idled r else obeyed (record r { line = false; train = 0 }) train
-
--- a gap after a train of so many pulses
-abbrev pub row : Record → (train : ℕ) → Record
-row r train = after_tick (record r { deck = ticked r.deck }) train
+    if train == 0 then (if is_streaming r.deck.motion then moved_on r else r)
+    else if train == number_of Reset
+    then record r { deck = reset r.deck; line = false; train = 0; under_way = Nothing }
+    else heard (record r { line = false; train = 0 }) train r.under_way
 
 -- a gap
 abbrev pub after_gap : Record → Record
-after_gap r = row r r.train
+after_gap r = after_tick (record r { deck = ticked r.deck }) r.train

@@ -1,15 +1,16 @@
 -- What a drive in whatever state does.
 use Rattle.std.proofs.Common.{◌≡◌, ℕ, Bool, true, false, List, [], ◌∷◌, Some, None, is_none, Result, Ok, Err, if◌then◌else◌, refl, sym, subst}
 use Rattle.qic_base.specs.Step.{Step}
-use Rattle.qic_base.specs.Tape.{Meaning, Done, Does}
+use Rattle.qic_base.specs.Tape.{Meaning, Done}
+use Rattle.qic_base.specs.TapeCalls.{Does}
 use Rattle.qic_base.proofs.Steps.{Done-nothing, Done-Done, Done-Broke}
 use Rattle.qic117_commands.specs.Commands.{command_at, commands}
 use Rattle.qic117_commands.specs.declared.command.Command.{Command}
 use Rattle.qic117_commands.specs.declared.command.Command.TheVariants.{Reset, SkipReverse, SkipForward}
 use Rattle.qic117_commands.specs.Refusals.{waits_for_seek, illegal_in_primary, illegal_in_format, illegal_in_verify}
-use Rattle.drive_spec.specs.Deck.{refusal_of}
+use Rattle.drive_spec.specs.Terms.{refusal_of, train_steps}
 use Rattle.drive_spec.specs.Record.{Record}
-use Rattle.drive_spec.specs.Steps.{command_steps, train_steps, is_idle}
+use Rattle.drive_spec.specs.Steps.{command_steps, is_idle}
 use Rattle.drive_states.specs.declared.any_drive.AnyDrive.{AnyDrive}
 use Rattle.drive_states.specs.declared.any_drive.AnyDrive.TheVariants.{LoadPoint, Primary, Format, Verify, SeekingLoadPoint, SeekingPrimary, SeekingFormat, SeekingVerify}
 use Rattle.drive_states.specs.AnyDrive.{drive_of, state_of}

@@ -8,13 +8,13 @@ use Rattle.qic117_commands.specs.declared.command.Command.TheVariants.{ReportErr
 use Rattle.qic117_commands.specs.declared.view.Mode.{Mode}
 use Rattle.qic117_commands.specs.declared.view.Mode.TheVariants.{Primary, Format, Verify}
 use Rattle.qic117_commands.specs.Refusals.{needs_cartridge, waits_for_seek, waits_for_stop}
-use Rattle.qic117_commands.specs.Views.{is_primary, is_format}
-use Rattle.qic117_commands.specs.Views.{is_seeking as sees_seek, is_streaming as sees_stream}
+use Rattle.qic117_commands.specs.Views.{is_primary, is_format, is_seeking as sees_seek, is_streaming as sees_stream}
 use Rattle.drive_spec.specs.declared.deck.Deck.{Deck}
 use Rattle.drive_spec.specs.declared.deck.Motion.{Motion}
 use Rattle.drive_spec.specs.declared.deck.Motion.TheVariants.{Stopped, Streaming, Seeking}
-use Rattle.drive_spec.specs.Deck.{segments_per_track, limit, is_stopped, is_streaming, seen_motion, view_of, refusal_of, power_on_deck}
-use Rattle.drive_spec.specs.Effects.{accepted, given, referenced_as, reset, ticked, ticked_motion, run_on}
+use Rattle.drive_spec.specs.Deck.{segments_per_track, limit, is_stopped, is_streaming, seen_motion, view_of}
+use Rattle.drive_spec.specs.Terms.{refusal_of, power_on_deck, referenced_as, run_on}
+use Rattle.drive_spec.specs.Effects.{accepted, given, reset, ticked, ticked_motion}
 use Rattle.drive_states.specs.Typed.{is_seeking}
 use Rattle.drive_states.specs.Sound.{IsParameter, HasLength, IsInMotion, IsSound}
 use Rattle.drive_states.specs.Reach.{passed}

@@ -14,11 +14,12 @@ use Rattle.drive_spec.specs.declared.deck.Motion.TheVariants.{Streaming}
 use Rattle.drive_spec.specs.declared.under_way.Parameter.{Parameter}
 use Rattle.drive_spec.specs.declared.under_way.UnderWay.{UnderWay}
 use Rattle.drive_spec.specs.declared.under_way.UnderWay.TheVariants.{Nothing, Report, Awaited}
-use Rattle.drive_spec.specs.Deck.{is_stopped, is_streaming, limit, refusal_of}
+use Rattle.drive_spec.specs.Deck.{is_stopped, is_streaming, limit}
+use Rattle.drive_spec.specs.Terms.{refusal_of, obeyed, idled, longer}
 use Rattle.drive_spec.specs.Effects.{accepted, given, reset, ticked}
 use Rattle.drive_spec.specs.Record.{Record}
-use Rattle.drive_spec.specs.Parameters.{parameter_trains, parameter_values, parameter_code, longer}
-use Rattle.drive_spec.specs.Row.{latched, given_more, taking, showing, by_refusal, by_command, heard, obeyed, moved_on, idled, after_gap}
+use Rattle.drive_spec.specs.Parameters.{parameter_trains, parameter_values, parameter_code}
+use Rattle.drive_spec.specs.Row.{latched, given_more, taking, showing, by_refusal, by_command, heard, moved_on, after_gap}
 use Rattle.drive_spec.specs.Steps.{is_idle, reference_steps, command_steps, gap_steps}
 use Rattle.drive_states.specs.Laws.{marked_by}
 

@@ -4,12 +4,12 @@ use Rattle.qic117_commands.specs.declared.command.Command.{Command}
 use Rattle.qic117_commands.specs.declared.command.Command.TheVariants.{ReportError, LogicalForward, SeekTrack, SeekLoadPoint, EnterFormat, WriteReference, EnterVerify, StopTape, SkipReverse, SkipForward, EnterPrimary, SetFormatSegments}
 use Rattle.qic117_commands.specs.declared.view.Mode.TheVariants.{Primary, Format, Verify}
 use Rattle.qic117_commands.specs.Refusals.{needs_cartridge, waits_for_seek, waits_for_stop, illegal_in_primary, illegal_in_format, illegal_in_verify}
-use Rattle.qic117_commands.specs.Views.{is_primary, is_format, is_verify}
-use Rattle.qic117_commands.specs.Views.{is_seeking as sees_seek}
+use Rattle.qic117_commands.specs.Views.{is_primary, is_format, is_verify, is_seeking as sees_seek}
 use Rattle.drive_spec.specs.declared.deck.Deck.{Deck}
 use Rattle.drive_spec.specs.declared.deck.Motion.{Motion}
 use Rattle.drive_spec.specs.declared.deck.Motion.TheVariants.{Stopped, Streaming, Seeking}
-use Rattle.drive_spec.specs.Deck.{seen_motion, is_stopped, view_of, refusal_of}
+use Rattle.drive_spec.specs.Deck.{seen_motion, is_stopped, view_of}
+use Rattle.drive_spec.specs.Terms.{refusal_of}
 use Rattle.drive_spec.specs.Effects.{accepted}
 use Rattle.drive_spec.specs.Parameters.{parameter_trains, parameter_values}
 use Rattle.drive_spec.specs.Steps.{reference_steps}

@@ -14,8 +14,9 @@ use Rattle.tape_geometry.specs.Geometry.{HasAddress}
 use Rattle.drive_spec.specs.declared.deck.Deck.{Deck}
 use Rattle.drive_spec.specs.declared.deck.Motion.{Motion}
 use Rattle.drive_spec.specs.declared.deck.Motion.TheVariants.{Stopped, Streaming, Seeking}
-use Rattle.drive_spec.specs.Deck.{segments_per_track, limit, is_stopped, is_streaming, refusal_of}
-use Rattle.drive_spec.specs.Effects.{accepted, ticked, run_on}
+use Rattle.drive_spec.specs.Deck.{segments_per_track, limit, is_stopped, is_streaming}
+use Rattle.drive_spec.specs.Terms.{refusal_of, run_on}
+use Rattle.drive_spec.specs.Effects.{accepted, ticked}
 use Rattle.drive_states.specs.Typed.{is_seeking, TypedState, IsIn, moved, seeking}
 use Rattle.drive_states.specs.Reach.{passed, StreamsTo, segment_of, Writes}
 use Rattle.drive_states.specs.Sound.{HasLength, IsSound}

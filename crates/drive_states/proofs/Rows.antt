@@ -14,12 +14,13 @@ use Rattle.drive_spec.specs.declared.deck.Motion.TheVariants.{Stopped}
 use Rattle.drive_spec.specs.declared.under_way.Parameter.{Parameter}
 use Rattle.drive_spec.specs.declared.under_way.UnderWay.{UnderWay}
 use Rattle.drive_spec.specs.declared.under_way.UnderWay.TheVariants.{Nothing, Report, Awaited}
-use Rattle.drive_spec.specs.Deck.{is_streaming, refusal_of}
-use Rattle.drive_spec.specs.Effects.{error_word, accepted, given, reset, ticked, ticked_motion, ends_early, run_on}
+use Rattle.drive_spec.specs.Deck.{is_streaming}
+use Rattle.drive_spec.specs.Terms.{refusal_of, is_report, obeyed, idled, row, longer, run_on, begun}
+use Rattle.drive_spec.specs.Effects.{error_word, accepted, given, reset, ticked, ticked_motion, ends_early}
 use Rattle.drive_spec.specs.Record.{Record}
-use Rattle.drive_spec.specs.Reports.{is_report, report_width, report_word}
-use Rattle.drive_spec.specs.Parameters.{parameter_trains, parameter_values, parameter_code, longer}
-use Rattle.drive_spec.specs.Row.{latched, begun, given_more, taking, showing, by_refusal, by_command, heard, obeyed, moved_on, idled, row}
+use Rattle.drive_spec.specs.Reports.{report_width, report_word}
+use Rattle.drive_spec.specs.Parameters.{parameter_trains, parameter_values, parameter_code}
+use Rattle.drive_spec.specs.Row.{latched, given_more, taking, showing, by_refusal, by_command, heard, moved_on}
 use Rattle.drive_states.specs.Sound.{IsParameter, IsUnderWay, IsSoundRecord}
 use Rattle.drive_states.proofs.Bounds.{IsSound-accepted, IsSound-given, IsSound-ticked, IsSound-reset, IsSound-run_on, IsSound-error}
 use Rattle.drive_states.proofs.Obeying.{parameter_stopped}

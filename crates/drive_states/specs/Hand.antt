@@ -1,8 +1,10 @@
 -- What a person does to the cartridge, past the drive (this project's profile).
 use Rattle.std.specs.Prelude.{◌≡◌, ℕ, ◌⊎◌, true, false, [], ◌∷◌, Option, Some, None, Result, Ok, Err}
-use Rattle.qic_base.specs.Cartridge.{view_at, IsPlace, IsVersion}
+use Rattle.qic_base.specs.Cartridge.{view_at, IsPlace}
+use Rattle.qic_base.specs.Terms.{IsVersion}
 use Rattle.qic_base.specs.Step.{Step, Wear, Spoil, Upgrade}
-use Rattle.qic_base.specs.Tape.{Meaning, Done, Broke, Tells, spoil_answer}
+use Rattle.qic_base.specs.Tape.{Meaning, Done, Broke, spoil_answer}
+use Rattle.qic_base.specs.TapeCalls.{Tells}
 use Rattle.qic_base.specs.declared.tape.TapeInfo.{TapeInfo}
 use Rattle.drive_spec.specs.Record.{power_on}
 use Rattle.drive_states.specs.declared.fault.HandFault.{HandFault}

@@ -4,9 +4,9 @@ use Rattle.qic_base.specs.declared.tape.TapeInfo.{TapeInfo}
 use Rattle.qic_base.specs.Step.{Step}
 use Rattle.qic117_commands.specs.Commands.{number_of}
 use Rattle.qic117_commands.specs.declared.command.Command.TheVariants.{WriteReference}
-use Rattle.drive_spec.specs.Effects.{referenced_as}
+use Rattle.drive_spec.specs.Terms.{referenced_as, row}
 use Rattle.drive_spec.specs.Record.{Record}
-use Rattle.drive_spec.specs.Row.{row, after_gap}
+use Rattle.drive_spec.specs.Row.{after_gap}
 use Rattle.drive_spec.specs.Steps.{gap_steps}
 use Rattle.drive_states.specs.Sound.{IsSoundRecord}
 

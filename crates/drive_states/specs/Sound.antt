@@ -11,7 +11,8 @@ use Rattle.drive_spec.specs.declared.deck.Motion.{Motion}
 use Rattle.drive_spec.specs.declared.deck.Motion.TheVariants.{Stopped, Streaming, Seeking}
 use Rattle.drive_spec.specs.declared.under_way.UnderWay.{UnderWay}
 use Rattle.drive_spec.specs.declared.under_way.UnderWay.TheVariants.{Nothing, Report, Awaited}
-use Rattle.drive_spec.specs.Deck.{segments_per_track, limit, is_streaming, refusal_of}
+use Rattle.drive_spec.specs.Deck.{segments_per_track, limit, is_streaming}
+use Rattle.drive_spec.specs.Terms.{refusal_of}
 use Rattle.drive_spec.specs.Record.{Record}
 use Rattle.drive_spec.specs.Parameters.{parameter_trains}
 

@@ -11,7 +11,7 @@ use Rattle.qic117_commands.specs.Views.{is_primary}
 use Rattle.drive_spec.specs.declared.deck.Deck.{Deck}
 use Rattle.drive_spec.specs.declared.deck.Motion.{Motion}
 use Rattle.drive_spec.specs.declared.deck.Motion.TheVariants.{Stopped, Streaming, Seeking}
-use Rattle.drive_spec.specs.Deck.{refusal_of}
+use Rattle.drive_spec.specs.Terms.{refusal_of}
 use Rattle.drive_states.specs.Unit.{DeckAndTape}
 
 abbrev pub is_seeking : Motion → Bool

@@ -4,7 +4,7 @@ use Rattle.std.specs.Option.{option_map}
 use Rattle.qic_base.specs.Tape.{Meaning}
 use Rattle.qic_base.specs.declared.tape.TapeInfo.{TapeInfo}
 use Rattle.drive_spec.specs.declared.deck.Deck.{Deck}
-use Rattle.drive_spec.specs.Deck.{power_on_deck}
+use Rattle.drive_spec.specs.Terms.{power_on_deck}
 use Rattle.drive_spec.specs.Record.{Record, power_on}
 use Rattle.drive_states.specs.Sound.{HasLength, IsSoundRecord}
 

@@ -1,7 +1,7 @@
 -- What a drive is in where the reference bursts could not be written (this project's profile of QIC-117).
 use Rattle.std.specs.Prelude.{false}
 use Rattle.drive_spec.specs.declared.deck.Deck.{Deck}
-use Rattle.drive_spec.specs.Effects.{referenced}
+use Rattle.drive_spec.specs.Terms.{referenced}
 use Rattle.drive_spec.specs.Record.{Record}
 
 -- the deck knows of no reference bursts

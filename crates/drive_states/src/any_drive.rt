@@ -3,10 +3,12 @@
 ghost use Rattle.std.specs.Prelude.{◌≡◌, ℕ, [], ◌∷◌, IfErr, IfOk, IsSome, true};
 ghost use Rattle.qic_base.specs.Cartridge.{view_at};
 ghost use Rattle.qic_base.specs.Step.{Wear, Spoil};
-ghost use Rattle.qic_base.specs.Tape.{Does, Tells, IsPlaceOf, spoil_answer};
+ghost use Rattle.qic_base.specs.TapeCalls.{Does, Tells, IsPlaceOf};
+ghost use Rattle.qic_base.specs.Tape.{spoil_answer};
 ghost use Rattle.qic117_commands.specs.Views.{is_primary};
-ghost use Rattle.drive_spec.specs.Deck.{is_streaming, is_protected};
-ghost use Rattle.drive_spec.specs.Effects.{ticked, reset, run_on};
+ghost use Rattle.drive_spec.specs.Deck.{is_streaming};
+ghost use Rattle.drive_spec.specs.Terms.{is_protected, run_on};
+ghost use Rattle.drive_spec.specs.Effects.{ticked, reset};
 ghost use Rattle.drive_states.specs.AnyDrive.{drive_of, state_of};
 ghost use Rattle.drive_states.specs.Errors.{with_error};
 ghost use Rattle.drive_states.specs.Hand.{IsUpgraded, FailsToUpgrade};

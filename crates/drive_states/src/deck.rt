@@ -1,7 +1,8 @@
 //! What is seen of a deck (this project's profile of QIC-117).
 
 ghost use Rattle.std.specs.Prelude.{◌≡◌};
-ghost use Rattle.drive_spec.specs.Deck.{view_of, refusal_of, segments_per_track, is_protected, is_referenced, is_at_bot, is_at_eot, status_word, limit, told_segments, power_on_deck, seen_motion, is_stopped, is_streaming};
+ghost use Rattle.drive_spec.specs.Deck.{view_of, segments_per_track, is_at_bot, is_at_eot, limit, seen_motion, is_stopped, is_streaming};
+ghost use Rattle.drive_spec.specs.Terms.{refusal_of, is_protected, is_referenced, status_word, told_segments, power_on_deck};
 ghost use Rattle.drive_spec.specs.Effects.{ends_early};
 ghost use Rattle.drive_states.specs.Reach.{segment_of};
 ghost use Rattle.drive_states.specs.Sound.{IsSound};

@@ -2,13 +2,14 @@
 
 ghost use Rattle.std.specs.Prelude.{◌≡◌, ◌≢◌, ◌<◌, ◌≤◌, ◌-◌, [], ◌∷◌, None, OnOk, OnErr, true};
 ghost use Rattle.qic_base.specs.Step.{SetReferenced};
-ghost use Rattle.qic_base.specs.Tape.{Does};
+ghost use Rattle.qic_base.specs.TapeCalls.{Does};
 ghost use Rattle.qic117_commands.specs.Commands.{command_at};
-ghost use Rattle.drive_spec.specs.Deck.{refusal_of, is_streaming};
+ghost use Rattle.drive_spec.specs.Terms.{refusal_of, obeying, obeyed, idled, train_steps};
+ghost use Rattle.drive_spec.specs.Deck.{is_streaming};
 ghost use Rattle.drive_spec.specs.Effects.{ticked, reset, given};
 ghost use Rattle.drive_spec.specs.Parameters.{parameter_trains};
-ghost use Rattle.drive_spec.specs.Row.{obeying, by_command, taking, showing, obeyed, moved_on, idled, after_gap, latched};
-ghost use Rattle.drive_spec.specs.Steps.{reference_steps, command_steps, train_steps, gap_steps};
+ghost use Rattle.drive_spec.specs.Row.{by_command, taking, showing, moved_on, after_gap, latched};
+ghost use Rattle.drive_spec.specs.Steps.{reference_steps, command_steps, gap_steps};
 ghost use Rattle.drive_states.specs.AnyDrive.{drive_of};
 ghost use Rattle.drive_states.specs.Cable.{record_of, unit_of};
 ghost use Rattle.drive_states.specs.Sound.{IsParameter, IsUnderWay, IsSoundRecord};

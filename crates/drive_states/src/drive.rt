@@ -3,9 +3,10 @@
 ghost use Rattle.std.specs.Prelude.{◌≡◌, [], ◌∷◌, IfErr, IfOk, IsSome, true};
 ghost use Rattle.qic_base.specs.Cartridge.{view_at};
 ghost use Rattle.qic_base.specs.Step.{Wear, Spoil};
-ghost use Rattle.qic_base.specs.Tape.{Does, Tells, IsPlaceOf, spoil_answer};
+ghost use Rattle.qic_base.specs.TapeCalls.{Does, Tells, IsPlaceOf};
+ghost use Rattle.qic_base.specs.Tape.{spoil_answer};
 ghost use Rattle.drive_spec.specs.Deck.{is_streaming};
-ghost use Rattle.drive_spec.specs.Effects.{run_on};
+ghost use Rattle.drive_spec.specs.Terms.{run_on};
 ghost use Rattle.drive_states.specs.Errors.{with_error};
 ghost use Rattle.drive_states.specs.Hand.{IsUpgraded, FailsToUpgrade};
 ghost use Rattle.drive_states.specs.Sound.{IsSound};

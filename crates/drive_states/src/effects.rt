@@ -1,7 +1,8 @@
 //! What commands and gaps do to a deck (this project's profile of QIC-117).
 
 ghost use Rattle.std.specs.Prelude.{◌≡◌, ◌<◌, false};
-ghost use Rattle.drive_spec.specs.Effects.{streaming, home, entering, referenced, sought, skipped, accepted, given, reset, ticked, run_on, referenced_as, error_word};
+ghost use Rattle.drive_spec.specs.Terms.{streaming, home, entering, referenced, sought, skipped, referenced_as, run_on};
+ghost use Rattle.drive_spec.specs.Effects.{accepted, given, reset, ticked, error_word};
 ghost use Rattle.drive_states.specs.Sound.{IsParameter, IsSound};
 ghost use Rattle.drive_states.specs.Reach.{passed};
 ghost use Rattle.drive_states.specs.Unreferenced.{unreferenced};

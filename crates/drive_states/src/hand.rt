@@ -3,8 +3,8 @@
 ghost use Rattle.std.specs.Prelude.{◌≡◌, [], ◌∷◌, None, IfOk, IsSome, OnOk, OnErr, false};
 ghost use Rattle.qic_base.specs.Cartridge.{IsLength};
 ghost use Rattle.qic_base.specs.Step.{Renew, SetProtected};
-ghost use Rattle.qic_base.specs.Tape.{Does};
-ghost use Rattle.drive_spec.specs.Deck.{power_on_deck};
+ghost use Rattle.qic_base.specs.TapeCalls.{Does};
+ghost use Rattle.drive_spec.specs.Terms.{power_on_deck};
 ghost use Rattle.drive_spec.specs.Record.{power_on};
 ghost use Rattle.drive_states.specs.AnyDrive.{drive_of};
 ghost use Rattle.drive_states.specs.Cable.{unit_of, record_of};

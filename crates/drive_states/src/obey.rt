@@ -3,8 +3,8 @@
 ghost use Rattle.std.specs.Prelude.{◌≡◌, ◌<◌, [], ◌∷◌, OnOk, OnErr, None};
 ghost use Rattle.qic117_commands.specs.declared.command.Command.TheVariants as named;
 ghost use Rattle.qic_base.specs.Step.{SetReferenced};
-ghost use Rattle.qic_base.specs.Tape.{Does};
-ghost use Rattle.drive_spec.specs.Deck.{refusal_of};
+ghost use Rattle.qic_base.specs.TapeCalls.{Does};
+ghost use Rattle.drive_spec.specs.Terms.{refusal_of};
 ghost use Rattle.drive_spec.specs.Effects.{accepted, given};
 ghost use Rattle.drive_spec.specs.Parameters.{parameter_trains};
 ghost use Rattle.drive_spec.specs.Steps.{reference_steps};

@@ -2,10 +2,9 @@
 
 ghost use Rattle.std.specs.Prelude.{◌≡◌, ℕ, List, true, IfNone, IfSome};
 ghost use Rattle.qic117_commands.specs.Views.{is_primary};
-ghost use Rattle.qic_base.specs.Tape.{IsPlaceOf};
-ghost use Rattle.drive_spec.specs.Deck.{is_protected};
-ghost use Rattle.drive_states.specs.Reach.{reads_in, Reaches, ReachesNone, IsFormatting, Finds, Writes, Formats};
-ghost use Rattle.drive_states.specs.Reach.{HasAddressIn, HasNoAddressIn};
+ghost use Rattle.qic_base.specs.TapeCalls.{IsPlaceOf};
+ghost use Rattle.drive_spec.specs.Terms.{is_protected};
+ghost use Rattle.drive_states.specs.Reach.{reads_in, Reaches, ReachesNone, IsFormatting, Finds, Writes, Formats, HasAddressIn, HasNoAddressIn};
 ghost use Rattle.drive_states.specs.Sound.{IsSound};
 
 use crate::deck::{is_protected, is_streaming, segment_of};

@@ -2,7 +2,8 @@
 
 ghost use Rattle.std.specs.Prelude.{◌≡◌, ◌<◌, IfOk, IfErr, IsSome, None, true};
 ghost use Rattle.qic117_commands.specs.declared.command.Command.TheVariants as command;
-ghost use Rattle.drive_spec.specs.Deck.{is_stopped, refusal_of};
+ghost use Rattle.drive_spec.specs.Deck.{is_stopped};
+ghost use Rattle.drive_spec.specs.Terms.{refusal_of};
 ghost use Rattle.drive_spec.specs.Effects.{accepted, given, reset};
 ghost use Rattle.drive_states.specs.Unreferenced.{unreferenced};
 ghost use Rattle.drive_states.specs.Sound.{IsParameter};

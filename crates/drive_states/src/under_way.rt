@@ -1,9 +1,9 @@
 //! What the drive's end of the cable is in the middle of.
 
 ghost use Rattle.std.specs.Prelude.{◌≡◌, ◌<◌, ◌^◌, ◌==◌, nat_lt};
-ghost use Rattle.drive_spec.specs.Reports.{report_width, report_word, tape_status};
-ghost use Rattle.drive_spec.specs.Parameters.{parameter_trains, parameter_values, parameter_code, longer};
-ghost use Rattle.drive_spec.specs.Row.{begun};
+ghost use Rattle.drive_spec.specs.Reports.{report_width, report_word};
+ghost use Rattle.drive_spec.specs.Terms.{tape_status, longer, begun};
+ghost use Rattle.drive_spec.specs.Parameters.{parameter_trains, parameter_values, parameter_code};
 
 use crate::deck::{segments_per_track, status_word, told_segments};
 use drive_spec::{Deck, Parameter, UnderWay};

@@ -3,9 +3,9 @@
 ghost use Rattle.std.specs.Prelude.{◌≡◌, ℕ, [], ◌∷◌, None, OnOk, OnErr, IfOk, IfNone, IfSome};
 ghost use Rattle.qic_base.specs.Cartridge.{IsLength, IsPlace};
 ghost use Rattle.qic_base.specs.Step.{Renew, SetProtected, SetReferenced};
-ghost use Rattle.qic_base.specs.Tape.{Does, IsPlaceOf};
+ghost use Rattle.qic_base.specs.TapeCalls.{Does, IsPlaceOf};
 ghost use Rattle.qic117_commands.specs.Views.{is_primary};
-ghost use Rattle.drive_spec.specs.Deck.{is_protected};
+ghost use Rattle.drive_spec.specs.Terms.{is_protected};
 ghost use Rattle.drive_spec.specs.Record.{power_on};
 ghost use Rattle.drive_spec.specs.Row.{after_gap, moved_on};
 ghost use Rattle.drive_spec.specs.Steps.{gap_steps};

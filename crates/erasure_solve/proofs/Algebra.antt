@@ -1,7 +1,8 @@
 -- Three terms of a column at different places: each is found from the three values, and no other bytes fit.
 use Rattle.std.proofs.Common.{◌≡◌, ◌≢◌, ℕ, ◌<◌, refl, sym, ◌∙◌, ap, arith, bit_xor, [], ◌∷◌}
 use Rattle.std.proofs.lemmas.Nat.{xor_comm}
-use Rattle.cartridge_spec.specs.Field.{product, inverse}
+use Rattle.cartridge_spec.specs.Code.{product}
+use Rattle.gf256_qic.specs.Code.{inverse}
 use Rattle.gf256_qic.proofs.Sums.{equal_from_sum, sum_byte}
 use Rattle.gf256_qic.proofs.Products.{product_byte, product_comm, product_assoc, product_one_right}
 use Rattle.gf256_qic.proofs.Powers.{product_inverse, inverse_byte, inverse_unique}

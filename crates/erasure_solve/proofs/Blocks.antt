@@ -9,8 +9,8 @@ use Rattle.std.proofs.lemmas.List.{same_lists, map-set}
 use Rattle.std.proofs.lemmas.List.Elements.{All-get_or, All-from_get_or, All-set}
 use Rattle.std.proofs.lemmas.List.FromFn.{get_or-map-range_with_len}
 use Rattle.std.proofs.lemmas.Option.{slice_get-get_or}
-use Rattle.cartridge_spec.specs.Field.{product, power}
-use Rattle.cartridge_spec.specs.Code.{value_at, column, IsSector, IsCodeword, IsCodeBlock}
+use Rattle.cartridge_spec.specs.Code.{product, power, value_at, column, IsCodeword, IsCodeBlock}
+use Rattle.qic_base.specs.Cartridge.{IsSector}
 use Rattle.gf256_qic.specs.Code.{AgreesOutside, IsSolvable, lost_below}
 use Rattle.gf256_qic.proofs.Sums.{sum_byte, sum_cancel, equal_from_sum}
 use Rattle.gf256_qic.proofs.Products.{product_byte, product_assoc, product_zero_left, product_one_right}
@@ -116,12 +116,12 @@ moves degree row old new all bytes inside fits applied =
           let before_size : length (get_or old place s) ≡ 1024 = before.size in
           let after : IsSector s = record {
             size = size;
-            bytes = All-from_get_or (λ b. b < 256) s 0 (λ j h.
+            each = All-from_get_or (λ b. b < 256) s 0 (λ j h.
                 let within : j < 1024 = omega arith in
                 let P : ℕ → Type 0 = λ v. v < 256 in
                 subst P (sym (adds.each j within))
                 (sum_byte (get_or (get_or old place s) j 0) (get_or row j 0)
-                (All-get_or P (get_or old place s) j 0 (omega arith) before.bytes) (bytes j within)));
+                (All-get_or P (get_or old place s) j 0 (omega arith) before.each) (bytes j within)));
           } in
           record {
             size = ap (λ (ss : List (List ℕ)). length ss) new_is ∙ length-set old place s;

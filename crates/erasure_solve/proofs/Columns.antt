@@ -5,8 +5,8 @@ use Rattle.std.proofs.lemmas.List.{take_more, drop_more, drop_all, length-drop}
 use Rattle.std.proofs.lemmas.List.Elements.{All-get_or, All-from_get_or, All-take, All-drop}
 use Rattle.std.proofs.lemmas.Nat.{xor_comm}
 use Rattle.std.proofs.lemmas.Bool.{cases_lt}
-use Rattle.cartridge_spec.specs.Field.{product, power}
-use Rattle.cartridge_spec.specs.Code.{value_at, column, IsSector}
+use Rattle.cartridge_spec.specs.Code.{product, power, value_at, column}
+use Rattle.qic_base.specs.Cartridge.{IsSector}
 use Rattle.gf256_qic.proofs.Sums.{sum_byte}
 use Rattle.gf256_qic.proofs.Products.{product_byte, product_assoc, product_sum_left, product_zero_left, product_one_right}
 use Rattle.gf256_qic.proofs.Powers.{power_none, power_one, power_more, power_byte}
@@ -40,7 +40,7 @@ value_at-push p cs c h all hc =
 
 -- an array of 1,024 bytes is a sector
 pub sector_from : (s : List ℕ) → length s ≡ 1024 → ((i : ℕ) → get_or s i 0 < 256) → IsSector s
-sector_from s size fits = record { size = size; bytes = All-from_get_or (λ b. b < 256) s 0 (λ i h. fits i) }
+sector_from s size fits = record { size = size; each = All-from_get_or (λ b. b < 256) s 0 (λ i h. fits i) }
 
 -- the value at 1, one byte further
 value_at-push-one : (cs : List ℕ) (c : ℕ) → AllBytes cs → c < 256 →
@@ -156,7 +156,7 @@ strip_more old new start front back s t inside hf hb hs ht few adds is = record 
 }
   where
     byte : (r : List ℕ) (k : ℕ) → k < 1024 → IsSector r → get_or r k 0 < 256
-    byte r k h one = let size : length r ≡ 1024 = one.size in All-get_or (λ b. b < 256) r k 0 (omega arith) one.bytes
+    byte r k h one = let size : length r ≡ 1024 = one.size in All-get_or (λ b. b < 256) r k 0 (omega arith) one.each
 
 -- the next sector from both ends
 pub strip_next :

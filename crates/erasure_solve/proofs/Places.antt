@@ -2,7 +2,8 @@
 use Rattle.std.proofs.Common.{◌≡◌, ◌≢◌, ℕ, zero, suc, ◌+◌, ◌-◌, ◌/◌, ◌%◌, ◌^◌, ◌<◌, ◌≤◌, refl, sym, ◌∙◌, ap, subst, arith, inl, inr, true, cond, List, [], ◌∷◌, length, get_or, set, get_or-set_same, get_or-set_other, add-zero, add-one, Bool}
 use Rattle.std.proofs.Math.ListN.{length-append, length-set}
 use Rattle.std.proofs.lemmas.Bool.{cases_eq, cases_lt, eqb-true, eq-eqb, ne_eqb}
-use Rattle.qic_base.specs.LostSet.{IsLost, lost_places}
+use Rattle.qic_base.specs.Terms.{IsLost}
+use Rattle.qic_base.specs.Cartridge.{lost_places}
 use Rattle.qic_base.proofs.LostSetLaws.{lost_places-lost, lost_places-kept}
 use Rattle.gf256_qic.specs.Code.{lost_below}
 use Rattle.erasure_solve.specs.Lost.{is_lost, lost_count}

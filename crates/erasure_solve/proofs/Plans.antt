@@ -5,10 +5,9 @@ use Rattle.std.proofs.lemmas.Bool.{cases_lt}
 use Rattle.std.proofs.lemmas.List.{same_lists}
 use Rattle.std.proofs.lemmas.List.FromFn.{length-map-range_with_len, get_or-map-range_with_len}
 use Rattle.std.specs.List.{range_with_len}
-use Rattle.qic_base.specs.LostSet.{lost_places}
+use Rattle.qic_base.specs.Cartridge.{lost_places, IsSector}
 use Rattle.std.proofs.lemmas.Option.{slice_get-get_or}
-use Rattle.cartridge_spec.specs.Field.{product, power}
-use Rattle.cartridge_spec.specs.Code.{value_at, column, IsSector, IsCodeBlock}
+use Rattle.cartridge_spec.specs.Code.{product, power, value_at, column, IsCodeBlock}
 use Rattle.gf256_qic.specs.Code.{AgreesOutside, IsSolvable}
 use Rattle.gf256_qic.proofs.Products.{product_zero_right, product_one_left}
 use Rattle.gf256_qic.proofs.Values.{value_at-byte}

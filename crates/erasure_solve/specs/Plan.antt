@@ -1,6 +1,6 @@
 -- What a `Plan` has prepared.
 use Rattle.std.specs.Prelude.{◌≡◌, ℕ, ◌<◌, ◌≤◌, [], ◌∷◌}
-use Rattle.cartridge_spec.specs.Field.{power}
+use Rattle.cartridge_spec.specs.Code.{power}
 use Rattle.erasure_solve.specs.Lost.{lost_count}
 use Rattle.erasure_solve.specs.Rows.{weighed_row}
 use Rattle.erasure_solve.specs.Correction.{correction_factors, Correction, Corrections, AreDegrees}

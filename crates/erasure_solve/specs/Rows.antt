@@ -1,8 +1,7 @@
 -- Rows of 1,024 bytes, one of each column of a segment.
 use Rattle.std.specs.Prelude.{◌≡◌, ℕ, ◌+◌, ◌<◌, List, length, map, slice_index, bit_xor}
 use Rattle.std.specs.List.{range_with_len}
-use Rattle.cartridge_spec.specs.Field.{product, power}
-use Rattle.cartridge_spec.specs.Code.{value_at, column}
+use Rattle.cartridge_spec.specs.Code.{product, power, value_at, column}
 use Rattle.erasure_solve.specs.declared.values.Strip.{Strip}
 use Rattle.erasure_solve.specs.declared.values.Values.{Values}
 

@@ -1,7 +1,7 @@
 //! The coefficients by which the lost byte of a column comes from the column's values.
 
 ghost use Rattle.std.specs.Prelude.{◌≡◌, ◌≢◌, ◌<◌, ◌↔◌, length, IsTrue};
-ghost use Rattle.cartridge_spec.specs.Field.{power};
+ghost use Rattle.cartridge_spec.specs.Code.{power};
 ghost use Rattle.erasure_solve.specs.Rows.{AddsRow, Corrects, weighed_sum, weighed_row};
 ghost use Rattle.erasure_solve.specs.Correction.{correction_factors, FitsDegree, Applied};
 

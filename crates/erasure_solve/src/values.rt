@@ -1,7 +1,7 @@
 //! The values of a segment's columns at the roots of the code's generator.
 
 ghost use Rattle.std.specs.Prelude.{◌≡◌, ◌+◌, ◌≤◌, ◌↔◌, length, IsTrue, All};
-ghost use Rattle.cartridge_spec.specs.Code.{IsSector};
+ghost use Rattle.qic_base.specs.Cartridge.{IsSector};
 ghost use Rattle.erasure_solve.specs.Rows.{IsZero, AreValues, AreZero, PutsStrip, IsStrip, AddsToStrip};
 
 use crate::SECTOR;

@@ -3,7 +3,8 @@ use Rattle.std.proofs.Common.{◌≡◌, ℕ, zero, suc, ◌+◌, ◌-◌, ◌*�
 use Rattle.std.proofs.lemmas.List.{length-replicate, take_at}
 use Rattle.std.proofs.Math.Seq.{drop-append-add}
 use Rattle.std.specs.List.{slice_range}
-use Rattle.qic_base.specs.Cartridge.{IsView, zero_sector}
+use Rattle.qic_base.specs.Terms.{IsView}
+use Rattle.qic_base.specs.Cartridge.{zero_sector}
 use Rattle.qic_base.specs.declared.tape.SectorView.{SectorView}
 use Rattle.qic_base.specs.declared.tape.SectorView.TheVariants.{Blank, Defect, Lost, Holds}
 use Rattle.flat_dump.specs.Dump.{sector_bytes, views_bytes}

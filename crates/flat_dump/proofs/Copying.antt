@@ -10,11 +10,10 @@ use Rattle.std.proofs.lemmas.Bool.{cases_lt, leb-true, leb-false, le-leb, lt-leb
 use Rattle.std.proofs.lemmas.List.{take_all, take-append-le, drop-append-le, drop-drop, get_or-append_right, length-append, length-drop, length-take-le, length-replicate, append-nil}
 use Rattle.std.proofs.lemmas.List.FromFn.{get_or-map-range_with_len, length-map-range_with_len}
 use Rattle.std.proofs.lemmas.List.Sums.{sum_by-append}
-use Rattle.cartridge_spec.specs.Appending.{filled_up, in_sectors}
+use Rattle.cartridge_laws.specs.Terms.{filled_up}
+use Rattle.cartridge_spec.specs.Appending.{in_sectors}
 use Rattle.qic_base.proofs.Giving.{Gave-Gave, Gave-end, Gave-nothing, Gave-read}
-use Rattle.qic_base.specs.Disk as disks
-use Rattle.qic_base.specs.Source as sources
-use Rattle.qic_base.specs.Source.{Gave, Gives, HasEnded}
+use Rattle.qic_base.specs.SourceCalls.{Gave, Gives, HasEnded}
 use Rattle.qic_base.specs.declared.tape.SectorView.{SectorView}
 use Rattle.qic_base.specs.declared.tape.SectorView.TheVariants.{Blank, Lost, Holds}
 use Rattle.rescue_map.specs.Text.{is_marked}
@@ -29,6 +28,8 @@ use Rattle.flat_dump.proofs.Laying.{length-cell, laid_none, laid_more, length-la
 use Rattle.flat_dump.specs.Stops.{IsUnsigned}
 use Rattle.flat_dump.proofs.Passing.{stays_as}
 use Rattle.flat_dump.proofs.Stops.{unsigned_none}
+use Rattle.qic_base.specs.Disk as disks
+use Rattle.qic_base.specs.Source as sources
 
 -- ---- the sectors of bytes
 

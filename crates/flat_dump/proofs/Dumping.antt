@@ -7,10 +7,12 @@ use Rattle.std.proofs.lemmas.List.Elements.{All-append, All-nil}
 use Rattle.std.proofs.lemmas.Option.{unwrap_or-slice_get}
 use Rattle.std.specs.List.{flat_map}
 use Rattle.qic_base.proofs.Steps.{Tells-read}
-use Rattle.qic_base.specs.Cartridge.{Cartridge, IsView, view_at}
+use Rattle.qic_base.specs.Cartridge.{Cartridge, view_at}
+use Rattle.qic_base.specs.Terms.{IsView}
 use Rattle.qic_base.specs.Sink as sinks
 use Rattle.qic_base.specs.Tape as tapes
-use Rattle.qic_base.specs.Tape.{Tells}
+use Rattle.qic_base.specs.TapeCalls as tape_calls
+use Rattle.qic_base.specs.TapeCalls.{Tells}
 use Rattle.qic_base.specs.declared.tape.SectorView.{SectorView}
 use Rattle.qic_base.specs.declared.tape.SectorView.TheVariants.{Blank}
 use Rattle.flat_dump.specs.Export.{IsFrontOf, AreFirst}
@@ -73,10 +75,10 @@ segment_more t first tape count text mask sectors word did room seen next = reco
 }
 
 -- what was read is a front of what the tape tells
-pub are_first : {T : Type 0} (t : tapes.Meaning T) (tape : T) (n count : ℕ) (text mask : List ℕ) → tapes.IsToldRight (t.told tape) (t.size tape) → t.size tape ≡ Some n → count ≤ 28 * n →
+pub are_first : {T : Type 0} (t : tapes.Meaning T) (tape : T) (n count : ℕ) (text mask : List ℕ) → tape_calls.IsToldRight (t.told tape) (t.size tape) → t.size tape ≡ Some n → count ≤ 28 * n →
     (seen : SegmentsSeen t tape count text mask) → AreFirst t tape seen.views
 are_first t tape n count text mask right size few seen = record { told = by_told (t.told tape) (t.size tape) right size seen.told; each = seen.each } where
-  by_told : (held : Option (Option Cartridge)) (long : Option ℕ) → tapes.IsToldRight held long → long ≡ Some n →
+  by_told : (held : Option (Option Cartridge)) (long : Option ℕ) → tape_calls.IsToldRight held long → long ≡ Some n →
       IfSome held (λ h. IfSome h (λ c. (q : ℕ) → q < 32 * count → get_or seen.views q Blank ≡ get_or c.views q Blank)) → IfSome held (IsFrontOf seen.views)
   by_told None long right e told = tt
   by_told (Some None) long right e told = absurd (let none : long ≡ None = right in cc)

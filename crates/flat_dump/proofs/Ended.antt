@@ -7,6 +7,7 @@ use Rattle.qic_base.proofs.Steps.{Broke-after_reads, Done-after_reads, Done-told
 use Rattle.qic_base.specs.Cartridge.{Cartridge, IsLength}
 use Rattle.qic_base.specs.Sink as sinks
 use Rattle.qic_base.specs.Tape as tapes
+use Rattle.qic_base.specs.TapeCalls as tape_calls
 use Rattle.qic_base.specs.declared.tape.SectorView.{SectorView}
 use Rattle.qic_base.specs.declared.tape.SectorView.TheVariants.{Blank}
 use Rattle.qic_base.specs.declared.tape.TapeInfo.{TapeInfo}
@@ -28,13 +29,13 @@ record Read {T : Type 0} (t : tapes.Meaning T) (tape : T) (n : ℕ) (views : Lis
 abbrev pub IsInfo : Option (Option Cartridge) → TapeInfo → Type 0
 IsInfo told info = IfSome told (λ held. Some info ≡ option_map (λ c. c.info) held)
 
-is_read : {T : Type 0} (t : tapes.Meaning T) (tape : T) (n : ℕ) (size : Option ℕ) (info : TapeInfo) (text mask : List ℕ) → IsLength n → info.segments_per_track ≡ n → tapes.IsToldRight (t.told tape) size →
+is_read : {T : Type 0} (t : tapes.Meaning T) (tape : T) (n : ℕ) (size : Option ℕ) (info : TapeInfo) (text mask : List ℕ) → IsLength n → info.segments_per_track ≡ n → tape_calls.IsToldRight (t.told tape) size →
     IsInfo (t.told tape) info → (seen : SegmentsSeen t tape (28 * n) text mask) → Read t tape n seen.views
 is_read {T} t tape n size info text mask length_of is right told seen = by_told (t.told tape) refl right told seen.told where
   at : (held : Option (Option Cartridge)) → t.told tape ≡ held → (c : Cartridge) → IfSome held (λ h. h ≡ Some c) → IfSome (t.told tape) (λ h. h ≡ Some c)
   at held e c fact = subst (λ (o : Option (Option Cartridge)). IfSome o (λ h. h ≡ Some c)) (sym e) fact
 
-  by_told : (held : Option (Option Cartridge)) → t.told tape ≡ held → tapes.IsToldRight held size → IsInfo held info →
+  by_told : (held : Option (Option Cartridge)) → t.told tape ≡ held → tape_calls.IsToldRight held size → IsInfo held info →
       IfSome held (λ h. IfSome h (λ c. (q : ℕ) → q < 32 * (28 * n) → get_or seen.views q Blank ≡ get_or c.views q Blank)) → Read t tape n seen.views
   by_told None e right i each = record {
     cartridge = record { info = info; version = 2; views = seen.views };
@@ -74,7 +75,7 @@ first_of t old mid views did first = record {
 }
 
 pub exports : {T K : Type 0} (t : tapes.Meaning T) (k : sinks.Meaning K) (old mid new : T) (from to : K) (n : ℕ) (size : Option ℕ) (info : TapeInfo) (mask : List ℕ) (result : Result (Unit {0}) ExportError) →
-    IsLength n → info.segments_per_track ≡ n → tapes.IsToldRight (t.told old) size → IsInfo (t.told old) info → tapes.Done t old mid [] → Dumps t k mid new from to n mask result →
+    IsLength n → info.segments_per_track ≡ n → tape_calls.IsToldRight (t.told old) size → IsInfo (t.told old) info → tapes.Done t old mid [] → Dumps t k mid new from to n mask result →
     Exports t k old new from to mask result
 exports t k old mid new from to n size info mask (Ok done) length_of is right told did dumped =
     let seen : SegmentsSeen t old (28 * n) dumped.text mask = record {

@@ -25,7 +25,9 @@ use Rattle.flat_dump.specs.Imported.{imported_info}
 use Rattle.flat_dump.specs.Importing.{IsCell, IsLaid, begun, image_with, lost_cells}
 use Rattle.flat_dump.proofs.Bytes.{length-zero_sector}
 use Rattle.flat_dump.proofs.Celling.{cell_shows}
-use Rattle.flat_dump.proofs.Running.{get_or-views, view_by-is, view_in-is}
+use Rattle.cart_image.proofs.Bytes.{view_in-is}
+use Rattle.cart_image.proofs.Changes.{get_or-views}
+use Rattle.flat_dump.proofs.Running.{view_by-is}
 
 -- ---- cells, one behind the other
 

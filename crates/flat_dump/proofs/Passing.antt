@@ -13,12 +13,13 @@ use Rattle.cart_image.specs.Image.{head_of, cartridge_of}
 use Rattle.cart_image.specs.Layout.{first_letter, head_len, resize}
 use Rattle.cart_image.specs.Run.{Ran, Halted, Runs}
 use Rattle.cart_image.specs.Whole.{head_of-parts, cartridge_of-none}
+use Rattle.cart_image.proofs.Bytes.{OnlyIn, OnlyIn-torn, OnlyIn-written}
+use Rattle.cart_image.proofs.Renews.{length-resized, none-by-first}
 use Rattle.flat_dump.specs.Cells.{append_steps, imported_head, sign_steps}
 use Rattle.flat_dump.specs.Import.{IsEmpty, IsNoImage, Cleared, CrashesLeave}
 use Rattle.flat_dump.specs.Importing.{Stays, Unfinished, FailedSince, Goes, IsNoneOr, Finished, Ends, begun, image_with}
 use Rattle.flat_dump.specs.Stops.{IsUnsigned, KeepsFirst}
-use Rattle.flat_dump.proofs.Running.{OnlyIn, OnlyIn-torn, OnlyIn-written, length-resized}
-use Rattle.flat_dump.proofs.Stops.{none_by_first, unsigned_none, kept_first}
+use Rattle.flat_dump.proofs.Stops.{unsigned_none, kept_first}
 
 -- ---- what a disk tells
 
@@ -341,7 +342,7 @@ module _ {D : Type 0} (m : Meaning D) (left_now : (d : D) → IsLeftNow m d) (ri
             get_or_default left k d 0 within ∙ at first k ∙ get_or_default (signed file) k 0 d (let s = a.size in let t = b.size in omega arith))
 
         by_first : (holds : Bool) → (slice_index left 0 == first_letter) ≡ holds → IsNoneOr (image_with n file) left
-        by_first false e = inl (none_by_first left e)
+        by_first false e = inl (none-by-first left e)
         by_first true e = inr (is (eqb-true (slice_index left 0) first_letter e) ∙ signed_is file long)
 
     pub sign_ends : {T E : Type 0} (first old new : D) (file : List ℕ) (result : Result T E) → 64 ≤ length file → Unfinished m first old file → Runs m old new (sign_steps n) result →

@@ -8,8 +8,10 @@ use Rattle.std.proofs.Math.Seq.{get_or-append_seam}
 use Rattle.std.proofs.lemmas.List.Concat.{flat_map-append}
 use Rattle.std.specs.List.{flat_map}
 use Rattle.qic_base.proofs.Steps.{Tells-map, Tells-read}
-use Rattle.qic_base.specs.Cartridge.{Cartridge, IsSector, IsView, view_at, zero_sector}
-use Rattle.qic_base.specs.Tape.{Meaning, Done, Tells, Reads}
+use Rattle.qic_base.specs.Cartridge.{Cartridge, IsSector, view_at, zero_sector}
+use Rattle.qic_base.specs.Terms.{IsView}
+use Rattle.qic_base.specs.Tape.{Meaning, Done}
+use Rattle.qic_base.specs.TapeCalls.{Tells, Reads}
 use Rattle.qic_base.specs.declared.tape.SectorRead.{SectorRead}
 use Rattle.qic_base.specs.declared.tape.SectorRead.TheVariants as read
 use Rattle.qic_base.specs.declared.tape.SectorView.{SectorView}

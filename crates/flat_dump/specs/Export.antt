@@ -1,8 +1,10 @@
 -- How an export ended (this project's own).
 use Rattle.std.specs.Prelude.{◌≡◌, ℕ, List, [], length, take, All, Option, Some, None, IfSome, Result, Ok, Err}
-use Rattle.qic_base.specs.Cartridge.{Cartridge, IsCartridge, IsView}
+use Rattle.qic_base.specs.Cartridge.{Cartridge}
+use Rattle.qic_base.specs.Terms.{IsCartridge, IsView}
 use Rattle.qic_base.specs.declared.tape.SectorView.{SectorView}
 use Rattle.qic_base.specs.Sink as sinks
+use Rattle.qic_base.specs.SinkCalls as sink_calls
 use Rattle.qic_base.specs.Tape as tapes
 use Rattle.flat_dump.specs.Dump.{dump_of, views_bytes}
 use Rattle.flat_dump.specs.Held.{held_mask}
@@ -49,7 +51,7 @@ pub record SinkBroke {T K : Type 0} (t : tapes.Meaning T) (k : sinks.Meaning K) 
   pub did : tapes.Done t old new []
   pub views : List SectorView
   pub first : AreFirst t old views
-  pub broke : sinks.BrokeOff k from to (views_bytes views)
+  pub broke : sink_calls.BrokeOff k from to (views_bytes views)
 
 abbrev pub Exports : {T K : Type 0} (t : tapes.Meaning T) (k : sinks.Meaning K) (old new : T) (from to : K) (mask : List ℕ) → Result (Unit {0}) ExportError → Type 0
 Exports t k old new from to mask (Ok done) = Exported t k old new from to mask

@@ -1,7 +1,7 @@
 -- How an import ended (this project's own).
 use Rattle.std.specs.Prelude.{◌≡◌, ℕ, ◌-◌, ◌*◌, ◌^◌, ◌≤◌, ◌⊎◌, true, List, [], length, min, sum_by, Option, Some, None, IfSome, Result, Ok, Err}
 use Rattle.qic_base.specs.Cartridge.{IsLength}
-use Rattle.qic_base.specs.Cause.{Rose}
+use Rattle.qic_base.specs.Tape.{Rose}
 use Rattle.qic_base.specs.Disk as disks
 use Rattle.qic_base.specs.Source as sources
 use Rattle.qic_base.specs.declared.tape.SectorView.{SectorView}

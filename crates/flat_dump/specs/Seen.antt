@@ -1,11 +1,13 @@
 -- What the reading of sectors saw (this project's own).
 use Rattle.std.specs.Prelude.{◌≡◌, ℕ, ◌*◌, ◌<◌, Bool, List, [], length, take, All, Result, Ok, Err, slice_index_or, if◌then◌else◌}
 use Rattle.std.specs.List.{flat_map}
-use Rattle.qic_base.specs.Cartridge.{IsView, view_at}
+use Rattle.qic_base.specs.Terms.{IsView}
+use Rattle.qic_base.specs.Cartridge.{view_at}
 use Rattle.qic_base.specs.declared.tape.SectorView.{SectorView}
 use Rattle.qic_base.specs.declared.tape.SectorView.TheVariants.{Blank}
 use Rattle.qic_base.specs.Sink as sinks
 use Rattle.qic_base.specs.Tape as tapes
+use Rattle.qic_base.specs.TapeCalls as tape_calls
 use Rattle.flat_dump.specs.declared.exporting.ExportError.{ExportError}
 use Rattle.flat_dump.specs.declared.exporting.ExportError.TheVariants as error
 use Rattle.flat_dump.specs.Dump.{sector_bytes, views_bytes}
@@ -16,7 +18,7 @@ use Rattle.flat_dump.specs.Held.{held_bit, held_word, held_words}
 pub record IsSeen {T : Type 0} (t : tapes.Meaning T) (tape : T) (segment sector : ℕ) (bytes : List ℕ) (held : Bool) : Type 0 where
   pub view : SectorView
   pub is_view : IsView view
-  pub told : tapes.Tells t tape (λ c. view ≡ view_at c segment sector)
+  pub told : tape_calls.Tells t tape (λ c. view ≡ view_at c segment sector)
   pub shown : bytes ≡ sector_bytes view
   pub bit : held_bit view ≡ (if held then 1 else 0)
 
@@ -25,7 +27,7 @@ pub record AreSeen {T : Type 0} (t : tapes.Meaning T) (tape : T) (segment count 
   pub views : List SectorView
   pub each : All IsView views
   pub size : length views ≡ count
-  pub told : tapes.Tells t tape (λ c. (k : ℕ) → k < count → slice_index_or views k Blank ≡ view_at c segment k)
+  pub told : tape_calls.Tells t tape (λ c. (k : ℕ) → k < count → slice_index_or views k Blank ≡ view_at c segment k)
   pub shown : flat_map (λ bytes. bytes) (take count sectors) ≡ views_bytes views
   pub masked : word ≡ held_word views
 
@@ -34,7 +36,7 @@ pub record SegmentsSeen {T : Type 0} (t : tapes.Meaning T) (tape : T) (count : �
   pub views : List SectorView
   pub each : All IsView views
   pub size : length views ≡ 32 * count
-  pub told : tapes.Tells t tape (λ c. (q : ℕ) → q < 32 * count → slice_index_or views q Blank ≡ slice_index_or c.views q Blank)
+  pub told : tape_calls.Tells t tape (λ c. (q : ℕ) → q < 32 * count → slice_index_or views q Blank ≡ slice_index_or c.views q Blank)
   pub shown : text ≡ views_bytes views
   pub masked : mask ≡ held_words count views
 

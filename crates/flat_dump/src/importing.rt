@@ -2,7 +2,7 @@
 
 ghost use Rattle.std.specs.Prelude.{◌≡◌, ℕ, ◌+◌, ◌*◌, ◌≤◌, ◌++◌, List, length, IfOk, IfSome, OnOk};
 ghost use Rattle.qic_base.specs.Cartridge.{IsLength};
-ghost use Rattle.qic_base.specs.Cause.{HasCause};
+ghost use Rattle.qic_base.specs.Terms.{HasCause};
 ghost use Rattle.rescue_map.specs.Laws.{most_words};
 ghost use Rattle.cart_image.specs.Layout.{head_len};
 ghost use Rattle.flat_dump.specs.Import.{IsDumpOf, IsEmpty, Imports};

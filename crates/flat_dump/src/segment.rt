@@ -2,7 +2,7 @@
 
 ghost use Rattle.std.specs.Prelude.{◌≡◌, [], length, IfOk};
 ghost use Rattle.qic_base.specs.Cartridge.{IsSector, zero_sector};
-ghost use Rattle.qic_base.specs.Tape.{Does, IsPlaceOf};
+ghost use Rattle.qic_base.specs.TapeCalls.{Does, IsPlaceOf};
 ghost use Rattle.flat_dump.specs.Seen.{IsSeen, AreSeen};
 
 use qic_base::{SectorRead, Tape, TapeFailed};

@@ -3,7 +3,8 @@ use Rattle.std.proofs.Common.{◌≡◌, ℕ, zero, suc, ◌+◌, ◌-◌, ◌*�
 use Rattle.std.proofs.lemmas.List.{append-nil}
 use Rattle.std.proofs.lemmas.List.FromFn.{map-range_with_len_more}
 use Rattle.qic_base.specs.Step.{Step, FormatSegment}
-use Rattle.qic_base.specs.Tape.{Meaning, Done, Broke, Does}
+use Rattle.qic_base.specs.Tape.{Meaning, Done, Broke}
+use Rattle.qic_base.specs.TapeCalls.{Does}
 use Rattle.qic_base.proofs.Steps.{Done-Done, Done-Broke, Broke-front}
 use Rattle.formatter.specs.Steps.{formats_from, track_formats}
 

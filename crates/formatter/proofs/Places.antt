@@ -9,8 +9,8 @@ use Rattle.qic117_commands.specs.Views.{is_format}
 use Rattle.drive_spec.specs.declared.deck.Deck.{Deck}
 use Rattle.drive_spec.specs.declared.deck.Motion.{Motion}
 use Rattle.drive_spec.specs.declared.deck.Motion.TheVariants.{Stopped, Streaming, Seeking}
-use Rattle.drive_spec.specs.Deck.{segments_per_track, is_stopped, is_streaming, is_protected, is_referenced, limit}
-use Rattle.drive_spec.specs.Effects.{referenced_as}
+use Rattle.drive_spec.specs.Deck.{segments_per_track, is_stopped, is_streaming, limit}
+use Rattle.drive_spec.specs.Terms.{is_protected, is_referenced, referenced_as}
 use Rattle.drive_states.specs.Reach.{segment_of, StreamsTo, IsUnder}
 use Rattle.drive_states.specs.Sound.{IsSound, IsInMotion}
 use Rattle.drive_states.specs.Unit.{UnitView, Knows}

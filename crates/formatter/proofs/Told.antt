@@ -1,14 +1,15 @@
 -- What a cleared tape tells of the cartridge that was cleared.
 use Rattle.std.proofs.Common.{◌≡◌, ◌↔◌, ℕ, ◌*◌, ◌<◌, ◌≤◌, List, length, get_or, refl, sym, ◌∙◌, ap, subst, arith, Option, Some, None, IfSome, append_assoc}
 use Rattle.std.specs.Option.{option_map}
-use Rattle.qic_base.specs.Cartridge.{Cartridge, IsCartridge, view_at}
+use Rattle.qic_base.specs.Cartridge.{Cartridge, view_at}
+use Rattle.qic_base.specs.Terms.{IsCartridge}
 use Rattle.qic_base.specs.Step.{Step, effects}
-use Rattle.qic_base.specs.Tape.{Meaning, Done, Broke, Tells, IsToldRight}
+use Rattle.qic_base.specs.Tape.{Meaning, Done, Broke}
+use Rattle.qic_base.specs.TapeCalls.{Tells, IsToldRight}
 use Rattle.qic_base.proofs.Steps.{Done-Done, Done-Broke}
 use Rattle.cartridge_laws.specs.Segment.{IsUnreadable}
-use Rattle.cartridge_spec.specs.Formatting.{IsDefect, MarksDefects}
+use Rattle.cartridge_spec.specs.Formatting.{IsDefect, MarksDefects, clearing_steps, copy_writes, format_steps, HasNoDefectInFront, IsFirstDefectInFront}
 use Rattle.cartridge_spec.specs.Settling.{changed_by}
-use Rattle.cartridge_spec.specs.Formatting.{clearing_steps, copy_writes, format_steps, HasNoDefectInFront, IsFirstDefectInFront}
 use Rattle.cartridge_spec.specs.Says.{with_parity}
 use Rattle.cartridge_laws.proofs.FormatWriting.{effects-some}
 use Rattle.cartridge_laws.proofs.FormatClearing.{clearing_clears, cleared_shows_defects}

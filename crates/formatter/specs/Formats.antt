@@ -1,12 +1,12 @@
 -- What formatting did, by its answer (this project's profile).
 use Rattle.std.specs.Prelude.{◌≡◌, ◌⊎◌, ℕ, ◌*◌, ◌<◌, ◌++◌, List, [], Result, Ok, Err}
 use Rattle.qic_base.specs.Step.{Step}
-use Rattle.qic_base.specs.Tape.{Meaning, Done, Broke, Does, Tells}
+use Rattle.qic_base.specs.Tape.{Meaning, Done, Broke}
+use Rattle.qic_base.specs.TapeCalls.{Does, Tells}
 use Rattle.cartridge_spec.specs.Shape.{marked_sectors}
-use Rattle.cartridge_spec.specs.Formatting.{MarksDefects}
-use Rattle.cartridge_spec.specs.Formatting.{clearing_steps, copy_writes, format_steps, HasNoDefectInFront, IsFirstDefectInFront}
+use Rattle.cartridge_spec.specs.Formatting.{MarksDefects, clearing_steps, copy_writes, format_steps, HasNoDefectInFront, IsFirstDefectInFront}
 use Rattle.cartridge_spec.specs.Says.{with_parity}
-use Rattle.cartridge_spec.specs.Formatting.{IsFreshArea}
+use Rattle.cartridge_laws.specs.Terms.{IsFreshArea}
 use Rattle.formatter.specs.declared.fault.FormatFault.{FormatFault}
 use Rattle.formatter.specs.declared.fault.FormatFault.TheVariants.{Protected, DefectInFront, Tape}
 use Rattle.formatter.specs.declared.formatting.FormatReport.{FormatReport}

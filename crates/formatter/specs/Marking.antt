@@ -1,9 +1,10 @@
 -- What the pass over a formatted tape finds, and the map that it makes (QIC-80-MC: the bad sector map; the pass is this
 -- project's profile).
 use Rattle.std.specs.Prelude.{◌≡◌, ◌↔◌, ℕ, ◌^◌, ◌<◌, List, length, slice_index}
-use Rattle.qic_base.specs.Cartridge.{Cartridge, place_of, view_at}
+use Rattle.qic_base.specs.Cartridge.{Cartridge, view_at}
+use Rattle.qic_base.specs.Terms.{place_of}
 use Rattle.cartridge_laws.specs.Segment.{IsUnreadable}
-use Rattle.cartridge_spec.specs.Formatting.{IsMarked}
+use Rattle.cartridge_laws.specs.Terms.{IsMarked}
 
 -- of the sectors before a place, segment after segment, just the unreadable ones are marked, and none of the others is
 pub record MarksBelow (c : Cartridge) (words : List ℕ) (place : ℕ) : Type 0 where

@@ -1,18 +1,19 @@
 //! The reference bursts, and all segments formatted.
 
 ghost use Rattle.std.specs.Prelude.{◌≡◌, ◌≢◌, ◌↔◌, ◌<◌, ◌*◌, true, OnOk, IsOkUnless};
-ghost use Rattle.qic_base.specs.Tape.{Does};
+ghost use Rattle.qic_base.specs.TapeCalls.{Does};
 ghost use Rattle.qic117_commands.specs.Views.{is_format};
-ghost use Rattle.drive_spec.specs.Deck.{segments_per_track, is_stopped, is_protected, is_referenced};
-ghost use Rattle.drive_spec.specs.Effects.{referenced_as};
+ghost use Rattle.drive_spec.specs.Deck.{segments_per_track, is_stopped};
+ghost use Rattle.drive_spec.specs.Terms.{is_protected, is_referenced, referenced_as};
 ghost use Rattle.host_driver.specs.Calls.{IsReady, Keeps};
 ghost use Rattle.host_driver.specs.Fits.{AgreesWithTape, Fits, IsAtRest};
-ghost use Rattle.cartridge_spec.specs.Formatting.{segment_formats};
+ghost use Rattle.cartridge_laws.specs.Terms.{segment_formats};
 ghost use Rattle.formatter.specs.Formats.{Clears};
 ghost use Rattle.formatter.specs.Steps.{track_formats};
 
 use crate::TRACKS;
 use crate::fault::FormatFault;
+use crate::track::go_to_track;
 use drive_states::Unit;
 use host_driver::{Host, HostFault};
 use qic_base::Tape;
@@ -74,8 +75,7 @@ fn clear_track<T: Tape>(host: &mut Host, unit: &mut Unit<T>, track: u32) -> Resu
     ensures stopped { OnOk result (is_stopped unit.new.drive.deck.motion ≡ true) }
     ensures keeps { Keeps T.means host.new unit.old unit.new }
 {
-    let count = u32::from(host.geometry().segments_per_track());
-    host.go_to(unit, track * count)?;
+    let count = go_to_track(host, unit, track)?;
     for _ in 0..count {
         host.format_here(unit)?;
     }

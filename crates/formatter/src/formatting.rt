@@ -1,7 +1,8 @@
 //! The formatting of a cartridge.
 
 ghost use Rattle.std.specs.Prelude.{◌≡◌, ◌≢◌, ◌↔◌, true, length};
-ghost use Rattle.drive_spec.specs.Deck.{segments_per_track, is_protected};
+ghost use Rattle.drive_spec.specs.Deck.{segments_per_track};
+ghost use Rattle.drive_spec.specs.Terms.{is_protected};
 ghost use Rattle.host_driver.specs.Calls.{IsReady};
 ghost use Rattle.host_driver.specs.Fits.{AgreesWithTape, Fits, IsAtRest};
 ghost use Rattle.formatter.specs.Formats.{Formats};

@@ -2,15 +2,16 @@
 
 ghost use Rattle.std.specs.Prelude.{◌≡◌, ◌<◌, ◌*◌, true, false, length, take, IsOkUnless};
 ghost use Rattle.qic_base.specs.Cartridge.{IsLength};
-ghost use Rattle.qic_base.specs.Tape.{Does};
+ghost use Rattle.qic_base.specs.TapeCalls.{Does};
 ghost use Rattle.cartridge_spec.specs.Header.{SpellsHeader};
 ghost use Rattle.header_segments.specs.Header.{header_of};
-ghost use Rattle.drive_spec.specs.Deck.{segments_per_track, is_stopped, is_protected, is_referenced};
+ghost use Rattle.drive_spec.specs.Deck.{segments_per_track, is_stopped};
+ghost use Rattle.drive_spec.specs.Terms.{is_protected, is_referenced};
 ghost use Rattle.host_driver.specs.Calls.{IsReady, MayWrite, Keeps};
 ghost use Rattle.host_driver.specs.Fits.{AgreesWithTape};
 ghost use Rattle.cartridge_spec.specs.Formatting.{copy_writes};
 ghost use Rattle.cartridge_spec.specs.Says.{with_parity};
-ghost use Rattle.cartridge_spec.specs.Formatting.{IsFreshArea};
+ghost use Rattle.cartridge_laws.specs.Terms.{IsFreshArea};
 ghost use Rattle.formatter.specs.Formats.{WritesHeader};
 
 use crate::SECTOR;

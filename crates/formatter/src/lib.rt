@@ -7,6 +7,7 @@ mod fault;
 mod formatting;
 mod header;
 mod marking;
+mod track;
 
 pub use fault::FormatFault;
 pub use formatting::{FormatReport, format};

@@ -1,14 +1,16 @@
 //! The pass over a formatted tape, which marks the sectors that can't be read.
 
 ghost use Rattle.std.specs.Prelude.{◌≡◌, ◌<◌, ◌≤◌, ◌+◌, ◌*◌, [], true, length, OnOk, IsOkUnless, MatchOption};
-ghost use Rattle.qic_base.specs.Cartridge.{place_of};
-ghost use Rattle.qic_base.specs.Tape.{Does, Tells};
-ghost use Rattle.drive_spec.specs.Deck.{segments_per_track, is_stopped, is_referenced};
+ghost use Rattle.qic_base.specs.Terms.{place_of};
+ghost use Rattle.qic_base.specs.TapeCalls.{Does, Tells};
+ghost use Rattle.drive_spec.specs.Deck.{segments_per_track, is_stopped};
+ghost use Rattle.drive_spec.specs.Terms.{is_referenced};
 ghost use Rattle.drive_states.specs.Reach.{reads_in, IsUnder};
 ghost use Rattle.host_driver.specs.Calls.{IsReady, Keeps};
 ghost use Rattle.host_driver.specs.Fits.{AgreesWithTape};
 ghost use Rattle.formatter.specs.Marking.{MarksBelow, MarksUnreadable, IsFirstMarked, HasNoMarkInFront};
 
+use crate::track::go_to_track;
 use crate::{SECTOR, SECTORS, TRACKS};
 use bad_sector_map::BadMap;
 use drive_states::Unit;
@@ -96,9 +98,8 @@ fn mark_track<T: Tape>(
     ensures stopped { OnOk result (is_stopped unit.new.drive.deck.motion ≡ true) }
     ensures keeps { Keeps T.means host.new unit.old unit.new }
 {
-    let count = u32::from(host.geometry().segments_per_track());
+    let count = go_to_track(host, unit, track)?;
     let first = track * count;
-    host.go_to(unit, first)?;
     for offset in 0..count {
         mark_segment(host, unit, first + offset, map, sectors)?;
         host.next_segment(unit)?;

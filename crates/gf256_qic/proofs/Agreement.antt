@@ -7,7 +7,8 @@ use Rattle.std.proofs.lemmas.Bool.{cases_eq, cases_lt, cases_Bool, eq-eqb, ne_eq
 use Rattle.std.proofs.lemmas.List.{same_lists, get_or-map, length-map}
 use Rattle.std.proofs.lemmas.List.Elements.{All-get_or}
 use Rattle.std.proofs.lemmas.Option.{slice_get-map, slice_get-get_or}
-use Rattle.cartridge_spec.specs.Code.{value_at, added, column, IsSector, IsCodeword, IsCodeBlock}
+use Rattle.cartridge_spec.specs.Code.{value_at, added, column, IsCodeword, IsCodeBlock}
+use Rattle.qic_base.specs.Cartridge.{IsSector}
 use Rattle.gf256_qic.specs.Code.{distance, AgreesOutside, lost_below}
 use Rattle.gf256_qic.proofs.Sums.{equal_from_sum}
 use Rattle.gf256_qic.proofs.Values.{AllBytes, value_at-added, length-added, bytes_of_added}

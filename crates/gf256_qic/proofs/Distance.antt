@@ -4,8 +4,8 @@ use Rattle.std.proofs.Common.{◌≡◌, ◌≢◌, ℕ, zero, suc, ◌<◌, ◌
 use Rattle.std.specs.Int.Bits.{xor_self, xor_zero_l, xor_zero_r}
 use Rattle.std.proofs.lemmas.Nat.{xor_comm}
 use Rattle.std.proofs.lemmas.Bool.{eqb-true, ne_eqb, eq-eqb, false≢true}
-use Rattle.cartridge_spec.specs.Field.{shifted_copies, remainder, product, power, inverse}
-use Rattle.cartridge_spec.specs.Code.{value_at}
+use Rattle.cartridge_spec.specs.Code.{shifted_copies, remainder, product, power, value_at}
+use Rattle.gf256_qic.specs.Code.{inverse}
 use Rattle.gf256_qic.specs.Laws.{TwoHasOrder255, PlacesDiffer}
 use Rattle.gf256_qic.proofs.Tables.{all_below, all_below_at}
 use Rattle.gf256_qic.proofs.Sums.{swap4, equal_from_sum, sum_byte}

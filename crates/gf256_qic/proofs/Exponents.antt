@@ -2,7 +2,7 @@
 use Rattle.std.proofs.Common.{◌≡◌, ◌≢◌, ℕ, zero, suc, ◌+◌, ◌-◌, ◌*◌, ◌/◌, ◌%◌, ◌<◌, refl, sym, ◌∙◌, ap, arith, bit_xor, bit_and, true, ◌&&◌, nat_eq, nat_lt, get_or}
 use Rattle.std.proofs.lemmas.Bool.{eqb-true, ltb-true, and_parts}
 use Rattle.gf256_qic.specs.declared.logarithms.TheConstants.{POWERS, LOGARITHMS}
-use Rattle.cartridge_spec.specs.Field.{shifted_copies, remainder, product, power}
+use Rattle.cartridge_spec.specs.Code.{shifted_copies, remainder, product, power}
 use Rattle.gf256_qic.proofs.Tables.{all_below, all_below_at}
 use Rattle.gf256_qic.proofs.Products.{product_one_left, product_zero_left}
 use Rattle.gf256_qic.proofs.Powers.{power_none, power_more, power_byte, power_sum}

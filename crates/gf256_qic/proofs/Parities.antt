@@ -5,11 +5,11 @@ use Rattle.std.proofs.lemmas.List.{length-map, map-append}
 use Rattle.std.proofs.lemmas.List.FromFn.{length-map-range_with_len, get_or-map-range_with_len}
 use Rattle.std.proofs.lemmas.List.Elements.{All-get_or, All-from_get_or, All-append, All-nil, All-cons, All-head, All-tail}
 use Rattle.std.proofs.Math.ListN.{length-append}
-use Rattle.cartridge_spec.specs.Field.{shifted_copies, remainder, product, power, inverse}
-use Rattle.cartridge_spec.specs.Code.{value_at, data_sum, scaled, added, lagrange, through, parity, parity_sector, parity_sectors, column, IsSector, IsCodeword, IsCodeBlock}
-use Rattle.gf256_qic.specs.Code.{distance}
+use Rattle.cartridge_spec.specs.Code.{shifted_copies, remainder, product, power, value_at, added, lagrange, parity, parity_sectors, column, IsCodeword, IsCodeBlock}
+use Rattle.gf256_qic.specs.Code.{through, parity_sector, data_sum, scaled, distance}
+use Rattle.qic_base.specs.Cartridge.{IsSector}
 use Rattle.gf256_qic.proofs.Products.{product_one_right, product_zero_right}
-use Rattle.gf256_qic.proofs.Values.{AllBytes, no_bytes, more_bytes, value_at-append, value_at-added, value_at-scaled, length-added, bytes_of_added, bytes_of_scaled, data_sum-value, data_sum-byte}
+use Rattle.gf256_qic.proofs.Values.{AllBytes, no_bytes, more_bytes, value_at-append, value_at-added, value_at-scaled, length-added, bytes_of_added, bytes_of_scaled, value_at-zeros, data_sum-value, data_sum-byte}
 use Rattle.gf256_qic.proofs.Agreement.{distance-le, near_columns, length-column, same_from_columns}
 use Rattle.gf256_qic.proofs.Distance.{AtRoots}
 use Rattle.gf256_qic.proofs.Sums.{equal_from_sum}
@@ -27,7 +27,7 @@ three_bytes a b c ha hb hc =
     more_bytes a (b ∷ c ∷ []) ha (more_bytes b (c ∷ []) hb (more_bytes c [] hc no_bytes))
 
 basis_inverse : Basis 0xC3 1 2
-unfolding lagrange value_at product shifted_copies remainder power inverse
+unfolding lagrange value_at product shifted_copies remainder power
 basis_inverse = record {
   size = refl;
   bytes = three_bytes _ _ _ (lit< tt) (lit< tt) (lit< tt);
@@ -37,7 +37,7 @@ basis_inverse = record {
 }
 
 basis_one : Basis 1 0xC3 2
-unfolding lagrange value_at product shifted_copies remainder power inverse
+unfolding lagrange value_at product shifted_copies remainder power
 basis_one = record {
   size = refl;
   bytes = three_bytes _ _ _ (lit< tt) (lit< tt) (lit< tt);
@@ -47,7 +47,7 @@ basis_one = record {
 }
 
 basis_generator : Basis 2 0xC3 1
-unfolding lagrange value_at product shifted_copies remainder power inverse
+unfolding lagrange value_at product shifted_copies remainder power
 basis_generator = record {
   size = refl;
   bytes = three_bytes _ _ _ (lit< tt) (lit< tt) (lit< tt);
@@ -57,8 +57,12 @@ basis_generator = record {
 }
 
 pub parity_through : (ds : List ℕ) → parity ds ≡ through (data_sum 0xC3 ds) (data_sum 1 ds) (data_sum 2 ds)
-unfolding parity
-parity_through ds = refl
+unfolding parity through
+parity_through ds =
+    let longer : List ℕ = ds ++ 0 ∷ 0 ∷ 0 ∷ [] in
+    ap (λ v. through v (value_at 1 longer) (value_at 2 longer)) (value_at-zeros 0xC3 ds)
+    ∙ ap (λ v. through (data_sum 0xC3 ds) v (value_at 2 longer)) (value_at-zeros 1 ds)
+    ∙ ap (through (data_sum 0xC3 ds) (data_sum 1 ds)) (value_at-zeros 2 ds)
 
 length-scaled : (a : ℕ) (xs : List ℕ) → length (scaled a xs) ≡ length xs
 length-scaled a xs = length-map xs _
@@ -236,7 +240,7 @@ bytes_of_column j (s ∷ ss) h all =
     let first : IsSector s = All-head IsSector s ss all in
     let size : length s ≡ 1024 = first.size in
     more_bytes (slice_index s j) (column j ss)
-    (All-get_or (λ b. b < 256) s j 0 (omega arith) first.bytes)
+    (All-get_or (λ b. b < 256) s j 0 (omega arith) first.each)
     (bytes_of_column j ss h (All-tail IsSector s ss all))
 
 pub get_or-parity_sector : (ss : List (List ℕ)) (k j : ℕ) → j < 1024 →
@@ -254,7 +258,7 @@ parity_sector-is_sector ss k all h =
     let size : length (parity_sector ss k) ≡ 1024 = length-parity_sector ss k in
     record {
       size = size;
-      bytes = All-from_get_or (λ b. b < 256) (parity_sector ss k) 0 (λ j lt.
+      each = All-from_get_or (λ b. b < 256) (parity_sector ss k) 0 (λ j lt.
           let within : j < 1024 = omega arith in
           let three : length (parity (column j ss)) ≡ 3 = length-parity (column j ss) in
           let P : ℕ → Type 0 = λ b. b < 256 in
@@ -271,11 +275,11 @@ three_elements (a ∷ b ∷ c ∷ []) h = refl
 three_elements (a ∷ b ∷ c ∷ d ∷ xs) h = absurd (omega arith)
 
 pub length-parity_sectors : (ss : List (List ℕ)) → length (parity_sectors ss) ≡ 3
-unfolding parity_sectors
+unfolding parity_sectors parity_sector
 length-parity_sectors ss = refl
 
 pub parity_sectors-are_sectors : (ss : List (List ℕ)) → All IsSector ss → All IsSector (parity_sectors ss)
-unfolding parity_sectors
+unfolding parity_sectors parity_sector
 parity_sectors-are_sectors ss all =
     All-cons IsSector (parity_sector ss 0) (parity_sector ss 1 ∷ parity_sector ss 2 ∷ [])
     (parity_sector-is_sector ss 0 all (omega arith))
@@ -287,7 +291,7 @@ parity_sectors-are_sectors ss all =
 -- the parity sectors' columns are the columns' parity
 pub column-parity_sectors : (j : ℕ) (ss : List (List ℕ)) → j < 1024 →
     column j (parity_sectors ss) ≡ parity (column j ss)
-unfolding parity_sectors column
+unfolding parity_sectors parity_sector column
 column-parity_sectors j ss h =
     let p : List ℕ = parity (column j ss) in
     ap (λ (x : ℕ). x ∷ get_or (parity_sector ss 1) j 0 ∷ get_or (parity_sector ss 2) j 0 ∷ []) (get_or-parity_sector ss 0 j h)

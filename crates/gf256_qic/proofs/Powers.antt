@@ -5,7 +5,8 @@ use Rattle.std.specs.Int.Bits.{xor_shifted}
 use Rattle.std.proofs.Math.Nat.{zero-mul, one-mul, mod-one, mod-lt}
 use Rattle.std.proofs.lemmas.Nat.{xor_comm, mod-pow-add, pow_pos}
 use Rattle.std.proofs.lemmas.Bool.{eqb-true}
-use Rattle.cartridge_spec.specs.Field.{shifted_copies, remainder, product, power, inverse}
+use Rattle.cartridge_spec.specs.Code.{shifted_copies, remainder, product, power}
+use Rattle.gf256_qic.specs.Code.{inverse}
 use Rattle.gf256_qic.proofs.Tables.{all_below, all_below_at}
 use Rattle.gf256_qic.proofs.Products.{product_byte, product_comm, product_assoc, product_one_left, product_one_right, product_sum_right, product_zero_right}
 

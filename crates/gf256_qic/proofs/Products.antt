@@ -6,7 +6,8 @@ use Rattle.std.specs.Int.Bits.{xor_self, xor_zero_r}
 use Rattle.std.proofs.lemmas.Nat.{xor_block, pow_pos}
 use Rattle.std.proofs.lemmas.Nat.Bits.{bit_at_xor, bit_at-lt}
 use Rattle.std.proofs.lemmas.Bool.{eqb-true, ltb-true}
-use Rattle.cartridge_spec.specs.Field.{modulus, shifted_copies, remainder, product}
+use Rattle.gf256_qic.specs.Code.{modulus}
+use Rattle.cartridge_spec.specs.Code.{shifted_copies, remainder, product}
 use Rattle.gf256_qic.proofs.Sums.{swap4, IsAdditive, additive_zero, alike, bytes_from_powers}
 use Rattle.gf256_qic.proofs.Tables.{all_below, all_below_at}
 

@@ -5,8 +5,8 @@ use Rattle.std.proofs.Math.ListN.{length-append, length-set}
 use Rattle.std.proofs.lemmas.Nat.{xor_comm}
 use Rattle.std.proofs.Math.Nat.{suc_inj}
 use Rattle.std.proofs.lemmas.List.Elements.{All-nil, All-cons, All-head, All-tail, All-push}
-use Rattle.cartridge_spec.specs.Field.{product, power}
-use Rattle.cartridge_spec.specs.Code.{value_at, data_sum, scaled, added}
+use Rattle.cartridge_spec.specs.Code.{product, power, value_at, added}
+use Rattle.gf256_qic.specs.Code.{data_sum, scaled}
 use Rattle.gf256_qic.proofs.Sums.{swap4, sum_byte, sum_cancel}
 use Rattle.gf256_qic.proofs.Products.{product_comm, product_byte, product_assoc, product_sum_left, product_sum_right, product_zero_left, product_zero_right, product_one_right}
 use Rattle.gf256_qic.proofs.Powers.{power_none, power_one, power_byte, power_sum}
@@ -111,6 +111,17 @@ bytes_of_scaled a [] ha all = no_bytes
 bytes_of_scaled a (x ∷ xs) ha all =
     more_bytes (product a x) (scaled a xs)
     (product_byte a x ha (first_byte x xs all)) (bytes_of_scaled a xs ha (other_bytes x xs all))
+
+-- the sum S(p) of the data is the value of the data with three zero bytes behind them
+pub value_at-zeros : (p : ℕ) (ds : List ℕ) → value_at p (ds ++ 0 ∷ 0 ∷ 0 ∷ []) ≡ data_sum p ds
+unfolding data_sum value_at
+value_at-zeros p [] =
+    ap (λ v. bit_xor v (bit_xor (product 0 (power p 1)) (bit_xor (product 0 (power p 0)) 0))) (product_zero_left (power p 2))
+    ∙ ap (λ v. bit_xor 0 (bit_xor v (bit_xor (product 0 (power p 0)) 0))) (product_zero_left (power p 1))
+    ∙ ap (λ v. bit_xor 0 (bit_xor 0 (bit_xor v 0))) (product_zero_left (power p 0))
+value_at-zeros p (d ∷ ds) =
+    ap (λ n. bit_xor (product d (power p n)) (value_at p (ds ++ 0 ∷ 0 ∷ 0 ∷ []))) (length-append ds (0 ∷ 0 ∷ 0 ∷ []))
+    ∙ ap (bit_xor (product d (power p (length ds + 3)))) (value_at-zeros p ds)
 
 -- the sum S(p) of the data is the value of the data, three places higher
 pub data_sum-value : (p : ℕ) (ds : List ℕ) → p < 256 → AllBytes ds →

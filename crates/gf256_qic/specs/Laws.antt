@@ -1,8 +1,8 @@
 -- The laws of the field and of the code, as facts. A byte is a number below 256.
 use Rattle.std.specs.Prelude.{ℕ, ◌<◌, ◌≤◌, ◌≡◌, ◌≢◌, Bool, List, ◌++◌, length, All, bit_xor}
-use Rattle.cartridge_spec.specs.Field.{product, power, inverse}
-use Rattle.cartridge_spec.specs.Code.{IsSector, IsCodeword, IsCodeBlock, parity, parity_sectors}
-use Rattle.gf256_qic.specs.Code.{AgreesOutside, distance, lost_below}
+use Rattle.cartridge_spec.specs.Code.{product, power, IsCodeword, IsCodeBlock, parity, parity_sectors}
+use Rattle.gf256_qic.specs.Code.{inverse, AgreesOutside, distance, lost_below}
+use Rattle.qic_base.specs.Cartridge.{IsSector}
 
 -- ---- the field
 

@@ -2,7 +2,7 @@
 #![tactic(auto)]
 
 ghost use Rattle.std.specs.Prelude.{◌≡◌, ◌≢◌, ◌*◌, ◌%◌};
-ghost use Rattle.cartridge_spec.specs.Field.{product, power};
+ghost use Rattle.cartridge_spec.specs.Code.{product, power};
 
 use logarithms::{exponential, logarithm};
 

@@ -1,7 +1,7 @@
 //! The logarithms of the field to the base 0x02, which generates the elements other than 0.
 
 ghost use Rattle.std.specs.Prelude.{◌≡◌, ◌≢◌, ◌<◌};
-ghost use Rattle.cartridge_spec.specs.Field.{power};
+ghost use Rattle.cartridge_spec.specs.Code.{power};
 
 /// 0x02 to each power below its order, 255.
 const POWERS: [u8; 255] = [

@@ -3,7 +3,8 @@
 ghost use Rattle.std.specs.Prelude.{◌≡◌, ◌-◌, ◌*◌, ◌<◌, ◌≤◌, ℕ, List, length, All, replicate, IfOk, OnErr, MatchResult};
 ghost use Rattle.std.specs.Option.{option_map};
 ghost use Rattle.qic_base.specs.Cartridge.{IsLength};
-ghost use Rattle.cartridge_spec.specs.Header.{Holds, Shows, header_fields, profile_fields, tested, field_fault, first_fault, map_fault, words_in};
+ghost use Rattle.cartridge_spec.specs.Header.{Holds, Shows, header_fields, profile_fields, tested, first_fault};
+ghost use Rattle.cartridge_laws.specs.Terms.{field_fault, map_fault, words_in};
 ghost use Rattle.header_segments.specs.Header.{header_of};
 ghost use Rattle.header_segments.specs.Refusal.{foreign, refusal};
 

@@ -2,7 +2,8 @@
 
 ghost use Rattle.std.specs.Prelude.{◌≡◌, ◌-◌, ◌*◌, ℕ, length, All};
 ghost use Rattle.qic_base.specs.Cartridge.{IsLength};
-ghost use Rattle.cartridge_spec.specs.Header.{SpellsHeader, profile_fields, byte_in};
+ghost use Rattle.cartridge_spec.specs.Header.{SpellsHeader, profile_fields};
+ghost use Rattle.cartridge_laws.specs.Terms.{byte_in};
 ghost use Rattle.header_segments.specs.Header.{header_of};
 ghost use Rattle.cartridge_laws.specs.HeaderWriting.{FieldFits, with_fields, told_fields};
 

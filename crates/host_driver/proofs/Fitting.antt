@@ -12,7 +12,8 @@ use Rattle.drive_spec.specs.declared.under_way.UnderWay.{UnderWay}
 use Rattle.drive_spec.specs.declared.under_way.UnderWay.TheVariants.{Nothing, Report, Awaited}
 use Rattle.drive_spec.specs.Deck.{segments_per_track}
 use Rattle.drive_spec.specs.Record.{Record}
-use Rattle.drive_spec.specs.Parameters.{longer, parameter_code, parameter_values}
+use Rattle.drive_spec.specs.Terms.{longer}
+use Rattle.drive_spec.specs.Parameters.{parameter_code, parameter_values}
 use Rattle.drive_spec.specs.Row.{given_more, heard, latched}
 use Rattle.drive_states.specs.Unreferenced.{unreferenced, without_reference}
 use Rattle.drive_states.specs.Unit.{UnitView, IsSoundUnit}

@@ -12,11 +12,12 @@ use Rattle.drive_spec.specs.declared.deck.Deck.{Deck}
 use Rattle.drive_spec.specs.declared.under_way.Parameter.{Parameter}
 use Rattle.drive_spec.specs.declared.under_way.UnderWay.{UnderWay}
 use Rattle.drive_spec.specs.declared.under_way.UnderWay.TheVariants.{Nothing, Report, Awaited}
-use Rattle.drive_spec.specs.Deck.{refusal_of, is_streaming}
-use Rattle.drive_spec.specs.Effects.{accepted, ticked, run_on, ends_early}
+use Rattle.drive_spec.specs.Terms.{refusal_of, idled, longer, run_on, begun}
+use Rattle.drive_spec.specs.Deck.{is_streaming}
+use Rattle.drive_spec.specs.Effects.{accepted, ticked, ends_early}
 use Rattle.drive_spec.specs.Record.{Record}
-use Rattle.drive_spec.specs.Parameters.{longer, parameter_trains, parameter_values, parameter_code}
-use Rattle.drive_spec.specs.Row.{heard, by_command, by_refusal, given_more, idled, begun, latched, showing}
+use Rattle.drive_spec.specs.Parameters.{parameter_trains, parameter_values, parameter_code}
+use Rattle.drive_spec.specs.Row.{heard, by_command, by_refusal, given_more, latched, showing}
 use Rattle.host_driver.specs.declared.host.Host.{Host}
 use Rattle.host_driver.specs.Fits.{parameter_of}
 use Rattle.host_driver.specs.Followed.{followed, after_command, after_value, after_pulses}

@@ -14,11 +14,12 @@ use Rattle.drive_spec.specs.declared.deck.Motion.TheVariants.{Streaming}
 use Rattle.drive_spec.specs.declared.under_way.Parameter.{Parameter}
 use Rattle.drive_spec.specs.declared.under_way.UnderWay.{UnderWay}
 use Rattle.drive_spec.specs.declared.under_way.UnderWay.TheVariants.{Nothing, Report, Awaited}
-use Rattle.drive_spec.specs.Deck.{view_of, refusal_of, is_streaming, is_stopped, is_protected, limit}
-use Rattle.drive_spec.specs.Effects.{accepted, given, ticked, referenced_as}
+use Rattle.drive_spec.specs.Deck.{view_of, is_streaming, is_stopped, limit}
+use Rattle.drive_spec.specs.Terms.{refusal_of, is_protected, referenced_as, idled, longer}
+use Rattle.drive_spec.specs.Effects.{accepted, given, ticked}
 use Rattle.drive_spec.specs.Record.{Record}
-use Rattle.drive_spec.specs.Parameters.{longer, parameter_trains, parameter_values, parameter_code}
-use Rattle.drive_spec.specs.Row.{heard, by_command, by_refusal, given_more, idled, latched, showing}
+use Rattle.drive_spec.specs.Parameters.{parameter_trains, parameter_values, parameter_code}
+use Rattle.drive_spec.specs.Row.{heard, by_command, by_refusal, given_more, latched, showing}
 use Rattle.drive_states.specs.Unreferenced.{unreferenced}
 use Rattle.host_driver.specs.Train.{after_train}
 use Rattle.host_driver.proofs.Follows.{counted, after_train-heard, after_train-idled}

@@ -9,16 +9,18 @@ use Rattle.report_bits.specs.Report.{Collected, IsWidth, levels_of, report_of, w
 use Rattle.report_bits.proofs.DigitFacts.{length-digits}
 use Rattle.report_bits.proofs.ReportFacts.{word_of-levels_of}
 use Rattle.qic117_commands.specs.Commands.{number_of, command_at, commands}
-use Rattle.qic117_commands.specs.StatusWord.{status_of, bit_where}
+use Rattle.qic117_commands.specs.StatusWord.{status_of}
+use Rattle.qic117_commands.specs.Terms.{bit_where}
 use Rattle.qic117_commands.specs.Views.{is_format}
 use Rattle.qic117_commands.specs.declared.command.Command.TheVariants.{ReportNextBit}
 use Rattle.drive_spec.specs.declared.deck.Deck.{Deck}
 use Rattle.drive_spec.specs.declared.under_way.UnderWay.{UnderWay}
 use Rattle.drive_spec.specs.declared.under_way.UnderWay.TheVariants.{Nothing, Report}
-use Rattle.drive_spec.specs.Deck.{refusal_of, segments_per_track, status_word, told_segments}
+use Rattle.drive_spec.specs.Terms.{refusal_of, status_word, told_segments, tape_status}
+use Rattle.drive_spec.specs.Deck.{segments_per_track}
 use Rattle.drive_spec.specs.Effects.{accepted, ticked}
 use Rattle.drive_spec.specs.Record.{Record}
-use Rattle.drive_spec.specs.Reports.{report_word, tape_status}
+use Rattle.drive_spec.specs.Reports.{report_word}
 use Rattle.drive_states.specs.Typed.{is_seeking}
 use Rattle.drive_states.specs.Sound.{IsSound, HasLength}
 use Rattle.drive_states.proofs.Marks.{gap_steps-none}

@@ -5,9 +5,9 @@ use Rattle.qic117_commands.specs.Views.{is_format}
 use Rattle.drive_spec.specs.declared.deck.Deck.{Deck}
 use Rattle.drive_spec.specs.declared.deck.Motion.TheVariants.{Stopped, Streaming}
 use Rattle.drive_spec.specs.Deck.{limit, segments_per_track, is_streaming}
-use Rattle.drive_spec.specs.Effects.{ends_early, run_on}
+use Rattle.drive_spec.specs.Effects.{ends_early}
+use Rattle.drive_spec.specs.Terms.{run_on, idled}
 use Rattle.drive_spec.specs.Record.{Record}
-use Rattle.drive_spec.specs.Row.{idled}
 use Rattle.drive_states.specs.Typed.{is_seeking}
 use Rattle.drive_states.proofs.Marks.{gap_steps-none}
 use Rattle.host_driver.specs.Fits.{GeneratesAll}

@@ -17,11 +17,12 @@ use Rattle.drive_spec.specs.declared.deck.Motion.TheVariants.{Streaming}
 use Rattle.drive_spec.specs.declared.under_way.Parameter.{Parameter}
 use Rattle.drive_spec.specs.declared.under_way.UnderWay.{UnderWay}
 use Rattle.drive_spec.specs.declared.under_way.UnderWay.TheVariants.{Nothing, Report, Awaited}
-use Rattle.drive_spec.specs.Deck.{refusal_of, is_stopped, limit, segments_per_track}
-use Rattle.drive_spec.specs.Effects.{accepted, given, ticked, referenced_as}
+use Rattle.drive_spec.specs.Terms.{refusal_of, referenced_as, obeying, longer}
+use Rattle.drive_spec.specs.Deck.{is_stopped, limit, segments_per_track}
+use Rattle.drive_spec.specs.Effects.{accepted, given, ticked}
 use Rattle.drive_spec.specs.Record.{Record}
-use Rattle.drive_spec.specs.Parameters.{longer, parameter_code, parameter_values, parameter_trains}
-use Rattle.drive_spec.specs.Row.{heard, by_command, by_refusal, given_more, latched, obeying}
+use Rattle.drive_spec.specs.Parameters.{parameter_code, parameter_values, parameter_trains}
+use Rattle.drive_spec.specs.Row.{heard, by_command, by_refusal, given_more, latched}
 use Rattle.drive_states.specs.Typed.{is_seeking}
 use Rattle.drive_states.proofs.Marks.{gap_steps-none}
 use Rattle.host_driver.specs.Commands.{is_plain, TakesValue}

@@ -3,7 +3,8 @@ use Rattle.std.proofs.Common.{◌≡◌, ℕ, ◌&&◌, ◌==◌, Bool, true, fa
 use Rattle.std.specs.Option.{option_map_or}
 use Rattle.qic_base.specs.Tape.{Meaning}
 use Rattle.qic_base.specs.declared.tape.TapeInfo.{TapeInfo}
-use Rattle.drive_spec.specs.Deck.{power_on_deck, is_protected, is_referenced, segments_per_track, status_word}
+use Rattle.drive_spec.specs.Terms.{power_on_deck, is_protected, is_referenced, status_word}
+use Rattle.drive_spec.specs.Deck.{segments_per_track}
 use Rattle.drive_spec.specs.Record.{Record, power_on}
 use Rattle.drive_states.specs.Unit.{UnitView, IsSoundUnit}
 use Rattle.drive_states.specs.Sound.{HasLength}

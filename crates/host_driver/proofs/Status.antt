@@ -1,12 +1,13 @@
 -- What a status word tells.
 use Rattle.std.proofs.Common.{◌≡◌, ℕ, ◌==◌, ◌&&◌, Bool, true, false, not, is_some, refl, ap, ◌∙◌, bit_and}
-use Rattle.qic117_commands.specs.StatusWord.{bit_where}
+use Rattle.qic117_commands.specs.Terms.{bit_where}
 use Rattle.qic117_commands.specs.Views as views
 use Rattle.qic117_commands.proofs.Statuses.{status_of-stopped, status_of-present, status_of-protected, status_of-referenced}
 use Rattle.drive_spec.specs.declared.deck.Deck.{Deck}
 use Rattle.drive_spec.specs.declared.deck.Motion.{Motion}
 use Rattle.drive_spec.specs.declared.deck.Motion.TheVariants.{Stopped, Streaming, Seeking}
-use Rattle.drive_spec.specs.Deck.{status_word, is_stopped, is_protected, is_referenced, is_at_bot, is_at_eot, view_of, seen_motion}
+use Rattle.drive_spec.specs.Terms.{status_word, is_protected, is_referenced}
+use Rattle.drive_spec.specs.Deck.{is_stopped, is_at_bot, is_at_eot, view_of, seen_motion}
 
 seen : (m : Motion) → views.is_stopped (seen_motion m) ≡ is_stopped m
 seen Stopped = refl

@@ -12,11 +12,11 @@ use Rattle.drive_spec.specs.declared.deck.Motion.{Motion}
 use Rattle.drive_spec.specs.declared.deck.Motion.TheVariants.{Stopped, Streaming, Seeking}
 use Rattle.drive_spec.specs.declared.under_way.UnderWay.{UnderWay}
 use Rattle.drive_spec.specs.declared.under_way.UnderWay.TheVariants.{Nothing, Awaited}
-use Rattle.drive_spec.specs.Deck.{refusal_of, view_of, seen_motion, is_stopped, is_protected, is_referenced, limit, segments_per_track}
-use Rattle.drive_spec.specs.Effects.{accepted, sought, skipped}
+use Rattle.drive_spec.specs.Terms.{refusal_of, is_protected, is_referenced, sought, skipped, longer, begun}
+use Rattle.drive_spec.specs.Deck.{view_of, seen_motion, is_stopped, limit, segments_per_track}
+use Rattle.drive_spec.specs.Effects.{accepted}
 use Rattle.drive_spec.specs.Record.{Record}
-use Rattle.drive_spec.specs.Parameters.{longer}
-use Rattle.drive_spec.specs.Row.{begun, given_more}
+use Rattle.drive_spec.specs.Row.{given_more}
 use Rattle.drive_states.specs.Typed.{is_seeking, skip_command}
 use Rattle.drive_states.proofs.Taken.{primary_taken}
 use Rattle.drive_states.specs.Unit.{UnitView}

@@ -6,7 +6,8 @@ use Rattle.drive_spec.specs.declared.deck.Deck.{Deck}
 use Rattle.drive_spec.specs.declared.under_way.Parameter.{Parameter}
 use Rattle.drive_spec.specs.declared.under_way.UnderWay.{UnderWay}
 use Rattle.drive_spec.specs.declared.under_way.UnderWay.TheVariants.{Nothing, Report, Awaited}
-use Rattle.drive_spec.specs.Deck.{segments_per_track, is_protected}
+use Rattle.drive_spec.specs.Deck.{segments_per_track}
+use Rattle.drive_spec.specs.Terms.{is_protected}
 use Rattle.drive_spec.specs.Record.{Record}
 use Rattle.drive_states.specs.Typed.{is_seeking}
 use Rattle.drive_states.specs.Unit.{UnitView, IsSoundUnit}

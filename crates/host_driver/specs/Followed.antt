@@ -4,7 +4,8 @@ use Rattle.qic117_commands.specs.Commands.{command_at}
 use Rattle.qic117_commands.specs.declared.command.Command.{Command}
 use Rattle.drive_spec.specs.declared.under_way.Parameter.{Parameter}
 use Rattle.drive_spec.specs.Effects.{accepted, given, ticked}
-use Rattle.drive_spec.specs.Parameters.{longer, parameter_trains}
+use Rattle.drive_spec.specs.Terms.{longer}
+use Rattle.drive_spec.specs.Parameters.{parameter_trains}
 use Rattle.host_driver.specs.declared.host.Host.{Host}
 use Rattle.host_driver.specs.Place.{idled_deck}
 

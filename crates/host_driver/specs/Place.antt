@@ -3,7 +3,7 @@ use Rattle.std.specs.Prelude.{◌≡◌, ℕ, ◌+◌, ◌<◌, ◌≤◌, if◌
 use Rattle.drive_spec.specs.declared.deck.Deck.{Deck}
 use Rattle.drive_spec.specs.declared.deck.Motion.TheVariants.{Stopped, Streaming}
 use Rattle.drive_spec.specs.Deck.{segments_per_track, is_streaming}
-use Rattle.drive_spec.specs.Effects.{run_on}
+use Rattle.drive_spec.specs.Terms.{run_on}
 use Rattle.drive_states.specs.Reach.{segment_of}
 
 -- the tape streams at a segment, of which the head has yet to reach the sectors from `next` on

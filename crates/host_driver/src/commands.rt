@@ -1,10 +1,9 @@
 //! Single commands and the values of their parameters.
 
 ghost use Rattle.std.specs.Prelude.{◌≡◌, None, true, false, IsOk, IfSome, IsSomeAnd};
-ghost use Rattle.drive_spec.specs.Deck.{refusal_of};
+ghost use Rattle.drive_spec.specs.Terms.{refusal_of, longer, begun};
 ghost use Rattle.drive_spec.specs.Effects.{accepted};
-ghost use Rattle.drive_spec.specs.Parameters.{longer};
-ghost use Rattle.drive_spec.specs.Row.{begun, given_more};
+ghost use Rattle.drive_spec.specs.Row.{given_more};
 ghost use Rattle.drive_states.specs.Typed.{is_seeking};
 ghost use Rattle.host_driver.specs.Calls.{IsReady};
 ghost use Rattle.host_driver.specs.Commands.{is_plain, TakesValue};

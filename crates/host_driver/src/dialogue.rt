@@ -1,8 +1,8 @@
 //! Trains and reports, as the cable carries them.
 
 ghost use Rattle.std.specs.Prelude.{◌≡◌, [], Ok, IsOk, OnOk, OnErr};
-ghost use Rattle.qic_base.specs.Tape.{Does};
-ghost use Rattle.drive_spec.specs.Deck.{refusal_of};
+ghost use Rattle.qic_base.specs.TapeCalls.{Does};
+ghost use Rattle.drive_spec.specs.Terms.{refusal_of};
 ghost use Rattle.drive_spec.specs.Effects.{ticked};
 ghost use Rattle.drive_spec.specs.declared.under_way.UnderWay.TheVariants.{Nothing};
 ghost use Rattle.drive_states.specs.Unit.{IsSoundUnit};

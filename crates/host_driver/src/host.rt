@@ -1,8 +1,8 @@
 //! What the host remembers, its start, and the trains that it sends.
 
 ghost use Rattle.std.specs.Prelude.{◌≡◌, ◌≢◌, [], None, Some, IsOk, IfOk, OnOk, OnErr, IsOkUnless};
-ghost use Rattle.qic_base.specs.Tape.{Does};
-ghost use Rattle.drive_spec.specs.Deck.{is_protected, is_referenced};
+ghost use Rattle.qic_base.specs.TapeCalls.{Does};
+ghost use Rattle.drive_spec.specs.Terms.{is_protected, is_referenced};
 ghost use Rattle.host_driver.specs.Calls.{IsReady};
 ghost use Rattle.host_driver.specs.Fits.{Fits, AgreesWithTape, segments_of, deck_of};
 ghost use Rattle.host_driver.specs.Starts.{Starts, KnowsTold, KnowsSize, started_host};

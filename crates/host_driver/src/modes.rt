@@ -2,10 +2,11 @@
 
 ghost use Rattle.std.specs.Prelude.{◌≡◌, ◌↔◌, [], ◌∷◌, None, true, false, IsOk, OnOk, OnErr, IsOkUnless};
 ghost use Rattle.qic_base.specs.Step.{SetReferenced};
-ghost use Rattle.qic_base.specs.Tape.{Does};
+ghost use Rattle.qic_base.specs.TapeCalls.{Does};
 ghost use Rattle.qic117_commands.specs.Views.{is_format};
-ghost use Rattle.drive_spec.specs.Deck.{is_stopped, is_protected, is_referenced, refusal_of};
-ghost use Rattle.drive_spec.specs.Effects.{referenced_as, accepted};
+ghost use Rattle.drive_spec.specs.Deck.{is_stopped};
+ghost use Rattle.drive_spec.specs.Terms.{is_protected, is_referenced, refusal_of, referenced_as};
+ghost use Rattle.drive_spec.specs.Effects.{accepted};
 ghost use Rattle.host_driver.specs.Calls.{IsReady};
 ghost use Rattle.host_driver.specs.Commands.{entry_of};
 ghost use Rattle.host_driver.specs.Fits.{Fits, IsAtRest, AgreesWithTape};

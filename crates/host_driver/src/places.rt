@@ -3,8 +3,8 @@
 ghost use Rattle.std.specs.Prelude.{◌≡◌, ◌<◌, ◌*◌, true, false, IsOk};
 ghost use Rattle.tape_geometry.specs.Geometry.{logical_offset};
 ghost use Rattle.qic117_commands.specs.Views.{is_format};
-ghost use Rattle.drive_spec.specs.Deck.{segments_per_track, is_stopped, is_streaming, is_referenced};
-ghost use Rattle.drive_spec.specs.Effects.{sought, skipped};
+ghost use Rattle.drive_spec.specs.Deck.{segments_per_track, is_stopped, is_streaming};
+ghost use Rattle.drive_spec.specs.Terms.{is_referenced, sought, skipped};
 ghost use Rattle.drive_states.specs.Reach.{segment_of};
 ghost use Rattle.drive_states.specs.Typed.{skip_command};
 ghost use Rattle.host_driver.specs.Calls.{IsReady, Keeps};

@@ -3,9 +3,9 @@
 ghost use Rattle.std.specs.Prelude.{◌≡◌, ◌≢◌, ◌<◌, ◌+◌, [], ◌∷◌, true, false, IsOkUnless, IfOk, OnOk, OnErr, MatchResult};
 ghost use Rattle.qic_base.specs.Cartridge.{IsPlace, view_at};
 ghost use Rattle.qic_base.specs.Step.{WriteSector, FormatSegment};
-ghost use Rattle.qic_base.specs.Tape.{Does, Tells, Reads, write_answer};
+ghost use Rattle.qic_base.specs.TapeCalls.{Does, Tells, Reads, write_answer};
 ghost use Rattle.drive_spec.specs.Deck.{segments_per_track};
-ghost use Rattle.drive_spec.specs.Effects.{run_on};
+ghost use Rattle.drive_spec.specs.Terms.{run_on};
 ghost use Rattle.drive_states.specs.Hand.{Wears};
 ghost use Rattle.drive_states.specs.Reach.{reads_in, IsUnder, IsFormatting, Finds, Writes, segment_of};
 ghost use Rattle.drive_states.specs.Unit.{IsSoundUnit, held};

@@ -1,7 +1,8 @@
 //! Reports, and the wait for a seek.
 
 ghost use Rattle.std.specs.Prelude.{◌≡◌, ◌≤◌, Ok, None, true, false, IfOk};
-ghost use Rattle.drive_spec.specs.Deck.{refusal_of, is_streaming, is_stopped};
+ghost use Rattle.drive_spec.specs.Terms.{refusal_of};
+ghost use Rattle.drive_spec.specs.Deck.{is_streaming, is_stopped};
 ghost use Rattle.drive_spec.specs.Effects.{ticked};
 ghost use Rattle.drive_spec.specs.Reports.{report_word};
 ghost use Rattle.drive_spec.specs.declared.under_way.UnderWay.TheVariants.{Nothing};

@@ -6,7 +6,8 @@ use Rattle.qic117_commands.specs.declared.view.DriveView.{DriveView}
 use Rattle.qic117_commands.specs.declared.view.Motion.TheVariants as seen_as
 use Rattle.drive_spec.specs.declared.deck.Motion.{Motion}
 use Rattle.drive_spec.specs.declared.deck.Motion.TheVariants.{Stopped, Streaming, Seeking}
-use Rattle.drive_spec.specs.Deck.{refusal_of, view_of, seen_motion, is_stopped}
+use Rattle.drive_spec.specs.Terms.{refusal_of}
+use Rattle.drive_spec.specs.Deck.{view_of, seen_motion, is_stopped}
 use Rattle.drive_states.specs.Unit.{UnitView}
 use Rattle.host_driver.specs.declared.host.Host.{Host}
 use Rattle.host_driver.specs.declared.report.Report.{Report}

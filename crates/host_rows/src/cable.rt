@@ -1,7 +1,8 @@
 //! Cartridges in a drive, hosts that know them, and what the drive shows past its host.
 
 ghost use Rattle.std.specs.Prelude.{◌≡◌, ◌≤◌, true, false, IfOk, OnOk};
-ghost use Rattle.drive_spec.specs.Deck.{segments_per_track, is_protected, is_referenced, is_stopped};
+ghost use Rattle.drive_spec.specs.Deck.{segments_per_track, is_stopped};
+ghost use Rattle.drive_spec.specs.Terms.{is_protected, is_referenced};
 ghost use Rattle.host_driver.specs.Fits.{Fits, IsAtRest};
 ghost use Rattle.qic_mem.specs.Tape.{tape_means};
 

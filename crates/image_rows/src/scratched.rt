@@ -1,7 +1,7 @@
 //! A disk of which some bytes can't be read.
 
 ghost use Rattle.std.specs.Prelude.{◌≡◌, ◌≤◌, false};
-ghost use Rattle.qic_base.specs.Cause.{Rose};
+ghost use Rattle.qic_base.specs.Tape.{Rose};
 
 use qic_base::{Disk, DiskFailed};
 use qic_mem::MemDisk;

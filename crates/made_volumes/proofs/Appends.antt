@@ -4,41 +4,40 @@ use Rattle.std.proofs.lemmas.Bool.{le-ltb}
 use Rattle.std.proofs.lemmas.List.{take_all}
 use Rattle.qic_base.specs.Cartridge.{Cartridge}
 use Rattle.qic_base.specs.Step.{Step}
-use Rattle.qic_base.specs.Tape as tapes
 use Rattle.qic_base.proofs.Steps.{Tells-map, Done-nothing}
 use Rattle.qic_base.specs.Acts.{Act, text_of, TapeFails, Went, Cut}
-use Rattle.qic_base.specs.Acts.{no_source, no_sink, around, reading}
+use Rattle.qic_base.specs.Terms.{no_source, no_sink, around, reading}
 use Rattle.cartridge_spec.specs.HeaderAndTable.{table_cells, TableIs}
 use Rattle.cartridge_spec.specs.Says.{LostSectors, ByCode, TableSays}
 use Rattle.cartridge_spec.specs.Table.{Entry}
-use Rattle.drive_spec.specs.Deck.{is_protected}
+use Rattle.drive_spec.specs.Terms.{is_protected}
 use Rattle.drive_states.specs.Unit.{UnitView}
 use Rattle.cartridge_spec.specs.Settling.{settling_steps}
-use Rattle.command_spec.specs.Generator.{made_length, made_bytes}
+use Rattle.command_spec.specs.Make.{made_length, made_bytes, AppendMade, made_name, Answer, Done, Protected, TableMismatch, Full, Lost, StepDoes, Runs, IsTableLost, made_answer}
 use Rattle.tape_script.specs.Generator.{made_means}
 use Rattle.volume_store.specs.declared.appended.Appended.{Appended}
 use Rattle.volume_store.specs.declared.fault.StoreFault.{StoreFault}
-use Rattle.volume_store.specs.declared.fault.StoreFault.TheVariants as store
-use Rattle.command_spec.specs.Append.{Taking, Fits, TooLong, TooShort, taking, room_in, kept_in, entry_for, has_promised_room, append_acts, silently}
+use Rattle.command_spec.specs.Append.{Taking, Fits, TooLong, TooShort, taking, room_in, has_promised_room, append_acts}
+use Rattle.command_laws.specs.CommandTerms.{kept_in, entry_for, silently, made_entry, made_acts, MayAppend}
 use Rattle.volume_store.specs.Appending.{kept_by, AppendRan, AppendCut, TableRefused, AppendEnds, CutUnread, FaultsUnread}
 use Rattle.volume_store.specs.Mounting.{StoreView, StoreFits}
 use Rattle.volume_store.proofs.Copies.{IsLearnt, told_learnt, tells_two}
 use Rattle.made_volumes.specs.declared.fault.MakeFault.{MakeFault}
-use Rattle.made_volumes.specs.declared.fault.MakeFault.TheVariants as fault
 use Rattle.made_volumes.specs.Faults.{is_of_step, fault_of}
-use Rattle.command_spec.specs.Make.{AppendMade, made_name, made_entry}
-use Rattle.command_spec.specs.Make.{Answer, Done, Protected, TableMismatch, Full, Lost, StepDoes, Runs, IsTableLost, made_acts, made_answer}
-use Rattle.command_spec.specs.Make.{MayAppend}
 use Rattle.made_volumes.specs.Runs.{HasRun, RunCut, RunEnds}
 use Rattle.command_laws.proofs.MadeMachineLaws.{run_of, done_of, never_lost}
 use Rattle.command_laws.proofs.MadeMadeBytes.{length-made_bytes}
-use Rattle.command_laws.proofs.MadeMayLaws.{may_of}
+use Rattle.command_laws.proofs.MadeMayLaws.{may_of, may_append}
+use Rattle.qic_base.specs.Tape as tapes
+use Rattle.qic_base.specs.TapeCalls as tape_calls
+use Rattle.volume_store.specs.declared.fault.StoreFault.TheVariants as store
+use Rattle.made_volumes.specs.declared.fault.MakeFault.TheVariants as fault
 
 -- ---- the mark
 
 -- the cartridge's mark is that which the drive knows
 pub told_mark : {T : Type 0} (t : tapes.Meaning T) (held : StoreView) (u : UnitView T) → StoreFits t held u → (mark : Bool) → is_protected u.drive.deck ≡ mark →
-    tapes.Tells t u.tape (λ c. c.info.protected ≡ mark)
+    tape_calls.Tells t u.tape (λ c. c.info.protected ≡ mark)
 told_mark t held u fits mark is =
     Tells-map t u.tape (IsLearnt held.host) (λ c. c.info.protected ≡ mark)
     (λ c known. known.protected ∙ sym (ap is_protected fits.host.deck) ∙ is)
@@ -127,14 +126,14 @@ module _ {T : Type 0} (t : tapes.Meaning T) (seed volume : ℕ) (before : StoreV
 
   -- the acts went up to this answer
   went_so : (acts : List Act) (answer : Answer) → Acts acts → MayAppend seed words entries volume answer →
-      tapes.Tells t a (λ c. StepDoes seed c words entries (AppendMade volume) acts answer) →
+      tape_calls.Tells t a (λ c. StepDoes seed c words entries (AppendMade volume) acts answer) →
       HasRun t no_sink seed words entries (AppendMade volume ∷ []) (around a tt) (around b tt) answer
   went_so acts answer went may told = record {
     acts = acts;
     went = around_went acts went;
     told = Tells-map t a (λ c. StepDoes seed c words entries (AppendMade volume) acts answer) (λ c. Runs seed c words entries (AppendMade volume ∷ []) acts answer)
         (λ c does. run_of seed c words entries (AppendMade volume) acts answer does) told;
-    may = may_of seed words entries (AppendMade volume) (text_of acts) answer (went.wrote.took, may);
+    may = may_of seed words entries (AppendMade volume) (text_of acts) answer (may_append seed words entries volume (text_of acts) answer went.wrote.took may);
   }
 
   -- the acts of an append that ran are the plain machine's
@@ -238,7 +237,7 @@ module _ {T : Type 0} (t : tapes.Meaning T) (seed volume : ℕ) (before : StoreV
     told = Tells-map t a (λ c. c.info.protected ≡ true) (λ c. Runs seed c words entries (AppendMade volume ∷ []) [] Protected)
         (λ c mark. run_of seed c words entries (AppendMade volume) [] Protected (inl (record { mark = mark; does = refl; answered = refl })))
         (told_mark t before u fits true locked);
-    may = may_of seed words entries (AppendMade volume) [] Protected (refl, tt);
+    may = may_of seed words entries (AppendMade volume) [] Protected refl;
   })
 
   -- the answers of a call that a run makes

@@ -6,7 +6,7 @@ use Rattle.qic_base.specs.Tape as tapes
 use Rattle.qic_base.proofs.Steps.{Tells-map}
 use Rattle.qic_base.proofs.Writing.{TakesBoth}
 use Rattle.qic_base.specs.Acts.{Act, steps_of, text_of, Outside, Failing, TapeFails, SourceFails, SinkFails, Went, Cut}
-use Rattle.qic_base.specs.Acts.{no_source, no_sink, around}
+use Rattle.qic_base.specs.Terms.{no_source, no_sink, around}
 use Rattle.qic_base.proofs.Joins.{text_of-append, nothing_went, went_both, went_then_cut, cut_is_longer}
 use Rattle.cartridge_spec.specs.Table.{Entry}
 use Rattle.cartridge_spec.specs.Settling.{changed_by}
@@ -15,9 +15,7 @@ use Rattle.volume_store.proofs.Copies.{tells_two}
 use Rattle.command_laws.proofs.MadeTelling.{tells_before}
 use Rattle.made_volumes.specs.declared.fault.MakeFault.{MakeFault}
 use Rattle.made_volumes.specs.declared.fault.MakeFault.TheVariants as fault
-use Rattle.command_spec.specs.Make.{MakeStep, after_items}
-use Rattle.command_spec.specs.Make.{Answer, Done, Protected, TableMismatch, Full, Lost, Mismatch, Runs}
-use Rattle.command_spec.specs.Make.{MayRun}
+use Rattle.command_spec.specs.Make.{MakeStep, after_items, Answer, Done, Protected, TableMismatch, Full, Lost, Mismatch, Runs, MayRun}
 use Rattle.made_volumes.specs.Runs.{HasRun, RunCut, RunEnds}
 use Rattle.command_laws.proofs.MadeMachineLaws.{runs_both, runs_longer, runs_behind, runs_front}
 use Rattle.command_laws.proofs.MadeMayLaws.{may_both, may_longer}

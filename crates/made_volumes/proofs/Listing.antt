@@ -2,13 +2,12 @@
 use Rattle.std.proofs.Common.{◌≡◌, ℕ, ◌+◌, ◌-◌, ◌<◌, ◌≤◌, List, [], ◌∷◌, Err, ap, ◌∙◌, subst, arith}
 use Rattle.qic_base.specs.Tape as tapes
 use Rattle.qic_base.specs.Acts.{Outside, text_of}
-use Rattle.qic_base.specs.Acts.{no_sink}
+use Rattle.qic_base.specs.Terms.{no_sink}
 use Rattle.cartridge_spec.specs.Table.{Entry}
 use Rattle.volume_store.specs.Mounting.{StoreView}
 use Rattle.made_volumes.specs.declared.fault.MakeFault.{MakeFault}
 use Rattle.made_volumes.specs.declared.fault.MakeFault.TheVariants as fault
-use Rattle.command_spec.specs.Make.{AppendMade, made_list}
-use Rattle.command_spec.specs.Make.{Full, Lost, Mismatch, made_answer}
+use Rattle.command_spec.specs.Make.{AppendMade, made_list, Full, Lost, Mismatch, made_answer}
 use Rattle.made_volumes.specs.Runs.{RunEnds, IsListed, HoldsAll, HoldsSome, AreListed, NeverFull}
 use Rattle.command_laws.proofs.MadeMayLaws.{may_done}
 

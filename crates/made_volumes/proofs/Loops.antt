@@ -5,14 +5,16 @@ use Rattle.std.proofs.lemmas.Option.{slice_get_within, get_or_from_slice_get}
 use Rattle.cartridge_spec.specs.Table.{Entry}
 use Rattle.cartridge_spec.specs.Volumes.{carrying_segments}
 use Rattle.command_laws.proofs.MadeMachineLaws.{after_items-append}
-use Rattle.command_spec.specs.Make.{MakeStep, AppendMade, appending, made_entry, after_items, made_list, summing, Done, WearSector, wearing, first_two, wearing_in, wearing_volumes, SumVolume}
+use Rattle.command_spec.specs.Make.{MakeStep, AppendMade, appending, after_items, made_list, summing, Done, WearSector, wearing, wearing_in, wearing_volumes, SumVolume}
+use Rattle.command_laws.specs.CommandTerms.{made_entry, first_two}
 use Rattle.made_volumes.proofs.Joining.{ends_behind}
 use Rattle.made_volumes.specs.Runs.{HasRun, RunEnds}
 use Rattle.made_volumes.specs.declared.fault.MakeFault.{MakeFault}
 use Rattle.qic_base.proofs.LostSetLaws.{lost_places-lost, lost_places-kept}
 use Rattle.qic_base.proofs.Writing.{TakesBoth}
 use Rattle.qic_base.specs.Acts.{Outside}
-use Rattle.qic_base.specs.LostSet.{lost_places, IsLost}
+use Rattle.qic_base.specs.Cartridge.{lost_places}
+use Rattle.qic_base.specs.Terms.{IsLost}
 use Rattle.qic_base.specs.Sink as sinks
 use Rattle.qic_base.specs.Tape as tapes
 

@@ -1,31 +1,32 @@
 -- How the wearing of a sector and a scrub ended, as steps of a run.
 use Rattle.std.proofs.Common.{◌≡◌, ◌↔◌, inl, inr, ℕ, true, false, List, [], ◌∷◌, Result, Ok, Err, refl, sym, ◌∙◌, subst, arith}
 use Rattle.qic_base.specs.Step.{Wear}
-use Rattle.qic_base.specs.Sink as sinks
-use Rattle.qic_base.specs.Tape as tapes
 use Rattle.qic_base.proofs.Steps.{Tells-map, Done-nothing}
 use Rattle.qic_base.specs.Acts.{Act, text_of, Failing, TapeFails, SinkFails, Cut}
-use Rattle.qic_base.specs.Acts.{no_source, no_sink, around}
+use Rattle.qic_base.specs.Terms.{no_source, no_sink, around}
 use Rattle.cartridge_spec.specs.Table.{Entry}
-use Rattle.drive_spec.specs.Deck.{is_protected}
+use Rattle.drive_spec.specs.Terms.{is_protected}
 use Rattle.drive_states.specs.Unit.{UnitView}
-use Rattle.command_spec.specs.Scrub.{Scrubs, counts_of, looked_at}
+use Rattle.command_spec.specs.Scrub.{Scrubs, looked_at}
+use Rattle.command_laws.specs.Terms.{counts_of}
 use Rattle.segment_io.proofs.Going.{tells_always}
 use Rattle.segment_mending.specs.Mending.{reported}
 use Rattle.segment_mending.specs.declared.report.ScrubReport.{ScrubReport}
 use Rattle.volume_store.proofs.Copies.{tells_two}
 use Rattle.volume_store.specs.declared.fault.StoreFault.{StoreFault}
-use Rattle.volume_store.specs.declared.fault.StoreFault.TheVariants as store
 use Rattle.volume_store.specs.Mounting.{StoreView, StoreFits}
 use Rattle.volume_store.specs.Scrubbing.{MendCut, MendEnds}
-use Rattle.made_volumes.specs.declared.fault.MakeFault.TheVariants as fault
 use Rattle.made_volumes.specs.Faults.{is_of_step, fault_of}
-use Rattle.command_spec.specs.Make.{WearSector, ScrubAll}
-use Rattle.command_spec.specs.Make.{Answer, Done, Protected, Runs}
+use Rattle.command_spec.specs.Make.{WearSector, ScrubAll, Answer, Done, Protected, Runs}
 use Rattle.made_volumes.specs.Runs.{RunEnds, NeverFull}
 use Rattle.command_laws.proofs.MadeMachineLaws.{run_of, done_of}
 use Rattle.command_laws.proofs.MadeMayLaws.{may_of}
 use Rattle.made_volumes.proofs.Appends.{told_mark, not_marked}
+use Rattle.qic_base.specs.Sink as sinks
+use Rattle.qic_base.specs.Tape as tapes
+use Rattle.qic_base.specs.TapeCalls as tape_calls
+use Rattle.volume_store.specs.declared.fault.StoreFault.TheVariants as store
+use Rattle.made_volumes.specs.declared.fault.MakeFault.TheVariants as fault
 
 -- ---- a worn sector
 
@@ -62,7 +63,7 @@ module _ {T : Type 0} (t : tapes.Meaning T) (seed : ℕ) (words : List ℕ) (ent
         Cut t no_source no_sink (around a tt) (around b tt) acts TapeFails)
         (λ c acts answer runs.
         let does = done_of seed c words entries (WearSector segment sector) acts answer runs in
-        subst (λ (zs : List Act). Cut t no_source no_sink (around a tt) (around b tt) zs TapeFails) (sym does.does) (wear_cut broke));
+        subst (λ (zs : List Act). Cut t no_source no_sink (around a tt) (around b tt) zs TapeFails) (sym does.0) (wear_cut broke));
     acts = worn;
     cut = wear_cut broke;
   }
@@ -97,7 +98,7 @@ module _ {T K : Type 0} (t : tapes.Meaning T) (k : sinks.Meaning K) (seed : ℕ)
       }
 
   scrub_cut : (failing : Failing) → is_protected u.drive.deck ≡ false → MendCut t k words entries (around a x) (around b y) failing →
-      tapes.Tells t a (λ c. (acts : List Act) (answer : Answer) → Runs seed c words entries (ScrubAll ∷ []) acts answer →
+      tape_calls.Tells t a (λ c. (acts : List Act) (answer : Answer) → Runs seed c words entries (ScrubAll ∷ []) acts answer →
       Cut t no_source k (around a x) (around b y) acts failing)
   scrub_cut failing free cut =
       tells_two t a (λ c. c.info.protected ≡ false)
@@ -106,7 +107,7 @@ module _ {T K : Type 0} (t : tapes.Meaning T) (k : sinks.Meaning K) (seed : ℕ)
       Cut t no_source k (around a x) (around b y) acts failing)
       (λ c unlocked known acts answer runs. elim (done_of seed c words entries ScrubAll acts answer runs) [
         | inl refused ↦ absurd (let same : true ≡ false = sym refused.mark ∙ unlocked in cc)
-        | inr done ↦ known acts done.1.does
+        | inr done ↦ known acts done.1.0
       ]) (told_mark t before u fits false free) cut.told
 
   pub scrub_so : ((z : K) → k.took z [] z) → (f : StoreFault) → (f ≡ store.Protected) ↔ (is_protected u.drive.deck ≡ true) → Ends (Err f) →

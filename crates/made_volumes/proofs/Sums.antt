@@ -1,35 +1,34 @@
 -- How the restoring and summing of a volume ended, as a step of a run.
 use Rattle.std.proofs.Common.{◌≡◌, ℕ, zero, suc, ◌+◌, ◌%◌, ◌^◌, ◌<◌, ◌≤◌, true, false, List, [], ◌∷◌, ◌++◌, length, sum, Some, None, slice_get, Result, Ok, Err, refl, sym, ap, ◌∙◌, subst, arith, append-nil}
 use Rattle.qic_base.specs.Cartridge.{Cartridge}
-use Rattle.qic_base.specs.Step.{Step, effects}
-use Rattle.qic_base.specs.Stop.{Torn}
+use Rattle.qic_base.specs.Step.{Step, effects, Torn}
 use Rattle.qic_base.specs.declared.sink.SinkFailed.{SinkFailed}
-use Rattle.qic_base.specs.Sink as sinks
-use Rattle.qic_base.specs.Tape as tapes
 use Rattle.qic_base.proofs.Steps.{Tells-map}
 use Rattle.qic_base.specs.Acts.{Act, steps_of, text_of, next_steps, Failing, TapeFails, SinkFails, Cut}
-use Rattle.qic_base.specs.Acts.{no_source, around}
+use Rattle.qic_base.specs.Terms.{no_source, around}
 use Rattle.qic_base.proofs.Joins.{steps_of-append, sink_cut_one}
 use Rattle.cartridge_spec.specs.Table.{Entry}
 use Rattle.cartridge_spec.specs.Volumes.{volume_length}
-use Rattle.command_spec.specs.Restore.{Piece, GivingEnd, Restored, LostIn, MismatchIn, Restores, pieces}
+use Rattle.command_spec.specs.Restore.{Piece, GivingEnd, Restored, LostIn, MismatchIn, Restores, pieces, volume_at}
 use Rattle.command_laws.proofs.RestoreCounts.{restores_in_no_step}
 use Rattle.tape_script.specs.Generator.{sum_means}
 use Rattle.command_laws.specs.OutputText.{AreOf}
 use Rattle.volume_output.specs.Output.{GaveVolume, VolumeCut}
 use Rattle.volume_store.specs.declared.fault.StoreFault.{StoreFault}
-use Rattle.volume_store.specs.declared.fault.StoreFault.TheVariants as store
 use Rattle.volume_store.specs.Mounting.{StoreView}
-use Rattle.command_spec.specs.Restore.{volume_at}
 use Rattle.volume_store.specs.Restoring.{RestoreEnds}
-use Rattle.made_volumes.specs.declared.fault.MakeFault.TheVariants as fault
 use Rattle.made_volumes.specs.Faults.{is_of_step, fault_of, printed}
-use Rattle.command_spec.specs.Make.{SumVolume}
-use Rattle.command_spec.specs.Make.{Answer, Done, StepDoes, Runs, IsSummed, sum_line, sum_acts, ending_answer}
-use Rattle.command_spec.specs.Make.{MaySum}
+use Rattle.command_spec.specs.Make.{SumVolume, Answer, Done, StepDoes, Runs, sum_line, sum_acts, ending_answer, MaySum}
+use Rattle.command_laws.specs.CommandTerms.{IsSummed}
 use Rattle.made_volumes.specs.Runs.{HasRun, RunEnds, NeverFull}
 use Rattle.command_laws.proofs.MadeMachineLaws.{run_of, done_of, does_one}
 use Rattle.command_laws.proofs.MadeMayLaws.{may_of}
+use Rattle.qic_base.specs.Sink as sinks
+use Rattle.qic_base.specs.SinkCalls as sink_calls
+use Rattle.qic_base.specs.Tape as tapes
+use Rattle.qic_base.specs.TapeCalls as tape_calls
+use Rattle.volume_store.specs.declared.fault.StoreFault.TheVariants as store
+use Rattle.made_volumes.specs.declared.fault.MakeFault.TheVariants as fault
 
 -- ---- no step
 
@@ -115,7 +114,7 @@ module _ {T K : Type 0} (t : tapes.Meaning T) (k : sinks.Meaning K) (seed : ℕ)
   acts_are e gave small = ap (λ (n : ℕ). record { steps = []; text = sum_line number (volume_length words e) n } ∷ []) (total_is e Restored gave small)
 
   line_told : (e : Entry) (gave : Gave e Restored) → total < 2 ^ 32 → volume_at entries number ≡ Some e →
-      tapes.Tells t a (λ c. StepDoes seed c words entries (SumVolume number) (line_act e ∷ []) Done)
+      tape_calls.Tells t a (λ c. StepDoes seed c words entries (SumVolume number) (line_act e ∷ []) Done)
   line_told e gave small numbered =
       Tells-map t a (λ c. Restores c words (pieces words e) gave.acts Restored) (λ c. StepDoes seed c words entries (SumVolume number) (line_act e ∷ []) Done)
       (λ c restores. subst (λ (acts : List Act). StepDoes seed c words entries (SumVolume number) acts Done) (acts_are e gave small) (summed_so e Restored gave c numbered restores))
@@ -136,10 +135,10 @@ module _ {T K : Type 0} (t : tapes.Meaning T) (k : sinks.Meaning K) (seed : ℕ)
     may = may_of seed words entries (SumVolume number) (line_of e ++ []) Done (e, numbered, (total, small, append-nil (line_of e)));
   }
 
-  line_cut : (y : K) (e : Entry) → Gave e Restored → sinks.BrokeOff k x y (line_of e) → Cut t no_source k (around a x) (around b y) (line_act e ∷ []) SinkFails
+  line_cut : (y : K) (e : Entry) → Gave e Restored → sink_calls.BrokeOff k x y (line_of e) → Cut t no_source k (around a x) (around b y) (line_act e ∷ []) SinkFails
   line_cut y e gave broke = sink_cut_one t no_source k (around a x) (around b y) (line_act e) (did_nothing e Restored gave) broke (omega arith)
 
-  line_broke : (y : K) (e : Entry) → Gave e Restored → total < 2 ^ 32 → volume_at entries number ≡ Some e → sinks.BrokeOff k x y (line_of e) →
+  line_broke : (y : K) (e : Entry) → Gave e Restored → total < 2 ^ 32 → volume_at entries number ≡ Some e → sink_calls.BrokeOff k x y (line_of e) →
       RunEnds t k seed words entries (SumVolume number ∷ []) (around a x) (around b y) (Err fault.Sink)
   line_broke y e gave small numbered broke = record {
     told = Tells-map t a (λ c. StepDoes seed c words entries (SumVolume number) (line_act e ∷ []) Done)
@@ -155,12 +154,12 @@ module _ {T K : Type 0} (t : tapes.Meaning T) (k : sinks.Meaning K) (seed : ℕ)
 
   -- the bytes were given whole, and the line was written, or not
   pub sum_printed : (y : K) (bytes : ℕ) (r : Result (Unit {0}) SinkFailed) → total < 2 ^ 32 →
-      RestoreEnds t sum_means before number false (around a 0) (around b total) (Ok bytes) → sinks.Writes k x y (sum_line number bytes total) r →
+      RestoreEnds t sum_means before number false (around a 0) (around b total) (Ok bytes) → sink_calls.Writes k x y (sum_line number bytes total) r →
       RunEnds t k seed words entries (SumVolume number ∷ []) (around a x) (around b y) (printed r)
   sum_printed y bytes (Ok done) small ends wrote =
       line_written y ends.0 ends.2.1 small ends.1 (subst (λ (n : ℕ). sinks.Wrote k x y (sum_line number n total)) ends.2.0 wrote)
   sum_printed y bytes (Err failed) small ends broke =
-      line_broke y ends.0 ends.2.1 small ends.1 (subst (λ (n : ℕ). sinks.BrokeOff k x y (sum_line number n total)) ends.2.0 broke)
+      line_broke y ends.0 ends.2.1 small ends.1 (subst (λ (n : ℕ). sink_calls.BrokeOff k x y (sum_line number n total)) ends.2.0 broke)
 
   -- ---- a segment that does not read
 
@@ -223,11 +222,11 @@ module _ {T K : Type 0} (t : tapes.Meaning T) (k : sinks.Meaning K) (seed : ℕ)
       by_does c known acts answer summed =
           let there : Some summed.entry ≡ Some e = sym summed.numbered ∙ numbered in
           let entry : summed.entry ≡ e = cc in
-          let restores : Restores c words (pieces words e) summed.given summed.ending =
-          subst (λ (f : Entry). Restores c words (pieces words f) summed.given summed.ending) entry summed.restores in
-          no_step_cut summed.given acts (restores_in_no_step c words (pieces words e) summed.given summed.ending restores)
-          (ap next_steps summed.does ∙ sum_next number (volume_length words summed.entry) (text_of summed.given) summed.ending)
-          (known summed.given summed.ending restores)
+          let restores : Restores c words (pieces words e) summed.acts summed.ending =
+          subst (λ (f : Entry). Restores c words (pieces words f) summed.acts summed.ending) entry summed.restores in
+          no_step_cut summed.acts acts (restores_in_no_step c words (pieces words e) summed.acts summed.ending restores)
+          (ap next_steps summed.is.0 ∙ sum_next number (volume_length words summed.entry) (text_of summed.acts) summed.ending)
+          (known summed.acts summed.ending restores)
 
   -- the refusals and the fault of the call that restores
   pub restore_so : 1 ≤ number → number ≤ length entries → (f : StoreFault) → RestoreEnds t sum_means before number false (around a 0) (around b total) (Err f) →

@@ -2,27 +2,26 @@
 use Rattle.std.specs.Prelude.{◌≡◌, ◌≢◌, ℕ, ◌+◌, ◌<◌, ◌≤◌, List, [], ◌∷◌, ◌++◌, Result, Ok, Err}
 use Rattle.qic_base.specs.Sink as sinks
 use Rattle.qic_base.specs.Tape as tapes
+use Rattle.qic_base.specs.TapeCalls as tape_calls
 use Rattle.qic_base.specs.Acts.{Act, text_of, Outside, Failing, TapeFails, SinkFails, Went, Cut}
-use Rattle.qic_base.specs.Acts.{no_source}
+use Rattle.qic_base.specs.Terms.{no_source}
 use Rattle.cartridge_spec.specs.Table.{Entry}
 use Rattle.volume_store.specs.Mounting.{StoreView}
 use Rattle.made_volumes.specs.declared.fault.MakeFault.{MakeFault}
 use Rattle.made_volumes.specs.declared.fault.MakeFault.TheVariants as fault
-use Rattle.command_spec.specs.Make.{MakeStep, made_list, making}
-use Rattle.command_spec.specs.Make.{Answer, Done, Protected, TableMismatch, Full, Lost, Mismatch, Runs, made_answer}
-use Rattle.command_spec.specs.Make.{MayRun}
+use Rattle.command_spec.specs.Make.{MakeStep, made_list, making, Answer, Done, Protected, TableMismatch, Full, Lost, Mismatch, Runs, made_answer, MayRun}
 
 -- All acts of some steps went, up to this answer: over a cartridge that is told those of the plain machine.
 pub record HasRun {T K : Type 0} (t : tapes.Meaning T) (k : sinks.Meaning K) (seed : ℕ) (words : List ℕ) (entries : List Entry) (items : List MakeStep) (old new : Outside T (Unit {0}) K) (answer : Answer) : Type 0 where
   pub acts : List Act
   pub went : Went t no_source k old new acts
-  pub told : tapes.Tells t old.tape (λ c. Runs seed c words entries items acts answer)
+  pub told : tape_calls.Tells t old.tape (λ c. Runs seed c words entries items acts answer)
   -- and over any tape
   pub may : MayRun seed words entries items (text_of acts) answer
 
 -- A fault of the tape or of the sink cut them off: over a cartridge that is told in the acts of the plain machine.
 pub record RunCut {T K : Type 0} (t : tapes.Meaning T) (k : sinks.Meaning K) (seed : ℕ) (words : List ℕ) (entries : List Entry) (items : List MakeStep) (old new : Outside T (Unit {0}) K) (failing : Failing) : Type 0 where
-  pub told : tapes.Tells t old.tape (λ c. (acts : List Act) (answer : Answer) → Runs seed c words entries items acts answer →
+  pub told : tape_calls.Tells t old.tape (λ c. (acts : List Act) (answer : Answer) → Runs seed c words entries items acts answer →
       Cut t no_source k old new acts failing)
   -- and over any tape
   pub acts : List Act

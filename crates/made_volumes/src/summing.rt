@@ -1,10 +1,9 @@
 //! Volumes restored and summed.
 
 ghost use Rattle.std.specs.Prelude.{◌≡◌, ◌≢◌, ◌-◌, ◌+◌, ◌≤◌, ℕ, [], ◌∷◌, length, Err};
-ghost use Rattle.qic_base.specs.Acts.{around};
+ghost use Rattle.qic_base.specs.Terms.{around};
 ghost use Rattle.volume_store.specs.Mounting.{StoreFits, KeepsStore};
-ghost use Rattle.command_spec.specs.Make.{SumVolume, summing};
-ghost use Rattle.command_spec.specs.Make.{sum_line};
+ghost use Rattle.command_spec.specs.Make.{SumVolume, summing, sum_line};
 ghost use Rattle.made_volumes.specs.Runs.{RunEnds, NeverFull};
 ghost use Rattle.made_volumes.specs.declared.fault.MakeFault.TheVariants.{Tape as tape_fault};
 

@@ -6,9 +6,9 @@ use Rattle.std.proofs.lemmas.Bool.Decides.{nat_tests}
 use Rattle.std.proofs.lemmas.List.{length-append, length_push, take-append-drop, drop_more, get_or_at, get_or_default, append_cancel_left}
 use Rattle.std.proofs.lemmas.List.Elements.{All-push}
 use Rattle.qic_base.specs.Source.{Meaning}
-use Rattle.command_spec.specs.CommandWords.{IsNumber}
+use Rattle.command_spec.specs.Command.{IsNumber}
 use Rattle.command_spec.specs.Input.{IsLined}
-use Rattle.qic_base.specs.Source.{Gave}
+use Rattle.qic_base.specs.SourceCalls.{Gave}
 use Rattle.command_laws.specs.TextReading.{NoNewline}
 use Rattle.tape_script.specs.Reading.{BeginsWithNo}
 use Rattle.command_laws.proofs.TextCommands.{number_value, IsNumber-value}

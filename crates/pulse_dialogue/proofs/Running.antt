@@ -1,12 +1,13 @@
 -- A telling, line after line: what was written so far and what is told from then on are the dialogue.
 use Rattle.std.proofs.Common.{◌≡◌, ◌⊎◌, inl, inr, ℕ, ◌+◌, ◌≤◌, ◌<◌, Bool, true, false, List, [], ◌∷◌, ◌++◌, length, Option, Some, None, IfSome, Result, Ok, Err, refl, sym, ap, ◌∙◌, subst, arith, append-nil, append_assoc}
 use Rattle.std.proofs.lemmas.List.{length-append, length_push}
-use Rattle.qic_base.specs.Cause.{Rose}
+use Rattle.qic_base.specs.Tape.{Rose}
 use Rattle.qic_base.specs.declared.sink.SinkFailed.{SinkFailed}
 use Rattle.qic_base.specs.Sink as sinks
+use Rattle.qic_base.specs.SinkCalls as sink_calls
 use Rattle.qic_base.specs.Source as sources
 use Rattle.qic_base.proofs.Writing.{TakesBoth, Wrote-Wrote, Wrote-BrokeOff, BrokeOff-longer}
-use Rattle.qic_base.specs.Source.{Gave}
+use Rattle.qic_base.specs.SourceCalls.{Gave}
 use Rattle.qic_base.proofs.Giving.{Gave-Gave, Gave-end, Gave-nothing}
 use Rattle.tape_script.proofs.Rests.{any_rest, ended_rest, whole_told, left_behind}
 use Rattle.pulse_dialogue.specs.declared.context.Context.TheVariants.{Nothing}
@@ -199,7 +200,7 @@ module _ {S K : Type 0} (s : sources.Meaning S) (k : sinks.Meaning K) (gap : ℕ
           lines = far.lines ++ [];
           ending = AtEnd;
           recording = recording behind.rest [] AtEnd few behind.has;
-          broke = subst (sinks.BrokeOff k start.sink new.sink) (sym (far.tells AtEnd [] ∙ ap (λ text. far.written ++ text) (told_at_end now.teller)))
+          broke = subst (sink_calls.BrokeOff k start.sink new.sink) (sym (far.tells AtEnd [] ∙ ap (λ text. far.written ++ text) (told_at_end now.teller)))
               (Wrote-BrokeOff two far.wrote end.broke);
         }
 
@@ -262,6 +263,6 @@ module _ {S K : Type 0} (s : sources.Meaning S) (k : sinks.Meaning K) (gap : ℕ
 
 -- a text written behind another
 pub writes_both : {K : Type 0} (k : sinks.Meaning K) (a b c : K) (xs ys : List ℕ) → TakesBoth k → sinks.Wrote k a b xs →
-    (result : Result (Unit {0}) SinkFailed) → sinks.Writes k b c ys result → sinks.Writes k a c (xs ++ ys) result
+    (result : Result (Unit {0}) SinkFailed) → sink_calls.Writes k b c ys result → sink_calls.Writes k a c (xs ++ ys) result
 writes_both k a b c xs ys two first (Ok done) next = Wrote-Wrote two first next
 writes_both k a b c xs ys two first (Err e) next = Wrote-BrokeOff two first next

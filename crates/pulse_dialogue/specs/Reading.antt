@@ -1,7 +1,7 @@
 -- What a reading of a line took from a source, and what it found (this project's own).
 use Rattle.std.specs.Prelude.{◌≡◌, ℕ, ◌<◌, ◌≤◌, List, [], length, Result, Ok, Err}
 use Rattle.qic_base.specs.Source.{Meaning}
-use Rattle.qic_base.specs.Source.{Gave, GaveSome, HasEnded}
+use Rattle.qic_base.specs.SourceCalls.{Gave, GaveSome, HasEnded}
 use Rattle.tape_script.specs.Reading.{BeginsWithNo}
 use Rattle.pulse_dialogue.specs.declared.line.Line.{Line}
 use Rattle.pulse_dialogue.specs.declared.line.LineRead.{LineRead}

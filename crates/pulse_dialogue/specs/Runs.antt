@@ -2,6 +2,7 @@
 use Rattle.std.specs.Prelude.{◌≡◌, ℕ, ◌+◌, ◌≤◌, List, ◌++◌, length, drop, IfSome, Result, Ok, Err}
 use Rattle.std.specs.Option.{option_map}
 use Rattle.qic_base.specs.Sink as sinks
+use Rattle.qic_base.specs.SinkCalls as sink_calls
 use Rattle.qic_base.specs.Source as sources
 use Rattle.pulse_dialogue.specs.declared.fault.TraceFault.{TraceFault}
 use Rattle.pulse_dialogue.specs.declared.fault.TraceFault.TheVariants as fault
@@ -53,7 +54,7 @@ pub record Unwritten {S K : Type 0} (s : sources.Meaning S) (k : sinks.Meaning K
   pub lines : List Line
   pub ending : Ending
   pub recording : IsRecording input lines ending
-  pub broke : sinks.BrokeOff k old.sink new.sink (dialogue gap lines ending)
+  pub broke : sink_calls.BrokeOff k old.sink new.sink (dialogue gap lines ending)
 
 -- how a telling ended
 abbrev pub Tells : {S K : Type 0} (s : sources.Meaning S) (k : sinks.Meaning K) (gap : ℕ) (old new : Streams S K) → Result (Unit {0}) TraceFault → Type 0

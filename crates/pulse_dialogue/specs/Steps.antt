@@ -1,8 +1,9 @@
 -- What one line of the input did to a teller and to the outside (this project's own).
 use Rattle.std.specs.Prelude.{◌≡◌, ◌⊎◌, ℕ, ◌≤◌, [], length, Option, Some, None, Result, Ok, Err}
 use Rattle.qic_base.specs.Sink as sinks
+use Rattle.qic_base.specs.SinkCalls as sink_calls
 use Rattle.qic_base.specs.Source as sources
-use Rattle.qic_base.specs.Source.{Gave, HasEnded}
+use Rattle.qic_base.specs.SourceCalls.{Gave, HasEnded}
 use Rattle.tape_script.specs.Reading.{BeginsWithNo}
 use Rattle.pulse_dialogue.specs.declared.fault.TraceFault.{TraceFault}
 use Rattle.pulse_dialogue.specs.declared.fault.TraceFault.TheVariants as fault
@@ -48,12 +49,12 @@ HasNoLine s teller old = (line : Line) → Follows teller.time line → BeginsWi
 pub record LineBroke {S K : Type 0} (s : sources.Meaning S) (k : sinks.Meaning K) (old new : Scene S K) : Type 0 where
   pub line : Line
   pub read : Read s old.teller old.source new.source line
-  pub broke : sinks.BrokeOff k old.sink new.sink (told_at old.teller line)
+  pub broke : sink_calls.BrokeOff k old.sink new.sink (told_at old.teller line)
 
 -- or what the end says
 pub record EndBroke {S K : Type 0} (s : sources.Meaning S) (k : sinks.Meaning K) (old new : Scene S K) : Type 0 where
   pub ended : HasEnded s old.source
-  pub broke : sinks.BrokeOff k old.sink new.sink (ended_text old.teller.context old.teller.open_train)
+  pub broke : sink_calls.BrokeOff k old.sink new.sink (ended_text old.teller.context old.teller.open_train)
 
 -- What a reading did where a line may stand, with this number and so many bytes before it.
 abbrev pub Hears : {S K : Type 0} (s : sources.Meaning S) (k : sinks.Meaning K) (old new : Scene S K) (line place : ℕ) → Result (Option ℕ) TraceFault → Type 0

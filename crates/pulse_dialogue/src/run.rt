@@ -1,7 +1,7 @@
 //! The whole recording.
 
 ghost use Rattle.std.specs.Prelude.{◌≡◌, ◌≤◌, Err};
-ghost use Rattle.qic_base.specs.Cause.{Rose};
+ghost use Rattle.qic_base.specs.Tape.{Rose};
 ghost use Rattle.pulse_dialogue.specs.Runs.{Tells};
 
 use crate::TraceFault;

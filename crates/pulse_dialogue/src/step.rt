@@ -1,7 +1,7 @@
 //! A line that is read and told.
 
 ghost use Rattle.std.specs.Prelude.{◌≡◌, ◌≤◌, Err};
-ghost use Rattle.qic_base.specs.Cause.{Rose};
+ghost use Rattle.qic_base.specs.Tape.{Rose};
 ghost use Rattle.pulse_dialogue.specs.Dialogue.{IsSound};
 ghost use Rattle.pulse_dialogue.specs.Steps.{Hears, HearsEnd};
 ghost use Rattle.pulse_dialogue.specs.Telling.{HasRoom};

@@ -1,7 +1,7 @@
 //! The telling of a recording line by line.
 
 ghost use Rattle.std.specs.Prelude.{◌≡◌, ◌+◌, [], None, OnOk};
-ghost use Rattle.qic_base.specs.Sink.{Writes};
+ghost use Rattle.qic_base.specs.SinkCalls.{Writes};
 ghost use Rattle.pulse_dialogue.specs.declared.context.Context.TheVariants.{Nothing};
 ghost use Rattle.pulse_dialogue.specs.Dialogue.{IsSound, sample_line, heard_level};
 ghost use Rattle.pulse_dialogue.specs.Telling.{HasRoom, continues, ended_text, ended_context, told_at, after_line};

@@ -1,7 +1,7 @@
 //! A run of the program.
 
 ghost use Rattle.std.specs.Prelude.{◌≡◌, ◌≢◌, ◌≤◌, map, string_bytes};
-ghost use Rattle.qic_base.specs.Cause.{Rose};
+ghost use Rattle.qic_base.specs.Tape.{Rose};
 ghost use Rattle.pulse_trace.specs.Runs.{Runs, status_told, status_refused};
 
 use crate::status::TraceStatus;

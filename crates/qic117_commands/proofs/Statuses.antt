@@ -7,7 +7,8 @@ use Rattle.qic117_commands.specs.contracts.view.Motion as motion
 use Rattle.qic117_commands.specs.declared.view.DriveView.{DriveView}
 use Rattle.qic117_commands.specs.declared.view.Motion.{Motion}
 use Rattle.qic117_commands.specs.declared.view.Motion.TheVariants.{Stopped, Streaming, Seeking}
-use Rattle.qic117_commands.specs.StatusWord.{bit_where, status_of}
+use Rattle.qic117_commands.specs.Terms.{bit_where}
+use Rattle.qic117_commands.specs.StatusWord.{status_of}
 use Rattle.qic117_commands.specs.Views.{is_stopped}
 
 -- a test passes at both truth values

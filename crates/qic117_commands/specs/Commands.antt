@@ -1,6 +1,5 @@
 -- The commands of the drive and their numbers. Standard: QIC-117, the table of commands.
-use Rattle.std.specs.Prelude.{ℕ, Bool, ◌==◌, nat_le, ◌||◌, List, [], ◌∷◌, Option, find, codes}
-use Rattle.std.specs.List.{list_any}
+use Rattle.std.specs.Prelude.{ℕ, ◌==◌, List, [], ◌∷◌, Option, find}
 use Rattle.qic117_commands.specs.declared.command.Command.{Command}
 use Rattle.qic117_commands.specs.declared.command.Command.TheVariants.{Reset, ReportNextBit, Pause, MicroStepPause, AlternateTimeout, ReportStatus, ReportError, ReportConfiguration, ReportRom, LogicalForward, PhysicalReverse, PhysicalForward, SeekTrack, SeekLoadPoint, EnterFormat, WriteReference, EnterVerify, StopTape, MicroStepUp, MicroStepDown, SoftSelect, SoftDeselect, SkipReverse, SkipForward, SelectRate, Diagnostic1, Diagnostic2, EnterPrimary, VendorUnique, ReportVendor, ReportTapeStatus, ExtendedSkipReverse, ExtendedSkipForward, CalibrateLength, ReportFormatSegments, SetFormatSegments, PhantomSelect, PhantomDeselect}
 
@@ -45,96 +44,16 @@ number_of SetFormatSegments = 38
 number_of PhantomSelect = 46
 number_of PhantomDeselect = 47
 
--- the name of a command, as it is printed (this project's profile)
-abbrev pub name_of : Command → List ℕ
-name_of Reset = codes "Reset"
-name_of ReportNextBit = codes "ReportNextBit"
-name_of Pause = codes "Pause"
-name_of MicroStepPause = codes "MicroStepPause"
-name_of AlternateTimeout = codes "AlternateTimeout"
-name_of ReportStatus = codes "ReportStatus"
-name_of ReportError = codes "ReportError"
-name_of ReportConfiguration = codes "ReportConfiguration"
-name_of ReportRom = codes "ReportRom"
-name_of LogicalForward = codes "LogicalForward"
-name_of PhysicalReverse = codes "PhysicalReverse"
-name_of PhysicalForward = codes "PhysicalForward"
-name_of SeekTrack = codes "SeekTrack"
-name_of SeekLoadPoint = codes "SeekLoadPoint"
-name_of EnterFormat = codes "EnterFormat"
-name_of WriteReference = codes "WriteReference"
-name_of EnterVerify = codes "EnterVerify"
-name_of StopTape = codes "StopTape"
-name_of MicroStepUp = codes "MicroStepUp"
-name_of MicroStepDown = codes "MicroStepDown"
-name_of SoftSelect = codes "SoftSelect"
-name_of SoftDeselect = codes "SoftDeselect"
-name_of SkipReverse = codes "SkipReverse"
-name_of SkipForward = codes "SkipForward"
-name_of SelectRate = codes "SelectRate"
-name_of Diagnostic1 = codes "Diagnostic1"
-name_of Diagnostic2 = codes "Diagnostic2"
-name_of EnterPrimary = codes "EnterPrimary"
-name_of VendorUnique = codes "VendorUnique"
-name_of ReportVendor = codes "ReportVendor"
-name_of ReportTapeStatus = codes "ReportTapeStatus"
-name_of ExtendedSkipReverse = codes "ExtendedSkipReverse"
-name_of ExtendedSkipForward = codes "ExtendedSkipForward"
-name_of CalibrateLength = codes "CalibrateLength"
-name_of ReportFormatSegments = codes "ReportFormatSegments"
-name_of SetFormatSegments = codes "SetFormatSegments"
-name_of PhantomSelect = codes "PhantomSelect"
-name_of PhantomDeselect = codes "PhantomDeselect"
-
 -- every command, by ascending number (QIC-117)
 unfoldable pub commands : List Command
 commands =
-    Reset
-    ∷ ReportNextBit
-    ∷ Pause
-    ∷ MicroStepPause
-    ∷ AlternateTimeout
-    ∷ ReportStatus
-    ∷ ReportError
-    ∷ ReportConfiguration
-    ∷ ReportRom
-    ∷ LogicalForward
-    ∷ PhysicalReverse
-    ∷ PhysicalForward
-    ∷ SeekTrack
-    ∷ SeekLoadPoint
-    ∷ EnterFormat
-    ∷ WriteReference
-    ∷ EnterVerify
-    ∷ StopTape
-    ∷ MicroStepUp
-    ∷ MicroStepDown
-    ∷ SoftSelect
-    ∷ SoftDeselect
-    ∷ SkipReverse
-    ∷ SkipForward
-    ∷ SelectRate
-    ∷ Diagnostic1
-    ∷ Diagnostic2
-    ∷ EnterPrimary
-    ∷ VendorUnique
-    ∷ ReportVendor
-    ∷ ReportTapeStatus
-    ∷ ExtendedSkipReverse
-    ∷ ExtendedSkipForward
-    ∷ CalibrateLength
-    ∷ ReportFormatSegments
-    ∷ SetFormatSegments
-    ∷ PhantomSelect
-    ∷ PhantomDeselect
-    ∷ []
+    Reset ∷ ReportNextBit ∷ Pause ∷ MicroStepPause ∷ AlternateTimeout ∷ ReportStatus ∷ ReportError
+    ∷ ReportConfiguration ∷ ReportRom ∷ LogicalForward ∷ PhysicalReverse ∷ PhysicalForward ∷ SeekTrack
+    ∷ SeekLoadPoint ∷ EnterFormat ∷ WriteReference ∷ EnterVerify ∷ StopTape ∷ MicroStepUp ∷ MicroStepDown
+    ∷ SoftSelect ∷ SoftDeselect ∷ SkipReverse ∷ SkipForward ∷ SelectRate ∷ Diagnostic1 ∷ Diagnostic2 ∷ EnterPrimary
+    ∷ VendorUnique ∷ ReportVendor ∷ ReportTapeStatus ∷ ExtendedSkipReverse ∷ ExtendedSkipForward ∷ CalibrateLength
+    ∷ ReportFormatSegments ∷ SetFormatSegments ∷ PhantomSelect ∷ PhantomDeselect ∷ []
 
 -- the command of a number (QIC-117)
 unfoldable pub command_at : ℕ → Option Command
 command_at pulses = find (λ command. number_of command == pulses) commands
-
--- no command has the number: it is 0, a reserved one or above the last (QIC-117)
-unfoldable pub is_undefined : ℕ → Bool
-is_undefined pulses =
-    list_any (λ reserved. reserved == pulses) (0 ∷ 19 ∷ 20 ∷ 39 ∷ 40 ∷ 41 ∷ 42 ∷ 43 ∷ 44 ∷ 45 ∷ [])
-    || nat_le 48 pulses

@@ -19,31 +19,12 @@ pub record Row : Type 0 where
 abbrev pub among : List Command → Command → Bool
 among commands command = list_any (λ listed. number_of listed == number_of command) commands
 
--- all commands but those of a list
-abbrev pub all_but : List Command → Command → Bool
-all_but commands command = not (among commands command)
-
 -- no drive of this profile has them: they are refused like a number that no command has
 unfoldable pub is_unsupported : Command → Bool
 is_unsupported =
-    among
-    (Pause
-    ∷ MicroStepPause
-    ∷ AlternateTimeout
-    ∷ PhysicalReverse
-    ∷ PhysicalForward
-    ∷ MicroStepUp
-    ∷ MicroStepDown
-    ∷ SoftSelect
-    ∷ SoftDeselect
-    ∷ SelectRate
-    ∷ VendorUnique
-    ∷ ExtendedSkipReverse
-    ∷ ExtendedSkipForward
-    ∷ CalibrateLength
-    ∷ PhantomSelect
-    ∷ PhantomDeselect
-    ∷ [])
+    among (Pause ∷ MicroStepPause ∷ AlternateTimeout ∷ PhysicalReverse ∷ PhysicalForward ∷ MicroStepUp ∷ MicroStepDown
+    ∷ SoftSelect ∷ SoftDeselect ∷ SelectRate ∷ VendorUnique ∷ ExtendedSkipReverse ∷ ExtendedSkipForward
+    ∷ CalibrateLength ∷ PhantomSelect ∷ PhantomDeselect ∷ [])
 
 -- they would enter a diagnostic mode
 unfoldable pub is_diagnostic : Command → Bool
@@ -52,31 +33,17 @@ is_diagnostic = among (Diagnostic1 ∷ Diagnostic2 ∷ [])
 -- they ask for a cartridge in the drive
 unfoldable pub needs_cartridge : Command → Bool
 needs_cartridge =
-    among
-    (LogicalForward
-    ∷ SeekTrack
-    ∷ SeekLoadPoint
-    ∷ EnterFormat
-    ∷ WriteReference
-    ∷ EnterVerify
-    ∷ StopTape
-    ∷ SkipReverse
-    ∷ SkipForward
-    ∷ EnterPrimary
-    ∷ ReportTapeStatus
-    ∷ ReportFormatSegments
-    ∷ SetFormatSegments
-    ∷ [])
+    among (LogicalForward ∷ SeekTrack ∷ SeekLoadPoint ∷ EnterFormat ∷ WriteReference ∷ EnterVerify ∷ StopTape
+    ∷ SkipReverse ∷ SkipForward ∷ EnterPrimary ∷ ReportTapeStatus ∷ ReportFormatSegments ∷ SetFormatSegments ∷ [])
 
 -- they wait until a seek is over
 unfoldable pub waits_for_seek : Command → Bool
-waits_for_seek = all_but (Reset ∷ ReportNextBit ∷ ReportStatus ∷ ReportError ∷ [])
+waits_for_seek command = not (among (Reset ∷ ReportNextBit ∷ ReportStatus ∷ ReportError ∷ []) command)
 
 -- they wait until the tape stands
 unfoldable pub waits_for_stop : Command → Bool
-waits_for_stop =
-    all_but
-    (Reset ∷ ReportNextBit ∷ ReportStatus ∷ ReportError ∷ LogicalForward ∷ StopTape ∷ [])
+waits_for_stop command =
+    not (among (Reset ∷ ReportNextBit ∷ ReportStatus ∷ ReportError ∷ LogicalForward ∷ StopTape ∷ []) command)
 
 -- what each mode forbids
 unfoldable pub illegal_in_primary : Command → Bool
@@ -97,14 +64,7 @@ needs_writable = among (EnterFormat ∷ [])
 unfoldable pub needs_known_cartridge : Command → Bool
 needs_known_cartridge =
     among
-    (LogicalForward
-    ∷ SeekTrack
-    ∷ SeekLoadPoint
-    ∷ EnterFormat
-    ∷ EnterVerify
-    ∷ SkipReverse
-    ∷ SkipForward
-    ∷ [])
+    (LogicalForward ∷ SeekTrack ∷ SeekLoadPoint ∷ EnterFormat ∷ EnterVerify ∷ SkipReverse ∷ SkipForward ∷ [])
 
 -- they find their place by the reference bursts
 unfoldable pub needs_reference : Command → Bool
@@ -114,11 +74,6 @@ needs_reference =
 -- in Format mode they begin at the start of a track
 unfoldable pub needs_logical_bot : Command → Bool
 needs_logical_bot = among (LogicalForward ∷ [])
-
--- the tape stands in Format mode, past the start of its track
-abbrev pub stands_past_bot : DriveView → Bool
-stands_past_bot view =
-    is_format view.mode && not (view.offset == 0) && is_stopped view.motion
 
 -- the rows, in order (this project's profile)
 abbrev pub refusal_rows : List Row
@@ -134,14 +89,14 @@ refusal_rows =
     ∷ record { code = WriteProtected; covers = needs_writable; holds = λ view. view.protected }
     ∷ record { code = NewCartridge; covers = needs_known_cartridge; holds = λ view. view.fresh }
     ∷ record { code = NotReferenced; covers = needs_reference; holds = λ view. not view.referenced }
-    ∷ record { code = NotAtLogicalBot; covers = needs_logical_bot; holds = stands_past_bot }
+    ∷ record {
+      code = NotAtLogicalBot;
+      covers = needs_logical_bot;
+      holds = λ view. is_format view.mode && not (view.offset == 0) && is_stopped view.motion;
+    }
     ∷ []
 
--- a row refuses a command in a drive: it speaks of the command, and holds of the drive
-abbrev pub refuses : DriveView → Command → Row → Bool
-refuses view command row = row.covers command && row.holds view
-
--- the code of the first row that refuses (this project's profile)
+-- the code of the first row that speaks of the command and holds of the drive (this project's profile)
 unfoldable pub first_refusal : DriveView → Command → Option ErrorCode
 first_refusal view command =
-    option_map (λ row. row.code) (find (refuses view command) refusal_rows)
+    option_map (λ row. row.code) (find (λ row. row.covers command && row.holds view) refusal_rows)

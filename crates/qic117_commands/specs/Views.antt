@@ -7,30 +7,24 @@ use Rattle.qic117_commands.specs.declared.view.Motion.TheVariants.{Stopped, Stre
 
 abbrev pub is_stopped : Motion → Bool
 is_stopped Stopped = true
-is_stopped Streaming = false
-is_stopped Seeking = false
+is_stopped motion = false
 
 abbrev pub is_streaming : Motion → Bool
-is_streaming Stopped = false
 is_streaming Streaming = true
-is_streaming Seeking = false
+is_streaming motion = false
 
 abbrev pub is_seeking : Motion → Bool
-is_seeking Stopped = false
-is_seeking Streaming = false
 is_seeking Seeking = true
+is_seeking motion = false
 
 abbrev pub is_primary : Mode → Bool
 is_primary Primary = true
-is_primary Format = false
-is_primary Verify = false
+is_primary mode = false
 
 abbrev pub is_format : Mode → Bool
-is_format Primary = false
 is_format Format = true
-is_format Verify = false
+is_format mode = false
 
 abbrev pub is_verify : Mode → Bool
-is_verify Primary = false
-is_verify Format = false
 is_verify Verify = true
+is_verify mode = false

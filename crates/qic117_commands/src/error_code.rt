@@ -1,7 +1,8 @@
 //! The error codes of the drive, which a report of the error word shows.
 
 ghost use Rattle.std.specs.Prelude.{◌≡◌};
-ghost use Rattle.qic117_commands.specs.Codes.{code_of, text_of};
+ghost use Rattle.qic117_commands.specs.Codes.{code_of};
+ghost use Rattle.qic117_commands.specs.Terms.{text_of};
 
 /// Why the drive latched an error, or `NoError` for none (QIC-117).
 #[derive(Clone, Copy, PartialEq, Eq, Debug)]

@@ -2,7 +2,8 @@
 use Rattle.std.proofs.Common.{◌≡◌, ℕ, ◌+◌, ◌-◌, ◌*◌, ◌/◌, ◌%◌, ◌^◌, ◌<◌, ◌≤◌, ap, ◌∙◌, arith, add_comm}
 use Rattle.std.proofs.Math.Nat.{mul_comm}
 use Rattle.std.proofs.lemmas.Nat.{div-mul-add, mod-mul-add}
-use Rattle.qic_base.specs.Date.{date_word, WrittenDateIsReadBack}
+use Rattle.qic_base.specs.Field.{date_word}
+use Rattle.qic_base.specs.Terms.{WrittenDateIsReadBack}
 
 -- a number in the places above another, and the one below
 above : (low n high : ℕ) → low < n → (low + n * high) / n ≡ high

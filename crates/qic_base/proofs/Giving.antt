@@ -2,7 +2,8 @@
 use Rattle.std.proofs.Common.{◌≡◌, ℕ, ◌+◌, List, [], ◌++◌, Option, Some, None, refl, sym, ◌∙◌, ap, append_assoc, append-nil, IfSome, take, drop, ◌≤◌, length, arith}
 use Rattle.std.specs.Option.{option_map}
 use Rattle.std.proofs.lemmas.List.{take-append-drop, length-take-le}
-use Rattle.qic_base.specs.Source.{Meaning, Gave, HasEnded, Gives, GaveSome}
+use Rattle.qic_base.specs.Source.{Meaning}
+use Rattle.qic_base.specs.SourceCalls.{Gave, HasEnded, Gives, GaveSome}
 use Rattle.std.proofs.lemmas.List as lists
 
 -- nothing was given where the bytes left are the same

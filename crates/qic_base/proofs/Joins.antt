@@ -6,9 +6,9 @@ use Rattle.qic_base.proofs.Writing.{TakesBoth, Wrote-Wrote}
 use Rattle.qic_base.specs.Acts.{Act, steps_of, text_of, Parted, WroteAndBroke, next_steps, Outside, TapeFails, SourceFails, SinkFails, Went, TapeCut, SinkCut, SourceCut, Cut}
 use Rattle.qic_base.specs.Cartridge.{Cartridge}
 use Rattle.qic_base.specs.JoinLaws.{NothingWent, WentBoth, WentThenCut, CutIsLonger}
-use Rattle.qic_base.specs.Step.{Step, effects}
-use Rattle.qic_base.specs.Stop.{Torn}
+use Rattle.qic_base.specs.Step.{Step, effects, Torn}
 use Rattle.qic_base.specs.Sink as sinks
+use Rattle.qic_base.specs.SinkCalls as sink_calls
 use Rattle.qic_base.specs.Source as sources
 use Rattle.qic_base.specs.Tape as tapes
 
@@ -58,7 +58,7 @@ parted_before xs ys at = record {
 -- ---- texts that broke off
 
 -- before the text that broke off nothing was written, ..
-pub broke_first : {K : Type 0} {k : sinks.Meaning K} {a b : K} {next : List ℕ} → sinks.BrokeOff k a b next → WroteAndBroke k a b [] next
+pub broke_first : {K : Type 0} {k : sinks.Meaning K} {a b : K} {next : List ℕ} → sink_calls.BrokeOff k a b next → WroteAndBroke k a b [] next
 broke_first broke = record {
   part = broke.front;
   rest = broke.rest;
@@ -70,7 +70,7 @@ broke_first broke = record {
 }
 
 -- .. or a text that is empty
-pub broke_behind : {K : Type 0} {k : sinks.Meaning K} {a b : K} {next : List ℕ} (text : List ℕ) → text ≡ [] → sinks.BrokeOff k a b next →
+pub broke_behind : {K : Type 0} {k : sinks.Meaning K} {a b : K} {next : List ℕ} (text : List ℕ) → text ≡ [] → sink_calls.BrokeOff k a b next →
     WroteAndBroke k a b text next
 broke_behind {k = k} {a = a} {b = b} {next = next} text none broke =
     subst (λ (written : List ℕ). WroteAndBroke k a b written next) (sym none) (broke_first broke)
@@ -155,7 +155,7 @@ module _ {T S K : Type 0} (t : tapes.Meaning T) (s : sources.Meaning S) (k : sin
   }
 
   -- the text of one act alone broke off
-  pub sink_cut_one : (a b : Outside T S K) (act : Act) → tapes.Done t a.tape b.tape act.steps → sinks.BrokeOff k a.sink b.sink act.text →
+  pub sink_cut_one : (a b : Outside T S K) (act : Act) → tapes.Done t a.tape b.tape act.steps → sink_calls.BrokeOff k a.sink b.sink act.text →
       s.faults a.source ≤ s.faults b.source → Cut t s k a b (act ∷ []) SinkFails
   sink_cut_one a b act did broke later = record {
     at = record { front = []; act = act; rest = []; parts = refl };

@@ -7,8 +7,7 @@ use Rattle.qic_base.proofs.Steps.{Torn-all, Torn-front, Stops-front}
 use Rattle.qic_base.specs.Acts.{Act, steps_of, Parted, next_steps, text_of, TapeFails, SourceFails, SinkFails}
 use Rattle.qic_base.specs.Cartridge.{Cartridge}
 use Rattle.qic_base.specs.JoinLaws.{CutIsTorn, CutStops, CutTookFront, CutFellNone, CutRose}
-use Rattle.qic_base.specs.Step.{Step, effects}
-use Rattle.qic_base.specs.Stop.{Torn}
+use Rattle.qic_base.specs.Step.{Step, effects, Torn}
 use Rattle.qic_base.specs.Sink as sinks
 use Rattle.qic_base.specs.Source as sources
 use Rattle.qic_base.specs.Tape as tapes

@@ -2,11 +2,10 @@
 use Rattle.std.proofs.Common.{◌≡◌, ℕ, ◌≤◌, ◌⊎◌, inl, inr, true, List, [], ◌∷◌, ◌++◌, refl, sym, ◌∙◌, ap, arith, Option, Some, None, is_some, IfSome, subst}
 use Rattle.std.proofs.lemmas.List.{append-nil}
 use Rattle.std.specs.Option.{option_map}
-use Rattle.qic_base.specs.Cause.{Rose}
+use Rattle.qic_base.specs.Tape.{Rose, Meaning, Stops, Done, Broke}
 use Rattle.qic_base.specs.Cartridge.{Cartridge}
-use Rattle.qic_base.specs.Step.{Step, effect, effects}
-use Rattle.qic_base.specs.Stop.{Torn}
-use Rattle.qic_base.specs.Tape.{Meaning, Stops, Done, Broke, Tells, IsLeftNow}
+use Rattle.qic_base.specs.Step.{Step, effect, effects, Torn}
+use Rattle.qic_base.specs.TapeCalls.{Tells, IsLeftNow}
 
 -- a rise in a part of a call is a rise in the call
 pub Rose-after : (a b c : ℕ) → a ≤ b → Rose b c → Rose a c

@@ -1,6 +1,7 @@
 -- How texts that were written one after the other join.
 use Rattle.std.proofs.Common.{◌≡◌, ◌≢◌, ℕ, List, [], ◌∷◌, ◌++◌, refl, sym, ap, ◌∙◌, arith, append_assoc}
-use Rattle.qic_base.specs.Sink.{Meaning, Wrote, BrokeOff}
+use Rattle.qic_base.specs.Sink.{Meaning, Wrote}
+use Rattle.qic_base.specs.SinkCalls.{BrokeOff}
 use Rattle.qic_base.proofs.Steps.{Rose-after}
 
 -- two lists taken one after the other are taken as one

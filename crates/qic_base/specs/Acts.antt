@@ -1,10 +1,9 @@
 -- Acts: what a command does to the tape and what it prints, part by part; and how a run over them went (this project's
 -- own). Steps and text are tied to one number of acts, so that a text that was printed tells which steps were done.
-use Rattle.std.specs.Prelude.{ℕ, List, [], ◌∷◌, ◌++◌, ◌≤◌, ◌≡◌, Option, Some, ◌≢◌, None}
+use Rattle.std.specs.Prelude.{ℕ, List, [], ◌∷◌, ◌++◌, ◌≤◌, ◌≡◌, Option, Some, ◌≢◌}
 use Rattle.qic_base.specs.Cartridge.{Cartridge}
-use Rattle.qic_base.specs.Cause.{Rose}
-use Rattle.qic_base.specs.Step.{Step, effects}
-use Rattle.qic_base.specs.Stop.{Torn}
+use Rattle.qic_base.specs.Tape.{Rose}
+use Rattle.qic_base.specs.Step.{Step, effects, Torn}
 use Rattle.qic_base.specs.Sink as sinks
 use Rattle.qic_base.specs.Source as sources
 use Rattle.qic_base.specs.Tape as tapes
@@ -124,19 +123,3 @@ abbrev pub FailingRose : {T S K : Type 0} (t : tapes.Meaning T) (s : sources.Mea
 FailingRose t s k old new TapeFails = Rose (t.faults old.tape) (t.faults new.tape)
 FailingRose t s k old new SourceFails = Rose (s.faults old.source) (s.faults new.source)
 FailingRose t s k old new SinkFails = Rose (k.faults old.sink) (k.faults new.sink)
-
--- a source that is never asked
-abbrev pub no_source : sources.Meaning (Unit {0})
-no_source = record { left = λ asked. None; keeps = λ old new. Unit {0}; faults = λ asked. 0 }
-
--- a sink that is never asked, so that it takes no byte
-abbrev pub no_sink : sinks.Meaning (Unit {0})
-no_sink = record { written = λ asked. None; took = λ old text new. text ≡ []; faults = λ asked. 0 }
-
--- a tape and a sink alone
-abbrev pub around : {T K : Type 0} → T → K → Outside T (Unit {0}) K
-around tape sink = record { tape = tape; source = tt; sink = sink }
-
--- a tape and a source alone
-abbrev pub reading : {T S : Type 0} → T → S → Outside T S (Unit {0})
-reading tape source = record { tape = tape; source = source; sink = tt }

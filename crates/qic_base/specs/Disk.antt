@@ -2,7 +2,7 @@
 -- a call did to it (this project's profile).
 use Rattle.std.specs.Prelude.{◌≡◌, ℕ, ◌+◌, ◌-◌, ◌<◌, ◌≤◌, ◌++◌, ◌⊎◌, Bool, true, false, List, length, take, replicate, All, Option, Some, is_some, IsSome, Result, Ok, Err, slice_get}
 use Rattle.std.specs.Option.{option_map}
-use Rattle.qic_base.specs.Cause.{Rose}
+use Rattle.qic_base.specs.Tape.{Rose}
 use Rattle.qic_base.specs.Field.{overwritten}
 
 -- what a call does to the bytes, as data; a call that only looks, and a sync, change none

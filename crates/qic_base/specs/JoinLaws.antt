@@ -2,7 +2,7 @@
 use Rattle.std.specs.Prelude.{[], List, ◌++◌, ◌≡◌, Option, Some, IsSomeAnd}
 use Rattle.qic_base.specs.Acts.{Outside, Went, Act, Failing, Cut, steps_of, text_of, TookFront, NoneFell, FailingRose}
 use Rattle.qic_base.specs.Cartridge.{Cartridge}
-use Rattle.qic_base.specs.Stop.{Torn}
+use Rattle.qic_base.specs.Step.{Torn}
 use Rattle.qic_base.specs.Sink as sinks
 use Rattle.qic_base.specs.Source as sources
 use Rattle.qic_base.specs.Tape as tapes

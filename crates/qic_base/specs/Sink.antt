@@ -1,6 +1,5 @@
 -- A sink of bytes: what was written to it, what it took, and how often it failed (this project's profile).
-use Rattle.std.specs.Prelude.{◌≡◌, ◌≢◌, ℕ, ◌≤◌, List, [], ◌++◌, length, take, Option, Result, Ok, Err}
-use Rattle.qic_base.specs.Cause.{Rose}
+use Rattle.std.specs.Prelude.{ℕ, ◌≤◌, List, Option}
 
 -- All that a sink means to the code above it.
 pub record Meaning (K : Type 0) : Type 1 where
@@ -10,27 +9,7 @@ pub record Meaning (K : Type 0) : Type 1 where
   pub took : K → List ℕ → K → Type 0
   pub faults : K → ℕ
 
--- A write that answers n took the first n bytes, at least one; a failure took none.
-abbrev pub Takes : {K E : Type 0} (m : Meaning K) (old new : K) (bytes : List ℕ) (result : Result ℕ E) → Type 0
-Takes m old new bytes (Ok n) = (1 ≤ n) × (n ≤ length bytes) × m.took old (take n bytes) new
-Takes m old new bytes (Err e) = m.took old [] new
-
 -- From old on, the text was taken, all of it.
 pub record Wrote {K : Type 0} (m : Meaning K) (old new : K) (text : List ℕ) : Type 0 where
   pub took : m.took old text new
   pub later : m.faults old ≤ m.faults new
-
--- From old on, a fault of the sink broke the text off: a front of it was taken, and not the whole.
-pub record BrokeOff {K : Type 0} (m : Meaning K) (old new : K) (text : List ℕ) : Type 0 where
-  pub front : List ℕ
-  pub rest : List ℕ
-  pub parts : front ++ rest ≡ text
-  pub some : rest ≢ []
-  pub took : m.took old front new
-  pub cause : Rose (m.faults old) (m.faults new)
-  pub later : m.faults old ≤ m.faults new
-
--- What the writing of a text did, by its answer.
-abbrev pub Writes : {K T E : Type 0} (m : Meaning K) (old new : K) (text : List ℕ) (result : Result T E) → Type 0
-Writes m old new text (Ok x) = Wrote m old new text
-Writes m old new text (Err e) = BrokeOff m old new text

@@ -1,8 +1,8 @@
--- What one call of a tape does to the cartridge, as data, and what a list of them does (this project's profile).
-use Rattle.std.specs.Prelude.{ℕ, Bool, true, List, [], ◌∷◌, Option, Some, None}
+-- What a step of a tape makes of a cartridge, and what a stop inside leaves (this project's own).
+use Rattle.std.specs.Prelude.{ℕ, ◌+◌, ◌*◌, Bool, true, List, [], ◌∷◌, ◌++◌, take, drop, map, Option, Some, None, ◌≡◌, ◌<◌, ◌≤◌, ◌⊎◌, length, slice_get}
 use Rattle.qic_base.specs.declared.tape.SectorView.{SectorView}
 use Rattle.qic_base.specs.declared.tape.SectorView.TheVariants.{Blank, Defect, Lost, Holds}
-use Rattle.qic_base.specs.Cartridge.{Cartridge, view_at, with_view, with_segment, new_cartridge, zero_sector}
+use Rattle.qic_base.specs.Cartridge.{Cartridge, view_at, with_view, new_cartridge, zero_sector}
 
 -- a change of the cartridge, with its segment, sector index and bytes; or of the version that it is kept in
 pub data Step : Type 0 where
@@ -17,36 +17,33 @@ pub data Step : Type 0 where
 
 -- a write is taken by a formatted sector that is no defect
 abbrev pub written_view : List ℕ → SectorView → SectorView
-written_view bytes Blank = Blank
-written_view bytes Defect = Defect
 written_view bytes Lost = Holds bytes
 written_view bytes (Holds old) = Holds bytes
+written_view bytes view = view
 
 -- formatting makes zero bytes of all but a defect
 abbrev pub formatted_view : SectorView → SectorView
-formatted_view Blank = Holds zero_sector
 formatted_view Defect = Defect
-formatted_view Lost = Holds zero_sector
-formatted_view (Holds old) = Holds zero_sector
+formatted_view view = Holds zero_sector
 
 -- a worn sector can be read no more
 abbrev pub worn_view : SectorView → SectorView
-worn_view Blank = Blank
-worn_view Defect = Defect
-worn_view Lost = Lost
 worn_view (Holds old) = Lost
+worn_view view = view
 
 -- only a sector that was never formatted becomes a defect
 abbrev pub spoiled_view : SectorView → SectorView
 spoiled_view Blank = Defect
-spoiled_view Defect = Defect
-spoiled_view Lost = Lost
-spoiled_view (Holds old) = Holds old
+spoiled_view view = view
 
 -- a change of a cartridge that is there
 abbrev pub changed : Step → Cartridge → Cartridge
 changed (WriteSector segment sector bytes) c = with_view c segment sector (written_view bytes (view_at c segment sector))
-changed (FormatSegment segment) c = with_segment c segment formatted_view
+changed (FormatSegment segment) c = record c {
+  views = take (32 * segment) c.views
+      ++ map formatted_view (take 32 (drop (32 * segment) c.views))
+      ++ drop (32 * (segment + 1)) c.views;
+}
 changed SetReferenced c = record c { info = record c.info { referenced = true } }
 changed (SetProtected on) c = record c { info = record c.info { protected = on } }
 changed (Renew n) c = new_cartridge n
@@ -64,3 +61,42 @@ effect s None = None
 abbrev pub effects : List Step → Option Cartridge → Option Cartridge
 effects [] held = held
 effects (s ∷ ss) held = effects ss (effect s held)
+
+-- ---- What a stop leaves: inside a call of a tape, and inside a list of them (this project's profile).
+
+-- a sector of a segment whose formatting has begun: as it was, or lost where it was formatted and is no defect
+abbrev pub ClosingView : SectorView → SectorView → Type 0
+ClosingView (Holds bytes) new = (new ≡ Holds bytes) ⊎ (new ≡ Lost)
+ClosingView old new = new ≡ old
+
+-- a sector of a segment whose formatting is about to end: lost, or of zero bytes, or still not formatted
+abbrev pub OpeningView : SectorView → SectorView → Type 0
+OpeningView Blank new = (new ≡ Blank) ⊎ (new ≡ Lost) ⊎ (new ≡ Holds zero_sector)
+OpeningView Defect new = new ≡ Defect
+OpeningView old new = (new ≡ Lost) ⊎ (new ≡ Holds zero_sector)
+
+-- each sector of one segment changed so, and nothing else changed
+pub record SegmentBecame (Became : SectorView → SectorView → Type 0) (segment : ℕ) (old new : Cartridge) : Type 0 where
+  pub info : new.info ≡ old.info
+  pub version : new.version ≡ old.version
+  pub sectors : length new.views ≡ length old.views
+  pub within : (sector : ℕ) → sector < 32 → Became (view_at old segment sector) (view_at new segment sector)
+  pub below : (place : ℕ) → place < 32 * segment → slice_get new.views place ≡ slice_get old.views place
+  pub above : (place : ℕ) → 32 * (segment + 1) ≤ place → slice_get new.views place ≡ slice_get old.views place
+
+-- What a stop inside a step leaves beside what was there and what is there afterwards: a written sector is lost; of a
+-- segment that is formatted each sector is as it was, or lost where it held bytes; or each one but the defects is lost,
+-- or holds zero bytes, or was never formatted where it was so before; and while a new cartridge is put in there is none.
+-- The other steps are done or not.
+abbrev pub Halfway : Step → Option Cartridge → Option Cartridge → Type 0
+Halfway (WriteSector segment sector bytes) held left = left ≡ effect (Wear segment sector) held
+Halfway (FormatSegment segment) (Some old) (Some new) =
+    SegmentBecame ClosingView segment old new ⊎ SegmentBecame OpeningView segment old new
+Halfway (Renew n) held left = left ≡ None
+Halfway step held left = ⊥
+
+-- What a stop before a list of steps, inside it or after it leaves: a front of them was done, with at most the next
+-- one stopped.
+abbrev pub Torn : List Step → Option Cartridge → Option Cartridge → Type 0
+Torn [] held left = left ≡ held
+Torn (s ∷ ss) held left = (left ≡ held) ⊎ Halfway s held left ⊎ Torn ss (effect s held) left

@@ -1,7 +1,7 @@
 //! The date word of a header and of a volume's entry (Linux ftape headers).
 
 ghost use Rattle.std.specs.Prelude.{◌≡◌, ◌↔◌, IsOk, IfOk};
-ghost use Rattle.qic_base.specs.Date.{IsDate, date_word};
+ghost use Rattle.qic_base.specs.Field.{IsDate, date_word};
 
 /// A year, month, day, hour, minute or second is out of its range.
 #[derive(Clone, Copy, Debug, PartialEq, Eq)]

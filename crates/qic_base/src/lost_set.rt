@@ -1,7 +1,8 @@
 //! The sectors of a segment that cannot be read, as a set of places.
 
 ghost use Rattle.std.specs.Prelude.{◌≡◌, ◌<◌, ◌↔◌, IsTrue, length};
-ghost use Rattle.qic_base.specs.LostSet.{IsLost, lost_places};
+ghost use Rattle.qic_base.specs.Terms.{IsLost};
+ghost use Rattle.qic_base.specs.Cartridge.{lost_places};
 
 use std::marker::Model;
 

@@ -1,7 +1,8 @@
 //! The 44 bytes of text that a volume or a cartridge is called by.
 
 ghost use Rattle.std.specs.Prelude.{◌≡◌, ◌↔◌, IsTrue, IsSome, IfSome};
-ghost use Rattle.qic_base.specs.Name.{IsNameText, IsPrintable, filled};
+ghost use Rattle.qic_base.specs.Field.{IsNameText, filled};
+ghost use Rattle.qic_base.specs.Terms.{IsPrintable};
 
 use std::marker::Model;
 

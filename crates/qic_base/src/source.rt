@@ -2,8 +2,9 @@
 
 ghost use Rattle.std.specs.Prelude.{◌≡◌, ◌<◌, ◌≤◌, length, drop, IfOk, IfSome, OnErr};
 ghost use Rattle.std.specs.Option.{option_map};
-ghost use Rattle.qic_base.specs.Cause.{HasCause};
-ghost use Rattle.qic_base.specs.Source.{Meaning, Gives};
+ghost use Rattle.qic_base.specs.Terms.{HasCause};
+ghost use Rattle.qic_base.specs.Source.{Meaning};
+ghost use Rattle.qic_base.specs.SourceCalls.{Gives};
 
 /// A read of a source failed.
 #[derive(Clone, Copy, Debug, PartialEq, Eq)]

@@ -1,6 +1,6 @@
 -- The count of faults of a call that failed.
 use Rattle.std.proofs.Common.{◌≡◌, Bool, true, arith}
-use Rattle.qic_base.specs.Cause.{Rose}
+use Rattle.qic_base.specs.Tape.{Rose}
 use Rattle.qic_mem.specs.Plan.{Plan, plan_after}
 
 -- it rose

@@ -1,6 +1,6 @@
 -- What one more call of a disk in memory does to its record, and to what a crash leaves by it.
 use Rattle.std.proofs.Common.{◌≡◌, ◌⊎◌, ℕ, ◌≤◌, inl, inr, Bool, true, false, List, [], ◌∷◌, length, Option, Some, None, is_some, refl, sym, ap, ◌∙◌, subst, arith, if◌then◌else◌}
-use Rattle.qic_base.specs.Cause.{Rose}
+use Rattle.qic_base.specs.Tape.{Rose}
 use Rattle.qic_base.specs.Disk.{DiskStep, Look, WriteAt, SetLen, Sync, stored, Unsynced, Crashes, Stored, Failed}
 use Rattle.qic_mem.specs.declared.disk.MemDisk.{MemDisk}
 use Rattle.qic_mem.specs.Disk.{disk_state, disk_means}

@@ -5,10 +5,10 @@ use Rattle.std.proofs.lemmas.List.{length-map, get_or-take, get_or-drop, get_or_
 use Rattle.std.proofs.lemmas.Option.{unwrap_or-slice_get}
 use Rattle.qic_base.specs.declared.tape.SectorView.{SectorView}
 use Rattle.qic_base.specs.declared.tape.SectorView.TheVariants.{Blank, Defect, Lost, Holds}
-use Rattle.qic_base.specs.Cartridge.{Cartridge, IsPlace, view_at, with_segment}
-use Rattle.qic_base.specs.Step.{Step, WriteSector, FormatSegment, SetReferenced, SetProtected, Renew, Wear, Spoil, Upgrade, worn_view}
-use Rattle.qic_base.specs.Stop.{Torn, ClosingView, SegmentBecame, HalfFormatted}
-use Rattle.qic_base.specs.Tape.{IsToldRight}
+use Rattle.qic_base.specs.Cartridge.{Cartridge, IsPlace, view_at}
+use Rattle.qic_base.specs.Terms.{with_segment, HalfFormatted}
+use Rattle.qic_base.specs.Step.{Step, WriteSector, FormatSegment, SetReferenced, SetProtected, Renew, Wear, Spoil, Upgrade, worn_view, Torn, ClosingView, SegmentBecame}
+use Rattle.qic_base.specs.TapeCalls.{IsToldRight}
 use Rattle.qic_mem.specs.declared.tape.outcome.Outcome.{Outcome}
 use Rattle.qic_mem.specs.declared.tape.outcome.Outcome.TheVariants as outcome
 use Rattle.qic_mem.specs.TapeChange.{IsReached}

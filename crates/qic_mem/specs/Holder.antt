@@ -4,7 +4,7 @@ use Rattle.std.specs.Prelude.{ℕ, false, Option, Some, IfSome}
 use Rattle.std.specs.Option.{option_map}
 use Rattle.qic_base.specs.Cartridge.{Cartridge, IsLength}
 use Rattle.qic_base.specs.Step.{Step, effect}
-use Rattle.qic_base.specs.Tape.{IsToldRight}
+use Rattle.qic_base.specs.TapeCalls.{IsToldRight}
 use Rattle.qic_mem.specs.declared.tape.holder.Holder.{Holder}
 use Rattle.qic_mem.specs.Held.{held, size_told, size_told-fits, held-right}
 use Rattle.qic_mem.specs.Outcome.{size_ended}

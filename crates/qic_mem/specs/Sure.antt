@@ -2,7 +2,8 @@
 -- profile).
 use Rattle.std.specs.Prelude.{false, Some, IfSome}
 use Rattle.qic_base.specs.Cartridge.{IsLength}
-use Rattle.qic_base.specs.Tape.{Meaning, IsToldRight, IsLeftNow}
+use Rattle.qic_base.specs.Tape.{Meaning}
+use Rattle.qic_base.specs.TapeCalls.{IsToldRight, IsLeftNow}
 use Rattle.qic_mem.specs.declared.tape.sure.SureTape.{SureTape}
 use Rattle.qic_mem.specs.Holder.{HolderState, holder_state, holder-size_fits, holder-told_right}
 

@@ -5,7 +5,8 @@ use Rattle.std.specs.Option.{option_map}
 use Rattle.std.proofs.Common.{refl, sym, ap}
 use Rattle.qic_base.specs.Cartridge.{Cartridge, IsLength}
 use Rattle.qic_base.specs.Step.{Step}
-use Rattle.qic_base.specs.Tape.{Meaning, IsToldRight, IsLeftNow}
+use Rattle.qic_base.specs.Tape.{Meaning}
+use Rattle.qic_base.specs.TapeCalls.{IsToldRight, IsLeftNow}
 use Rattle.qic_mem.specs.declared.tape.MemTape.{MemTape}
 use Rattle.qic_mem.specs.declared.tape.outcome.Outcome.{Outcome}
 use Rattle.qic_mem.specs.declared.tape.outcome.Outcome.TheVariants.{Old}

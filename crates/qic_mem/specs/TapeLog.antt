@@ -2,8 +2,7 @@
 -- project's profile).
 use Rattle.std.specs.Prelude.{◌≡◌, ◌⊎◌, ℕ, ◌+◌, ◌-◌, ◌≤◌, Bool, false, List, [], ◌∷◌, length, Option, Some, None, ◌==◌, if◌then◌else◌}
 use Rattle.qic_base.specs.Cartridge.{Cartridge}
-use Rattle.qic_base.specs.Step.{Step}
-use Rattle.qic_base.specs.Stop.{Torn}
+use Rattle.qic_base.specs.Step.{Step, Torn}
 use Rattle.qic_mem.specs.declared.tape.outcome.End.{End}
 use Rattle.qic_mem.specs.Outcome.{ended}
 

@@ -2,7 +2,8 @@
 use Rattle.std.proofs.Common.{◌≡◌, ℕ, ◌+◌, ◌<◌, List, [], ◌∷◌, ◌++◌, length, take, drop, get_or, Option, Some, None, IfSome, refl, sym, ap, ◌∙◌, arith, append_assoc}
 use Rattle.std.specs.Option.{option_map}
 use Rattle.std.proofs.lemmas.List.{take-append-drop, drop_more, length-take-le, get_or-take}
-use Rattle.qic_base.specs.Source.{Meaning, Gives}
+use Rattle.qic_base.specs.Source.{Meaning}
+use Rattle.qic_base.specs.SourceCalls.{Gives}
 use Rattle.rescue_map.specs.declared.ahead.Ahead.{Ahead}
 use Rattle.rescue_map.specs.Reads.{left_of, Gave, HasEnded, IsAhead}
 

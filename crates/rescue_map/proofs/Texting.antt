@@ -3,7 +3,8 @@ use Rattle.std.proofs.Common.{◌≡◌, ◌≢◌, ℕ, suc, ◌+◌, ◌-◌, 
 use Rattle.std.proofs.lemmas.Bool.{eq-eqb}
 use Rattle.std.proofs.lemmas.List.{take-take, drop-take, take-append-drop, length-take, length-drop}
 use mathlib.Core.Bool.{beq}
-use Rattle.qic_base.specs.Sink.{Meaning, Wrote, BrokeOff, Writes}
+use Rattle.qic_base.specs.Sink.{Meaning, Wrote}
+use Rattle.qic_base.specs.SinkCalls.{BrokeOff, Writes}
 use Rattle.qic_base.proofs.Writing.{TakesBoth, Wrote-Wrote, Wrote-BrokeOff, BrokeOff-longer}
 use Rattle.rescue_map.specs.declared.form.Block.{Block}
 use Rattle.rescue_map.specs.Text.{is_marked, sector_block, run_block, joined, runs_from, block_text, blocks_text}

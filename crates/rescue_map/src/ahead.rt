@@ -1,7 +1,7 @@
 //! Bytes of a source, read ahead into a buffer.
 
 ghost use Rattle.std.specs.Prelude.{◌≡◌, ◌<◌, [], length, OnOk};
-ghost use Rattle.qic_base.specs.Cause.{HasCause};
+ghost use Rattle.qic_base.specs.Terms.{HasCause};
 ghost use Rattle.rescue_map.specs.Reads.{left_of, Gave, HasEnded, IsAhead, TakesByte};
 
 use qic_base::{Source, SourceFailed};

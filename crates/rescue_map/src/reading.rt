@@ -1,7 +1,7 @@
 //! The reading of a map.
 
 ghost use Rattle.std.specs.Prelude.{◌≡◌, ◌+◌, ◌<◌, ◌≤◌, ◌++◌, ◌∷◌, [], List, ℕ, length, Err};
-ghost use Rattle.qic_base.specs.Cause.{Rose};
+ghost use Rattle.qic_base.specs.Tape.{Rose};
 ghost use Rattle.rescue_map.specs.Form.{line_says};
 ghost use Rattle.rescue_map.specs.Map.{Going, behind_all};
 ghost use Rattle.rescue_map.specs.Marking.{IsBlock, Continues, Marks, Moves, Tracked};

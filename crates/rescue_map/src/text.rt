@@ -1,7 +1,7 @@
 //! The text of a map.
 
 ghost use Rattle.std.specs.Prelude.{◌≡◌, ◌-◌, ◌*◌, ◌∷◌, ◌<◌, ◌≤◌, ◌^◌, length};
-ghost use Rattle.qic_base.specs.Sink.{Writes};
+ghost use Rattle.qic_base.specs.SinkCalls.{Writes};
 ghost use Rattle.rescue_map.specs.Laws.{most_words};
 ghost use Rattle.rescue_map.specs.Text.{is_marked, run_block, runs_from, runs_of, hex_digit, hex_digits, block_text, blocks_text, map_text};
 

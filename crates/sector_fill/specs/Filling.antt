@@ -1,7 +1,7 @@
 -- Sectors filled from a source: which bytes were read, and where they are (this project's own).
 use Rattle.std.specs.Prelude.{◌≡◌, ℕ, ◌-◌, ◌*◌, ◌≤◌, ◌<◌, min, List, ◌++◌, length, take, drop, replicate, Some, IfSome, Result, Ok, Err}
 use Rattle.qic_base.specs.Source.{Meaning}
-use Rattle.qic_base.specs.Source.{Gave, HasEnded}
+use Rattle.qic_base.specs.SourceCalls.{Gave, HasEnded}
 use Rattle.cartridge_spec.specs.Appending.{in_sectors}
 
 -- From old to new the source gave these bytes, no more than there is room for and no more than were asked for; fewer than

@@ -1,7 +1,7 @@
 //! The first bytes of sectors, written to a sink.
 
 ghost use Rattle.std.specs.Prelude.{◌≡◌, ◌*◌, ◌≤◌, length, take};
-ghost use Rattle.qic_base.specs.Sink.{Writes};
+ghost use Rattle.qic_base.specs.SinkCalls.{Writes};
 ghost use Rattle.cartridge_spec.specs.Appending.{bytes_in};
 
 use qic_base::{Sink, SinkFailed};

@@ -5,13 +5,13 @@ use Rattle.std.proofs.lemmas.Bool.{cases_eq, cases_lt, ne_eqb}
 use Rattle.std.proofs.lemmas.List.{append_assoc, get_or-take, length-append, length-take-le, take_at, drop_at}
 use Rattle.std.proofs.lemmas.Nat.Bits.{bit_at_ones}
 use Rattle.std.proofs.lemmas.Option.{unwrap_or-slice_get}
-use Rattle.qic_base.specs.LostSet.{IsLost, lost_places}
+use Rattle.qic_base.specs.Terms.{IsLost}
+use Rattle.qic_base.specs.Cartridge.{lost_places}
 use Rattle.qic_base.specs.Step.{Step, WriteSector}
 use Rattle.cartridge_spec.specs.Code.{parity_sectors}
 use Rattle.gf256_qic.proofs.Parities.{length-parity_sectors}
 use Rattle.cartridge_spec.specs.Says.{with_parity}
-use Rattle.cartridge_spec.specs.Shape.{sector_at}
-use Rattle.cartridge_spec.specs.Shape.{usable_count, data_count}
+use Rattle.cartridge_spec.specs.Shape.{sector_at, usable_count, data_count}
 use Rattle.cartridge_laws.specs.Writes.{block_in, segment_writes, named_writes}
 use Rattle.cartridge_laws.proofs.Places.{count_below, count_more, count_front}
 use Rattle.segment_parity.specs.declared.Parity.{Parity}

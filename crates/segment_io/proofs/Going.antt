@@ -3,7 +3,8 @@ use Rattle.std.proofs.Common.{◌≡◌, ℕ, ◌+◌, ◌≤◌, sym, subst, ar
 use Rattle.std.specs.Prelude.{IfSome, IsSomeAnd, OnOk}
 use Rattle.std.specs.Option.{option_map_or}
 use Rattle.qic_base.specs.Cartridge.{Cartridge}
-use Rattle.qic_base.specs.Tape.{Meaning, Done, Tells}
+use Rattle.qic_base.specs.Tape.{Meaning, Done}
+use Rattle.qic_base.specs.TapeCalls.{Tells}
 use Rattle.qic_base.specs.declared.tape.TapeInfo.{TapeInfo}
 use Rattle.qic_base.proofs.Steps.{Done-nothing, Done-told}
 use Rattle.cartridge_spec.specs.Shape.{usable_count}
@@ -11,7 +12,7 @@ use Rattle.cartridge_laws.proofs.Segments.{count_of_whole}
 use Rattle.drive_spec.specs.declared.deck.Deck.{Deck}
 use Rattle.drive_spec.specs.declared.deck.Motion.{Motion}
 use Rattle.drive_spec.specs.declared.deck.Motion.TheVariants.{Stopped, Streaming, Seeking}
-use Rattle.drive_spec.specs.Deck.{is_referenced}
+use Rattle.drive_spec.specs.Terms.{is_referenced}
 use Rattle.drive_states.specs.Reach.{StreamsTo, IsUnder}
 use Rattle.drive_states.specs.Sound.{HasLength}
 use Rattle.drive_states.specs.Unit.{UnitView}

@@ -7,11 +7,11 @@ use Rattle.std.proofs.lemmas.List.{append-nil, map-append, map_push, length-appe
 use Rattle.std.proofs.lemmas.List.FromFn.{fill_by_all}
 use Rattle.std.proofs.lemmas.Nat.Bits.{ones_shr}
 use Rattle.std.proofs.lemmas.Option.{unwrap_or-slice_get}
-use Rattle.qic_base.specs.LostSet.{IsLost, lost_places}
+use Rattle.qic_base.specs.Terms.{IsLost}
+use Rattle.qic_base.specs.Cartridge.{lost_places}
 use Rattle.qic_base.specs.Step.{Step, WriteSector}
 use Rattle.qic_base.proofs.LostSetLaws.{lost_places-lost, lost_places-kept}
-use Rattle.cartridge_spec.specs.Shape.{sector_at}
-use Rattle.cartridge_spec.specs.Shape.{usable_places, usable_count}
+use Rattle.cartridge_spec.specs.Shape.{sector_at, usable_places, usable_count}
 use Rattle.cartridge_spec.specs.Settling.{writes_of}
 use Rattle.cartridge_laws.specs.Writes.{block_in, segment_writes, named_writes}
 use Rattle.cartridge_spec.specs.Code.{parity_sectors}

@@ -4,7 +4,7 @@ use Rattle.std.proofs.Common.{◌≡◌, ℕ, zero, suc, ◌+◌, ◌-◌, ◌<�
 use Rattle.std.proofs.lemmas.Bool.{ne_eqb, false≢true}
 use Rattle.std.proofs.lemmas.List.{length-take-le}
 use Rattle.std.proofs.lemmas.Option.{slice_get_within}
-use Rattle.qic_base.specs.LostSet.{lost_places}
+use Rattle.qic_base.specs.Cartridge.{lost_places}
 use Rattle.qic_base.proofs.LostSetLaws.{lost_places-above}
 use Rattle.qic_base.specs.declared.tape.SectorView.{SectorView}
 use Rattle.qic_base.specs.declared.tape.SectorView.TheVariants.{Blank, Defect, Lost, Holds}
@@ -12,7 +12,8 @@ use Rattle.cartridge_spec.specs.Code.{IsCodeBlock}
 use Rattle.gf256_qic.specs.Code.{AgreesOutside, IsSolvable, lost_below}
 use Rattle.erasure_solve.specs.Lost.{is_lost, lost_count}
 use Rattle.erasure_solve.proofs.Places.{is_lost_from, lost_below-places}
-use Rattle.cartridge_spec.specs.Says.{Agrees, unreadable_count, Says, Data, LostSectors, Mismatch, data_of}
+use Rattle.cartridge_spec.specs.Says.{Agrees, unreadable_count, Says, Data, LostSectors, Mismatch}
+use Rattle.cartridge_laws.specs.Terms.{data_of}
 use Rattle.cartridge_laws.proofs.Cells.{unreadable_at, readable_at, lost_below-cells, IsReadable}
 use Rattle.segment_io.specs.Gathered.{IsUnreadableAt, NamesUnreadable, Gathered}
 use Rattle.segment_io.specs.declared.fault.SegFault.{SegFault}

@@ -2,7 +2,8 @@
 use Rattle.std.specs.Prelude.{◌≡◌, ℕ, ◌*◌, ◌<◌, true}
 use Rattle.cartridge_laws.specs.Shape.{Carries}
 use Rattle.drive_spec.specs.declared.deck.Deck.{Deck}
-use Rattle.drive_spec.specs.Deck.{segments_per_track, is_referenced}
+use Rattle.drive_spec.specs.Deck.{segments_per_track}
+use Rattle.drive_spec.specs.Terms.{is_referenced}
 
 -- the drive can go to a segment, of which this is the mask of usable sectors
 pub record HasSegment (d : Deck) (segment usable : ℕ) : Type 0 where

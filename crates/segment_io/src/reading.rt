@@ -1,9 +1,8 @@
 //! A segment read.
 
 ghost use Rattle.std.specs.Prelude.{◌≡◌, ◌≢◌, ◌<◌, ◌+◌, ◌^◌, ◌++◌, ℕ, List, [], ◌∷◌, true, length, take, IfOk, OnOk, IsOkUnless};
-ghost use Rattle.qic_base.specs.Cartridge.{view_at};
-ghost use Rattle.qic_base.specs.LostSet.{lost_places};
-ghost use Rattle.qic_base.specs.Tape.{Does, Tells};
+ghost use Rattle.qic_base.specs.Cartridge.{view_at, lost_places};
+ghost use Rattle.qic_base.specs.TapeCalls.{Does, Tells};
 ghost use Rattle.qic_base.specs.declared.tape.SectorView.{SectorView};
 ghost use Rattle.cartridge_spec.specs.Code.{IsCodeBlock};
 ghost use Rattle.cartridge_spec.specs.Shape.{usable_count};

@@ -1,12 +1,11 @@
 //! A segment written.
 
 ghost use Rattle.std.specs.Prelude.{◌≡◌, ◌<◌, ◌≤◌, ◌+◌, ◌^◌, ◌++◌, [], ◌∷◌, length, drop, IsOkUnless, OnOk};
-ghost use Rattle.qic_base.specs.LostSet.{lost_places};
+ghost use Rattle.qic_base.specs.Cartridge.{lost_places};
 ghost use Rattle.qic_base.specs.Step.{WriteSector};
-ghost use Rattle.qic_base.specs.Tape.{Does};
-ghost use Rattle.cartridge_spec.specs.Shape.{sector_at};
+ghost use Rattle.qic_base.specs.TapeCalls.{Does};
+ghost use Rattle.cartridge_spec.specs.Shape.{sector_at, data_count, usable_count};
 ghost use Rattle.cartridge_laws.specs.Shape.{Carries};
-ghost use Rattle.cartridge_spec.specs.Shape.{data_count, usable_count};
 ghost use Rattle.drive_states.specs.Reach.{IsUnder};
 ghost use Rattle.host_driver.specs.Calls.{IsReady, MayWrite, Keeps};
 ghost use Rattle.segment_io.specs.Calls.{HasSegment};

@@ -6,15 +6,15 @@ use Rattle.qic_base.specs.Cartridge.{Cartridge}
 use Rattle.qic_base.specs.Step.{Step, effects}
 use Rattle.qic_base.specs.Sink as sinks
 use Rattle.qic_base.specs.Tape as tapes
+use Rattle.qic_base.specs.TapeCalls as tape_calls
 use Rattle.qic_base.proofs.Steps.{Tells-map}
 use Rattle.qic_base.proofs.Writing.{TakesBoth}
 use Rattle.qic_base.specs.Acts.{Act, steps_of, text_of, Outside, Failing, TapeFails, SinkFails, Cut}
-use Rattle.qic_base.specs.Acts.{no_source}
+use Rattle.qic_base.specs.Terms.{no_source}
 use Rattle.qic_base.proofs.Joins.{steps_of-append, text_of-append, nothing_went, went_both, went_then_cut, cut_is_longer}
 use Rattle.cartridge_spec.specs.Settling.{changed_by}
 use Rattle.cartridge_laws.proofs.FormatWriting.{effects-some}
-use Rattle.command_spec.specs.Scrub.{Looked, Counts, unread_count}
-use Rattle.command_spec.specs.ScrubForms.{Finding, FindInTurn, finding_acts, lines_for, sayings_of}
+use Rattle.command_spec.specs.Scrub.{Looked, Counts, unread_count, Finding, FindInTurn, finding_acts, lines_for, sayings_of}
 use Rattle.command_spec.specs.declared.depth.Depth.{Depth}
 use Rattle.segment_io.proofs.Going.{tells_then}
 use Rattle.segment_mending.specs.declared.fault.ScrubFault.{ScrubFault}
@@ -25,8 +25,8 @@ use Rattle.segment_mending.proofs.Parts.{behind, one_turn, turns_join, acts_join
 -- ---- what is told
 
 -- a fact told behind some steps, of the cartridge before them
-pub tells_before : {T : Type 0} (t : tapes.Meaning T) (a b : T) (steps : List Step) (P : Cartridge → Type 0) → tapes.Done t a b steps → tapes.Tells t b P →
-    tapes.Tells t a (λ c. P (changed_by steps c))
+pub tells_before : {T : Type 0} (t : tapes.Meaning T) (a b : T) (steps : List Step) (P : Cartridge → Type 0) → tapes.Done t a b steps → tape_calls.Tells t b P →
+    tape_calls.Tells t a (λ c. P (changed_by steps c))
 tells_before t a b steps P did told = by_cases (t.told a) (subst (λ (o : Option (Option Cartridge)). IfSome o (λ held. IfSome held P)) did.told told)
   where
     by_cases : (o : Option (Option Cartridge)) → IfSome (option_map (effects steps) o) (λ held. IfSome held P) →
@@ -37,14 +37,14 @@ tells_before t a b steps P did told = by_cases (t.told a) (subst (λ (o : Option
 
 -- what follows of two told facts
 pub tells_both : {T : Type 0} (t : tapes.Meaning T) (a : T) (P Q R : Cartridge → Type 0) → ((c : Cartridge) → P c → Q c → R c) →
-    tapes.Tells t a P → tapes.Tells t a Q → tapes.Tells t a R
+    tape_calls.Tells t a P → tape_calls.Tells t a Q → tape_calls.Tells t a R
 tells_both t a P Q R follows one other = tells_then t a Q R (Tells-map t a P (λ c. Q c → R c) follows one) other
 
 -- ---- the acts
 
 module _ {T : Type 0} (t : tapes.Meaning T) (a b : T) (depth : Depth) (xs ys : List Looked) (fs gs : List Finding) (front next : List Act) where
   both_told : tapes.Done t a b (steps_of front) → AreActs t a depth xs fs front → AreActs t b depth ys gs next →
-      tapes.Tells t a (λ c. FindInTurn depth c (xs ++ ys) (fs ++ gs) × (front ++ next ≡ finding_acts c (xs ++ ys) (fs ++ gs)))
+      tape_calls.Tells t a (λ c. FindInTurn depth c (xs ++ ys) (fs ++ gs) × (front ++ next ≡ finding_acts c (xs ++ ys) (fs ++ gs)))
   both_told did first later =
       tells_both t a (λ c. FindInTurn depth c xs fs × (front ≡ finding_acts c xs fs))
       (λ c. FindInTurn depth (changed_by (steps_of front) c) ys gs × (next ≡ finding_acts (changed_by (steps_of front) c) ys gs))

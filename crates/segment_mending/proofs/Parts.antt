@@ -6,8 +6,8 @@ use Rattle.cartridge_spec.specs.Says.{Saying, Mismatch}
 use Rattle.cartridge_spec.specs.Settling.{changed_by}
 use Rattle.cartridge_laws.proofs.FormatWriting.{changed_by-append}
 use Rattle.command_laws.proofs.ScrubOneWrong.{finds_one}
-use Rattle.command_spec.specs.Scrub.{Looked, reads, unread_count}
-use Rattle.command_spec.specs.ScrubForms.{Finding, FindInTurn, MayBeFound, finding_acts, find_act, steps_for, line_for, lines_for, sayings_of}
+use Rattle.command_spec.specs.Scrub.{Looked, reads, unread_count, Finding, FindInTurn, MayBeFound, finding_acts, steps_for, line_for, lines_for, sayings_of}
+use Rattle.command_laws.specs.Terms.{find_act}
 use Rattle.command_spec.specs.declared.depth.Depth.{Depth}
 
 -- the cartridge behind the acts of some segments

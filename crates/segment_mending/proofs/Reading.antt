@@ -3,29 +3,31 @@ use Rattle.std.proofs.Common.{◌≡◌, ℕ, ◌+◌, ◌≤◌, Bool, true, fa
 use Rattle.std.specs.Prelude.{IsOkUnless}
 use Rattle.qic_base.specs.Cartridge.{Cartridge}
 use Rattle.qic_base.specs.Step.{Step}
-use Rattle.qic_base.specs.Sink as sinks
-use Rattle.qic_base.specs.Tape as tapes
 use Rattle.qic_base.proofs.Steps.{Tells-map}
 use Rattle.qic_base.proofs.Writing.{TakesBoth}
 use Rattle.qic_base.specs.Acts.{Act, Outside, Failing, TapeFails, SinkFails, Went, Cut}
-use Rattle.qic_base.specs.Acts.{no_source, around}
+use Rattle.qic_base.specs.Terms.{no_source, around}
 use Rattle.qic_base.proofs.Joins.{went_both, went_then_cut, cut_is_longer, sink_cut_one}
 use Rattle.cartridge_spec.specs.Says.{Saying, Data, LostSectors, Mismatch}
-use Rattle.cartridge_spec.specs.Shape.{usable_count, sectors_of}
+use Rattle.cartridge_spec.specs.Shape.{usable_count}
+use Rattle.cartridge_laws.specs.Terms.{sectors_of}
 use Rattle.cartridge_laws.specs.Writes.{named_writes}
 use Rattle.cartridge_laws.proofs.Places.{count_below}
-use Rattle.command_spec.specs.Scrub.{Looked, Counts, reads, steps_in, header_line, fault_line, line_in}
-use Rattle.command_spec.specs.ScrubForms.{Finding, FindInTurn, finding_acts, line_for, steps_for, without, wrong_line}
+use Rattle.command_spec.specs.Scrub.{Looked, Counts, reads, steps_in, header_line, fault_line, line_in, Finding, FindInTurn, finding_acts, line_for, steps_for, without, wrong_line}
 use Rattle.command_spec.specs.declared.depth.Depth.{Depth}
 use Rattle.command_laws.proofs.ScrubNamed.{steps_by_places, count_of_named}
 use Rattle.command_laws.proofs.ScrubOneWrong.{finds_one}
 use Rattle.segment_io.proofs.Going.{tells_always}
 use Rattle.segment_mending.specs.declared.fault.ScrubFault.{ScrubFault}
-use Rattle.segment_mending.specs.declared.fault.ScrubFault.TheVariants as fault
 use Rattle.segment_mending.specs.declared.locating.Found.TheVariants.{Reads, Fails}
 use Rattle.segment_mending.specs.declared.locating.Unread.{Unread}
 use Rattle.segment_mending.specs.Locating.{data_in, unread_saying, finding_of, IsFound, MayMend, mending, GoesAs}
 use Rattle.segment_mending.specs.Looking.{AreActs, Counted, LookingCut, Looks, with_mended, with_unread}
+use Rattle.qic_base.specs.Sink as sinks
+use Rattle.qic_base.specs.SinkCalls as sink_calls
+use Rattle.qic_base.specs.Tape as tapes
+use Rattle.qic_base.specs.TapeCalls as tape_calls
+use Rattle.segment_mending.specs.declared.fault.ScrubFault.TheVariants as fault
 
 -- ---- the act
 
@@ -51,7 +53,7 @@ line_of_wrong l s wrong can =
     sym (ap (λ (line : List ℕ). wrong_line l.segment wrong ++ line) (no_line l s can) ∙ append-nil (wrong_line l.segment wrong))
 
 pub are_mended : {T : Type 0} (t : tapes.Meaning T) (a : T) (depth : Depth) (l : Looked) (places : ℕ) (wrong : Option ℕ) (sectors : List (List ℕ)) →
-    tapes.Tells t a (λ c. IsFound depth c l (Reads places wrong) sectors) → MayMend depth l places wrong sectors → usable_count l.mask ≤ length sectors →
+    tape_calls.Tells t a (λ c. IsFound depth c l (Reads places wrong) sectors) → MayMend depth l places wrong sectors → usable_count l.mask ≤ length sectors →
     AreActs t a depth (l ∷ []) (finding_of l (Reads places wrong) sectors ∷ []) (mending l places wrong sectors ∷ [])
 are_mended t a depth l places wrong sectors told may room =
     let f : Finding = finding_of l (Reads places wrong) sectors in
@@ -72,7 +74,7 @@ are_mended t a depth l places wrong sectors told may room =
     }
 
 pub are_unread : {T : Type 0} (t : tapes.Meaning T) (a : T) (depth : Depth) (l : Looked) (why : Unread) (sectors : List (List ℕ)) →
-    tapes.Tells t a (λ c. IsFound depth c l (Fails why) sectors) → reads l (unread_saying l why sectors) ≡ false →
+    tape_calls.Tells t a (λ c. IsFound depth c l (Fails why) sectors) → reads l (unread_saying l why sectors) ≡ false →
     AreActs t a depth (l ∷ []) (finding_of l (Fails why) sectors ∷ []) (telling l (unread_saying l why sectors) ∷ [])
 are_unread t a depth l why sectors told not_read =
     let s : Saying = unread_saying l why sectors in
@@ -122,7 +124,7 @@ fails why = Err why
 module _ {T K : Type 0} (t : tapes.Meaning T) (k : sinks.Meaning K) where
   -- steps that were done, and then a text
   pub goes_on : (a b : T) (s after : K) (act : Act) (result : Result (Unit {0}) ScrubFault) → tapes.Done t a b act.steps →
-      sinks.Writes k s after act.text result → IsOkUnless result fault.Sink → GoesAs t k act (around a s) (around b after) result
+      sink_calls.Writes k s after act.text result → IsOkUnless result fault.Sink → GoesAs t k act (around a s) (around b after) result
   goes_on a b s after act (Ok done) did wrote sound = record {
     did = subst (tapes.Done t a b) (sym (append-nil act.steps)) did;
     wrote = subst (sinks.Wrote k s after) (sym (append-nil act.text)) wrote;

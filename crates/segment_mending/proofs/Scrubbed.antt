@@ -1,23 +1,24 @@
 -- All segments were looked at, and the line of the counts was written, or a fault cut that off.
 use Rattle.std.proofs.Common.{◌≡◌, ℕ, List, [], ◌∷◌, ◌++◌, length, refl, sym, ap, ◌∙◌, subst, arith, Err, append-nil}
 use Rattle.qic_base.specs.Cartridge.{Cartridge}
-use Rattle.qic_base.specs.Sink as sinks
-use Rattle.qic_base.specs.Tape as tapes
 use Rattle.qic_base.proofs.Steps.{Tells-map, Done-nothing}
 use Rattle.qic_base.proofs.Writing.{TakesBoth}
 use Rattle.qic_base.specs.Acts.{Act, steps_of, text_of, Outside, Failing, TapeFails, SinkFails, Went, Cut}
-use Rattle.qic_base.specs.Acts.{no_source, around}
+use Rattle.qic_base.specs.Terms.{no_source, around}
 use Rattle.qic_base.proofs.Joins.{text_of-append, went_both, went_then_cut, cut_is_longer, sink_cut_one}
 use Rattle.cartridge_spec.specs.Table.{Entry}
-use Rattle.command_spec.specs.Scrub.{Looked, Counts, looked_at, unread_count, counts_line, last_act}
-use Rattle.command_spec.specs.ScrubForms.{Finding, FindInTurn, ScrubsAs, IsTextFor, finding_acts, counts_for, sayings_of}
+use Rattle.command_spec.specs.Scrub.{Looked, Counts, looked_at, unread_count, counts_line, Finding, FindInTurn, ScrubsAs, IsTextFor, finding_acts, sayings_of}
+use Rattle.command_laws.specs.Terms.{last_act, counts_for}
 use Rattle.command_spec.specs.declared.depth.Depth.{Depth}
 use Rattle.command_laws.proofs.ScrubOneWrong.{form_is_function}
 use Rattle.segment_mending.specs.declared.fault.ScrubFault.{ScrubFault}
-use Rattle.segment_mending.specs.declared.fault.ScrubFault.TheVariants as fault
 use Rattle.segment_mending.specs.declared.report.ScrubReport.{ScrubReport}
 use Rattle.segment_mending.specs.Looking.{Counted, HasLooked, LookingCut, Looks}
 use Rattle.segment_mending.specs.Mending.{reported, HasScrubbed, ScrubCut, ScrubEnds}
+use Rattle.qic_base.specs.Sink as sinks
+use Rattle.qic_base.specs.SinkCalls as sink_calls
+use Rattle.qic_base.specs.Tape as tapes
+use Rattle.segment_mending.specs.declared.fault.ScrubFault.TheVariants as fault
 
 -- nothing is counted yet
 abbrev pub none_counted : Counts
@@ -86,7 +87,7 @@ module _ {T K : Type 0} (t : tapes.Meaning T) (k : sinks.Meaning K) (depth : Dep
       }
 
   -- the sink failed in it
-  pub line_cut : TakesBoth k → (after : K) → sinks.BrokeOff k b.sink after (counts_line (reported report)) →
+  pub line_cut : TakesBoth k → (after : K) → sink_calls.BrokeOff k b.sink after (counts_line (reported report)) →
       ScrubCut t k depth words entries a (around b.tape after) SinkFails
   line_cut both after broke =
       let last : Act = last_act (reported report) in

@@ -1,30 +1,31 @@
 -- What is found of a segment, and what may be found of it (this project's own).
 use Rattle.std.specs.Prelude.{◌≡◌, ℕ, ◌<◌, ◌≤◌, ◌^◌, List, [], ◌∷◌, take, Option, Some, None, Result, Ok, Err, true, false}
 use Rattle.cartridge_spec.specs.Code.{IsCodeBlock}
-use Rattle.cartridge_spec.specs.Says.{Saying, Data, LostSectors, data_of, unreadable_count}
-use Rattle.cartridge_spec.specs.Says as saying
+use Rattle.cartridge_spec.specs.Says.{Saying, Data, LostSectors, unreadable_count}
+use Rattle.cartridge_laws.specs.Terms.{data_of}
 use Rattle.cartridge_spec.specs.Shape.{usable_count}
-use Rattle.command_spec.specs.Scrub.{Looked, cells_at, reads}
-use Rattle.command_spec.specs.ScrubForms.{Finding, Finds, MayFind, without, wrong_line}
+use Rattle.command_spec.specs.Scrub.{Looked, cells_at, reads, Finding, MayFind, without, wrong_line}
+use Rattle.command_laws.specs.Terms.{Finds}
 use Rattle.command_spec.specs.declared.depth.Depth.{Depth}
 use Rattle.cartridge_laws.specs.Writes.{named_writes}
 use Rattle.qic_base.specs.Acts.{Act, Outside, TapeFails, SinkFails, Went, Cut}
-use Rattle.qic_base.specs.Acts.{no_source}
+use Rattle.qic_base.specs.Terms.{no_source}
 use Rattle.qic_base.specs.Cartridge.{Cartridge}
-use Rattle.qic_base.specs.Sink as sinks
-use Rattle.qic_base.specs.Tape as tapes
 use Rattle.qic_base.specs.declared.tape.SectorView.{SectorView}
 use Rattle.segment_io.specs.Gathered.{NamesUnreadable}
 use Rattle.segment_mending.specs.declared.fault.ScrubFault.{ScrubFault}
-use Rattle.segment_mending.specs.declared.fault.ScrubFault.TheVariants as cuts
 use Rattle.segment_mending.specs.declared.locating.Found.{Found}
 use Rattle.segment_mending.specs.declared.locating.Found.TheVariants.{Reads, Fails}
 use Rattle.segment_mending.specs.declared.locating.Unread.{Unread}
 use Rattle.segment_mending.specs.declared.locating.Unread.TheVariants.{NoHeader, Lost, Mismatch}
-use Rattle.silent_locate.specs.Deep as deep
 use Rattle.silent_locate.specs.declared.Located.{Located}
 use Rattle.silent_locate.specs.declared.Located.TheVariants.{Agrees, Wrong}
 use Rattle.silent_locate.specs.declared.LocateFault.{LocateFault}
+use Rattle.cartridge_spec.specs.Says as saying
+use Rattle.qic_base.specs.Sink as sinks
+use Rattle.qic_base.specs.Tape as tapes
+use Rattle.segment_mending.specs.declared.fault.ScrubFault.TheVariants as cuts
+use Rattle.silent_locate.specs.Deep as deep
 use Rattle.silent_locate.specs.declared.LocateFault.TheVariants as fault
 
 -- ---- the cells alone

@@ -2,10 +2,10 @@
 use Rattle.std.specs.Prelude.{◌≡◌, ℕ, ◌+◌, ◌*◌, ◌≤◌, List, length, Result, Ok, Err}
 use Rattle.qic_base.specs.Sink as sinks
 use Rattle.qic_base.specs.Tape as tapes
+use Rattle.qic_base.specs.TapeCalls as tape_calls
 use Rattle.qic_base.specs.Acts.{Act, steps_of, text_of, Outside, Failing, TapeFails, SinkFails, Went, Cut}
-use Rattle.qic_base.specs.Acts.{no_source}
-use Rattle.command_spec.specs.Scrub.{Looked, Counts, unread_count}
-use Rattle.command_spec.specs.ScrubForms.{Finding, FindInTurn, MayBeFound, finding_acts, lines_for, sayings_of}
+use Rattle.qic_base.specs.Terms.{no_source}
+use Rattle.command_spec.specs.Scrub.{Looked, Counts, unread_count, Finding, FindInTurn, MayBeFound, finding_acts, lines_for, sayings_of}
 use Rattle.command_spec.specs.declared.depth.Depth.{Depth}
 use Rattle.segment_mending.specs.declared.fault.ScrubFault.{ScrubFault}
 use Rattle.segment_mending.specs.declared.fault.ScrubFault.TheVariants as fault
@@ -13,7 +13,7 @@ use Rattle.segment_mending.specs.declared.fault.ScrubFault.TheVariants as fault
 -- This is found of these segments, on the cartridge that the tape tells, and these are their acts; over any tape the acts
 -- print what belongs to these findings.
 pub record AreActs {T : Type 0} (t : tapes.Meaning T) (tape : T) (depth : Depth) (looked : List Looked) (findings : List Finding) (acts : List Act) : Type 0 where
-  pub told : tapes.Tells t tape (λ c. FindInTurn depth c looked findings × (acts ≡ finding_acts c looked findings))
+  pub told : tape_calls.Tells t tape (λ c. FindInTurn depth c looked findings × (acts ≡ finding_acts c looked findings))
   pub may : MayBeFound depth looked findings
   pub text : text_of acts ≡ lines_for looked findings
 
@@ -35,7 +35,7 @@ pub record HasLooked {T K : Type 0} (t : tapes.Meaning T) (k : sinks.Meaning K) 
 
 -- A fault of the tape or of the sink cut the acts off.
 pub record LookingCut {T K : Type 0} (t : tapes.Meaning T) (k : sinks.Meaning K) (depth : Depth) (looked : List Looked) (old new : Outside T (Unit {0}) K) (failing : Failing) : Type 0 where
-  pub told : tapes.Tells t old.tape (λ c. (findings : List Finding) → FindInTurn depth c looked findings →
+  pub told : tape_calls.Tells t old.tape (λ c. (findings : List Finding) → FindInTurn depth c looked findings →
       Cut t no_source k old new (finding_acts c looked findings) failing)
   -- and over any tape
   pub findings : List Finding

@@ -1,14 +1,16 @@
 -- How a cartridge was scrubbed, by the answer of the call (this project's own).
 use Rattle.std.specs.Prelude.{◌≡◌, ℕ, List, ◌++◌, Result, Ok, Err}
 use Rattle.cartridge_spec.specs.Table.{Entry}
-use Rattle.command_spec.specs.Scrub.{Counts, looked_at}
-use Rattle.command_spec.specs.ScrubForms.{ScrubsAs, IsTextFor, counts_for}
+use Rattle.command_spec.specs.Scrub.{Counts, looked_at, ScrubsAs, IsTextFor}
+use Rattle.command_laws.specs.Terms.{counts_for}
 use Rattle.command_spec.specs.declared.depth.Depth.{Depth}
-use Rattle.qic_base.specs.Acts.{Act, text_of, Outside, Went, no_source, Failing, Cut, TapeFails, SinkFails}
+use Rattle.qic_base.specs.Acts.{Act, text_of, Outside, Went, Failing, Cut, TapeFails, SinkFails}
+use Rattle.qic_base.specs.Terms.{no_source}
 use Rattle.segment_mending.specs.declared.fault.ScrubFault.{ScrubFault}
 use Rattle.segment_mending.specs.declared.report.ScrubReport.{ScrubReport}
 use Rattle.qic_base.specs.Sink as sinks
 use Rattle.qic_base.specs.Tape as tapes
+use Rattle.qic_base.specs.TapeCalls as tape_calls
 use Rattle.segment_mending.specs.declared.fault.ScrubFault.TheVariants as fault
 
 -- the counts that a report tells
@@ -19,14 +21,14 @@ reported report = record { segments = report.segments; mended = report.mended; u
 pub record HasScrubbed {T K : Type 0} (t : tapes.Meaning T) (k : sinks.Meaning K) (depth : Depth) (words : List ℕ) (entries : List Entry) (old new : Outside T (Unit {0}) K) (report : ScrubReport) : Type 0 where
   pub acts : List Act
   pub went : Went t no_source k old new acts
-  pub told : tapes.Tells t old.tape (λ c. (scrubs : ScrubsAs depth c words entries acts)
+  pub told : tape_calls.Tells t old.tape (λ c. (scrubs : ScrubsAs depth c words entries acts)
       × (reported report ≡ counts_for c (looked_at words entries) scrubs.findings))
   -- and over any tape
   pub text : IsTextFor depth (looked_at words entries) (reported report) (text_of acts)
 
 -- A fault of the tape or of the sink cut them off.
 pub record ScrubCut {T K : Type 0} (t : tapes.Meaning T) (k : sinks.Meaning K) (depth : Depth) (words : List ℕ) (entries : List Entry) (old new : Outside T (Unit {0}) K) (failing : Failing) : Type 0 where
-  pub told : tapes.Tells t old.tape (λ c. (acts : List Act) → ScrubsAs depth c words entries acts → Cut t no_source k old new acts failing)
+  pub told : tape_calls.Tells t old.tape (λ c. (acts : List Act) → ScrubsAs depth c words entries acts → Cut t no_source k old new acts failing)
   -- and over any tape
   pub acts : List Act
   pub counts : Counts

@@ -2,20 +2,21 @@
 
 ghost use Rattle.std.specs.Prelude.{◌≡◌, ◌≢◌, ◌<◌, ◌≤◌, ◌^◌, ℕ, [], length, take, slice_index, Some, None, IfOk, IsOkUnless};
 ghost use Rattle.qic_base.specs.Cartridge.{Cartridge};
-ghost use Rattle.qic_base.specs.Tape.{Does, Tells};
+ghost use Rattle.qic_base.specs.TapeCalls.{Does, Tells};
 ghost use Rattle.cartridge_laws.specs.Shape.{Carries};
 ghost use Rattle.cartridge_spec.specs.Code.{IsCodeBlock};
 ghost use Rattle.cartridge_spec.specs.Header.{has_signature};
-ghost use Rattle.cartridge_spec.specs.Says.{cells_of, data_of, whole_mask};
+ghost use Rattle.cartridge_spec.specs.Says.{cells_of, whole_mask};
+ghost use Rattle.cartridge_laws.specs.Terms.{data_of};
 ghost use Rattle.cartridge_spec.specs.Shape.{usable_count, usable_places};
 ghost use Rattle.command_spec.specs.Scrub.{reads};
 ghost use Rattle.command_spec.specs.declared.depth.Depth.{Depth};
-ghost use Rattle.command_spec.specs.declared.depth.Depth.TheVariants as depths;
 ghost use Rattle.host_driver.specs.Calls.{IsReady, MayWrite, Keeps};
 ghost use Rattle.segment_io.specs.Calls.{HasSegment};
 ghost use Rattle.segment_io.specs.Gathered.{Gathered, NamesUnreadable};
-ghost use Rattle.silent_locate.specs.Deep as deep;
 ghost use Rattle.segment_mending.specs.Locating.{Locates, data_in, IsFound, MayBe};
+ghost use Rattle.command_spec.specs.declared.depth.Depth.TheVariants as depths;
+ghost use Rattle.silent_locate.specs.Deep as deep;
 
 use crate::fault::ScrubFault;
 use crate::{HEADER_COPIES, TABLE_SEGMENT};

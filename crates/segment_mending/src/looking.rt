@@ -1,9 +1,9 @@
 //! One segment looked at.
 
 ghost use Rattle.std.specs.Prelude.{◌≡◌, ◌<◌, ◌≤◌, ◌^◌, [], ◌∷◌, true};
-ghost use Rattle.qic_base.specs.Acts.{around};
+ghost use Rattle.qic_base.specs.Terms.{around};
 ghost use Rattle.cartridge_spec.specs.Says.{whole_mask};
-ghost use Rattle.drive_spec.specs.Deck.{is_referenced};
+ghost use Rattle.drive_spec.specs.Terms.{is_referenced};
 ghost use Rattle.host_driver.specs.Calls.{IsReady, MayWrite, Keeps};
 ghost use Rattle.command_spec.specs.Scrub.{whole_segment};
 ghost use Rattle.segment_io.specs.Calls.{HasSegment};

@@ -1,14 +1,15 @@
 //! What is done in one segment that was read.
 
 ghost use Rattle.std.specs.Prelude.{◌≡◌, ◌<◌, ◌^◌, length, OnOk, IsOkUnless};
-ghost use Rattle.qic_base.specs.Acts.{around};
-ghost use Rattle.qic_base.specs.Sink.{Writes};
-ghost use Rattle.qic_base.specs.Tape.{Does};
-ghost use Rattle.cartridge_spec.specs.Shape.{usable_count, sectors_of};
+ghost use Rattle.qic_base.specs.Terms.{around};
+ghost use Rattle.qic_base.specs.SinkCalls.{Writes};
+ghost use Rattle.qic_base.specs.TapeCalls.{Does};
+ghost use Rattle.cartridge_spec.specs.Shape.{usable_count};
+ghost use Rattle.cartridge_laws.specs.Terms.{sectors_of};
 ghost use Rattle.cartridge_laws.specs.Writes.{named_writes};
 ghost use Rattle.host_driver.specs.Calls.{IsReady, MayWrite, Keeps};
 ghost use Rattle.segment_io.specs.Calls.{HasSegment};
-ghost use Rattle.command_spec.specs.ScrubForms.{wrong_line};
+ghost use Rattle.command_spec.specs.Scrub.{wrong_line};
 ghost use Rattle.segment_mending.specs.Locating.{mending, GoesAs};
 ghost use Rattle.segment_mending.specs.Looking.{HasFew, with_mended, with_unread};
 ghost use Rattle.segment_mending.specs.Mending.{reported};

@@ -1,9 +1,9 @@
 //! All segments of a cartridge that hold something, one by one.
 
 ghost use Rattle.std.specs.Prelude.{◌≡◌, ◌-◌, ◌*◌, ◌∷◌, [], true, length, OnOk};
-ghost use Rattle.qic_base.specs.Acts.{around};
+ghost use Rattle.qic_base.specs.Terms.{around};
 ghost use Rattle.cartridge_laws.specs.Table.{IsSoundList};
-ghost use Rattle.drive_spec.specs.Deck.{is_referenced};
+ghost use Rattle.drive_spec.specs.Terms.{is_referenced};
 ghost use Rattle.host_driver.specs.Calls.{IsReady, MayWrite, Keeps};
 ghost use Rattle.host_driver.specs.Fits.{segments_of};
 ghost use Rattle.command_spec.specs.Scrub.{whole_segment};

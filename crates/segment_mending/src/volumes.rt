@@ -1,10 +1,10 @@
 //! The segments of volumes looked at.
 
 ghost use Rattle.std.specs.Prelude.{◌≡◌, ◌+◌, ◌-◌, ◌*◌, ◌<◌, ◌≤◌, ◌^◌, true, length, OnOk};
-ghost use Rattle.qic_base.specs.Acts.{around};
+ghost use Rattle.qic_base.specs.Terms.{around};
 ghost use Rattle.cartridge_laws.specs.Table.{IsSoundList};
 ghost use Rattle.cartridge_spec.specs.Volumes.{carrying};
-ghost use Rattle.drive_spec.specs.Deck.{is_referenced};
+ghost use Rattle.drive_spec.specs.Terms.{is_referenced};
 ghost use Rattle.host_driver.specs.Calls.{IsReady, MayWrite, Keeps};
 ghost use Rattle.host_driver.specs.Fits.{segments_of};
 ghost use Rattle.command_spec.specs.Scrub.{looked_segments, looked_volumes};

@@ -3,8 +3,8 @@ use Rattle.std.proofs.Common.{◌≡◌, ◌≢◌, ℕ, ◌+◌, ◌<◌, ◌�
 use Rattle.std.proofs.lemmas.Bool.{cases_eq, cases_lt}
 use Rattle.std.proofs.lemmas.List.{get_or-set_same, get_or-set_other, length-replicate}
 use Rattle.std.proofs.lemmas.List.Elements.{All-nil, All-cons, All-get_or, All-from_get_or}
-use Rattle.cartridge_spec.specs.Field.{product}
-use Rattle.cartridge_spec.specs.Code.{parity, parity_sectors, column, IsSector}
+use Rattle.cartridge_spec.specs.Code.{product, parity, parity_sectors, column}
+use Rattle.qic_base.specs.Cartridge.{IsSector}
 use Rattle.gf256_qic.proofs.Values.{AllBytes, first_byte, other_bytes}
 use Rattle.gf256_qic.proofs.Agreement.{same_from_columns}
 use Rattle.gf256_qic.proofs.Parities.{bytes_of_column, column-append, bytes_of_parity, column-parity_sectors, length-parity_sectors, parity_sectors-are_sectors}
@@ -26,7 +26,7 @@ column_more :
 column_more ss s j h m l below all one same =
     let size : length s ≡ 1024 = one.size in
     parity_more (column j ss) (get_or s j 0) h m l (bytes_of_column j ss below all)
-    (All-get_or (λ b. b < 256) s j 0 (omega arith) one.bytes) same
+    (All-get_or (λ b. b < 256) s j 0 (omega arith) one.each) same
     ∙ ap parity (sym (column-append j ss (s ∷ []) ∙ ap (λ c. column j ss ++ c) (column-one j s)))
 
 -- rows of zeros have the parity of no sector
@@ -165,7 +165,7 @@ rows_of_columns a b c ss la lb lc all columns =
     let bytes : (j : ℕ) → j < 1024 → AllBytes (three a b c j) =
     λ j h. subst AllBytes (sym (each j h)) (bytes_of_parity (column j ss) (bytes_of_column j ss h all)) in
     let row : (xs : List ℕ) → length xs ≡ 1024 → ((j : ℕ) → j < 1024 → get_or xs j 0 < 256) → IsSector xs =
-    λ xs size fits. record { size = size; bytes = All-from_get_or (λ b. b < 256) xs 0 (λ j h. fits j (omega arith)) } in
+    λ xs size fits. record { size = size; each = All-from_get_or (λ b. b < 256) xs 0 (λ j h. fits j (omega arith)) } in
     let ra : IsSector a = row a la (λ j h. first_byte (get_or a j 0) (get_or b j 0 ∷ get_or c j 0 ∷ []) (bytes j h)) in
     let others : (j : ℕ) → j < 1024 → AllBytes (get_or b j 0 ∷ get_or c j 0 ∷ []) =
     λ j h. other_bytes (get_or a j 0) (get_or b j 0 ∷ get_or c j 0 ∷ []) (bytes j h) in

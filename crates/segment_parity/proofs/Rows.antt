@@ -5,9 +5,9 @@ use Rattle.std.proofs.lemmas.Nat.{xor_comm}
 use Rattle.std.proofs.lemmas.List.Elements.{All-get_or, All-from_get_or, All-push}
 use Rattle.std.proofs.lemmas.List.{same_lists, length-replicate}
 use Rattle.std.proofs.Math.ListN.{length-append}
-use Rattle.cartridge_spec.specs.Field.{shifted_copies, remainder, product, power, inverse}
-use Rattle.cartridge_spec.specs.Code.{value_at, scaled, added, lagrange, through, parity, parity_sector, parity_sectors, data_sum, column, IsSector, IsCodeBlock}
-use Rattle.gf256_qic.specs.Code.{distance}
+use Rattle.cartridge_spec.specs.Code.{shifted_copies, remainder, product, power, value_at, added, lagrange, parity, parity_sectors, column, IsCodeBlock}
+use Rattle.gf256_qic.specs.Code.{parity_sector, data_sum, scaled, distance}
+use Rattle.qic_base.specs.Cartridge.{IsSector}
 use Rattle.gf256_qic.proofs.Sums.{sum_byte}
 use Rattle.gf256_qic.proofs.Products.{product_byte, product_comm, product_assoc, product_sum_left, product_sum_right, product_zero_left, product_one_right}
 use Rattle.gf256_qic.proofs.Powers.{power_more, power_one, power_byte}
@@ -130,7 +130,7 @@ parity_more ds d h m l all hd same =
 
 -- an array of 1,024 bytes is a sector
 pub sector_from : (s : List ℕ) → length s ≡ 1024 → ((i : ℕ) → get_or s i 0 < 256) → IsSector s
-sector_from s size fits = record { size = size; bytes = All-from_get_or (λ b. b < 256) s 0 (λ i h. fits i) }
+sector_from s size fits = record { size = size; each = All-from_get_or (λ b. b < 256) s 0 (λ i h. fits i) }
 
 pub column-one : (j : ℕ) (s : List ℕ) → column j (s ∷ []) ≡ get_or s j 0 ∷ []
 unfolding column
@@ -153,7 +153,7 @@ shifted_column :
 shifted_column old new s ss j h three three' all one shift same =
     let d : ℕ = get_or s j 0 in
     let size : length s ≡ 1024 = one.size in
-    let byte : d < 256 = All-get_or (λ b. b < 256) s j 0 (omega arith) one.bytes in
+    let byte : d < 256 = All-get_or (λ b. b < 256) s j 0 (omega arith) one.each in
     let f : ℕ = feedback old s j in
     let before : at old 0 j ∷ at old 1 j ∷ at old 2 j ∷ [] ≡ parity (column j ss) =
     sym (column-three j old three) ∙ ap (column j) same ∙ column-parity_sectors j ss h in
@@ -185,7 +185,7 @@ column-none j = refl
 
 -- the parity of no data is 0, by computation
 pub parity_none : parity [] ≡ 0 ∷ 0 ∷ 0 ∷ []
-unfolding parity through data_sum lagrange added product shifted_copies remainder power inverse
+unfolding parity value_at lagrange added product shifted_copies remainder power
 parity_none = refl
 
 -- a row of zeros is 0 at each index, and past its end
@@ -218,7 +218,7 @@ zeros_are_parity k h =
     zero_of_three (suc (suc (suc i))) lt = absurd (omega arith)
 
 pub zeros_are_register : zeros ∷ zeros ∷ zeros ∷ [] ≡ parity_sectors []
-unfolding parity_sectors
+unfolding parity_sectors parity_sector
 zeros_are_register =
     ap (λ (r : List ℕ). r ∷ zeros ∷ zeros ∷ []) (zeros_are_parity 0 (omega arith))
     ∙ ap (λ (r : List ℕ). parity_sector [] 0 ∷ r ∷ zeros ∷ []) (zeros_are_parity 1 (omega arith))

@@ -4,8 +4,8 @@ use Rattle.std.proofs.lemmas.Bool.{cases_eq}
 use Rattle.std.proofs.lemmas.List.{get_or-set_same, get_or-set_other}
 use Rattle.std.proofs.Math.ListN.{length-set}
 use Rattle.std.proofs.lemmas.List.Elements.{All-set, All-get_or}
-use Rattle.cartridge_spec.specs.Field.{product}
-use Rattle.cartridge_spec.specs.Code.{IsSector}
+use Rattle.cartridge_spec.specs.Code.{product}
+use Rattle.qic_base.specs.Cartridge.{IsSector}
 use Rattle.gf256_qic.proofs.Sums.{sum_byte}
 use Rattle.segment_parity.specs.Register.{at, feedback, Shifted}
 
@@ -166,7 +166,7 @@ sectors-put rows r j v h hv all =
     All-set IsSector rows r (set (get_or rows r []) j v)
     (record {
       size = length-set (get_or rows r []) j v ∙ row.size;
-      bytes = All-set (λ b. b < 256) (get_or rows r []) j v hv row.bytes;
+      each = All-set (λ b. b < 256) (get_or rows r []) j v hv row.each;
     })
     all
 
@@ -174,7 +174,7 @@ byte_at : (rows : List (List ℕ)) (r j : ℕ) → r < length rows → j < 1024 
 byte_at rows r j h hj all =
     let row : IsSector (get_or rows r []) = All-get_or IsSector rows r [] h all in
     let size : length (get_or rows r []) ≡ 1024 = row.size in
-    All-get_or (λ b. b < 256) (get_or rows r []) j 0 (omega arith) row.bytes
+    All-get_or (λ b. b < 256) (get_or rows r []) j 0 (omega arith) row.each
 
 pub sectors_more : (rows : List (List ℕ)) (s : List ℕ) (j w : ℕ) → length rows ≡ 3 → j < 1024 →
     get_or s j 0 < 256 → w < 256 → All IsSector rows → All IsSector (thrice rows j w (feedback rows s j))

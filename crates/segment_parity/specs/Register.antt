@@ -1,7 +1,7 @@
 -- What a `Parity` stands for, in the words of the code, and how its register takes a sector.
 use Rattle.std.specs.Prelude.{ℕ, ◌+◌, ◌<◌, ◌≤◌, ◌≡◌, List, [], ◌∷◌, length, All, slice_index, slice_index_or, bit_xor}
-use Rattle.cartridge_spec.specs.Field.{product}
-use Rattle.cartridge_spec.specs.Code.{IsSector, column, parity, parity_sectors}
+use Rattle.cartridge_spec.specs.Code.{product, column, parity, parity_sectors}
+use Rattle.qic_base.specs.Cartridge.{IsSector}
 use Rattle.segment_parity.specs.declared.Parity.{Parity}
 
 -- how many sectors were pushed

@@ -2,8 +2,8 @@
 #![tactic(auto)]
 
 ghost use Rattle.std.specs.Prelude.{◌≡◌, ℕ, ◌+◌, ◌<◌, ◌≤◌, List, [], ◌∷◌, ◌++◌, length, All, slice_index};
-ghost use Rattle.cartridge_spec.specs.Field.{product};
-ghost use Rattle.cartridge_spec.specs.Code.{parity_sectors, IsSector, IsCodeBlock};
+ghost use Rattle.cartridge_spec.specs.Code.{product, parity_sectors, IsCodeBlock};
+ghost use Rattle.qic_base.specs.Cartridge.{IsSector};
 ghost use Rattle.segment_parity.specs.Register.{pushed, Holds, Shifted, AreParity, HasColumns};
 
 use gf256_qic::{over_x, times_x};

@@ -1,7 +1,8 @@
 //! Parity put behind the data of a segment.
 
 ghost use Rattle.std.specs.Prelude.{◌≡◌, ◌+◌, ◌≤◌, ◌++◌, length, take, drop, All};
-ghost use Rattle.cartridge_spec.specs.Code.{parity_sectors, IsSector};
+ghost use Rattle.cartridge_spec.specs.Code.{parity_sectors};
+ghost use Rattle.qic_base.specs.Cartridge.{IsSector};
 
 use crate::{SECTOR, parity_of};
 

@@ -3,7 +3,8 @@ use Rattle.std.proofs.Common.{◌≡◌, ℕ, zero, suc, ◌+◌, ◌-◌, ◌/�
 use Rattle.std.specs.Option.{option_map}
 use Rattle.std.proofs.lemmas.Bool.{cases_eq, ne_eqb, eqb-false, or_parts, or_from}
 use Rattle.std.proofs.lemmas.Option.{slice_get_within, slice_get-get_or}
-use Rattle.qic_base.specs.LostSet.{IsLost, lost_places}
+use Rattle.qic_base.specs.Terms.{IsLost}
+use Rattle.qic_base.specs.Cartridge.{lost_places}
 use Rattle.qic_base.proofs.LostSetLaws.{lost_places-above}
 use Rattle.qic_base.specs.declared.tape.SectorView.{SectorView}
 use Rattle.qic_base.specs.declared.tape.SectorView.TheVariants.{Holds}

@@ -12,6 +12,7 @@ use Rattle.volume_store.specs.Finding.{is_of_mounting, NamesCause}
 use Rattle.volume_store.specs.Mounting.{StoreView, StoreFits, IsSettling, MountRefuses, MountDoes}
 use Rattle.volume_store.specs.declared.fault.StoreFault.{StoreFault}
 use Rattle.qic_base.specs.Tape as tapes
+use Rattle.qic_base.specs.TapeCalls as tape_calls
 use Rattle.store_opening.specs.declared.opening.OpenFault.TheVariants as open_fault
 use Rattle.volume_store.specs.Mounting as stores
 use Rattle.volume_store.specs.declared.fault.StoreFault.TheVariants as fault
@@ -53,7 +54,7 @@ open_shown t a b c info store there does fits = record {
   fits = fits;
 }
 
-turned : {T : Type 0} (n : ℕ) (t : tapes.Meaning T) (a b : T) (c : UnitView T) (info : TapeInfo) (f : StoreFault) → Present t a b info → tapes.Done t b c.tape [] → tapes.Tells t b (λ d. MountRefuses d f) →
+turned : {T : Type 0} (n : ℕ) (t : tapes.Meaning T) (a b : T) (c : UnitView T) (info : TapeInfo) (f : StoreFault) → Present t a b info → tapes.Done t b c.tape [] → tape_calls.Tells t b (λ d. MountRefuses d f) →
     is_of_mounting f ≡ true → NamesCause {A = StoreView} n (Err f) → IsTurnedDown t a c.tape f
 turned n t a b c info f there did told kind cause = record {
   did = Done-Done there.did did;

@@ -7,7 +7,7 @@ use Rattle.cartridge_laws.proofs.MountWhole.{settling_effects}
 use Rattle.cartridge_spec.specs.HeaderAndTable.{last_segment}
 use Rattle.cartridge_spec.specs.Mounting.{settled}
 use Rattle.command_laws.proofs.CommandOpened.{quiet}
-use Rattle.drive_spec.specs.Deck.{is_protected}
+use Rattle.drive_spec.specs.Terms.{is_protected}
 use Rattle.drive_states.specs.Unit.{UnitView}
 use Rattle.qic_base.proofs.Joins.{went_both, went_then_cut}
 use Rattle.qic_base.proofs.Steps.{Broke-front}
@@ -23,6 +23,7 @@ use Rattle.volume_store.specs.declared.fault.StoreFault.{StoreFault}
 use Rattle.qic_base.specs.Sink as sinks
 use Rattle.qic_base.specs.Source as sources
 use Rattle.qic_base.specs.Tape as tapes
+use Rattle.qic_base.specs.TapeCalls as tape_calls
 use Rattle.volume_store.specs.declared.fault.StoreFault.TheVariants as fault
 
 abbrev pub outside : {T S K : Type 0} → T → S → K → Outside T S K
@@ -65,7 +66,7 @@ module _ {T S K : Type 0} (t : tapes.Meaning T) (s : sources.Meaning S) (k : sin
 
 -- what is told of the settled cartridge is so of the one that was mounted
 pub settled_told : {T : Type 0} (t : tapes.Meaning T) (a : T) (b : UnitView T) (store : StoreView) (opening : HasOpened t a b store) (P : Cartridge → Type 0) (R : Option Cartridge → Type 0) →
-    tapes.Tells t b.tape P → ((c : Cartridge) (is : IsOpened c store opening.steps) → P (settled is.table c) → R (Some c)) → IfSome (t.told a) R
+    tape_calls.Tells t b.tape P → ((c : Cartridge) (is : IsOpened c store opening.steps) → P (settled is.table c) → R (Some c)) → IfSome (t.told a) R
 settled_told t a b store opening P R told follows = by_told (t.told a) (t.told b.tape) opening.did.told opening.told told
   where
     by_told : (o p : Option (Option Cartridge)) → p ≡ option_map (effects opening.steps) o → IfSome o (λ held. IsSomeAnd held (λ c. IsOpened c store opening.steps)) →
@@ -84,7 +85,7 @@ pub record IsKnown (c : Cartridge) (store : StoreView) (mark : Bool) : Type 0 wh
   pub last : length store.words - 1 ≡ last_segment c
 
 pub opened_known : {T : Type 0} (t : tapes.Meaning T) (a : T) (b : UnitView T) (store : StoreView) (opening : HasOpened t a b store) (mark : Bool) → is_protected b.drive.deck ≡ mark →
-    tapes.Tells t b.tape (λ d. IsKnown d store mark)
+    tape_calls.Tells t b.tape (λ d. IsKnown d store mark)
 opened_known t a b store opening mark is =
     let fits = opening.fits in
     by_known (t.told b.tape) (told_learnt t store.host b fits.host fits.agrees)

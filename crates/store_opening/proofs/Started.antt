@@ -8,6 +8,7 @@ use Rattle.qic_base.specs.Cartridge.{Cartridge}
 use Rattle.qic_base.specs.declared.tape.TapeInfo.{TapeInfo}
 use Rattle.store_opening.specs.Opening.{HasStarted}
 use Rattle.qic_base.specs.Tape as tapes
+use Rattle.qic_base.specs.TapeCalls as tape_calls
 
 -- what the drive knows since the insertion is what the tape told before it
 pub known_before : {T : Type 0} (t : tapes.Meaning T) (a b : T) (cartridge : Option TapeInfo) → tapes.Done t a b [] →
@@ -32,7 +33,7 @@ told_known_beside None cartridge Q R known fact follows = tt
 told_known_beside (Some h) cartridge Q R known fact follows = follows h known fact
 
 -- a fact of the cartridge that is told after the insertion was told before it
-pub told_at_start : {T : Type 0} (t : tapes.Meaning T) (a b : T) → tapes.Done t a b [] → (P : Cartridge → Type 0) → tapes.Tells t b P → tapes.Tells t a P
+pub told_at_start : {T : Type 0} (t : tapes.Meaning T) (a b : T) → tapes.Done t a b [] → (P : Cartridge → Type 0) → tape_calls.Tells t b P → tape_calls.Tells t a P
 told_at_start t a b inserted P told =
     let telling : Option (Option Cartridge) → Type 0 = λ held. IfSome held (λ h. IfSome h P) in
     subst telling (Done-told inserted) told

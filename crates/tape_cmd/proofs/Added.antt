@@ -13,7 +13,8 @@ use Rattle.cartridge_spec.specs.HeaderAndTable.{TableIs, table_cells}
 use Rattle.cartridge_spec.specs.Mounting.{settled}
 use Rattle.cartridge_spec.specs.Says.{Data, LostSectors, AsRead, ByCode, TableSays}
 use Rattle.cartridge_spec.specs.Settling.{settling_steps}
-use Rattle.cartridge_spec.specs.Table.{Entry, slot_sector, table_with}
+use Rattle.cartridge_spec.specs.Table.{Entry, table_with}
+use Rattle.cartridge_laws.specs.Terms.{slot_sector}
 use Rattle.command_laws.proofs.CommandAdded.{status_by, input_texts, replied_text, status_fits}
 use Rattle.command_laws.proofs.CommandEndings.{nothing_front}
 use Rattle.command_laws.proofs.CommandEnds.{is_some-map}
@@ -21,21 +22,21 @@ use Rattle.command_laws.proofs.CommandOpened.{quiet}
 use Rattle.command_laws.proofs.CommandTable.{plain_is_function}
 use Rattle.command_laws.proofs.CommandTold.{input_of, input_told}
 use Rattle.command_laws.proofs.StoreTaking.{both_true}
-use Rattle.command_spec.specs.Append.{Kept, Taking, Fits, TooLong, TooShort, entry_acts, silently, taking, room_in, input_writes, append_acts, append_status, Appends, bytes_taken, entry_for, AppendOutcome, kept_over}
+use Rattle.command_spec.specs.Append.{Kept, Taking, Fits, TooLong, TooShort, entry_acts, taking, room_in, input_writes, append_acts, AppendOutcome, kept_over}
+use Rattle.command_laws.specs.CommandTerms.{entry_for, silently, append_status, Appends, bytes_taken, CommandPrints, FrontPrints}
 use Rattle.command_spec.specs.Lines.{reply_behind, appended_line}
-use Rattle.command_spec.specs.Machine.{CommandPrints, FrontPrints}
 use Rattle.command_spec.specs.Outcome.{CommandOutcome, refused, refused_behind}
-use Rattle.command_spec.specs.Runs.{NamesFault, may_come_from, InputLeft, CommandEnds, IsOfBytes, IsCutOff}
+use Rattle.command_spec.specs.Machine.{NamesFault, may_come_from, InputLeft, CommandEnds, IsOfBytes, IsCutOff}
 use Rattle.command_spec.specs.declared.status.Status.{Status}
-use Rattle.drive_spec.specs.Deck.{is_protected}
+use Rattle.drive_spec.specs.Terms.{is_protected}
 use Rattle.drive_states.specs.Unit.{UnitView}
 use Rattle.qic_base.proofs.Joins.{steps_of-append, text_of-append, broke_behind}
 use Rattle.qic_base.proofs.Steps.{Done-nothing, Done-Done, Done-Broke, effects-append}
 use Rattle.qic_base.proofs.Writing.{TakesBoth}
-use Rattle.qic_base.specs.Acts.{steps_of, Act, text_of, next_steps, Failing, TapeFails, SourceFails, SinkFails, Went, Cut, TapeCut, SourceCut, SinkCut, no_sink, reading}
+use Rattle.qic_base.specs.Acts.{steps_of, Act, text_of, next_steps, Failing, TapeFails, SourceFails, SinkFails, Went, Cut, TapeCut, SourceCut, SinkCut}
+use Rattle.qic_base.specs.Terms.{no_sink, reading}
 use Rattle.qic_base.specs.Cartridge.{Cartridge}
-use Rattle.qic_base.specs.Step.{Step as TapeStep, effects}
-use Rattle.qic_base.specs.Stop.{Torn}
+use Rattle.qic_base.specs.Step.{Step as TapeStep, effects, Torn}
 use Rattle.qic_base.specs.declared.sink.SinkFailed.{SinkFailed}
 use Rattle.tape_cmd.proofs.Endings.{told_map}
 use Rattle.tape_cmd.proofs.Mounted.{Settles, told_both, locked_is, unlocked_refused_is, writable_begins}
@@ -52,8 +53,10 @@ use Rattle.volume_store.specs.declared.fault.StoreFault.{StoreFault}
 use Rattle.command_spec.specs.declared.words.Words.TheVariants as words
 use Rattle.command_spec.specs.declared.status.Status.TheVariants as status
 use Rattle.qic_base.specs.Sink as sinks
+use Rattle.qic_base.specs.SinkCalls as sink_calls
 use Rattle.qic_base.specs.Source as sources
 use Rattle.qic_base.specs.Tape as tapes
+use Rattle.qic_base.specs.TapeCalls as tape_calls
 use Rattle.cartridge_spec.specs.Mounting as mounting
 use Rattle.volume_store.specs.declared.fault.StoreFault.TheVariants as fault
 
@@ -245,8 +248,8 @@ module _ {T S K : Type 0} (t : tapes.Meaning T) (s : sources.Meaning S) (k : sin
       reads : TableIs d table
       settles : settling ≡ settling_steps table d
 
-    found : (table : List (List ℕ)) (settling : List TapeStep) → is_protected b.drive.deck ≡ false → tapes.Tells t b.tape (λ d. TableIs d table × (settling ≡ settling_steps table d)) →
-        tapes.Tells t b.tape (Found table settling)
+    found : (table : List (List ℕ)) (settling : List TapeStep) → is_protected b.drive.deck ≡ false → tape_calls.Tells t b.tape (λ d. TableIs d table × (settling ≡ settling_steps table d)) →
+        tape_calls.Tells t b.tape (Found table settling)
     found table settling free told =
         tells_two t b.tape (λ d. IsKnown d store false) (λ d. TableIs d table × (settling ≡ settling_steps table d)) (Found table settling)
         (λ d known is. record { known = known; reads = is.0; settles = is.1 }) (opened_known t a b store opening false free) told
@@ -368,7 +371,7 @@ module _ {T S K : Type 0} (t : tapes.Meaning T) (s : sources.Meaning S) (k : sin
       none_before : text_of (quiet opening.steps ∷ (quiet ran.settling ∷ writes)) ≡ []
       none_before = input_texts kept None ran.input
 
-      abbrev broken : (y : K) → sinks.BrokeOff k x y (reply entry) → SinkCut t s k (outside a i x) (outside c j y) outcome.acts
+      abbrev broken : (y : K) → sink_calls.BrokeOff k x y (reply entry) → SinkCut t s k (outside a i x) (outside c j y) outcome.acts
       broken y broke = record {
         at = record { front = quiet opening.steps ∷ (quiet ran.settling ∷ writes); act = last_act; rest = []; parts = parted };
         did = subst (tapes.Done t a c) (sym steps_before) all_did;
@@ -395,7 +398,7 @@ module _ {T S K : Type 0} (t : tapes.Meaning T) (s : sources.Meaning S) (k : sin
       })
 
       -- .. or broken off
-      pub append_unsaid : (y : K) → sinks.BrokeOff k x y (reply entry) → CommandEnds t s k (words.Append name date) (outside a i x) (outside c j y) status.SinkFault
+      pub append_unsaid : (y : K) → sink_calls.BrokeOff k x y (reply entry) → CommandEnds t s k (words.Append name date) (outside a i x) (outside c j y) status.SinkFault
       append_unsaid y broke =
           let off : IsCutOff t s k (words.Append name date) (outside a i x) (outside c j y) SinkFails outcome =
           record { cut = broken y broke; done = λ same still. (is_done, all_did); silent = λ still. none_before } in
@@ -423,10 +426,10 @@ module _ {T S K : Type 0} (t : tapes.Meaning T) (s : sources.Meaning S) (k : sin
             },
           )
 
-      pub append_replied : (y : K) (r : Result (Unit {0}) SinkFailed) → sinks.Writes k x y (appended_line added.number added.bytes added.start added.end) r →
+      pub append_replied : (y : K) (r : Result (Unit {0}) SinkFailed) → sink_calls.Writes k x y (appended_line added.number added.bytes added.start added.end) r →
           CommandEnds t s k (words.Append name date) (outside a i x) (outside c j y) (printed_status r)
       append_replied y (Ok all) wrote = append_done y (subst (sinks.Wrote k x y) line_is wrote)
-      append_replied y (Err failed) broke = append_unsaid y (subst (sinks.BrokeOff k x y) line_is broke)
+      append_replied y (Err failed) broke = append_unsaid y (subst (sink_calls.BrokeOff k x y) line_is broke)
 
     -- ---- cut off
 
@@ -470,7 +473,7 @@ module _ {T S K : Type 0} (t : tapes.Meaning T) (s : sources.Meaning S) (k : sin
         IsKnown d store false × ((table : List (List ℕ)) → TableIs d table → (reply : Entry → List ℕ) →
         Cut t s no_sink (reading b.tape i) (reading c j) (append_acts (kept_by store table (settling_steps table d)) name date None reply input) failing)
 
-    cuts : (c : T) (j : S) (failing : Failing) → is_protected b.drive.deck ≡ false → (cut : AppendCut t s (reading b.tape i) (reading c j) store name date None failing) → tapes.Tells t b.tape (Cuts c j cut.input failing)
+    cuts : (c : T) (j : S) (failing : Failing) → is_protected b.drive.deck ≡ false → (cut : AppendCut t s (reading b.tape i) (reading c j) store name date None failing) → tape_calls.Tells t b.tape (Cuts c j cut.input failing)
     cuts c j failing free cut =
         tells_two t b.tape (λ d. IsKnown d store false)
         (λ d. (table : List (List ℕ)) → TableIs d table → (reply : Entry → List ℕ) →

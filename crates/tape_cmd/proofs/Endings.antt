@@ -4,19 +4,18 @@ use Rattle.std.specs.Option.{option_map}
 use Rattle.command_laws.proofs.CommandEndings.{Rules, appends_none, any_input, nothing_front, text_front, none_printed}
 use Rattle.command_laws.proofs.CommandTable.{plain_is_function}
 use Rattle.command_spec.specs.Commands.{traits_of}
-use Rattle.command_spec.specs.Commands.Defect.{DefectOutcome}
+use Rattle.command_spec.specs.Single.{DefectOutcome, LoseOutcome}
 use Rattle.command_spec.specs.Lines.{protected_line, lost_line, defect_line, upgraded_line}
-use Rattle.command_spec.specs.Commands.Lose.{LoseOutcome}
-use Rattle.command_spec.specs.Machine.{Yields, CommandPrints}
+use Rattle.command_laws.specs.CommandTerms.{Yields, CommandPrints}
 use Rattle.command_spec.specs.Outcome.{CommandOutcome, refused, refused_behind, acted, carried_out}
-use Rattle.command_spec.specs.Commands.Protect.{ProtectOutcome}
-use Rattle.command_spec.specs.Runs.{InputLeft, IsOfBytes, may_come_from, IsCutOff, EndsBlind}
-use Rattle.command_spec.specs.Commands.Upgrade.{UpgradeOutcome}
+use Rattle.command_laws.specs.Terms.{ProtectOutcome, UpgradeOutcome}
+use Rattle.command_spec.specs.Machine.{InputLeft, IsOfBytes, may_come_from, IsCutOff, EndsBlind}
 use Rattle.command_spec.specs.declared.status.Status.{Status}
 use Rattle.command_spec.specs.declared.words.Words.{Words}
 use Rattle.qic_base.proofs.Joins.{broke_first}
 use Rattle.qic_base.proofs.Steps.{Broke-front}
-use Rattle.qic_base.specs.Acts.{Act, next_steps, TapeFails, SinkFails, Went, TapeCut, SinkCut, no_source, around}
+use Rattle.qic_base.specs.Acts.{Act, next_steps, TapeFails, SinkFails, Went, TapeCut, SinkCut}
+use Rattle.qic_base.specs.Terms.{no_source, around}
 use Rattle.qic_base.specs.Cartridge.{Cartridge, IsPlace, view_at}
 use Rattle.qic_base.specs.Step.{Step as TapeStep, SetProtected, Wear, Spoil, Upgrade}
 use Rattle.qic_base.specs.Tape.{spoil_answer}
@@ -26,6 +25,7 @@ use Rattle.tape_cmd.specs.Outcome.{first_steps}
 use Rattle.tape_cmd.specs.Writing.{printed_status}
 use Rattle.command_spec.specs.declared.status.Status.TheVariants as status
 use Rattle.qic_base.specs.Sink as sinks
+use Rattle.qic_base.specs.SinkCalls as sink_calls
 use Rattle.qic_base.specs.Tape as tapes
 
 -- ---- commands that read no input
@@ -121,7 +121,7 @@ module _ {T K : Type 0} (t : tapes.Meaning T) (k : sinks.Meaning K) where
   unprinted : (command : Words) → IsBlind command → (a b : T) (x y : K) (outcome : CommandOutcome) →
       outcome.status ≡ status.Done → outcome ≡ acted (first_act outcome).steps (first_act outcome).text → CommandPrints command (first_act outcome).text →
       IfSome (t.told a) (λ held. Rules command held outcome) →
-      tapes.Done t a b (first_act outcome).steps → sinks.BrokeOff k x y (first_act outcome).text → EndsBlind t k command a b x y status.SinkFault
+      tapes.Done t a b (first_act outcome).steps → sink_calls.BrokeOff k x y (first_act outcome).text → EndsBlind t k command a b x y status.SinkFault
   unprinted command blind a b x y outcome ends one prints told did broke =
       let act : Act = first_act outcome in
       let cut : SinkCut t no_source k (around a x) (around b y) (act ∷ []) = record {
@@ -170,7 +170,7 @@ module _ {T K : Type 0} (t : tapes.Meaning T) (k : sinks.Meaning K) where
   pub printed : (command : Words) → IsBlind command → (a b : T) (x y : K) (outcome : CommandOutcome) (r : Result (Unit {0}) SinkFailed) →
       outcome.status ≡ status.Done → outcome ≡ acted (first_act outcome).steps (first_act outcome).text → CommandPrints command (first_act outcome).text →
       IfSome (t.told a) (λ held. Rules command held outcome) →
-      tapes.Done t a b (first_act outcome).steps → sinks.Writes k x y (first_act outcome).text r → EndsBlind t k command a b x y (printed_status r)
+      tapes.Done t a b (first_act outcome).steps → sink_calls.Writes k x y (first_act outcome).text r → EndsBlind t k command a b x y (printed_status r)
   printed command blind a b x y outcome (Ok all) ends one prints told did wrote = done command blind a b x y outcome ends one prints told did wrote
   printed command blind a b x y outcome (Err failed) ends one prints told did broke = unprinted command blind a b x y outcome ends one prints told did broke
 

@@ -4,38 +4,39 @@ use Rattle.std.proofs.lemmas.List.{append-nil, append_assoc}
 use Rattle.qic_base.specs.Cartridge.{Cartridge}
 use Rattle.qic_base.specs.declared.tape.TapeInfo.{TapeInfo}
 use Rattle.qic_base.specs.declared.sink.SinkFailed.{SinkFailed}
-use Rattle.qic_base.specs.Sink as sinks
 use Rattle.qic_base.specs.Step.{Step as TapeStep}
-use Rattle.qic_base.specs.Tape as tapes
 use Rattle.qic_base.proofs.Steps.{Done-Done, Done-Broke}
 use Rattle.cartridge_spec.specs.Shape.{marked_sectors}
-use Rattle.cartridge_spec.specs.Formatting.{MarksDefects}
-use Rattle.cartridge_spec.specs.Formatting.{clearing_steps, copy_writes, format_steps, IsFirstDefectInFront, HasNoDefectInFront}
+use Rattle.cartridge_spec.specs.Formatting.{MarksDefects, clearing_steps, copy_writes, format_steps, IsFirstDefectInFront, HasNoDefectInFront, IsFreshWith}
 use Rattle.cartridge_spec.specs.Says.{with_parity}
-use Rattle.cartridge_spec.specs.Formatting.{IsFreshArea, IsFreshWith}
+use Rattle.cartridge_laws.specs.Terms.{IsFreshArea}
 use Rattle.cartridge_laws.proofs.FreshFront.{first_defect_is_none}
 use Rattle.cartridge_laws.proofs.FreshMarks.{fresh_area_is_one}
 use Rattle.drive_states.specs.Unit.{UnitView}
 use Rattle.host_driver.specs.declared.host.Host.{Host}
 use Rattle.formatter.specs.declared.fault.FormatFault.{FormatFault}
-use Rattle.formatter.specs.declared.fault.FormatFault.TheVariants as fault
 use Rattle.formatter.specs.declared.formatting.FormatReport.{FormatReport}
 use Rattle.formatter.specs.Formats.{Formats, HasFormatted}
 use Rattle.command_spec.specs.declared.words.Words.TheVariants.{Format}
 use Rattle.command_spec.specs.declared.status.Status.{Status}
-use Rattle.command_spec.specs.declared.status.Status.TheVariants as status
 use Rattle.command_spec.specs.Lines.{formatted_line}
 use Rattle.command_spec.specs.Outcome.{CommandOutcome, refused}
 use Rattle.tape_cmd.specs.Outcome.{first_steps}
-use Rattle.command_spec.specs.Commands.Format.{cleared, formatted, FormatOutcome}
+use Rattle.command_laws.specs.Terms.{cleared, formatted}
+use Rattle.command_spec.specs.Single.{FormatOutcome}
 use Rattle.tape_cmd.specs.Format.{format_status}
 use Rattle.tape_cmd.specs.Opening.{StartFails}
 use Rattle.store_opening.specs.Opening.{HasStarted}
 use Rattle.tape_cmd.specs.Writing.{printed_status}
-use Rattle.command_spec.specs.Runs.{EndsBlind}
+use Rattle.command_spec.specs.Machine.{EndsBlind}
 use Rattle.tape_cmd.proofs.Endings.{IsBlind, printed, turned_down, turned_behind, cut_off, cut_off_first}
 use Rattle.command_laws.proofs.CommandEndings.{Rules}
 use Rattle.store_opening.proofs.Started.{Present, Knows, known_before, told_known, told_known_beside, told_at_start}
+use Rattle.qic_base.specs.Sink as sinks
+use Rattle.qic_base.specs.SinkCalls as sink_calls
+use Rattle.qic_base.specs.Tape as tapes
+use Rattle.formatter.specs.declared.fault.FormatFault.TheVariants as fault
+use Rattle.command_spec.specs.declared.status.Status.TheVariants as status
 
 -- ---- what is told of the cartridge
 
@@ -64,7 +65,9 @@ AreMarks words c = MarksDefects c words × HasNoDefectInFront c
 fresh_with : (label : List ℕ) (date : ℕ) (info : TapeInfo) (words : List ℕ) (area : List (List ℕ)) (c : Cartridge) → info ≡ c.info → IsFreshArea info.segments_per_track label date words area →
     AreMarks words c → IsFreshWith c label date words area
 fresh_with label date info words area c same fresh marks =
-    record { fresh = subst (λ (i : TapeInfo). IsFreshArea i.segments_per_track label date words area) same fresh; marks = marks.0 }
+    let here : IsFreshArea c.info.segments_per_track label date words area =
+    subst (λ (i : TapeInfo). IsFreshArea i.segments_per_track label date words area) same fresh in
+    record { size = here.size; spells = here.spells; marks = marks.0 }
 
 formatted_is : (label : List ℕ) (date : ℕ) (info : TapeInfo) (words : List ℕ) (area : List (List ℕ)) (held : Option Cartridge) → info.protected ≡ false →
     IsFreshArea info.segments_per_track label date words area → Knows (Some info) held → IfSome held (AreMarks words) → FormatOutcome label date held (formatted info.segments_per_track words area)
@@ -171,8 +174,8 @@ line_is t label date n b c words report came =
 
 pub format_printed : {T K : Type 0} (t : tapes.Meaning T) (k : sinks.Meaning K) (label : List ℕ) (date : ℕ) (a b c : T) (x y : K) (info : TapeInfo) (words : List ℕ) (report : FormatReport) (r : Result (Unit {0}) SinkFailed) →
     Present t a b info → info.protected ≡ false → HasFormatted t info.segments_per_track label date b c words report →
-    sinks.Writes k x y (formatted_line report.segments report.bad) r → EndsBlind t k (Format label date) a c x y (printed_status r)
+    sink_calls.Writes k x y (formatted_line report.segments report.bad) r → EndsBlind t k (Format label date) a c x y (printed_status r)
 format_printed t k label date a b c x y info words report r there unlocked came writes =
     printed t k (Format label date) is_blind a c x y (formatted info.segments_per_track words came.area) r refl refl (28 * info.segments_per_track, (marked_sectors words, refl))
     (told_formatted t label date a b c info words report there unlocked came) (Done-Done there.did came.did)
-    (subst (λ (text : List ℕ). sinks.Writes k x y text r) (line_is t label date info.segments_per_track b c words report came) writes)
+    (subst (λ (text : List ℕ). sink_calls.Writes k x y text r) (line_is t label date info.segments_per_track b c words report came) writes)

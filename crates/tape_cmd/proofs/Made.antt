@@ -2,44 +2,40 @@
 use Rattle.std.proofs.Common.{◌≡◌, ◌≢◌, ℕ, ◌<◌, ◌≤◌, ◌&&◌, nat_le, nat_lt, Bool, true, false, cond, List, [], ◌∷◌, Option, Some, None, IfSome, Result, Ok, Err, refl, sym, ap, ◌∙◌, subst, inl, inr, arith}
 use Rattle.std.proofs.lemmas.Bool.{cases_Bool, leb-false, lt-ltb}
 use Rattle.qic_base.specs.Cartridge.{Cartridge}
-use Rattle.qic_base.specs.Sink as sinks
 use Rattle.qic_base.specs.Step.{Step as TapeStep}
-use Rattle.qic_base.specs.Tape as tapes
 use Rattle.qic_base.proofs.Writing.{TakesBoth}
 use Rattle.qic_base.specs.Acts.{Act, text_of, Failing, TapeFails, SourceFails, SinkFails, Cut}
-use Rattle.qic_base.specs.Acts.{no_source, around}
-use Rattle.cartridge_spec.specs.Mounting as mounting
+use Rattle.qic_base.specs.Terms.{no_source, around}
 use Rattle.cartridge_spec.specs.Mounting.{Mounting}
 use Rattle.cartridge_spec.specs.Table.{Entry}
 use Rattle.drive_states.specs.Unit.{UnitView}
 use Rattle.cartridge_laws.proofs.MountOnce.{mounts_is_function}
-use Rattle.command_spec.specs.Generator.{made_length}
-use Rattle.command_spec.specs.declared.words.Words.TheVariants as words
-use Rattle.command_spec.specs.Append.{has_promised_room, kept_in, room_in}
+use Rattle.command_spec.specs.Make.{made_length, MakeStep, AppendMade, WearSector, ScrubAll, SumVolume, after_item, making, Answer, made_answer, MayDo, MayRun, Making, make_status}
+use Rattle.command_spec.specs.Append.{has_promised_room, room_in}
+use Rattle.command_laws.specs.CommandTerms.{kept_in, Makes, RefusedPrints}
 use Rattle.volume_store.specs.Mounting.{StoreView}
 use Rattle.command_laws.proofs.StoreTaking.{both_true}
 use Rattle.made_volumes.specs.declared.fault.MakeFault.{MakeFault}
-use Rattle.made_volumes.specs.declared.fault.MakeFault.TheVariants as fault
-use Rattle.command_spec.specs.Make.{MakeStep, AppendMade, WearSector, ScrubAll, SumVolume, after_item, making}
-use Rattle.command_spec.specs.Make as made
-use Rattle.command_spec.specs.Make.{Answer, Makes, made_answer}
-use Rattle.command_spec.specs.Make.{MayDo, MayRun}
 use Rattle.made_volumes.specs.Runs.{HasRun, MakeEnds, RunCut}
 use Rattle.command_spec.specs.declared.status.Status.{Status}
-use Rattle.command_spec.specs.declared.status.Status.TheVariants as status
-use Rattle.command_spec.specs.Make.{Making, make_status}
 use Rattle.tape_cmd.specs.Make.{run_status}
-use Rattle.command_spec.specs.Machine.{RefusedPrints}
-use Rattle.command_spec.specs.Outcome.{Going, Opened, OpenOutcome, WritableOutcome}
+use Rattle.command_spec.specs.Outcome.{Going, Opened, OpenOutcome, WritableOutcome, CommandOutcome}
 use Rattle.tape_cmd.specs.Opening.{IsUnlocked, WritableEnds, is_opening}
 use Rattle.store_opening.specs.Opening.{IsOpened, HasOpened}
-use Rattle.command_spec.specs.Outcome.{CommandOutcome}
 use Rattle.tape_cmd.specs.Outcome.{first_steps}
-use Rattle.command_spec.specs.Runs.{EndsBlind, IsCutOff, Prints, fault_of, may_come_from}
+use Rattle.command_spec.specs.Machine.{EndsBlind, IsCutOff, fault_of, may_come_from}
+use Rattle.command_laws.specs.Terms.{Prints}
 use Rattle.tape_cmd.proofs.Endings.{IsBlind, none_taken, turned_down, cut_off, told_map}
 use Rattle.tape_cmd.proofs.Mounted.{Settles, no_outcome, told_both, locked_is, unlocked_refused_is, writable_begins}
 use Rattle.command_laws.proofs.CommandOpened.{quiet}
 use Rattle.store_opening.proofs.Opened.{went_behind, cut_behind, settled_told}
+use Rattle.qic_base.specs.Sink as sinks
+use Rattle.qic_base.specs.Tape as tapes
+use Rattle.cartridge_spec.specs.Mounting as mounting
+use Rattle.command_spec.specs.declared.words.Words.TheVariants as words
+use Rattle.made_volumes.specs.declared.fault.MakeFault.TheVariants as fault
+use Rattle.command_spec.specs.Make as made
+use Rattle.command_spec.specs.declared.status.Status.TheVariants as status
 
 -- ---- the answers of a run
 
@@ -104,7 +100,7 @@ run_prints : (seed count : ℕ) (ws : List ℕ) (es : List Entry) (text : List �
 run_prints seed count ws es text answer may = by_answer answer refl
   where
     turned : (why : Answer) → answer ≡ why → RefusedPrints (words.Make seed count) (make_status why) text
-    turned why same = inr (record { words = ws; entries = es; why = answer; answered = ap make_status (sym same); may = may })
+    turned why same = inr (ws, (es, (answer, ap make_status (sym same), may)))
 
     by_answer : (why : Answer) → answer ≡ why → Prints (words.Make seed count) (make_status why) text
     by_answer made.Done same = ((λ is. (ws, (es, subst (MayRun seed ws es (making seed count ws es) text) same may))), (λ other. absurd (other refl)))

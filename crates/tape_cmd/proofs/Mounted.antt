@@ -3,50 +3,48 @@ use Rattle.std.proofs.Common.{◌≡◌, ◌≢◌, ◌⊎◌, ℕ, ◌++◌, Bo
 use Rattle.qic_base.specs.Cartridge.{Cartridge}
 use Rattle.qic_base.specs.declared.tape.TapeInfo.{TapeInfo}
 use Rattle.qic_base.specs.declared.foreign.ForeignField.{ForeignField}
-use Rattle.qic_base.specs.declared.foreign.ForeignField.TheVariants as foreign_field
 use Rattle.qic_base.specs.declared.sink.SinkFailed.{SinkFailed}
-use Rattle.qic_base.specs.Sink as sinks
 use Rattle.qic_base.specs.Step.{Step as TapeStep}
-use Rattle.qic_base.specs.Tape as tapes
 use Rattle.qic_base.proofs.Steps.{Done-Done, Done-Broke}
-use Rattle.cartridge_spec.specs.Header.{Header, fault_as}
+use Rattle.cartridge_spec.specs.Header.{Header}
+use Rattle.cartridge_laws.specs.Terms.{fault_as}
 use Rattle.cartridge_spec.specs.Table.{Entry}
-use Rattle.cartridge_spec.specs.Mounting as mounting
 use Rattle.cartridge_laws.proofs.MountOnce.{mounts_is_function}
 use Rattle.volume_store.specs.declared.fault.StoreFault.{StoreFault}
-use Rattle.volume_store.specs.declared.fault.StoreFault.TheVariants as fault
-use Rattle.cartridge_spec.specs.Header.{fault_as}
 use Rattle.volume_store.specs.Finding.{is_of_mounting, IsForeign, NamesCause}
 use Rattle.command_laws.proofs.StoreTaking.{both_true}
 use Rattle.std.proofs.lemmas.Bool.{lt-ltb, ne_eqb}
-use Rattle.std.specs.Prelude.{◌==◌, nat_lt, not}
+use Rattle.std.specs.Prelude.{◌==◌, nat_lt, not, if◌then◌else◌}
 use Rattle.volume_store.specs.Mounting.{StoreView, StoreFits, IsSettling, MountRefuses, MountDoes}
-use Rattle.volume_store.specs.Mounting as stores
 use Rattle.drive_states.specs.Unit.{UnitView}
 use Rattle.cartridge_spec.specs.Settling.{settling_steps, settling_places, block_writes}
 use Rattle.cartridge_spec.specs.Says.{with_parity}
-use Rattle.std.specs.Prelude.{if◌then◌else◌}
 use Rattle.cartridge_spec.specs.Mounting.{Mounting}
 use Rattle.command_spec.specs.declared.words.Words.{Words}
-use Rattle.command_spec.specs.declared.words.Words.TheVariants as words
 use Rattle.command_spec.specs.declared.status.Status.{Status}
-use Rattle.command_spec.specs.declared.status.Status.TheVariants as status
 use Rattle.command_spec.specs.Lines.{list_text, info_text}
-use Rattle.command_spec.specs.Outcome.{CommandOutcome, refused, acted}
+use Rattle.command_spec.specs.Outcome.{CommandOutcome, refused, acted, Going, Opened, OpenOutcome, WritableOutcome, Shows, is_refused}
 use Rattle.tape_cmd.specs.Outcome.{first_steps}
-use Rattle.command_spec.specs.Outcome.{Going, Opened, OpenOutcome, WritableOutcome, Printing, Shows, is_refused}
+use Rattle.command_laws.specs.Terms.{Printing, telling, listing}
 use Rattle.tape_cmd.specs.Opening.{IsRefusal, RefusesOpening, store_status, open_status, is_opening, StartFails, OpeningRefused, OpeningEnds, IsUnlocked, WritableEnds}
 use Rattle.store_opening.specs.Opening.{IsOpened, HasOpened, IsTurnedDown, OpenFails, StartFails as FailsToStart}
 use Rattle.store_opening.specs.declared.opening.OpenFault.{OpenFault}
-use Rattle.store_opening.specs.declared.opening.OpenFault.TheVariants as open_fault
-use Rattle.command_spec.specs.Commands.Info.{telling}
-use Rattle.command_spec.specs.Commands.ListCommand.{listing}
-use Rattle.command_spec.specs.Machine.{CommandPrints}
+use Rattle.command_laws.specs.CommandTerms.{CommandPrints}
 use Rattle.tape_cmd.specs.Writing.{printed_status}
-use Rattle.command_spec.specs.Runs.{EndsBlind, may_come_from}
+use Rattle.command_spec.specs.Machine.{EndsBlind, may_come_from}
 use Rattle.tape_cmd.proofs.Endings.{IsBlind, printed, turned_down, cut_off, told_map}
 use Rattle.command_laws.proofs.CommandEndings.{Rules}
 use Rattle.store_opening.proofs.Started.{Present, Knows, told_known_beside, told_at_start}
+use Rattle.qic_base.specs.declared.foreign.ForeignField.TheVariants as foreign_field
+use Rattle.qic_base.specs.Sink as sinks
+use Rattle.qic_base.specs.SinkCalls as sink_calls
+use Rattle.qic_base.specs.Tape as tapes
+use Rattle.cartridge_spec.specs.Mounting as mounting
+use Rattle.volume_store.specs.declared.fault.StoreFault.TheVariants as fault
+use Rattle.volume_store.specs.Mounting as stores
+use Rattle.command_spec.specs.declared.words.Words.TheVariants as words
+use Rattle.command_spec.specs.declared.status.Status.TheVariants as status
+use Rattle.store_opening.specs.declared.opening.OpenFault.TheVariants as open_fault
 
 -- ---- outcomes
 
@@ -277,7 +275,7 @@ refuses t k command goes a b x why follows nothing (inr cut) =
     (told_map (t.told a) _ _ cut.front (λ held front outcome rules. begins_is goes follows.first cut.steps held front outcome (follows.plain held outcome rules))) cut.broke)
 
 shows : {T K : Type 0} (t : tapes.Meaning T) (k : sinks.Meaning K) (command : Words) (prints : Printing) (a : T) (b : UnitView T) (x y : K) (store : StoreView) (r : Result (Unit {0}) SinkFailed) → Follows command (Shows prints) →
-    CommandPrints command (prints store.header store.words store.entries) → HasOpened t a b store → sinks.Writes k x y (prints store.header store.words store.entries) r → EndsBlind t k command a b.tape x y (printed_status r)
+    CommandPrints command (prints store.header store.words store.entries) → HasOpened t a b store → sink_calls.Writes k x y (prints store.header store.words store.entries) r → EndsBlind t k command a b.tape x y (printed_status r)
 shows t k command prints a b x y store r follows text opening writes =
     printed t k command follows.blind a b.tape x y (acted opening.steps (prints store.header store.words store.entries)) r refl refl text
     (told_map (t.told a) _ _ opening.told (λ held is. follows.rules held (acted opening.steps (prints store.header store.words store.entries))
@@ -288,13 +286,13 @@ pub list_refused : {T K : Type 0} (t : tapes.Meaning T) (k : sinks.Meaning K) (a
 list_refused t k a b x why nothing ends = refuses t k words.List (Shows listing) a b x why list_follows nothing ends
 
 pub list_printed : {T K : Type 0} (t : tapes.Meaning T) (k : sinks.Meaning K) (a : T) (b : UnitView T) (x y : K) (store : StoreView) (r : Result (Unit {0}) SinkFailed) → HasOpened t a b store →
-    sinks.Writes k x y (list_text store.words store.entries) r → EndsBlind t k words.List a b.tape x y (printed_status r)
+    sink_calls.Writes k x y (list_text store.words store.entries) r → EndsBlind t k words.List a b.tape x y (printed_status r)
 list_printed t k a b x y store r mounted printed = shows t k words.List listing a b x y store r list_follows (store.words, (store.entries, refl)) mounted printed
 
 pub info_refused : {T K : Type 0} (t : tapes.Meaning T) (k : sinks.Meaning K) (a : T) (b : UnitView T) (x : K) (why : Status) → ((z : K) → k.took z [] z) → OpeningEnds t a b (Err why) → EndsBlind t k words.Info a b.tape x x why
 info_refused t k a b x why nothing ends = refuses t k words.Info (Shows telling) a b x why info_follows nothing ends
 
 pub info_printed : {T K : Type 0} (t : tapes.Meaning T) (k : sinks.Meaning K) (a : T) (b : UnitView T) (x y : K) (store : StoreView) (r : Result (Unit {0}) SinkFailed) → HasOpened t a b store →
-    sinks.Writes k x y (info_text store.header store.words (length store.entries)) r → EndsBlind t k words.Info a b.tape x y (printed_status r)
+    sink_calls.Writes k x y (info_text store.header store.words (length store.entries)) r → EndsBlind t k words.Info a b.tape x y (printed_status r)
 info_printed t k a b x y store r mounted printed =
     shows t k words.Info telling a b x y store r info_follows (store.header, (store.words, (length store.entries, refl))) mounted printed

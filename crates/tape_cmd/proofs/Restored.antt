@@ -4,41 +4,38 @@ use Rattle.std.specs.Prelude.{◌==◌, ◌&&◌, nat_lt, nat_le, zero, suc}
 use Rattle.std.proofs.lemmas.Bool.{lt-ltb, le-leb, eq-eqb}
 use Rattle.std.proofs.lemmas.Option.{slice_get_cases, none-some}
 use Rattle.command_laws.proofs.StoreTaking.{both_true}
-use Rattle.command_spec.specs.Restore.{EndsAt}
+use Rattle.command_laws.specs.CommandTerms.{EndsAt, RefusedPrints}
+use Rattle.command_spec.specs.Restore.{Piece, GivingEnd, Restored, LostIn, MismatchIn, Restores, pieces, volume_at, Gives, RestoreOutcome, ending_status}
 use Rattle.qic_base.specs.Cartridge.{Cartridge}
-use Rattle.qic_base.specs.Sink as sinks
 use Rattle.qic_base.specs.Step.{Step as TapeStep}
-use Rattle.qic_base.specs.Tape as tapes
 use Rattle.qic_base.proofs.Writing.{TakesBoth}
 use Rattle.qic_base.specs.Acts.{Act, text_of, Failing, TapeFails, SourceFails, SinkFails, Cut}
-use Rattle.qic_base.specs.Acts.{no_source, around}
-use Rattle.cartridge_spec.specs.Mounting as mounting
+use Rattle.qic_base.specs.Terms.{no_source, around}
 use Rattle.cartridge_spec.specs.Mounting.{Mounting}
 use Rattle.cartridge_spec.specs.Table.{Entry}
 use Rattle.drive_states.specs.Unit.{UnitView}
 use Rattle.cartridge_laws.proofs.MountOnce.{mounts_is_function}
-use Rattle.command_spec.specs.Restore.{Piece, GivingEnd, Restored, LostIn, MismatchIn, Restores, pieces}
-use Rattle.command_spec.specs.declared.words.Words.TheVariants as words
 use Rattle.volume_output.specs.Output.{GaveVolume, VolumeCut}
 use Rattle.volume_store.specs.Mounting.{StoreView}
 use Rattle.volume_store.specs.declared.fault.StoreFault.{StoreFault}
-use Rattle.volume_store.specs.declared.fault.StoreFault.TheVariants as fault
-use Rattle.command_spec.specs.Restore.{volume_at}
 use Rattle.volume_store.specs.Restoring.{RestoreEnds}
 use Rattle.command_spec.specs.declared.status.Status.{Status}
-use Rattle.command_spec.specs.declared.status.Status.TheVariants as status
-use Rattle.command_spec.specs.Machine.{RefusedPrints}
-use Rattle.command_spec.specs.Outcome.{Opened}
+use Rattle.command_spec.specs.Outcome.{Opened, CommandOutcome, refused_behind}
 use Rattle.tape_cmd.specs.Opening.{OpeningEnds, is_opening, store_status}
 use Rattle.store_opening.specs.Opening.{IsOpened, HasOpened}
-use Rattle.command_spec.specs.Outcome.{CommandOutcome, refused_behind}
 use Rattle.tape_cmd.specs.Outcome.{first_steps}
-use Rattle.command_spec.specs.Restore.{Gives, RestoreOutcome, ending_status}
-use Rattle.command_spec.specs.Runs.{EndsBlind, IsCutOff, fault_of, may_come_from, is_no_volume}
+use Rattle.command_spec.specs.Machine.{EndsBlind, IsCutOff, fault_of, may_come_from}
+use Rattle.command_laws.specs.Terms.{is_no_volume}
 use Rattle.tape_cmd.proofs.Endings.{none_taken, turned_behind, told_map}
 use Rattle.tape_cmd.proofs.Mounted.{Follows, Settles, opened_is, refuses}
 use Rattle.command_laws.proofs.CommandOpened.{quiet}
 use Rattle.store_opening.proofs.Opened.{went_behind, cut_behind, settled_told}
+use Rattle.qic_base.specs.Sink as sinks
+use Rattle.qic_base.specs.Tape as tapes
+use Rattle.cartridge_spec.specs.Mounting as mounting
+use Rattle.command_spec.specs.declared.words.Words.TheVariants as words
+use Rattle.volume_store.specs.declared.fault.StoreFault.TheVariants as fault
+use Rattle.command_spec.specs.declared.status.Status.TheVariants as status
 
 -- a restore begins with the settling
 gives_first : (number : ℕ) → Settles (Gives number)

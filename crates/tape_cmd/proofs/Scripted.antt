@@ -3,41 +3,39 @@ use Rattle.std.proofs.Common.{◌≡◌, ◌≢◌, ℕ, true, List, [], ◌∷�
 use Rattle.std.specs.Option.{option_map}
 use Rattle.std.specs.Prelude.{is_some}
 use Rattle.qic_base.specs.Cartridge.{Cartridge}
-use Rattle.qic_base.specs.Sink as sinks
-use Rattle.qic_base.specs.Source as sources
 use Rattle.qic_base.specs.Step.{Step as TapeStep}
-use Rattle.qic_base.specs.Tape as tapes
 use Rattle.qic_base.proofs.Writing.{TakesBoth}
 use Rattle.qic_base.specs.Acts.{Act, text_of, Failing, TapeFails, SourceFails, SinkFails, Cut}
-use Rattle.cartridge_spec.specs.Mounting as mounting
 use Rattle.cartridge_spec.specs.Mounting.{Mounting}
 use Rattle.drive_states.specs.Unit.{UnitView}
 use Rattle.cartridge_laws.proofs.MountOnce.{mounts_is_function}
-use Rattle.command_spec.specs.declared.words.Words.TheVariants as words
 use Rattle.command_spec.specs.Input.{Item, IsItem, Ending, AtEnd, AtStop, AtFault, IsScript}
-use Rattle.command_laws.proofs.TextInputs as inputs
 use Rattle.volume_script.specs.declared.fault.ScriptFault.{ScriptFault}
-use Rattle.volume_script.specs.declared.fault.ScriptFault.TheVariants as fault
-use Rattle.command_spec.specs.Script.{end_line}
-use Rattle.volume_script.specs.Runs as runs
-use Rattle.command_spec.specs.Script as scripts
-use Rattle.command_spec.specs.Script.{Answer, AllDone, FaultIn, ScriptDoes, script_answer}
+use Rattle.command_spec.specs.Script.{end_line, ScriptDoes, Scripting, ScriptOutcome}
+use Rattle.command_laws.specs.ScriptAnswers.{Answer, AllDone, FaultIn, script_answer, script_status}
 use Rattle.volume_store.specs.Mounting.{StoreView}
 use Rattle.command_spec.specs.declared.status.Status.{Status}
-use Rattle.command_spec.specs.declared.status.Status.TheVariants as status
-use Rattle.command_spec.specs.Outcome.{Opened}
+use Rattle.command_spec.specs.Outcome.{Opened, CommandOutcome, refused}
 use Rattle.tape_cmd.specs.Opening.{OpeningEnds, is_opening}
 use Rattle.store_opening.specs.Opening.{IsOpened, HasOpened}
-use Rattle.command_spec.specs.Outcome.{CommandOutcome, refused}
 use Rattle.tape_cmd.specs.Outcome.{first_steps}
-use Rattle.command_spec.specs.Runs.{CommandEnds, InputLeft, IsCutOff, NamesFault, Prints, fault_of, may_come_from}
-use Rattle.command_spec.specs.Script.{Scripting, ScriptOutcome, script_status}
+use Rattle.command_spec.specs.Machine.{CommandEnds, InputLeft, IsCutOff, NamesFault, fault_of, may_come_from}
+use Rattle.command_laws.specs.Terms.{Prints}
 use Rattle.tape_cmd.specs.Script.{run_status}
 use Rattle.tape_cmd.proofs.Endings.{told_map}
 use Rattle.tape_cmd.proofs.Mounted.{Settles, no_outcome, begins_is, refused_is}
 use Rattle.store_opening.proofs.Opened.{opening_cut, outside, went_behind, cut_behind, settled_told}
 use Rattle.command_laws.proofs.CommandOpened.{quiet}
 use Rattle.command_laws.proofs.CommandTold.{input_of, input_told}
+use Rattle.qic_base.specs.Sink as sinks
+use Rattle.qic_base.specs.Source as sources
+use Rattle.qic_base.specs.Tape as tapes
+use Rattle.cartridge_spec.specs.Mounting as mounting
+use Rattle.command_spec.specs.declared.words.Words.TheVariants as words
+use Rattle.command_laws.proofs.TextInputs as inputs
+use Rattle.volume_script.specs.declared.fault.ScriptFault.TheVariants as fault
+use Rattle.volume_script.specs.Runs as runs
+use Rattle.command_spec.specs.declared.status.Status.TheVariants as status
 
 -- ---- the fault of an input
 
@@ -155,15 +153,15 @@ module _ {T S K : Type 0} (t : tapes.Meaning T) (s : sources.Meaning S) (k : sin
 
   module _ (b : UnitView T) (store : StoreView) (opening : HasOpened t a b store) (c : T) (j : S) (y : K) (both : TakesBoth k) (nothing : (z : K) → k.took z [] z) where
     -- the machine's outcome over the cartridge that was opened
-    is_plain : (input : List ℕ) (came : scripts.ScriptRun) (d : Cartridge) (is : IsOpened d store opening.steps) → ScriptDoes (mounting.settled is.table d) store.words store.entries input came →
-        ScriptOutcome (Some d) input (record { acts = quiet opening.steps ∷ came.acts; taken = came.taken; status = script_status came.answer })
+    is_plain : (input : List ℕ) (came : CommandOutcome) (d : Cartridge) (is : IsOpened d store opening.steps) → ScriptDoes (mounting.settled is.table d) store.words store.entries input came →
+        ScriptOutcome (Some d) input (record { acts = quiet opening.steps ∷ came.acts; taken = came.taken; status = came.status })
     is_plain input came d is does = (
       mounting.Mounted store.header store.words is.table store.entries,
       is.mounts,
       record {
         came = came;
         does = does;
-        is = ap (λ (ss : List TapeStep). record { acts = quiet ss ∷ came.acts; taken = came.taken; status = script_status came.answer }) is.settles;
+        is = ap (λ (ss : List TapeStep). record { acts = quiet ss ∷ came.acts; taken = came.taken; status = came.status }) is.settles;
       },
     )
 
@@ -181,10 +179,10 @@ module _ {T S K : Type 0} (t : tapes.Meaning T) (s : sources.Meaning S) (k : sin
 
     ended : (answer : Answer) → runs.Ended t s k store (outside b.tape i x) (outside c j y) answer → CommandEnds t s k words.Script (outside a i x) (outside c j y) (script_status answer)
     ended answer run =
-        let came : scripts.ScriptRun = run.outcome in
+        let came : CommandOutcome = run.outcome in
         inl (record {
-          outcome = record { acts = quiet opening.steps ∷ came.acts; taken = came.taken; status = script_status came.answer };
-          answered = sym (ap script_status run.answered);
+          outcome = record { acts = quiet opening.steps ∷ came.acts; taken = came.taken; status = came.status };
+          answered = sym run.answered;
           told = settled_told t a b store opening (λ d. ScriptDoes d store.words store.entries run.input came) _ run.told
               (λ d is does. (run.input, run.is_told, ((λ no. absurd (cc)), is_plain run.input came d is does)));
           went = went_behind t s k both nothing a b.tape i x (outside c j y) opening.steps came.acts opening.did run.went;
@@ -214,7 +212,7 @@ module _ {T S K : Type 0} (t : tapes.Meaning T) (s : sources.Meaning S) (k : sin
 
     -- over a mounted cartridge the acts of the outcome were cut off
     scripting_cut : (failing : Failing) (input : List ℕ) (d : Cartridge) → (is : IsOpened d store opening.steps) →
-        ((came : scripts.ScriptRun) → ScriptDoes (mounting.settled is.table d) store.words store.entries input came → Cut t s k (outside b.tape i x) (outside c j y) came.acts failing) →
+        ((came : CommandOutcome) → ScriptDoes (mounting.settled is.table d) store.words store.entries input came → Cut t s k (outside b.tape i x) (outside c j y) came.acts failing) →
         (outcome : CommandOutcome) → ScriptOutcome (Some d) input outcome → IsCutOff t s k words.Script (outside a i x) (outside c j y) failing outcome
     scripting_cut failing input d is each outcome (m, mounts, does) =
         let same : m ≡ mounting.Mounted store.header store.words is.table store.entries = mounts_is_function d m _ mounts is.mounts in
@@ -222,7 +220,7 @@ module _ {T S K : Type 0} (t : tapes.Meaning T) (s : sources.Meaning S) (k : sin
       where
         by_acts : Scripting input d store.header store.words is.table store.entries outcome → IsCutOff t s k words.Script (outside a i x) (outside c j y) failing outcome
         by_acts found =
-            let came : scripts.ScriptRun = found.came in
+            let came : CommandOutcome = found.came in
             let all : quiet opening.steps ∷ came.acts ≡ outcome.acts =
             ap (λ (ss : List TapeStep). quiet ss ∷ came.acts) is.settles ∙ sym (ap (λ (o : CommandOutcome). o.acts) found.is) in record {
               cut = subst (λ (acts : List Act). Cut t s k (outside a i x) (outside c j y) acts failing) all
@@ -239,7 +237,7 @@ module _ {T S K : Type 0} (t : tapes.Meaning T) (s : sources.Meaning S) (k : sin
       refl,
       record {
         told = settled_told t a b store opening
-            (λ d. (came : scripts.ScriptRun) → ScriptDoes d store.words store.entries run.input came → Cut t s k (outside b.tape i x) (outside c j y) came.acts failing) _ run.told
+            (λ d. (came : CommandOutcome) → ScriptDoes d store.words store.entries run.input came → Cut t s k (outside b.tape i x) (outside c j y) came.acts failing) _ run.told
             (λ d is each. (run.input, run.is_told, ((λ no. absurd (cc)), λ outcome plain. scripting_cut failing run.input d is each outcome plain)));
         acts = quiet opening.steps ∷ run.acts;
         cut = cut_behind t s k both nothing a b.tape i x (outside c j y) opening.steps run.acts failing opening.did run.cut;

@@ -1,46 +1,46 @@
 -- How the scrubbing of a cartridge ends, in either form.
 use Rattle.std.proofs.Common.{◌≡◌, ◌≢◌, ◌++◌, true, false, ℕ, List, [], ◌∷◌, Option, Some, Err, refl, sym, ap, ◌∙◌, subst, inl, inr}
 use Rattle.qic_base.specs.Cartridge.{Cartridge}
-use Rattle.qic_base.specs.Sink as sinks
 use Rattle.qic_base.specs.Step.{Step as TapeStep}
-use Rattle.qic_base.specs.Tape as tapes
 use Rattle.qic_base.proofs.Writing.{TakesBoth}
 use Rattle.qic_base.specs.Acts.{Act, Failing, TapeFails, SourceFails, SinkFails, Cut, Went, text_of}
-use Rattle.qic_base.specs.Acts.{no_source, around}
+use Rattle.qic_base.specs.Terms.{no_source, around}
 use Rattle.cartridge_spec.specs.Header.{Header}
-use Rattle.cartridge_spec.specs.Mounting as mounting
 use Rattle.cartridge_spec.specs.Mounting.{Mounting, settled}
 use Rattle.cartridge_spec.specs.Table.{Entry}
-use Rattle.drive_spec.specs.Deck.{is_protected}
+use Rattle.drive_spec.specs.Terms.{is_protected}
 use Rattle.drive_states.specs.Unit.{UnitView}
 use Rattle.cartridge_laws.proofs.MountOnce.{mounts_is_function}
 use Rattle.command_spec.specs.Commands.{traits_of}
-use Rattle.command_spec.specs.Machine.{Yields, CommandPrints, FrontPrints}
-use Rattle.command_spec.specs.Scrub.{Counts, IsScrubText, Scrubs, counts_of, looked_at}
-use Rattle.command_spec.specs.ScrubForms.{IsTextFor, MendsDeep, ScrubsAs, counts_for}
+use Rattle.command_laws.specs.CommandTerms.{Yields, CommandPrints, FrontPrints}
+use Rattle.command_spec.specs.Scrub.{Counts, IsScrubText, Scrubs, looked_at, IsTextFor, ScrubsAs}
+use Rattle.command_laws.specs.Terms.{counts_of, counts_for, MendsDeep, Mends}
 use Rattle.command_spec.specs.declared.depth.Depth.TheVariants.{Deep}
 use Rattle.segment_mending.specs.Mending.{HasScrubbed, ScrubCut, reported}
 use Rattle.segment_mending.specs.declared.report.ScrubReport.{ScrubReport}
 use Rattle.command_spec.specs.declared.words.Words.{Words}
-use Rattle.command_spec.specs.declared.words.Words.TheVariants as words
 use Rattle.volume_store.proofs.Copies.{tells_two}
 use Rattle.std.specs.Prelude.{◌↔◌}
 use Rattle.volume_store.specs.declared.fault.StoreFault.{StoreFault}
-use Rattle.volume_store.specs.declared.fault.StoreFault.TheVariants as fault
 use Rattle.volume_store.specs.Mounting.{StoreView}
 use Rattle.volume_store.specs.Scrubbing.{HasMended, MendCut, MendEnds, MendEndsAs}
 use Rattle.command_spec.specs.declared.status.Status.{Status}
-use Rattle.command_spec.specs.declared.status.Status.TheVariants as status
 use Rattle.command_spec.specs.Outcome.{CommandOutcome, Going, Opened, WritableOutcome, settling_act}
 use Rattle.tape_cmd.specs.Opening.{IsUnlocked, WritableEnds, is_opening, store_status}
 use Rattle.store_opening.specs.Opening.{IsOpened, HasOpened}
 use Rattle.tape_cmd.specs.Outcome.{first_steps}
-use Rattle.command_spec.specs.Scrub.{Mends}
-use Rattle.command_spec.specs.Runs.{EndsBlind, IsCutOff, fault_of, may_come_from}
+use Rattle.command_spec.specs.Machine.{EndsBlind, IsCutOff, fault_of, may_come_from}
 use Rattle.tape_cmd.proofs.Endings.{IsBlind, turned_behind, turned_down, cut_off, told_map}
 use Rattle.tape_cmd.proofs.Mounted.{Settles, no_outcome, told_both, locked_is, unlocked_refused_is, writable_begins}
 use Rattle.store_opening.proofs.Opened.{IsKnown, went_behind, cut_behind, settled_told, opened_known, known_before, found_locked, never_both, unlocked}
 use Rattle.command_laws.proofs.CommandOpened.{quiet}
+use Rattle.qic_base.specs.Sink as sinks
+use Rattle.qic_base.specs.Tape as tapes
+use Rattle.qic_base.specs.TapeCalls as tape_calls
+use Rattle.cartridge_spec.specs.Mounting as mounting
+use Rattle.command_spec.specs.declared.words.Words.TheVariants as words
+use Rattle.volume_store.specs.declared.fault.StoreFault.TheVariants as fault
+use Rattle.command_spec.specs.declared.status.Status.TheVariants as status
 
 -- the outcome of these acts
 abbrev mended : List Act → CommandOutcome
@@ -91,12 +91,12 @@ module _ (command : Words) (goes : Going) (Does : Cartridge → List ℕ → Lis
     abbrev Beside : (Cartridge → Type 0) → Cartridge → Type 0
     Beside P d = IsKnown d store false × P d
 
-    beside : (P : Cartridge → Type 0) → is_protected b.drive.deck ≡ false → tapes.Tells t b.tape P → tapes.Tells t b.tape (Beside P)
+    beside : (P : Cartridge → Type 0) → is_protected b.drive.deck ≡ false → tape_calls.Tells t b.tape P → tape_calls.Tells t b.tape (Beside P)
     beside P free told = tells_two t b.tape (λ d. IsKnown d store false) P (Beside P) (λ d known is. (known, is)) (opened_known t a b store opening false free) told
 
     -- it was scrubbed
     done_form : (c : T) (x y : K) (acts : List Act) → TakesBoth k → ((z : K) → k.took z [] z) → is_protected b.drive.deck ≡ false →
-        Went t no_source k (around b.tape x) (around c y) acts → tapes.Tells t b.tape (λ d. Does d store.words store.entries acts) →
+        Went t no_source k (around b.tape x) (around c y) acts → tape_calls.Tells t b.tape (λ d. Does d store.words store.entries acts) →
         Shown store.words store.entries (text_of acts) → EndsBlind t k command a c x y status.Done
     done_form c x y acts both nothing free went told text =
         let P : Cartridge → Type 0 = λ d. Does d store.words store.entries acts in
@@ -153,7 +153,7 @@ module _ (command : Words) (goes : Going) (Does : Cartridge → List ℕ → Lis
     -- a fault cut that off, over any tape in such acts
     cut_form : (c : T) (x y : K) (failing : Failing) (acts : List Act) (rest : List ℕ) → failing ≢ SourceFails → TakesBoth k → ((z : K) → k.took z [] z) →
         is_protected b.drive.deck ≡ false →
-        tapes.Tells t b.tape (λ d. (acts : List Act) → Does d store.words store.entries acts → Cut t no_source k (around b.tape x) (around c y) acts failing) →
+        tape_calls.Tells t b.tape (λ d. (acts : List Act) → Does d store.words store.entries acts → Cut t no_source k (around b.tape x) (around c y) acts failing) →
         Cut t no_source k (around b.tape x) (around c y) acts failing → Shown store.words store.entries (text_of acts ++ rest) →
         EndsBlind t k command a c x y (fault_of failing)
     cut_form c x y failing acts rest other both nothing free told cut text =

@@ -13,15 +13,14 @@ use Rattle.command_spec.specs.Input.{IsPulse, Ending, AtEnd, AtStop, AtFault, Is
 use Rattle.command_laws.proofs.TextInputs as inputs
 use Rattle.tape_pulses.specs.declared.fault.PulseFault.{PulseFault}
 use Rattle.tape_pulses.specs.declared.fault.PulseFault.TheVariants as fault
-use Rattle.command_spec.specs.Pulses as pulses
-use Rattle.command_spec.specs.Pulses.{PulsesOutcome, Answer, AllSent, ScriptFault, pulses_answer}
+use Rattle.command_laws.specs.PulseRuns.{PulseRun, PulsesOutcome, Answer, AllSent, ScriptFault, pulses_answer, sent_status, sent, info_of}
 use Rattle.tape_pulses.specs.Runs as runs
-use Rattle.command_laws.proofs.PulseMachineLaws.{one_outcome}
+use Rattle.command_laws.proofs.PulseMachineLaws.{one_outcome, run_of, sends_of}
 use Rattle.command_spec.specs.declared.status.Status.{Status}
 use Rattle.command_spec.specs.declared.status.Status.TheVariants as status
 use Rattle.command_spec.specs.Outcome.{CommandOutcome}
-use Rattle.command_spec.specs.Pulses.{sent_status, sent, info_of, SentOutcome, AreLevels}
-use Rattle.command_spec.specs.Runs.{InputLeft, fault_of, may_come_from, NamesFault, IsOfBytes, IsCutOff, CommandEnds}
+use Rattle.command_spec.specs.Pulses.{SentOutcome, AreLevels}
+use Rattle.command_spec.specs.Machine.{InputLeft, fault_of, may_come_from, NamesFault, IsOfBytes, IsCutOff, CommandEnds}
 
 -- ---- the fault of an input
 
@@ -38,10 +37,10 @@ answer_done : (answer : Answer) → sent_status answer ≡ status.Done → answe
 answer_done AllSent is = refl
 answer_done (ScriptFault number before) is = cc
 
-names_fault : (known : Option TapeInfo) (input : List ℕ) (came : pulses.PulseRun) (answer : Answer) → PulsesOutcome known input came → came.answer ≡ answer →
+names_fault : (known : Option TapeInfo) (input : List ℕ) (came : PulseRun) (answer : Answer) → PulsesOutcome known input came → came.answer ≡ answer →
     NamesFault words.Pulses input (sent_status answer)
 names_fault known input came answer plain is =
-    let ends : came.answer ≡ pulses_answer plain.ending = ap (λ (o : pulses.PulseRun). o.answer) plain.comes in record {
+    let ends : came.answer ≡ pulses_answer plain.ending = ap (λ (o : PulseRun). o.answer) plain.comes in record {
       named = λ line place same. (
         plain.trains,
         subst (IsPulses input plain.trains) (fault_ended plain.ending line place (sym ends ∙ is ∙ answer_named answer line place same)) plain.read,
@@ -82,11 +81,12 @@ answered (Err fault.Sink) = status.SinkFault
 answered (Err fault.Tape) = status.TapeFault
 
 -- an outcome over what the drive knows is the one that came
-same_acts : (known : Option TapeInfo) (held : Option Cartridge) (input : List ℕ) (came : pulses.PulseRun) (outcome : CommandOutcome) → known ≡ info_of held →
+same_acts : (known : Option TapeInfo) (held : Option Cartridge) (input : List ℕ) (came : PulseRun) (outcome : CommandOutcome) → known ≡ info_of held →
     PulsesOutcome known input came → SentOutcome held input outcome → came.acts ≡ outcome.acts
-same_acts known held input came outcome same plain (other, rule, is) =
-    ap (λ (o : pulses.PulseRun). o.acts) (one_outcome (info_of held) input came other (subst (λ (k : Option TapeInfo). PulsesOutcome k input came) same plain) rule)
-    ∙ sym (ap (λ (o : CommandOutcome). o.acts) is)
+same_acts known held input came outcome same plain sends =
+    let run = run_of held input outcome sends in
+    ap (λ (o : PulseRun). o.acts) (one_outcome (info_of held) input came run.0 (subst (λ (k : Option TapeInfo). PulsesOutcome k input came) same plain) run.1)
+    ∙ sym (ap (λ (o : CommandOutcome). o.acts) run.2)
 
 module _ {T S K : Type 0} (t : tapes.Meaning T) (s : sources.Meaning S) (k : sinks.Meaning K) (old new : Outside T S K) (r : Record) where
   left_behind : (taken : ℕ) (answer : Answer) → runs.Leaves s old.source new.source taken answer → InputLeft (sent_status answer) taken (s.left old.source) (s.left new.source)
@@ -95,14 +95,14 @@ module _ {T S K : Type 0} (t : tapes.Meaning T) (s : sources.Meaning S) (k : sin
 
   ended : (answer : Answer) → runs.Ended t s k old new r answer → CommandEnds t s k words.Pulses old new (sent_status answer)
   ended answer run =
-      let levels : AreLevels (text_of run.outcome.acts) = (run.known, (run.plain.trains, ap (λ (o : pulses.PulseRun). text_of o.acts) run.plain.comes)) in
+      let levels : AreLevels (text_of run.outcome.acts) = (run.known, (run.plain.trains, ap (λ (o : PulseRun). text_of o.acts) run.plain.comes)) in
       inl (record {
         outcome = sent run.outcome;
         answered = sym (ap sent_status run.answered);
         told = over_known (t.told old.tape) (s.left old.source) run.known run.input
             (λ held input. IsOfBytes words.Pulses (s.left old.source) input × SentOutcome held input (sent run.outcome))
             run.over.cartridge run.over.bytes
-            (λ held same. (λ is. absurd (cc), (run.outcome, subst (λ (known : Option TapeInfo). PulsesOutcome known run.input run.outcome) same run.plain, refl)));
+            (λ held same. (λ is. absurd (cc), sends_of held run.input run.outcome (subst (λ (known : Option TapeInfo). PulsesOutcome known run.input run.outcome) same run.plain)));
         went = run.went;
         left = left_behind run.outcome.taken answer run.left;
         sound = sound_answer answer;
@@ -136,7 +136,7 @@ module _ {T S K : Type 0} (t : tapes.Meaning T) (s : sources.Meaning S) (k : sin
       front = (
         [],
         subst AreLevels (sym (append-nil (text_of run.outcome.acts)))
-            (run.known, (run.plain.trains, ap (λ (o : pulses.PulseRun). text_of o.acts) run.plain.comes)),
+            (run.known, (run.plain.trains, ap (λ (o : PulseRun). text_of o.acts) run.plain.comes)),
       );
       silent = λ still other. absurd (cc);
       reads = λ same. refl;

@@ -1,13 +1,15 @@
 -- How the opening of a cartridge ends: refused, or with its table settled and what was found (this project's own).
 use Rattle.std.specs.Prelude.{◌≡◌, Option, Some, None, ◌&&◌, ◌==◌, nat_lt, Bool, true, false, [], ◌⊎◌, IfSome, Result, Ok, Err, ℕ, List, IsSomeAnd}
 use Rattle.cartridge_spec.specs.Mounting.{Mounting, Mounts}
-use Rattle.command_spec.specs.Outcome.{foreign, is_refused}
+use Rattle.command_laws.specs.Terms.{foreign}
+use Rattle.command_spec.specs.Outcome.{is_refused}
 use Rattle.command_spec.specs.declared.status.Status.{Status}
 use Rattle.drive_states.specs.Unit.{UnitView}
 use Rattle.host_driver.specs.declared.host.Host.{Host}
 use Rattle.qic_base.specs.Cartridge.{Cartridge}
 use Rattle.qic_base.specs.Step.{Step}
-use Rattle.qic_base.specs.Tape.{Meaning, Done, Broke, Tells}
+use Rattle.qic_base.specs.Tape.{Meaning, Done, Broke}
+use Rattle.qic_base.specs.TapeCalls.{Tells}
 use Rattle.store_opening.specs.Opening.{HasStarted, HasOpened}
 use Rattle.store_opening.specs.declared.opening.OpenFault.{OpenFault}
 use Rattle.volume_store.specs.Mounting.{StoreView, IsSettling}

@@ -1,10 +1,9 @@
 //! The top calls, and the way to each command.
 
 ghost use Rattle.std.specs.Prelude.{◌≡◌, ◌≢◌, ◌⊎◌, ℕ, List, IfOk, OnErr, true, false, map, string_bytes};
-ghost use Rattle.command_spec.specs.Machine.{HasValues, Spells, ReadsCommand};
+ghost use Rattle.command_spec.specs.Machine.{HasValues, Spells, ReadsCommand, CommandEnds};
 ghost use Rattle.command_spec.specs.Promises.{Promises};
 ghost use Rattle.command_spec.specs.Commands.{traits_of};
-ghost use Rattle.command_spec.specs.Runs.{CommandEnds};
 
 mod append;
 mod defect;

@@ -1,7 +1,7 @@
 //! The exit status of a run's end, and its line.
 
 ghost use Rattle.std.specs.Prelude.{◌≡◌, ◌+◌, ◌≤◌, ◌++◌, length, decimal};
-ghost use Rattle.qic_base.specs.Sink.{Writes};
+ghost use Rattle.qic_base.specs.SinkCalls.{Writes};
 ghost use Rattle.tape_cmd.specs.Lines.{status_code, status_text, plain_text, field_text};
 ghost use Rattle.command_spec.specs.declared.status.Status.TheVariants.{Foreign};
 

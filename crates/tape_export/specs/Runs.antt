@@ -2,6 +2,7 @@
 use Rattle.std.specs.Prelude.{◌≡◌, ◌⊎◌, ℕ, []}
 use Rattle.qic_base.specs.Cartridge.{Cartridge}
 use Rattle.qic_base.specs.Sink as sinks
+use Rattle.qic_base.specs.SinkCalls as sink_calls
 use Rattle.qic_base.specs.Tape as tapes
 use Rattle.flat_dump.specs.Dump.{dump_of}
 use Rattle.flat_dump.specs.Export.{IsOn, HadNone, TapeBroke, SinkBroke}
@@ -41,7 +42,7 @@ pub record MapBroke {T K M : Type 0} (t : tapes.Meaning T) (k : sinks.Meaning K)
   pub cartridge : Cartridge
   pub is_on : IsOn t old.tape cartridge
   pub dump : sinks.Wrote k old.dump new.dump (dump_of cartridge)
-  pub chart : sinks.BrokeOff m old.chart new.chart (map_of cartridge)
+  pub chart : sink_calls.BrokeOff m old.chart new.chart (map_of cartridge)
 
 -- How a run over opened files ended.
 abbrev pub Runs : {T K M : Type 0} (t : tapes.Meaning T) (k : sinks.Meaning K) (m : sinks.Meaning M) (old new : Ends T K M) → ExportStatus → Type 0

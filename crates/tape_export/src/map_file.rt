@@ -1,7 +1,7 @@
 //! The file of the map.
 
 ghost use Rattle.std.specs.Prelude.{◌≡◌, ◌≢◌, [], Err, IfSome, IsOk};
-ghost use Rattle.qic_base.specs.Cause.{Rose};
+ghost use Rattle.qic_base.specs.Tape.{Rose};
 
 use crate::status::ExportStatus;
 use qic_base::{Disk, DiskFailed, Sink, SinkFailed};

@@ -1,6 +1,6 @@
 -- What a call of a file did, by its count of failures.
 use Rattle.std.proofs.Common.{◌≤◌, refl, arith, inl}
-use Rattle.qic_base.specs.Cause.{Rose}
+use Rattle.qic_base.specs.Tape.{Rose}
 use Rattle.qic_base.specs.Disk.{DiskStep, Look, WriteAt, SetLen, Sync, Stored, Failed, IsSettled, Crashes, Leaves}
 use Rattle.tape_files.specs.Edge.{FileState, file_means}
 

@@ -1,7 +1,7 @@
 //! A file as a disk.
 
 ghost use Rattle.std.specs.Prelude.{◌≡◌, ◌≤◌, true, false, IfOk, OnOk, OnErr};
-ghost use Rattle.qic_base.specs.Cause.{Rose};
+ghost use Rattle.qic_base.specs.Tape.{Rose};
 ghost use Rattle.qic_base.specs.Disk.{SetLen, Sync, Stores};
 ghost use Rattle.tape_files.specs.Edge.{Whole, sync_kind, file_means};
 

@@ -1,9 +1,10 @@
 -- How a run of the program ends (this project's own).
 use Rattle.std.specs.Prelude.{◌≡◌, ◌≢◌, ◌⊎◌, ℕ, List, [], replicate, Option, Some, None, IfSome, Result, Ok, Err}
-use Rattle.qic_base.specs.Cause.{Rose}
+use Rattle.qic_base.specs.Tape.{Rose}
 use Rattle.qic_base.specs.Disk as disks
 use Rattle.qic_base.specs.Disk.{Look}
 use Rattle.qic_base.specs.Sink as sinks
+use Rattle.qic_base.specs.SinkCalls as sink_calls
 use Rattle.qic_base.specs.Source as sources
 use Rattle.cart_image.specs.Layout.{resize}
 use Rattle.cart_image.specs.Run as steps
@@ -89,7 +90,7 @@ pub record WasTakenBack {S D K : Type 0} (s : sources.Meaning S) (d : disks.Mean
   pub imported : Imported
   pub made : D
   pub was : WasImported s d dump old made mask asked imported
-  pub broke : sinks.BrokeOff k from to (imported_text imported)
+  pub broke : sink_calls.BrokeOff k from to (imported_text imported)
   pub emptied : Emptied d made new
 
 -- how the import into an empty file ended, by a mask

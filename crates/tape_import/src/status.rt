@@ -1,7 +1,7 @@
 //! How a run ends, and what is printed of it.
 
 ghost use Rattle.std.specs.Prelude.{◌≡◌, ◌++◌, decimal};
-ghost use Rattle.qic_base.specs.Sink.{Writes};
+ghost use Rattle.qic_base.specs.SinkCalls.{Writes};
 ghost use Rattle.tape_import.specs.Texts.{status_code, plain_text, status_text, imported_text};
 
 use flat_dump::Imported;

@@ -2,21 +2,24 @@
 use Rattle.std.proofs.Common.{◌≡◌, ℕ, zero, suc, Bool, ◌<◌, ◌≤◌, List, [], ◌∷◌, ◌++◌, length, Option, Some, None, IfSome, codes, refl, sym, ap, ◌∙◌, subst, arith, append-nil}
 use Rattle.std.specs.Option.{option_map}
 use Rattle.std.proofs.lemmas.List.{nil_from_length}
-use Rattle.qic_base.specs.Cause.{Rose}
-use Rattle.qic_base.specs.Sink as sinks
-use Rattle.qic_base.specs.Source as sources
-use Rattle.qic_base.specs.Tape as tapes
+use Rattle.qic_base.specs.Tape.{Rose}
 use Rattle.qic_base.proofs.Steps.{Done-nothing}
 use Rattle.qic_base.proofs.Joins.{sink_cut_one}
 use Rattle.qic_base.specs.Acts.{Act, Outside, next_steps, TapeFails, SourceFails, SinkFails, Went, TapeCut, Cut}
 use Rattle.drive_spec.specs.Record.{Record}
-use Rattle.command_spec.specs.Input.{IsPulse, IsTrain}
-use Rattle.qic_base.specs.Source.{Gave}
-use Rattle.command_laws.proofs.TextInputs as inputs
+use Rattle.command_spec.specs.Input.{IsPulse}
+use Rattle.command_laws.specs.CommandTerms.{IsTrain}
+use Rattle.qic_base.specs.SourceCalls.{Gave}
 use Rattle.tape_script.proofs.Lined.{IsLined-one_newline}
-use Rattle.command_spec.specs.Pulses.{pulsed_row, train_changes, train_act, level_line, train_line}
+use Rattle.command_spec.specs.Pulses.{pulsed_row, train_changes, train_line}
+use Rattle.command_laws.specs.PulseRuns.{train_act, level_line}
 use Rattle.tape_pulses.specs.Lines.{Heard, GaveNoTrain}
 use Rattle.command_laws.proofs.PulseTrains.{pulse_line, pulse_short}
+use Rattle.qic_base.specs.Sink as sinks
+use Rattle.qic_base.specs.SinkCalls as sink_calls
+use Rattle.qic_base.specs.Source as sources
+use Rattle.qic_base.specs.Tape as tapes
+use Rattle.command_laws.proofs.TextInputs as inputs
 
 -- the source gave the text of a train, of so many bytes
 abbrev GaveTrain : {S : Type 0} (s : sources.Meaning S) (old new : S) (train n : ℕ) → Type 0
@@ -92,11 +95,11 @@ module _ {T S K : Type 0} (t : tapes.Meaning T) (s : sources.Meaning S) (k : sin
 
   module _ (line : Bool) (now : Record) (text : List ℕ) (text_is : text ≡ level_line line) (line_is : line ≡ now.line) (now_is : now ≡ pulsed_row r train) (did : tapes.Done t a.tape b.tape (train_changes r train)) where
     -- it was sent, and its level not written
-    pub unshown : sinks.BrokeOff k a.sink b.sink text → Heard s a.source b.source (λ p. Cut t s k a b (train_act r p ∷ []) SinkFails)
+    pub unshown : sink_calls.BrokeOff k a.sink b.sink text → Heard s a.source b.source (λ p. Cut t s k a b (train_act r p ∷ []) SinkFails)
     unshown broke =
         let level = level_is line now (pulsed_row r train) text text_is line_is now_is in
         heard (λ p. Cut t s k a b (train_act r p ∷ []) SinkFails)
-        (sink_cut_one t s k a b (train_act r train) did (subst (sinks.BrokeOff k a.sink b.sink) level broke) later)
+        (sink_cut_one t s k a b (train_act r train) did (subst (sink_calls.BrokeOff k a.sink b.sink) level broke) later)
 
     -- its level was written, too
     pub shown : sinks.Wrote k a.sink b.sink text →

@@ -4,9 +4,6 @@ use Rattle.std.specs.Option.{option_map}
 use Rattle.std.proofs.lemmas.List.{length-append, length_push}
 use Rattle.qic_base.specs.declared.tape.TapeInfo.{TapeInfo}
 use Rattle.qic_base.specs.Cartridge.{Cartridge}
-use Rattle.qic_base.specs.Sink as sinks
-use Rattle.qic_base.specs.Source as sources
-use Rattle.qic_base.specs.Tape as tapes
 use Rattle.qic_base.proofs.Steps.{Done-told}
 use Rattle.qic_base.proofs.Writing.{TakesBoth}
 use Rattle.qic_base.specs.Acts.{Act, Outside, Failing, TapeFails, SourceFails, SinkFails, Went, Cut}
@@ -14,20 +11,24 @@ use Rattle.qic_base.proofs.Joins.{went_both, went_then_cut, cut_is_longer}
 use Rattle.drive_spec.specs.Record.{Record, power_on}
 use Rattle.drive_states.specs.Unit.{UnitView, IsInserted}
 use Rattle.command_spec.specs.Input.{IsPulse, Ending, AtEnd, AtStop, AtFault, ItemsEnd, HasItems, most_items}
-use Rattle.qic_base.specs.Source.{Gave}
+use Rattle.qic_base.specs.SourceCalls.{Gave}
 use Rattle.qic_base.proofs.Giving.{Gave-Gave, Gave-end, Gave-nothing}
 use Rattle.command_laws.proofs.TextReadings.{each_pulses}
 use Rattle.tape_script.proofs.Rests.{any_rest, ended_rest, whole_told, left_behind}
 use Rattle.tape_pulses.specs.declared.fault.PulseFault.{PulseFault}
-use Rattle.tape_pulses.specs.declared.fault.PulseFault.TheVariants as fault
-use Rattle.command_spec.specs.Pulses.{pulsed_row, after_trains, train_act, train_acts, train_line, train_lines, Answer, AllSent, ScriptFault, pulses_taken, pulses_answer, outcome_of}
+use Rattle.command_spec.specs.Pulses.{pulsed_row, train_acts, train_line, train_lines, pulses_taken}
+use Rattle.command_laws.specs.PulseRuns.{train_act, after_trains, Answer, AllSent, ScriptFault, pulses_answer, outcome_of}
 use Rattle.tape_pulses.specs.Runs.{Leaves, Ended, CutOff}
-use Rattle.tape_pulses.specs.Runs as runs
 use Rattle.tape_pulses.specs.Lines.{Heard, GaveNoTrain, HasNoTrain, Hears, HearsEnd}
 use Rattle.tape_pulses.proofs.Hearing.{rests, source_cut, steps_cut}
 use Rattle.tape_pulses.proofs.Inputs.{ArePulses, ArePulses-push, read_behind, comes_first, stop_rest, fault_rest}
 use Rattle.command_laws.proofs.PulseMachineLaws.{fronts_do_fronts}
 use Rattle.command_laws.proofs.PulseTrains.{after_trains-append, train_acts-append, train_lines-append, pulse_short, after_train-counted}
+use Rattle.qic_base.specs.Sink as sinks
+use Rattle.qic_base.specs.Source as sources
+use Rattle.qic_base.specs.Tape as tapes
+use Rattle.tape_pulses.specs.declared.fault.PulseFault.TheVariants as fault
+use Rattle.tape_pulses.specs.Runs as runs
 
 -- one train more
 abbrev push : List ℕ → ℕ → List ℕ

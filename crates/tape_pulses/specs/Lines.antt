@@ -1,17 +1,18 @@
 -- What one line of the input did to the outside (this project's own).
 use Rattle.std.specs.Prelude.{◌≡◌, ℕ, ◌<◌, ◌≤◌, [], ◌∷◌, length, Option, Some, None, Result, Ok, Err, codes}
-use Rattle.qic_base.specs.Cause.{Rose}
-use Rattle.qic_base.specs.Sink as sinks
-use Rattle.qic_base.specs.Source as sources
-use Rattle.qic_base.specs.Tape as tapes
+use Rattle.qic_base.specs.Tape.{Rose}
 use Rattle.qic_base.specs.Acts.{Outside, TapeFails, SourceFails, SinkFails, Went, Cut}
 use Rattle.drive_spec.specs.Record.{Record}
 use Rattle.command_spec.specs.Input.{IsPulse}
-use Rattle.qic_base.specs.Source.{Gave}
+use Rattle.qic_base.specs.SourceCalls.{Gave}
 use Rattle.tape_script.specs.Reading.{GaveInLine, BeginsWithNo, GaveEnd}
 use Rattle.tape_pulses.specs.declared.fault.PulseFault.{PulseFault}
+use Rattle.command_spec.specs.Pulses.{pulsed_row, train_line}
+use Rattle.command_laws.specs.PulseRuns.{train_act}
+use Rattle.qic_base.specs.Sink as sinks
+use Rattle.qic_base.specs.Source as sources
+use Rattle.qic_base.specs.Tape as tapes
 use Rattle.tape_pulses.specs.declared.fault.PulseFault.TheVariants as fault
-use Rattle.command_spec.specs.Pulses.{pulsed_row, train_act, train_line}
 
 -- ---- the source
 

@@ -9,7 +9,7 @@ use Rattle.qic_base.specs.Acts.{Outside, Failing, TapeFails, SourceFails, SinkFa
 use Rattle.drive_spec.specs.Record.{Record}
 use Rattle.tape_pulses.specs.declared.fault.PulseFault.{PulseFault}
 use Rattle.tape_pulses.specs.declared.fault.PulseFault.TheVariants as fault
-use Rattle.command_spec.specs.Pulses.{PulseRun, PulsesOutcome, Answer, AllSent, ScriptFault}
+use Rattle.command_laws.specs.PulseRuns.{PulseRun, PulsesOutcome, Answer, AllSent, ScriptFault}
 
 -- What the drive learnt when the cartridge was put in, and the input: what the tape and the source told, or some where
 -- they tell none.

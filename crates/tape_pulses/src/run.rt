@@ -1,7 +1,7 @@
 //! The whole input.
 
 ghost use Rattle.std.specs.Prelude.{◌≡◌, ◌≤◌, Err, is_some};
-ghost use Rattle.qic_base.specs.Cause.{Rose};
+ghost use Rattle.qic_base.specs.Tape.{Rose};
 ghost use Rattle.tape_pulses.specs.Runs.{PulsesEnd};
 
 use crate::PulseFault;

@@ -1,8 +1,9 @@
 //! A train is sent; the line of the level that it leaves.
 
 ghost use Rattle.std.specs.Prelude.{◌≡◌, OnOk};
-ghost use Rattle.qic_base.specs.Tape.{Does};
-ghost use Rattle.command_spec.specs.Pulses.{pulsed_row, train_changes, level_line};
+ghost use Rattle.qic_base.specs.TapeCalls.{Does};
+ghost use Rattle.command_spec.specs.Pulses.{pulsed_row, train_changes};
+ghost use Rattle.command_laws.specs.PulseRuns.{level_line};
 
 use drive_states::Unit;
 use qic_base::{Tape, TapeFailed};

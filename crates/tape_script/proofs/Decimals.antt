@@ -3,7 +3,7 @@ use Rattle.std.proofs.Common.{ℕ, ◌+◌, ◌-◌, ◌/◌, ◌%◌, ◌^◌, 
 use Rattle.std.proofs.Math.Nat.{pow-suc, pow-le-pow_right}
 use Rattle.std.proofs.lemmas.Fmt.{decimal_by_steps, decimal_digit, decimal_step, decimal_nonempty, length-decimal-le, first_decimal}
 use Rattle.std.proofs.lemmas.List.{length_push, take_more, length-take-le, get_or-take}
-use Rattle.command_spec.specs.CommandWords.{IsNumber}
+use Rattle.command_spec.specs.Command.{IsNumber}
 
 -- a number is below the power of ten by its number of digits
 decimal_below : (n : ℕ) → n < 2 ^ 64 → n < 10 ^ length (decimal n)

@@ -6,7 +6,8 @@ use Rattle.std.specs.Option.{option_map}
 use Rattle.command_laws.proofs.TextLined.{one_before, end_no_newline}
 use Rattle.command_laws.specs.TextReading.{NoNewline}
 use Rattle.command_spec.specs.Input.{IsLined}
-use Rattle.qic_base.specs.Source.{Meaning, Gave, HasEnded}
+use Rattle.qic_base.specs.Source.{Meaning}
+use Rattle.qic_base.specs.SourceCalls.{Gave, HasEnded}
 use Rattle.tape_script.specs.Reading.{BeginsWithNo}
 
 -- bytes and a newline have none before the last

@@ -5,7 +5,7 @@ use Rattle.std.specs.List.{range_with_len}
 use Rattle.std.proofs.lemmas.List.{length-drop, get_or-drop, take_at}
 use Rattle.command_laws.proofs.TextMaking.{length-made_from}
 use Rattle.command_laws.specs.TextGenerator.{made_from}
-use Rattle.qic_base.specs.Source.{Gives}
+use Rattle.qic_base.specs.SourceCalls.{Gives}
 
 made_from_none : (first : ℕ) → made_from first 0 ≡ []
 unfolding made_from

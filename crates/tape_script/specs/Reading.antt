@@ -3,7 +3,8 @@ use Rattle.std.specs.Prelude.{◌≡◌, ℕ, ◌-◌, List, length, take, ◌�
 use Rattle.command_laws.specs.TextReading.{NoNewline}
 use Rattle.command_spec.specs.Input.{IsLineText, IsPulse}
 use Rattle.command_spec.specs.declared.line.Line.{Line}
-use Rattle.qic_base.specs.Source.{Meaning, Gave, HasEnded, GaveSome}
+use Rattle.qic_base.specs.Source.{Meaning}
+use Rattle.qic_base.specs.SourceCalls.{Gave, HasEnded, GaveSome}
 use Rattle.tape_script.specs.declared.line.LineRead.{LineRead}
 use Rattle.tape_script.specs.declared.taking.Taken.{Taken}
 use Rattle.tape_script.specs.declared.train.TrainRead.{TrainRead}

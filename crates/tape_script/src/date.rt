@@ -1,8 +1,8 @@
 //! Dates in words: `YYYY-MM-DDTHH:MM:SS`, all digits written.
 
 ghost use Rattle.std.specs.Prelude.{◌≡◌, ℕ, ◌+◌, ◌/◌, ◌<◌, ◌≤◌, ◌↔◌, IsTrue, MatchOption, length, slice_index};
-ghost use Rattle.command_spec.specs.CommandWords.{IsDateWord};
-ghost use Rattle.command_spec.specs.Lines.{digit};
+ghost use Rattle.command_spec.specs.Command.{IsDateWord};
+ghost use Rattle.command_laws.specs.CommandTerms.{digit};
 
 use qic_base::stamp;
 

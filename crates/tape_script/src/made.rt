@@ -1,7 +1,7 @@
 //! The bytes of a generated volume.
 
 ghost use Rattle.std.specs.Prelude.{◌≡◌, ◌<◌, ◌+◌, ◌%◌, length};
-ghost use Rattle.command_spec.specs.Generator.{made_bytes};
+ghost use Rattle.command_spec.specs.Make.{made_bytes};
 ghost use Rattle.command_laws.specs.TextGenerator.{made_from};
 ghost use Rattle.tape_script.specs.Generator.{made_means};
 

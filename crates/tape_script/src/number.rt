@@ -1,7 +1,7 @@
 //! Numbers in words: decimal digits as they are printed, at most nine of them.
 
 ghost use Rattle.std.specs.Prelude.{ℕ, ◌<◌, MatchOption};
-ghost use Rattle.command_spec.specs.CommandWords.{IsNumber, Number, SpellsPart};
+ghost use Rattle.command_spec.specs.Command.{IsNumber, Number, SpellsPart};
 
 /// The greatest number that a word can be.
 pub const GREATEST: u32 = 999_999_999;

@@ -1,6 +1,6 @@
 //! Bytes and lines are taken from a source: a line byte by byte, so that nothing behind it is read.
 
-ghost use Rattle.qic_base.specs.Cause.{HasCause};
+ghost use Rattle.qic_base.specs.Terms.{HasCause};
 ghost use Rattle.tape_script.specs.Reading.{TakesByte, TakesLine, Skips};
 
 use qic_base::{Source, SourceFailed};

@@ -1,7 +1,7 @@
 //! Printed texts: numbers, dates and names.
 
 ghost use Rattle.std.specs.Prelude.{decimal};
-ghost use Rattle.qic_base.specs.Sink.{Writes};
+ghost use Rattle.qic_base.specs.SinkCalls.{Writes};
 ghost use Rattle.command_spec.specs.Lines.{date_text, name_text};
 
 use crate::text_line::TextLine;

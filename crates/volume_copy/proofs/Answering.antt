@@ -13,8 +13,8 @@ use Rattle.command_spec.specs.declared.copy_status.CopyStatus.{CopyStatus}
 use Rattle.drive_states.specs.Unit.{UnitView}
 use Rattle.qic_base.proofs.Steps.{Rose-after}
 use Rattle.qic_base.proofs.Writing.{TakesBoth, some_longer}
-use Rattle.qic_base.specs.Acts.{reading}
-use Rattle.qic_base.specs.Cause.{Rose}
+use Rattle.qic_base.specs.Terms.{reading}
+use Rattle.qic_base.specs.Tape.{Rose}
 use Rattle.qic_base.specs.declared.foreign.ForeignField.{ForeignField}
 use Rattle.store_opening.specs.Opening.{OpenFails}
 use Rattle.store_opening.specs.declared.opening.OpenFault.{OpenFault}

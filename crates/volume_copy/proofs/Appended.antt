@@ -10,12 +10,14 @@ use Rattle.command_laws.proofs.CommandEnds.{over_at}
 use Rattle.command_laws.proofs.CopyOutcomes.{IsTarget}
 use Rattle.command_laws.proofs.MountedListed.{append_leaves, append_listed}
 use Rattle.command_laws.specs.MountedListed.{IsListed, listed_behind}
-use Rattle.command_spec.specs.Append.{Fits, Kept, Taking, TooLong, TooShort, append_acts, bytes_taken, entry_acts, entry_for, input_writes, kept_over, room_in, silently, taking}
+use Rattle.command_spec.specs.Append.{Fits, Kept, Taking, TooLong, TooShort, append_acts, entry_acts, input_writes, kept_over, room_in, taking}
+use Rattle.command_laws.specs.CommandTerms.{bytes_taken, entry_for, silently}
 use Rattle.command_spec.specs.Copying.{Side}
 use Rattle.command_spec.specs.declared.copy_status.CopyStatus.{CopyStatus}
-use Rattle.drive_spec.specs.Deck.{is_protected}
+use Rattle.drive_spec.specs.Terms.{is_protected}
 use Rattle.qic_base.proofs.Joins.{steps_of-append}
-use Rattle.qic_base.specs.Acts.{Act, reading, steps_of}
+use Rattle.qic_base.specs.Acts.{Act, steps_of}
+use Rattle.qic_base.specs.Terms.{reading}
 use Rattle.qic_base.specs.Cartridge.{Cartridge}
 use Rattle.qic_base.specs.Step.{Step as TapeStep, effects}
 use Rattle.qic_base.specs.declared.tape.TapeInfo.{TapeInfo}
@@ -27,6 +29,7 @@ use Rattle.volume_store.specs.Mounting.{StoreView}
 use Rattle.volume_store.specs.declared.appended.Appended.{Appended}
 use Rattle.volume_store.specs.declared.fault.StoreFault.{StoreFault}
 use Rattle.qic_base.specs.Tape as tapes
+use Rattle.qic_base.specs.TapeCalls as tape_calls
 use Rattle.volume_store.specs.declared.fault.StoreFault.TheVariants as fault
 
 -- ---- what is told
@@ -37,7 +40,7 @@ told_behind m x y steps d did told =
     did.told ∙ ap (option_map (effects steps)) told ∙ ap (λ (held : Option Cartridge). Some held) (effects-some steps d)
 
 -- a fact of a cartridge that is told
-pub tells_at : {T : Type 0} (m : tapes.Meaning T) (x : T) (P : Cartridge → Type 0) (d : Cartridge) → m.told x ≡ Some (Some d) → tapes.Tells m x P → P d
+pub tells_at : {T : Type 0} (m : tapes.Meaning T) (x : T) (P : Cartridge → Type 0) (d : Cartridge) → m.told x ≡ Some (Some d) → tape_calls.Tells m x P → P d
 tells_at m x P d told known = over_at (m.told x) (λ held. IfSome held P) (Some d) known told
 
 -- ---- the reply

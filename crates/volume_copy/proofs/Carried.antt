@@ -13,7 +13,8 @@ use Rattle.command_spec.specs.declared.copy_status.CopyStatus.{CopyStatus}
 use Rattle.qic_base.proofs.Joins.{broke_behind, cut_is_longer, sink_cut_one, steps_of-append, text_of-append, went_both, went_then_cut}
 use Rattle.qic_base.proofs.Steps.{Done-nothing, Done-told}
 use Rattle.qic_base.proofs.Writing.{TakesBoth}
-use Rattle.qic_base.specs.Acts.{Act, Outside, SinkCut, SinkFails, TapeCut, TapeFails, Went, around, no_sink, no_source, reading, steps_of, text_of}
+use Rattle.qic_base.specs.Acts.{Act, Outside, SinkCut, SinkFails, TapeCut, TapeFails, Went, steps_of, text_of}
+use Rattle.qic_base.specs.Terms.{around, no_sink, no_source, reading}
 use Rattle.qic_base.specs.Cartridge.{Cartridge}
 use Rattle.volume_copy.proofs.Appended.{side_over}
 use Rattle.volume_copy.proofs.Goes.{one_done, one_goes}
@@ -24,6 +25,7 @@ use Rattle.volume_source.specs.Source.{SourceView, new_source, source_means}
 use Rattle.command_spec.specs.declared.copy_fault.CopyFault.TheVariants as copy
 use Rattle.command_spec.specs.declared.copy_status.CopyStatus.TheVariants as status
 use Rattle.qic_base.specs.Sink as sinks
+use Rattle.qic_base.specs.SinkCalls as sink_calls
 use Rattle.qic_base.specs.Tape as tapes
 
 -- the volume with the next number stands at the index of as many
@@ -278,7 +280,7 @@ module _ {A B K : Type 0} (a : tapes.Meaning A) (b : tapes.Meaning B) (k : sinks
         let first : SinkCut b no_source k (seen mid) (seen new) copied.acts = record {
           at = record { front = copied.front; act = copied.last; rest = []; parts = copied.parts };
           did = did;
-          broke = broke_behind (text_of copied.front) copied.quiet (subst (sinks.BrokeOff k mid.sink new.sink) (sym copied.line) unprinted.line);
+          broke = broke_behind (text_of copied.front) copied.quiet (subst (sink_calls.BrokeOff k mid.sink new.sink) (sym copied.line) unprinted.line);
           source_later = omega arith;
         } in
         inr (inr (inr (record {

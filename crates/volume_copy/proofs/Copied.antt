@@ -6,8 +6,8 @@ use Rattle.cartridge_spec.specs.Volumes.{volume_length}
 use Rattle.command_spec.specs.Copying.{difference, is_alike}
 use Rattle.command_spec.specs.declared.copy_status.CopyStatus.{CopyStatus}
 use Rattle.drive_states.specs.Unit.{UnitView}
-use Rattle.qic_base.specs.Acts.{reading}
-use Rattle.qic_base.specs.Cause.{Rose}
+use Rattle.qic_base.specs.Terms.{reading}
+use Rattle.qic_base.specs.Tape.{Rose}
 use Rattle.store_opening.specs.Opening.{OpenFails}
 use Rattle.store_opening.specs.declared.opening.OpenFault.{OpenFault}
 use Rattle.volume_copy.specs.Faults.{from_status, is_of_cartridge, is_of_opening, to_status}

@@ -15,21 +15,21 @@ use Rattle.command_laws.proofs.CommandEnds.{LeftBy, each_left, over_at, told_who
 use Rattle.command_laws.proofs.CopyOutcomes.{IsTarget}
 use Rattle.command_laws.proofs.MountedListed.{mounted_listed}
 use Rattle.cartridge_laws.proofs.MountSettled.{settled_keeps_table}
-use Rattle.command_spec.specs.Append.{silently}
+use Rattle.command_laws.specs.CommandTerms.{silently}
 use Rattle.command_spec.specs.CopyPromises.{EndsAppend, EndsVolume, FromAnswers, FromLeaves, MountingRefuses, MountsSome, SourceStays, TakesMore, ToAnswers}
 use Rattle.command_spec.specs.Copying.{giving_status}
 use Rattle.command_spec.specs.Headline.{EachLeft}
 use Rattle.command_spec.specs.Restore.{GivingEnd, LostIn, MismatchIn, Restores, pieces}
 use Rattle.command_spec.specs.declared.copy_fault.CopyFault.{CopyFault}
 use Rattle.command_spec.specs.declared.copy_status.CopyStatus.{CopyStatus}
-use Rattle.drive_spec.specs.Deck.{is_protected}
+use Rattle.drive_spec.specs.Terms.{is_protected}
 use Rattle.drive_states.specs.Unit.{UnitView}
 use Rattle.host_driver.specs.Fits.{deck_of}
 use Rattle.qic_base.proofs.Steps.{Done-before_reads, Done-nothing, Done-told, Torn-all}
-use Rattle.qic_base.specs.Acts.{Act, reading, steps_of}
-use Rattle.qic_base.specs.Cartridge.{Cartridge, IsCartridge}
-use Rattle.qic_base.specs.Step.{Step as TapeStep, effects}
-use Rattle.qic_base.specs.Stop.{Torn}
+use Rattle.qic_base.specs.Acts.{Act, steps_of}
+use Rattle.qic_base.specs.Terms.{reading, IsCartridge}
+use Rattle.qic_base.specs.Cartridge.{Cartridge}
+use Rattle.qic_base.specs.Step.{Step as TapeStep, effects, Torn}
 use Rattle.qic_base.specs.declared.tape.TapeInfo.{TapeInfo}
 use Rattle.store_opening.specs.Opening.{HasOpened, OpenFails}
 use Rattle.store_opening.specs.declared.opening.OpenFault.{OpenFault}

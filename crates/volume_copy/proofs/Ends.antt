@@ -11,13 +11,14 @@ use Rattle.cartridge_laws.proofs.MountSettled.{settled_keeps_table}
 use Rattle.command_spec.specs.CopyPromises.{CopyEnds, CopyWent, Decks, FromCut, IsUnasked, PrintingCut, ToCut}
 use Rattle.command_spec.specs.Copying.{Compares, Copies, CopyOutcome, CopyYields, Side, ToDoes, ToMounted, copy_refused, missing}
 use Rattle.command_spec.specs.declared.copy_status.CopyStatus.{CopyStatus}
-use Rattle.drive_spec.specs.Deck.{is_protected}
+use Rattle.drive_spec.specs.Terms.{is_protected}
 use Rattle.drive_states.specs.Unit.{UnitView}
 use Rattle.host_driver.specs.Fits.{deck_of}
 use Rattle.qic_base.proofs.Steps.{Broke-front, Done-before_reads, Done-nothing}
 use Rattle.qic_base.proofs.Writing.{TakesBoth}
-use Rattle.qic_base.specs.Acts.{Act, Outside, SinkFails, TapeCut, TapeFails, Went, around, no_source}
-use Rattle.qic_base.specs.Cartridge.{Cartridge, IsCartridge}
+use Rattle.qic_base.specs.Acts.{Act, Outside, SinkFails, TapeCut, TapeFails, Went}
+use Rattle.qic_base.specs.Terms.{around, no_source, IsCartridge}
+use Rattle.qic_base.specs.Cartridge.{Cartridge}
 use Rattle.qic_base.specs.Step.{Step as TapeStep}
 use Rattle.qic_base.specs.declared.tape.TapeInfo.{TapeInfo}
 use Rattle.store_opening.proofs.Opened.{cut_behind, opening_cut, went_behind}
@@ -37,6 +38,7 @@ use Rattle.command_spec.specs.declared.copy_fault.CopyFault.TheVariants as copy
 use Rattle.command_spec.specs.declared.copy_status.CopyStatus.TheVariants as status
 use Rattle.qic_base.specs.Sink as sinks
 use Rattle.qic_base.specs.Tape as tapes
+use Rattle.qic_base.specs.TapeCalls as tape_calls
 use Rattle.store_opening.specs.declared.opening.OpenFault.TheVariants as open_fault
 use Rattle.volume_store.specs.declared.fault.StoreFault.TheVariants as fault
 
@@ -48,10 +50,10 @@ decks_of units = record { from = units.from.tape; to = units.to.tape; sink = uni
 pub record AtStart {A B K : Type 0} (a : tapes.Meaning A) (b : tapes.Meaning B) (k : sinks.Meaning K) (old : Decks A B K) : Type 0 where
   pub nothing : (z : K) → k.took z [] z
   pub both : TakesBoth k
-  pub from_right : tapes.IsToldRight (a.told old.from) (a.size old.from)
-  pub to_right : tapes.IsToldRight (b.told old.to) (b.size old.to)
-  pub from_now : tapes.IsLeftNow a old.from
-  pub to_now : tapes.IsLeftNow b old.to
+  pub from_right : tape_calls.IsToldRight (a.told old.from) (a.size old.from)
+  pub to_right : tape_calls.IsToldRight (b.told old.to) (b.size old.to)
+  pub from_now : tape_calls.IsLeftNow a old.from
+  pub to_now : tape_calls.IsLeftNow b old.to
 
 module _ {A B K : Type 0} (a : tapes.Meaning A) (b : tapes.Meaning B) (k : sinks.Meaning K) where
   -- ---- an outcome that was carried out

@@ -21,10 +21,11 @@ use Rattle.command_spec.specs.declared.copy_status.CopyStatus.{CopyStatus}
 use Rattle.qic_base.proofs.Joins.{steps_of-append, text_of-append}
 use Rattle.qic_base.proofs.Outcomes.{cut_is_torn, cut_stops}
 use Rattle.qic_base.proofs.Steps.{Stops-nothing, Torn-all, Torn-front, Torn-nothing}
-use Rattle.qic_base.specs.Acts.{Act, SinkFails, TapeFails, around, no_source, next_steps, steps_of, text_of}
-use Rattle.qic_base.specs.Cartridge.{Cartridge, IsCartridge}
+use Rattle.qic_base.specs.Acts.{Act, SinkFails, TapeFails, next_steps, steps_of, text_of}
+use Rattle.qic_base.specs.Terms.{around, no_source, IsCartridge}
+use Rattle.qic_base.specs.Cartridge.{Cartridge}
 use Rattle.qic_base.specs.Step.{Step as TapeStep, effects}
-use Rattle.qic_base.specs.Stop.{Torn}
+use Rattle.qic_base.specs.Step.{Torn}
 use Rattle.volume_copy.proofs.Ends.{AtStart}
 use Rattle.volume_copy.proofs.Text.{text_begins}
 use Rattle.volume_copy.specs.Printing.{PrintsMissing}

@@ -4,7 +4,8 @@ use Rattle.std.specs.Option.{option_map}
 use Rattle.std.specs.Prelude.{if◌then◌else◌}
 use Rattle.cartridge_laws.proofs.MountOnce.{mounts_is_function}
 use Rattle.cartridge_laws.proofs.MountWhole.{settling_effects}
-use Rattle.cartridge_spec.specs.Header.{Header, fault_as}
+use Rattle.cartridge_spec.specs.Header.{Header}
+use Rattle.cartridge_laws.specs.Terms.{fault_as}
 use Rattle.cartridge_spec.specs.Mounting.{Mounting, Mounts, settled}
 use Rattle.cartridge_spec.specs.Says.{with_parity}
 use Rattle.cartridge_spec.specs.Settling.{block_writes, settling_places, settling_steps}
@@ -14,7 +15,7 @@ use Rattle.command_spec.specs.CopyPromises.{MountingRefuses}
 use Rattle.command_spec.specs.Copying.{CopyOutcome, CopyYields, FromMounted, Side, ToDoes, ToMounted, copy_refused, side_of}
 use Rattle.command_spec.specs.declared.copy_fault.CopyFault.{CopyFault}
 use Rattle.command_spec.specs.declared.copy_status.CopyStatus.{CopyStatus}
-use Rattle.drive_spec.specs.Deck.{is_protected}
+use Rattle.drive_spec.specs.Terms.{is_protected}
 use Rattle.drive_states.specs.Unit.{UnitView}
 use Rattle.qic_base.specs.Acts.{Act, next_steps}
 use Rattle.qic_base.specs.Cartridge.{Cartridge}

@@ -1,5 +1,5 @@
 -- How a copy ended, call by call (this project's own).
-use Rattle.std.specs.Prelude.{◌≡◌, ◌≢◌, ◌⊎◌, ◌↔◌, ◌<◌, ◌^◌, ℕ, zero, suc, ◌+◌, Option, Some, None, Result, Ok, Err, Bool, length, slice_get, true, false}
+use Rattle.std.specs.Prelude.{◌≡◌, ◌≢◌, ◌⊎◌, ℕ, zero, suc, ◌+◌, Option, Some, None, Result, Ok, Err, Bool, length, slice_get, true, false, ◌↔◌, ◌<◌, ◌^◌}
 use Rattle.cartridge_spec.specs.Formatting.{IsLabel}
 use Rattle.cartridge_spec.specs.Table.{Entry}
 use Rattle.cartridge_spec.specs.Volumes.{volume_length}
@@ -7,21 +7,22 @@ use Rattle.command_spec.specs.Copying.{copied_line, difference, is_alike}
 use Rattle.command_spec.specs.Lines.{count_line}
 use Rattle.command_spec.specs.Restore.{volume_at}
 use Rattle.command_spec.specs.declared.copy_status.CopyStatus.{CopyStatus}
-use Rattle.drive_spec.specs.Deck.{is_protected}
+use Rattle.drive_spec.specs.Terms.{is_protected}
 use Rattle.drive_states.specs.Unit.{UnitView}
 use Rattle.host_driver.specs.Fits.{deck_of}
-use Rattle.qic_base.specs.Acts.{reading}
+use Rattle.qic_base.specs.Terms.{reading}
 use Rattle.store_opening.specs.Opening.{HasOpened, OpenFails}
 use Rattle.store_opening.specs.declared.opening.OpenFault.{OpenFault}
 use Rattle.volume_copy.specs.Faults.{copy_fault, from_status, is_of_cartridge, to_status}
 use Rattle.volume_source.specs.Source.{IsSoundSource, KeepsVolume, SourceView, new_source, source_means}
-use Rattle.volume_store.specs.Appending.{AppendEnds, FaultsUnread, InOrder, KeepsFormat, KeepsList}
+use Rattle.volume_store.specs.Appending.{AppendEnds, FaultsUnread, KeepsFormat, KeepsList, InOrder}
 use Rattle.volume_store.specs.Mounting.{StoreView, StoreFits}
 use Rattle.volume_store.specs.declared.appended.Appended.{Appended}
 use Rattle.volume_store.specs.declared.fault.StoreFault.{StoreFault}
 use Rattle.command_spec.specs.declared.copy_fault.CopyFault.TheVariants as copy
 use Rattle.command_spec.specs.declared.copy_status.CopyStatus.TheVariants as status
 use Rattle.qic_base.specs.Sink as sinks
+use Rattle.qic_base.specs.SinkCalls as sink_calls
 use Rattle.qic_base.specs.Tape as tapes
 use Rattle.volume_store.specs.declared.fault.StoreFault.TheVariants as fault
 
@@ -110,13 +111,13 @@ pub record IsRefused {A B K : Type 0} (a : tapes.Meaning A) (b : tapes.Meaning B
 pub record IsUnprinted {A B K : Type 0} (a : tapes.Meaning A) (b : tapes.Meaning B) (k : sinks.Meaning K) (mid new : CopyView A B K) (answer : CopyStatus) : Type 0 where
   pub bytes : ℕ
   pub one : CopiesOne a b (next_number mid) mid.from new.from mid.to new.to (Ok bytes)
-  pub line : sinks.BrokeOff k mid.sink new.sink (copied_line (next_number mid) bytes)
+  pub line : sink_calls.BrokeOff k mid.sink new.sink (copied_line (next_number mid) bytes)
   pub answered : answer ≡ status.SinkFault
 
 -- the count was printed, or the sink didn't take it
 abbrev pub PrintsCount : {K : Type 0} (k : sinks.Meaning K) (old new : K) (count : ℕ) → CopyStatus → Type 0
 PrintsCount k old new count status.Done = sinks.Wrote k old new (count_line count)
-PrintsCount k old new count status.SinkFault = sinks.BrokeOff k old new (count_line count)
+PrintsCount k old new count status.SinkFault = sink_calls.BrokeOff k old new (count_line count)
 PrintsCount k old new count answer = ⊥
 
 -- .. or none is missing

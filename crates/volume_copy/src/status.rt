@@ -1,7 +1,7 @@
 //! The exit status of a copy's end, and its line.
 
 ghost use Rattle.std.specs.Prelude.{◌≡◌};
-ghost use Rattle.qic_base.specs.Sink.{Writes};
+ghost use Rattle.qic_base.specs.SinkCalls.{Writes};
 ghost use Rattle.volume_copy.specs.Lines.{status_code, status_text};
 
 use command_spec::CopyStatus;

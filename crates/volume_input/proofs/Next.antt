@@ -1,12 +1,10 @@
 -- One segment: what was read for it, and what became of that.
 use Rattle.std.proofs.Common.{◌≡◌, ◌⊎◌, inl, inr, ℕ, ◌+◌, ◌-◌, ◌*◌, ◌/◌, ◌<◌, ◌≤◌, min, Bool, true, List, [], ◌∷◌, length, take, All, refl, sym, ap, ◌∙◌, subst, arith, append-nil}
 use Rattle.std.proofs.lemmas.List.Elements.{All-nil, All-head, All-tail, All-append, All-take}
-use Rattle.qic_base.specs.Cause.{Rose}
-use Rattle.qic_base.specs.Source as sources
-use Rattle.qic_base.specs.Tape as tapes
+use Rattle.qic_base.specs.Tape.{Rose}
 use Rattle.qic_base.proofs.Steps.{Done-nothing}
 use Rattle.qic_base.specs.Acts.{SourceFails, Went, Cut}
-use Rattle.qic_base.specs.Acts.{no_sink, reading}
+use Rattle.qic_base.specs.Terms.{no_sink, reading}
 use Rattle.cartridge_spec.specs.Says.{with_parity}
 use Rattle.cartridge_laws.specs.Shape.{Carries}
 use Rattle.cartridge_spec.specs.Shape.{mask_at, usable_places, data_count, capacity}
@@ -14,10 +12,12 @@ use Rattle.cartridge_spec.specs.Settling.{writes_of}
 use Rattle.cartridge_laws.specs.Writes.{segment_writes}
 use Rattle.cartridge_spec.specs.Appending.{in_sectors, bytes_in}
 use Rattle.cartridge_laws.proofs.AppendBytes.{carried_all, bytes_of_sectors}
-use Rattle.cartridge_spec.specs.Code.{IsSector}
+use Rattle.qic_base.specs.Cartridge.{IsSector}
 use Rattle.sector_fill.specs.Filling.{GaveUpTo, GaveWithin, AreFilled}
 use Rattle.command_spec.specs.Append.{segment_act}
 use Rattle.volume_input.specs.Next.{Came, NextWritten, NextBroken, NoneCame, CameShort}
+use Rattle.qic_base.specs.Source as sources
+use Rattle.qic_base.specs.Tape as tapes
 
 -- the sectors of data, by the bytes that they hold
 pub data_sectors : (words : List ℕ) (s n : ℕ) → Carries (mask_at words s) → n ≡ capacity (mask_at words s) → n / 1024 ≡ data_count (mask_at words s)
@@ -38,7 +38,7 @@ same_writes words s count usable sectors bytes all is filled =
 bytes_of_each : (sectors : List (List ℕ)) → All IsSector sectors → All (λ (x : ℕ). x < 256) (bytes_in sectors)
 bytes_of_each [] are = All-nil (λ (x : ℕ). x < 256)
 bytes_of_each (sector ∷ sectors) are =
-    All-append (λ (x : ℕ). x < 256) sector (bytes_in sectors) (All-head IsSector sector sectors are).bytes
+    All-append (λ (x : ℕ). x < 256) sector (bytes_in sectors) (All-head IsSector sector sectors are).each
     (bytes_of_each sectors (All-tail IsSector sector sectors are))
 
 are_bytes : (count : ℕ) (sectors : List (List ℕ)) (bytes : List ℕ) → All IsSector sectors → length bytes ≤ 1024 * count →

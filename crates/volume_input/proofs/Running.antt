@@ -7,10 +7,10 @@ use Rattle.std.proofs.lemmas.List.Sums.{sum_by_push}
 use Rattle.qic_base.specs.Source as sources
 use Rattle.qic_base.specs.Tape as tapes
 use Rattle.qic_base.proofs.Writing.{TakesBoth}
-use Rattle.qic_base.specs.Source.{Gave}
+use Rattle.qic_base.specs.SourceCalls.{Gave}
 use Rattle.qic_base.proofs.Giving.{Gave-nothing, Gave-Gave, Gave-end}
 use Rattle.qic_base.specs.Acts.{Act, Outside, Failing, TapeFails, SourceFails, Went, Cut}
-use Rattle.qic_base.specs.Acts.{no_sink}
+use Rattle.qic_base.specs.Terms.{no_sink}
 use Rattle.qic_base.proofs.Joins.{nothing_went, went_both, went_then_cut, cut_is_longer}
 use Rattle.cartridge_laws.specs.Shape.{Carries}
 use Rattle.cartridge_spec.specs.Shape.{mask_at, capacity}

@@ -10,7 +10,8 @@ use Rattle.cartridge_spec.specs.Shape.{mask_at, capacity}
 use Rattle.cartridge_spec.specs.Volumes.{carrying, capacity_between}
 use Rattle.cartridge_laws.proofs.AppendBytes.{capacity_of, between_carries}
 use Rattle.drive_spec.specs.declared.deck.Deck.{Deck}
-use Rattle.drive_spec.specs.Deck.{is_referenced, segments_per_track}
+use Rattle.drive_spec.specs.Terms.{is_referenced}
+use Rattle.drive_spec.specs.Deck.{segments_per_track}
 use Rattle.drive_states.specs.Unit.{UnitView}
 use Rattle.host_driver.specs.declared.host.Host.{Host}
 use Rattle.host_driver.specs.Fits.{Fits, segments_of}

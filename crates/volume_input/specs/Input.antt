@@ -2,8 +2,9 @@
 use Rattle.std.specs.Prelude.{◌≡◌, ℕ, ◌-◌, ◌<◌, ◌≤◌, Bool, true, List, length, All, slice_index, is_some, IfSome, IfNone, Result, Ok, Err}
 use Rattle.cartridge_spec.specs.Appending.{taken_by}
 use Rattle.command_spec.specs.Append.{volume_acts, filled_acts, input_acts}
-use Rattle.qic_base.specs.Acts.{Outside, Went, no_sink, Failing, Cut, TapeFails, SourceFails}
-use Rattle.qic_base.specs.Source.{Gave, HasEnded}
+use Rattle.qic_base.specs.Acts.{Outside, Went, Failing, Cut, TapeFails, SourceFails}
+use Rattle.qic_base.specs.Terms.{no_sink}
+use Rattle.qic_base.specs.SourceCalls.{Gave, HasEnded}
 use Rattle.volume_input.specs.declared.fault.InputFault.{InputFault}
 use Rattle.volume_input.specs.declared.written.Written.{Written}
 use Rattle.qic_base.specs.Source as sources

@@ -1,8 +1,8 @@
 //! The bytes of a source in a workspace.
 
 ghost use Rattle.std.specs.Prelude.{◌≤◌, All, take};
-ghost use Rattle.cartridge_spec.specs.Code.{IsSector};
-ghost use Rattle.qic_base.specs.Cause.{HasCause};
+ghost use Rattle.qic_base.specs.Cartridge.{IsSector};
+ghost use Rattle.qic_base.specs.Terms.{HasCause};
 ghost use Rattle.sector_fill.specs.Filling.{FillsSectors};
 
 use qic_base::{Source, SourceFailed};

@@ -1,9 +1,9 @@
 //! A volume written segment by segment.
 
 ghost use Rattle.std.specs.Prelude.{◌≡◌, ◌-◌, ◌*◌, ◌<◌, ◌≤◌, true, length};
-ghost use Rattle.qic_base.specs.Acts.{reading};
+ghost use Rattle.qic_base.specs.Terms.{reading};
 ghost use Rattle.cartridge_spec.specs.Volumes.{capacity_between, carrying};
-ghost use Rattle.drive_spec.specs.Deck.{is_referenced};
+ghost use Rattle.drive_spec.specs.Terms.{is_referenced};
 ghost use Rattle.host_driver.specs.Calls.{IsReady, MayWrite, Keeps};
 ghost use Rattle.host_driver.specs.Fits.{segments_of};
 ghost use Rattle.volume_input.specs.Input.{InputEnds};

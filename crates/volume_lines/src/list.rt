@@ -1,7 +1,7 @@
 //! The volumes of a mounted cartridge, listed.
 
 ghost use Rattle.std.specs.Prelude.{◌≡◌};
-ghost use Rattle.qic_base.specs.Sink.{Writes};
+ghost use Rattle.qic_base.specs.SinkCalls.{Writes};
 ghost use Rattle.volume_table.specs.Entry.{entry_of};
 ghost use Rattle.command_spec.specs.Lines.{volume_line, count_line, list_text};
 

@@ -3,13 +3,12 @@ use Rattle.std.proofs.Common.{◌≡◌, ℕ, ◌-◌, ◌*◌, ◌≤◌, nat_l
 use Rattle.std.proofs.lemmas.Bool.{le-leb}
 use Rattle.std.proofs.lemmas.List.{length-take-le, take-append-le, take-append-drop}
 use Rattle.std.proofs.lemmas.List.Elements.{All-take}
-use Rattle.qic_base.specs.Cartridge as cartridges
-use Rattle.cartridge_spec.specs.Code.{IsSector, IsCodeBlock}
-use Rattle.cartridge_spec.specs.Says.{data_of}
+use Rattle.qic_base.specs.Cartridge.{IsSector}
+use Rattle.cartridge_spec.specs.Code.{IsCodeBlock}
+use Rattle.cartridge_laws.specs.Terms.{data_of}
 use Rattle.cartridge_laws.specs.Shape.{Carries}
 use Rattle.cartridge_spec.specs.Shape.{usable_count, data_count, capacity}
 use Rattle.cartridge_laws.proofs.Places.{count_below}
-use Rattle.cartridge_laws.proofs.Sayings.{cartridge_sectors}
 use Rattle.cartridge_spec.specs.Appending.{bytes_in}
 use Rattle.command_laws.proofs.RestoreCounts.{length-bytes_in}
 
@@ -54,8 +53,8 @@ module _ (mask count : ℕ) (sectors : List (List ℕ)) (holds : Holds mask coun
       let room : length sectors ≡ 32 = holds.room in
       let size : length block ≡ n = length-take-le n sectors (omega arith) in
       let data_size : length block_data ≡ length block - 3 = length-take-le (length block - 3) block (omega arith) in
-      let are : All cartridges.IsSector block_data =
-      cartridge_sectors block_data (All-take IsSector (length block - 3) block holds.block.sectors) in
+      let are : All IsSector block_data =
+      (All-take IsSector (length block - 3) block holds.block.sectors) in
       let long : length (bytes_in block_data) ≡ 1024 * length block_data = length-bytes_in block_data are in
       let carries : 4 ≤ n = holds.carries in
       let all : capacity mask ≡ 1024 * data_count mask =

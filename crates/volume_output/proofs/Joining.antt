@@ -3,11 +3,13 @@ use Rattle.std.proofs.Common.{◌≡◌, Bool, true, false, List, [], ◌∷◌,
 use Rattle.command_laws.proofs.OutputJoining.{EndsAt-more}
 use Rattle.command_laws.proofs.RestoreEndings.{restores_is_function}
 use Rattle.command_laws.specs.OutputText.{printed, AreOf}
-use Rattle.command_spec.specs.Restore.{Piece, Restored, IsRead, GivingEnd, PieceEnds, LostIn, MismatchIn, Restores, EndsAt}
+use Rattle.command_spec.specs.Restore.{Piece, Restored, IsRead, GivingEnd, PieceEnds, LostIn, MismatchIn, Restores}
+use Rattle.command_laws.specs.CommandTerms.{EndsAt}
 use Rattle.qic_base.proofs.Joins.{nothing_went, went_both, went_then_cut, cut_is_longer}
 use Rattle.qic_base.proofs.Steps.{Tells-map, Tells-read}
 use Rattle.qic_base.proofs.Writing.{TakesBoth}
-use Rattle.qic_base.specs.Acts.{Act, steps_of, Outside, Failing, TapeFails, SinkFails, Went, Cut, no_source}
+use Rattle.qic_base.specs.Acts.{Act, steps_of, Outside, Failing, TapeFails, SinkFails, Went, Cut}
+use Rattle.qic_base.specs.Terms.{no_source}
 use Rattle.qic_base.specs.Cartridge.{Cartridge}
 use Rattle.qic_base.specs.Step.{Step}
 use Rattle.segment_io.proofs.Going.{tells_always, tells_then}
@@ -15,6 +17,7 @@ use Rattle.volume_output.specs.Output.{GaveVolume, VolumeCut, OutputEnds}
 use Rattle.volume_output.specs.declared.fault.OutputFault.{OutputFault}
 use Rattle.qic_base.specs.Sink as sinks
 use Rattle.qic_base.specs.Tape as tapes
+use Rattle.qic_base.specs.TapeCalls as tape_calls
 use Rattle.volume_output.specs.declared.fault.OutputFault.TheVariants as fault
 
 -- ---- lists of acts as they are printed
@@ -65,12 +68,12 @@ module _ {T K : Type 0} (t : tapes.Meaning T) (k : sinks.Meaning K) (words : Lis
     record Given : Type 0 where
       act : Act
       went : Went t no_source k a b (printed lined (piece ∷ []) (act ∷ []))
-      told : tapes.Tells t a.tape (λ c. IsRead c words piece act)
+      told : tape_calls.Tells t a.tape (λ c. IsRead c words piece act)
       steps : act.steps ≡ []
       size : length act.text ≡ piece.count
 
     given_acts : (acts : List Act) → Went t no_source k a b (printed lined (piece ∷ []) acts) →
-        tapes.Tells t a.tape (λ c. Restores c words (piece ∷ []) acts Restored) → AreOf (piece ∷ []) acts → length acts ≡ 1 → Given
+        tape_calls.Tells t a.tape (λ c. Restores c words (piece ∷ []) acts Restored) → AreOf (piece ∷ []) acts → length acts ≡ 1 → Given
     given_acts [] went told are one = absurd (omega arith)
     given_acts (act ∷ []) went told (steps, size, none) one = record {
       act = act;
@@ -150,7 +153,7 @@ module _ {T K : Type 0} (t : tapes.Meaning T) (k : sinks.Meaning K) (words : Lis
 
     -- no act went
     pub none_given : (ending : GivingEnd) (xs : List Piece) → Went t no_source k a b (printed lined xs []) →
-        tapes.Tells t a.tape (λ c. PieceEnds c words piece ending) → EndsAt (piece ∷ needed) 0 ending →
+        tape_calls.Tells t a.tape (λ c. PieceEnds c words piece ending) → EndsAt (piece ∷ needed) 0 ending →
         GaveVolume t k words (piece ∷ needed) lined a b ending
     none_given ending xs went told ends = record {
       acts = [];
@@ -161,14 +164,14 @@ module _ {T K : Type 0} (t : tapes.Meaning T) (k : sinks.Meaning K) (words : Lis
     }
 
     lost_first : (segment lost : ℕ) (acts : List Act) → Went t no_source k a b (printed lined (piece ∷ []) acts) →
-        tapes.Tells t a.tape (λ c. Restores c words (piece ∷ []) acts (LostIn segment lost)) → AreOf (piece ∷ []) acts →
+        tape_calls.Tells t a.tape (λ c. Restores c words (piece ∷ []) acts (LostIn segment lost)) → AreOf (piece ∷ []) acts →
         EndsAt (piece ∷ []) (length acts) (LostIn segment lost) → GaveVolume t k words (piece ∷ needed) lined a b (LostIn segment lost)
     lost_first segment lost [] went told are ends = none_given (LostIn segment lost) (piece ∷ []) went told ends
     lost_first segment lost (act ∷ []) went told are ends = absurd ends.1
     lost_first segment lost (act ∷ other ∷ acts) went told (steps, size, none) ends = absurd none
 
     mismatch_first : (segment : ℕ) (acts : List Act) → Went t no_source k a b (printed lined (piece ∷ []) acts) →
-        tapes.Tells t a.tape (λ c. Restores c words (piece ∷ []) acts (MismatchIn segment)) → AreOf (piece ∷ []) acts →
+        tape_calls.Tells t a.tape (λ c. Restores c words (piece ∷ []) acts (MismatchIn segment)) → AreOf (piece ∷ []) acts →
         EndsAt (piece ∷ []) (length acts) (MismatchIn segment) → GaveVolume t k words (piece ∷ needed) lined a b (MismatchIn segment)
     mismatch_first segment [] went told are ends = none_given (MismatchIn segment) (piece ∷ []) went told ends
     mismatch_first segment (act ∷ []) went told are ends = absurd ends

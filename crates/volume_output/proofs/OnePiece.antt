@@ -1,27 +1,31 @@
 -- One segment read and given, or not.
 use Rattle.std.proofs.Common.{◌≡◌, ℕ, ◌<◌, Bool, true, false, List, [], ◌∷◌, ◌++◌, length, take, refl, sym, ap, ◌∙◌, subst, arith, append-nil, codes, decimal, Result, Ok, Err, IsErr}
 use Rattle.qic_base.specs.Cartridge.{Cartridge}
-use Rattle.qic_base.specs.Sink as sinks
-use Rattle.qic_base.specs.Tape as tapes
 use Rattle.qic_base.proofs.Steps.{Tells-map}
 use Rattle.qic_base.proofs.Writing.{TakesBoth, Wrote-Wrote, Wrote-BrokeOff, BrokeOff-longer}
 use Rattle.qic_base.specs.Acts.{Act, text_of, TapeFails, SinkFails, Went, Cut}
-use Rattle.qic_base.specs.Acts.{no_source, around}
+use Rattle.qic_base.specs.Terms.{no_source, around}
 use Rattle.qic_base.proofs.Joins.{cut_is_longer, broke_first}
-use Rattle.cartridge_spec.specs.Says.{cells_of, Says, Data, LostSectors, data_of}
-use Rattle.cartridge_spec.specs.Says as saying
+use Rattle.cartridge_spec.specs.Says.{cells_of, Says, Data, LostSectors}
+use Rattle.cartridge_laws.specs.Terms.{data_of}
 use Rattle.cartridge_spec.specs.Shape.{mask_at, usable_count}
 use Rattle.cartridge_laws.proofs.Segments.{count_of_cells}
 use Rattle.cartridge_spec.specs.Appending.{bytes_in}
 use Rattle.segment_io.specs.Reading.{HasSolved}
 use Rattle.segment_io.proofs.Going.{tells_always}
-use Rattle.command_spec.specs.Restore.{Piece, GivingEnd, Restored, LostIn, MismatchIn, IsRead, PieceEnds, Restores, act_of}
+use Rattle.command_spec.specs.Restore.{Piece, GivingEnd, Restored, LostIn, MismatchIn, IsRead, PieceEnds, Restores}
+use Rattle.command_laws.specs.CommandTerms.{act_of}
 use Rattle.command_laws.proofs.RestoreEndings.{restores_is_function}
 use Rattle.command_laws.specs.OutputText.{printed}
 use Rattle.volume_output.specs.Output.{GaveVolume, VolumeCut}
 use Rattle.volume_output.specs.Piece.{piece_of, printed_act, part_text}
 use Rattle.volume_output.proofs.Bytes.{Holds, data_bytes, count_of_bytes}
 use Rattle.volume_output.proofs.Joining.{printed_none, printed_steps, none_given}
+use Rattle.qic_base.specs.Sink as sinks
+use Rattle.qic_base.specs.SinkCalls as sink_calls
+use Rattle.qic_base.specs.Tape as tapes
+use Rattle.qic_base.specs.TapeCalls as tape_calls
+use Rattle.cartridge_spec.specs.Says as saying
 
 -- ---- the act of a piece as it is printed
 
@@ -42,7 +46,7 @@ text_printed lined piece sectors =
 
 -- a text that broke off, by an answer that is a failure
 pub broke_by : {K E : Type 0} {k : sinks.Meaning K} {a b : K} {text : List ℕ} (result : Result (Unit {0}) E) → IsErr result →
-    sinks.BrokeOff k a b text → sinks.Writes k a b text result
+    sink_calls.BrokeOff k a b text → sink_calls.Writes k a b text result
 broke_by (Ok done) failed broke = absurd (cc)
 broke_by (Err e) failed broke = broke
 
@@ -54,14 +58,14 @@ module _ (lined : Bool) (segment count : ℕ) (sectors : List (List ℕ)) (is : 
   lined_parts : line ++ take count (bytes_in sectors) ≡ part_text lined (piece_of segment count) sectors
   lined_parts = ap (λ (b : Bool). part_text b (piece_of segment count) sectors) (sym is)
 
-  pub line_broke : {K : Type 0} {k : sinks.Meaning K} {a b : K} → sinks.BrokeOff k a b line →
-      sinks.BrokeOff k a b (part_text lined (piece_of segment count) sectors)
+  pub line_broke : {K : Type 0} {k : sinks.Meaning K} {a b : K} → sink_calls.BrokeOff k a b line →
+      sink_calls.BrokeOff k a b (part_text lined (piece_of segment count) sectors)
   line_broke broke = BrokeOff-longer (take count (bytes_in sectors)) (part_text lined (piece_of segment count) sectors) lined_parts broke
 
   pub line_then : {K E : Type 0} (k : sinks.Meaning K) (a b c : K) (result : Result (Unit {0}) E) → TakesBoth k → sinks.Wrote k a b line →
-      sinks.Writes k b c (take count (bytes_in sectors)) result → sinks.Writes k a c (part_text lined (piece_of segment count) sectors) result
+      sink_calls.Writes k b c (take count (bytes_in sectors)) result → sink_calls.Writes k a c (part_text lined (piece_of segment count) sectors) result
   line_then k a b c (Ok done) both first next = subst (sinks.Wrote k a c) lined_parts (Wrote-Wrote both first next)
-  line_then k a b c (Err e) both first next = subst (sinks.BrokeOff k a c) lined_parts (Wrote-BrokeOff both first next)
+  line_then k a b c (Err e) both first next = subst (sink_calls.BrokeOff k a c) lined_parts (Wrote-BrokeOff both first next)
 
 -- ---- the ends
 
@@ -79,7 +83,7 @@ module _ {T K : Type 0} (t : tapes.Meaning T) (k : sinks.Meaning K) (words : Lis
       (record { did = did; wrote = record { took = none sink; later = omega arith }; source_later = omega arith })
 
   pub lost : (sink : K) → ((x : K) → k.took x [] x) → tapes.Done t old new [] → (named n : ℕ) → named ≡ segment → 3 < n →
-      tapes.Tells t old (λ c. (named ≡ segment) × Says (cells_of c segment mask) (LostSectors n)) →
+      tape_calls.Tells t old (λ c. (named ≡ segment) × Says (cells_of c segment mask) (LostSectors n)) →
       GaveVolume t k words (piece ∷ []) lined (around old sink) (around new sink) (LostIn named n)
   lost sink none did named n same many told =
       none_given t k words lined piece [] (around old sink) (around new sink) (LostIn named n) [] (nothing_went sink none did)
@@ -88,7 +92,7 @@ module _ {T K : Type 0} (t : tapes.Meaning T) (k : sinks.Meaning K) (words : Lis
       (many, sym same)
 
   pub mismatch : (sink : K) → ((x : K) → k.took x [] x) → tapes.Done t old new [] → (named : ℕ) → named ≡ segment →
-      tapes.Tells t old (λ c. (named ≡ segment) × Says (cells_of c segment mask) saying.Mismatch) →
+      tape_calls.Tells t old (λ c. (named ≡ segment) × Says (cells_of c segment mask) saying.Mismatch) →
       GaveVolume t k words (piece ∷ []) lined (around old sink) (around new sink) (MismatchIn named)
   mismatch sink none did named same told =
       none_given t k words lined piece [] (around old sink) (around new sink) (MismatchIn named) [] (nothing_went sink none did)
@@ -138,7 +142,7 @@ module _ {T K : Type 0} (t : tapes.Meaning T) (k : sinks.Meaning K) (words : Lis
           shown = ap (λ (text : List ℕ). record { steps = []; text = text }) (data_bytes mask count sectors holds);
         }
 
-    pub gave : sinks.Wrote k a b (part_text lined piece sectors) → tapes.Tells t old (λ c. HasSolved (cells_of c segment mask) sectors) →
+    pub gave : sinks.Wrote k a b (part_text lined piece sectors) → tape_calls.Tells t old (λ c. HasSolved (cells_of c segment mask) sectors) →
         GaveVolume t k words (piece ∷ []) lined (around old a) (around new b) Restored
     gave wrote solved = record {
       acts = act ∷ [];
@@ -154,7 +158,7 @@ module _ {T K : Type 0} (t : tapes.Meaning T) (k : sinks.Meaning K) (words : Lis
     }
 
     -- the sink failed in its text
-    pub ungiven : sinks.BrokeOff k a b (part_text lined piece sectors) → tapes.Tells t old (λ c. HasSolved (cells_of c segment mask) sectors) →
+    pub ungiven : sink_calls.BrokeOff k a b (part_text lined piece sectors) → tape_calls.Tells t old (λ c. HasSolved (cells_of c segment mask) sectors) →
         VolumeCut t k words (piece ∷ []) lined (around old a) (around new b) SinkFails
     ungiven broke solved = record {
       told = Tells-map t old (λ c. HasSolved (cells_of c segment mask) sectors)

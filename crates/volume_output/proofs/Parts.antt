@@ -5,10 +5,10 @@ use Rattle.std.proofs.lemmas.Bool.{cases_Bool, leb-true}
 use Rattle.std.proofs.lemmas.List.{length-take-le, take-append-le, take-append-drop}
 use Rattle.std.proofs.lemmas.List.Elements.{All-take}
 use Rattle.qic_base.proofs.Steps.{Tells-map}
-use Rattle.qic_base.specs.Cartridge.{Cartridge}
-use Rattle.cartridge_spec.specs.Code.{IsSector, IsCodeBlock}
-use Rattle.cartridge_spec.specs.Says.{Says, Data, LostSectors, cells_of, data_of}
-use Rattle.cartridge_spec.specs.Says as saying
+use Rattle.qic_base.specs.Cartridge.{Cartridge, IsSector}
+use Rattle.cartridge_spec.specs.Code.{IsCodeBlock}
+use Rattle.cartridge_spec.specs.Says.{Says, Data, LostSectors, cells_of}
+use Rattle.cartridge_laws.specs.Terms.{data_of}
 use Rattle.cartridge_spec.specs.Shape.{mask_at, usable_count, data_count, capacity}
 use Rattle.cartridge_laws.proofs.Places.{count_below}
 use Rattle.cartridge_laws.proofs.Segments.{count_of_cells}
@@ -17,7 +17,9 @@ use Rattle.segment_io.specs.Reading.{HasSolved}
 use Rattle.volume_output.specs.Part.{ReadsPiece, LosesPiece, MismatchesPiece}
 use Rattle.volume_output.specs.Piece.{piece_of}
 use Rattle.volume_output.proofs.Walking.{left_from, left_behind, left_skipped, left_given}
+use Rattle.cartridge_spec.specs.Says as saying
 use Rattle.qic_base.specs.Tape as tapes
+use Rattle.qic_base.specs.TapeCalls as tape_calls
 
 -- ---- the walk to a piece
 
@@ -90,7 +92,7 @@ data_first mask sectors room =
 
 module _ {T : Type 0} (t : tapes.Meaning T) (words : List ℕ) (segment count mask : ℕ) (is : mask ≡ mask_at words segment) (old new : T) (did : tapes.Done t old new []) where
   pub piece_lost : (named lost : ℕ) → named ≡ segment → 3 < lost →
-      tapes.Tells t old (λ c. (named ≡ segment) × Says (cells_of c segment mask) (LostSectors lost)) →
+      tape_calls.Tells t old (λ c. (named ≡ segment) × Says (cells_of c segment mask) (LostSectors lost)) →
       LosesPiece t words (piece_of segment count) old new named lost
   piece_lost named lost same many told = record {
     named = same;
@@ -102,7 +104,7 @@ module _ {T : Type 0} (t : tapes.Meaning T) (words : List ℕ) (segment count ma
   }
 
   pub piece_mismatches : (named : ℕ) → named ≡ segment →
-      tapes.Tells t old (λ c. (named ≡ segment) × Says (cells_of c segment mask) saying.Mismatch) →
+      tape_calls.Tells t old (λ c. (named ≡ segment) × Says (cells_of c segment mask) saying.Mismatch) →
       MismatchesPiece t words (piece_of segment count) old new named
   piece_mismatches named same told = record {
     named = same;
@@ -122,7 +124,7 @@ module _ {T : Type 0} (t : tapes.Meaning T) (words : List ℕ) (segment count ma
         (subst (λ (shown : List (List ℕ)). Says (cells_of c segment mask) (Data shown)) (data_first mask sectors room)
         (subst (λ (m : ℕ). Says (cells_of c segment mask) (Data (data_of (take m sectors)))) n solved.says))
 
-    pub piece_read : (answered : ℕ) → answered ≡ capacity mask → tapes.Tells t old (λ c. HasSolved (cells_of c segment mask) sectors) →
+    pub piece_read : (answered : ℕ) → answered ≡ capacity mask → tape_calls.Tells t old (λ c. HasSolved (cells_of c segment mask) sectors) →
         ReadsPiece t words (piece_of segment count) old new (take (answered / 1024) sectors) count
     piece_read answered held told =
         let n : ℕ = usable_count mask in

@@ -1,6 +1,6 @@
 -- One piece of a volume, by its number: its place, and how its reading ended (this project's own).
 use Rattle.std.specs.Prelude.{ℕ, ◌*◌, ◌<◌, ◌≤◌, ◌≡◌, List, [], All, length, take, slice_get, Option, Some, None, Result, Ok, Err}
-use Rattle.cartridge_spec.specs.Code.{IsSector}
+use Rattle.qic_base.specs.Cartridge.{IsSector}
 use Rattle.cartridge_spec.specs.Says.{Says, Data}
 use Rattle.cartridge_spec.specs.Shape.{mask_at, data_count}
 use Rattle.command_spec.specs.Restore.{Piece, PieceEnds, LostIn, MismatchIn, piece_cells}
@@ -9,6 +9,7 @@ use Rattle.volume_output.specs.declared.fault.OutputFault.{OutputFault}
 use Rattle.volume_output.specs.declared.part.PartRead.{PartRead}
 use Rattle.volume_output.specs.declared.part.Place.{Place}
 use Rattle.qic_base.specs.Tape as tapes
+use Rattle.qic_base.specs.TapeCalls as tape_calls
 use Rattle.volume_output.specs.declared.fault.OutputFault.TheVariants as fault
 
 -- the piece that a place is
@@ -25,7 +26,7 @@ pub record ReadsPiece {T : Type 0} (t : tapes.Meaning T) (words : List ℕ) (pie
   pub some : 0 < count
   pub within : count ≤ 1024 * length sectors
   pub did : tapes.Done t old new []
-  pub told : tapes.Tells t old (λ c. Says (piece_cells c words piece) (Data sectors))
+  pub told : tape_calls.Tells t old (λ c. Says (piece_cells c words piece) (Data sectors))
   -- and over any tape
   pub size : length sectors ≡ data_count (mask_at words piece.segment)
   pub are : All IsSector sectors
@@ -35,13 +36,13 @@ pub record LosesPiece {T : Type 0} (t : tapes.Meaning T) (words : List ℕ) (pie
   pub named : segment ≡ piece.segment
   pub many : 3 < lost
   pub did : tapes.Done t old new []
-  pub told : tapes.Tells t old (λ c. PieceEnds c words piece (LostIn segment lost))
+  pub told : tape_calls.Tells t old (λ c. PieceEnds c words piece (LostIn segment lost))
 
 -- it has at most three, and the others are those of no code block
 pub record MismatchesPiece {T : Type 0} (t : tapes.Meaning T) (words : List ℕ) (piece : Piece) (old new : T) (segment : ℕ) : Type 0 where
   pub named : segment ≡ piece.segment
   pub did : tapes.Done t old new []
-  pub told : tapes.Tells t old (λ c. PieceEnds c words piece (MismatchIn segment))
+  pub told : tape_calls.Tells t old (λ c. PieceEnds c words piece (MismatchIn segment))
 
 -- how the reading of the piece with a number ended: without one nothing was read
 abbrev pub PartEnds : {T : Type 0} (t : tapes.Meaning T) (words : List ℕ) (needed : List Piece) (number : ℕ) (old new : T) (sectors : List (List ℕ)) → Result (Option PartRead) OutputFault → Type 0

@@ -1,7 +1,8 @@
 -- One segment's part of a volume: what is read of it and written (this project's own).
 use Rattle.std.specs.Prelude.{ℕ, Bool, true, false, List}
 use Rattle.qic_base.specs.Acts.{Act}
-use Rattle.command_spec.specs.Restore.{Piece, act_of, framed_act}
+use Rattle.command_spec.specs.Restore.{Piece}
+use Rattle.command_laws.specs.CommandTerms.{act_of, framed_act}
 
 -- a segment, and how many bytes it holds
 abbrev pub piece_of : (segment count : ℕ) → Piece

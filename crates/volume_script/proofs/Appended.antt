@@ -6,51 +6,56 @@ use Rattle.std.proofs.lemmas.List.{length-append, length-take-le}
 use Rattle.std.proofs.Math.Seq.{take-append_seam}
 use Rattle.qic_base.specs.Cartridge.{Cartridge}
 use Rattle.qic_base.specs.declared.sink.SinkFailed.{SinkFailed}
-use Rattle.qic_base.specs.Sink as sinks
-use Rattle.qic_base.specs.Source as sources
 use Rattle.qic_base.specs.Step.{Step}
-use Rattle.qic_base.specs.Tape as tapes
 use Rattle.qic_base.proofs.Steps.{Tells-map}
 use Rattle.qic_base.proofs.Writing.{TakesBoth}
-use Rattle.qic_base.specs.Acts.{Act, text_of, Failing, TapeFails, SourceFails, SinkFails, Went, Cut, no_sink, reading}
+use Rattle.qic_base.specs.Acts.{Act, text_of, Failing, TapeFails, SourceFails, SinkFails, Went, Cut}
+use Rattle.qic_base.specs.Terms.{no_sink, reading}
 use Rattle.cartridge_spec.specs.Appending.{table_writes}
-use Rattle.cartridge_spec.specs.Table.{slot_sector, table_with, Entry}
+use Rattle.cartridge_laws.specs.Terms.{slot_sector}
+use Rattle.cartridge_spec.specs.Table.{table_with, Entry}
 use Rattle.qic_base.proofs.Joins.{cut_is_longer, broke_behind}
 use Rattle.cartridge_spec.specs.HeaderAndTable.{table_cells, TableIs}
 use Rattle.cartridge_spec.specs.Says.{ByCode, LostSectors, TableSays}
 use Rattle.cartridge_spec.specs.Settling.{settling_steps}
 use Rattle.command_spec.specs.declared.line.Line.{Line}
-use Rattle.command_spec.specs.declared.line.Line.TheVariants as line
 use Rattle.command_spec.specs.Input.{promised as promised_by}
-use Rattle.qic_base.specs.Source.{Gave}
+use Rattle.qic_base.specs.SourceCalls.{Gave}
 use Rattle.qic_base.proofs.Giving.{Gave-Gave}
 use Rattle.tape_script.proofs.Rests.{any_rest, whole_told}
 use Rattle.command_spec.specs.Lines.{appended_line, reply_behind}
 use Rattle.volume_store.specs.declared.appended.Appended.{Appended}
 use Rattle.volume_store.specs.declared.fault.StoreFault.{StoreFault}
-use Rattle.volume_store.specs.declared.fault.StoreFault.TheVariants as store_fault
-use Rattle.command_spec.specs.Append.{Kept, Taking, Fits, TooLong, TooShort, taking, room_in, entry_for, append_acts, silently, kept_over}
+use Rattle.command_spec.specs.Append.{Kept, Taking, Fits, TooLong, TooShort, taking, room_in, append_acts, kept_over}
+use Rattle.command_laws.specs.CommandTerms.{entry_for, silently}
 use Rattle.volume_store.specs.Appending.{kept_by, AppendRan, HasAppended, TableRefused, AppendCut, CutUnread, KeepsList}
 use Rattle.volume_store.specs.Mounting.{StoreView, StoreFits}
-use Rattle.drive_spec.specs.Deck.{is_protected}
+use Rattle.drive_spec.specs.Terms.{is_protected}
 use Rattle.drive_states.specs.Unit.{UnitView}
 use Rattle.volume_store.proofs.Copies.{tells_two}
 use Rattle.volume_script.specs.declared.fault.ItemFault.{ItemFault}
-use Rattle.volume_script.specs.declared.fault.ItemFault.TheVariants as fault
 use Rattle.volume_script.specs.declared.limited.Limited.{Limited}
 use Rattle.command_spec.specs.declared.refusal.Refusal.{Refusal}
-use Rattle.command_spec.specs.declared.refusal.Refusal.TheVariants as why
 use Rattle.command_laws.specs.ScriptItems.{EarlyDoes}
 use Rattle.volume_script.specs.Items.{ItemDone, ItemShort, ItemCut, ItemMismatched, ItemEnds, WouldDo}
 use Rattle.volume_script.specs.Limited.{limited_means}
 use Rattle.command_spec.specs.Script.{refusal_line, Did, LineDoes, Meeting, Finds, Meets, acts_on, line_refused, reply, taken_as}
 use Rattle.volume_script.specs.Promised.{RanPromised, Refuses, replied_so}
-use Rattle.command_spec.specs.Script as script
 use Rattle.command_laws.proofs.ScriptActs.{quietly, same_acts, same_taking, took_enough, took_too_long, took_short, full_acts, full_taking, short_acts, fits_acts, front_acts, front_and_last, replied_steps, replied_text, input_texts}
 use Rattle.command_laws.proofs.ScriptGiven.{gave_all, gave_few, Behind, behind}
 use Rattle.command_laws.proofs.ScriptLifting.{out, TakesNone, read_went, read_cut, replied_went, replied_cut, rested}
 use Rattle.volume_script.proofs.Quiet.{mark_told, unmarked}
 use Rattle.command_laws.proofs.ScriptPlain.{line_one, meets_one, not_lost}
+use Rattle.qic_base.specs.Sink as sinks
+use Rattle.qic_base.specs.SinkCalls as sink_calls
+use Rattle.qic_base.specs.Source as sources
+use Rattle.qic_base.specs.Tape as tapes
+use Rattle.qic_base.specs.TapeCalls as tape_calls
+use Rattle.command_spec.specs.declared.line.Line.TheVariants as line
+use Rattle.volume_store.specs.declared.fault.StoreFault.TheVariants as store_fault
+use Rattle.volume_script.specs.declared.fault.ItemFault.TheVariants as fault
+use Rattle.command_spec.specs.declared.refusal.Refusal.TheVariants as why
+use Rattle.command_spec.specs.Script as script
 
 pub flip : (o : Option (List ℕ)) (all : List ℕ) → IfSome o (λ bytes. all ≡ bytes) → IfSome o (λ bytes. bytes ≡ all)
 flip None all told = tt
@@ -130,14 +135,14 @@ module _ {T S K : Type 0} (t : tapes.Meaning T) (s : sources.Meaning S) (k : sin
     lift_cut acts failing other cut = read_cut t s k (limited_means s) ran.before ran.behind i j begins stands none a b x acts failing other cut
 
     -- what is known of the cartridge, by the data that the append found
-    known_so : tapes.Tells t a (λ c. c.info.protected ≡ false) → (table : List (List ℕ)) (settling : List Step) →
-        tapes.Tells t a (λ c. TableIs c table × (settling ≡ settling_steps table c)) → tapes.Tells t a (Known store table settling)
+    known_so : tape_calls.Tells t a (λ c. c.info.protected ≡ false) → (table : List (List ℕ)) (settling : List Step) →
+        tape_calls.Tells t a (λ c. TableIs c table × (settling ≡ settling_steps table c)) → tape_calls.Tells t a (Known store table settling)
     known_so free table settling told =
         tells_two t a (λ c. TableIs c table × (settling ≡ settling_steps table c)) (λ c. c.info.protected ≡ false) (Known store table settling) (λ c is off. (is, off)) told free
 
     -- ---- all bytes came
 
-    module _ (y : K) (answered : Appended) (has : HasAppended t (limited_means s) (reading a ran.before) (reading b ran.behind) store after name date (Some promised) answered) (free : tapes.Tells t a (λ c. c.info.protected ≡ false)) where
+    module _ (y : K) (answered : Appended) (has : HasAppended t (limited_means s) (reading a ran.before) (reading b ran.behind) store after name date (Some promised) answered) (free : tape_calls.Tells t a (λ c. c.info.protected ≡ false)) where
       abbrev r : AppendRan t (limited_means s) (reading a ran.before) (reading b ran.behind) store name date (Some promised) (Fits has.bytes)
       r = has.ran
 
@@ -169,7 +174,7 @@ module _ {T S K : Type 0} (t : tapes.Meaning T) (s : sources.Meaning S) (k : sin
           ap (λ (bs : List ℕ). taking (room_in kept) (Some promised) bs) took_all.1 ∙ sym (same_taking kept name date promised has.ran.input took_all.0) ∙ has.ran.took
 
       does : (entries : List Entry) → entries ≡ store.entries ++ has.entry ∷ [] →
-          tapes.Tells t a (λ c. LineDoes c store.words store.entries asked has.bytes (record { acts = whole; entries = entries }))
+          tape_calls.Tells t a (λ c. LineDoes c store.words store.entries asked has.bytes (record { acts = whole; entries = entries }))
       does entries added =
           Tells-map t a (Known store has.ran.table has.ran.settling) (λ c. LineDoes c store.words store.entries asked has.bytes (record { acts = whole; entries = entries }))
           (λ c known.
@@ -209,7 +214,7 @@ module _ {T S K : Type 0} (t : tapes.Meaning T) (s : sources.Meaning S) (k : sin
         text = text;
       }
 
-      unreplied : sinks.BrokeOff k x y text → Cut t s k (out a i x) (out b j y) whole SinkFails
+      unreplied : sink_calls.BrokeOff k x y text → Cut t s k (out a i x) (out b j y) whole SinkFails
       unreplied broke = record {
         at = record {
           front = front_acts kept promised has.ran.input;
@@ -222,7 +227,7 @@ module _ {T S K : Type 0} (t : tapes.Meaning T) (s : sources.Meaning S) (k : sin
         source_later = silent.source_later;
       }
 
-      pub appended_cut : sinks.BrokeOff k x y text → ItemCut t s k store (out a i x) (out b j y) asked SinkFails
+      pub appended_cut : sink_calls.BrokeOff k x y text → ItemCut t s k store (out a i x) (out b j y) asked SinkFails
       appended_cut broke =
           let rest = any_rest (s.left j) in record {
             rest = has.bytes ++ rest.rest;
@@ -244,15 +249,15 @@ module _ {T S K : Type 0} (t : tapes.Meaning T) (s : sources.Meaning S) (k : sin
           ∙ ap (λ (n : ℕ). appended_line (length store.entries + 1) (length has.bytes) has.entry.start n) has.end
           ∙ ap (λ (e : Entry). appended_line (length store.entries + 1) (length has.bytes) e.start e.end) has.is_entry
 
-      pub appended_ends : (r : Result (Unit {0}) SinkFailed) → sinks.Writes k x y (appended_line answered.number answered.bytes answered.start answered.end) r →
+      pub appended_ends : (r : Result (Unit {0}) SinkFailed) → sink_calls.Writes k x y (appended_line answered.number answered.bytes answered.start answered.end) r →
           ItemEnds t s k store after (out a i x) (out b j y) asked (replied_so r)
       appended_ends (Ok done) wrote = appended_done (subst (sinks.Wrote k x y) text_is wrote)
-      appended_ends (Err failed) broke = appended_cut (subst (sinks.BrokeOff k x y) text_is broke)
+      appended_ends (Err failed) broke = appended_cut (subst (sink_calls.BrokeOff k x y) text_is broke)
 
     -- ---- fewer bytes came
 
     pub came_short : (asked_for got : ℕ) (short : AppendRan t (limited_means s) (reading a ran.before) (reading b ran.behind) store name date (Some promised) (TooShort asked_for got)) →
-        tapes.Tells t a (λ c. c.info.protected ≡ false) → ItemShort t s k store (out a i x) (out b j x) asked
+        tape_calls.Tells t a (λ c. c.info.protected ≡ false) → ItemShort t s k store (out a i x) (out b j x) asked
     came_short asked_for got short free =
         let kept : Kept = kept_by store short.table short.settling in
         let few = took_short (room_in kept) promised short.input asked_for got short.took in
@@ -286,7 +291,7 @@ module _ {T S K : Type 0} (t : tapes.Meaning T) (s : sources.Meaning S) (k : sin
     longer_taken kept acts (TooShort n read) failing cut = cut
 
     pub failed : (failing : Failing) → failing ≢ SinkFails → AppendCut t (limited_means s) (reading a ran.before) (reading b ran.behind) store name date (Some promised) failing →
-        CutUnread t (limited_means s) (reading a ran.before) (reading b ran.behind) failing → tapes.Tells t a (λ c. c.info.protected ≡ false) → ItemCut t s k store (out a i x) (out b j x) asked failing
+        CutUnread t (limited_means s) (reading a ran.before) (reading b ran.behind) failing → tape_calls.Tells t a (λ c. c.info.protected ≡ false) → ItemCut t s k store (out a i x) (out b j x) asked failing
     failed failing other cut unread free =
         let at : Behind (s.left i) promised cut.input = behind (s.left i) promised cut.input (limit_told cut.input cut.is_told) in record {
           rest = at.rest;
@@ -351,10 +356,10 @@ module _ {T S K : Type 0} (t : tapes.Meaning T) (s : sources.Meaning S) (k : sin
     -- it was refused behind these acts, whatever the bytes are
     pub record Refusing (acts : List Act) (refusal : Refusal) : Type 0 where
       pub went : Went t s k (out a i x) (out b j x) acts
-      pub told : tapes.Tells t a (λ c. (meeting : Meeting) × Meets c meeting × (((bytes : List ℕ) → acts_on c store.words store.entries name promised date bytes meeting ≡ acts)
+      pub told : tape_calls.Tells t a (λ c. (meeting : Meeting) × Meets c meeting × (((bytes : List ℕ) → acts_on c store.words store.entries name promised date bytes meeting ≡ acts)
           × ((bytes : List ℕ) → script.append_did c store.words store.entries name promised date bytes meeting ≡ line_refused acts store.entries refusal)))
 
-    pub refusing_full : (need have : ℕ) → tapes.Tells t a (λ c. c.info.protected ≡ false) →
+    pub refusing_full : (need have : ℕ) → tape_calls.Tells t a (λ c. c.info.protected ≡ false) →
         (full : AppendRan t (limited_means s) (reading a ran.before) (reading b ran.behind) store name date (Some promised) (TooLong need have)) → Refusing (quietly full.settling ∷ []) (why.Full need have)
     refusing_full need have free full =
         let kept : Kept = kept_by store full.table full.settling in
@@ -380,7 +385,7 @@ module _ {T S K : Type 0} (t : tapes.Meaning T) (s : sources.Meaning S) (k : sin
               )) (known_so free full.table full.settling full.known);
         }
 
-    pub refusing_lost : (segment lost : ℕ) → segment ≡ 2 → tapes.Tells t a (λ c. c.info.protected ≡ false) →
+    pub refusing_lost : (segment lost : ℕ) → segment ≡ 2 → tape_calls.Tells t a (λ c. c.info.protected ≡ false) →
         (refusal : TableRefused t (limited_means s) (reading a ran.before) (reading b ran.behind) (λ c. TableSays (table_cells c) (ByCode (LostSectors lost)))) → Refusing refusal.acts (why.Lost segment lost)
     refusing_lost segment lost is free refusal = record {
       went = lift refusal.acts refusal.went;
@@ -395,7 +400,7 @@ module _ {T S K : Type 0} (t : tapes.Meaning T) (s : sources.Meaning S) (k : sin
           )) free refusal.told;
     }
 
-    pub refusing_protected : tapes.Tells t a (λ c. c.info.protected ≡ true) → (ran.behind ≡ ran.before) → b ≡ a → Refusing [] why.Protected
+    pub refusing_protected : tape_calls.Tells t a (λ c. c.info.protected ≡ true) → (ran.behind ≡ ran.before) → b ≡ a → Refusing [] why.Protected
     refusing_protected mark source tape =
         let faults : s.faults i ≡ s.faults j = sym begins ∙ ap (λ (l : Limited S). s.faults l.source.now) (sym source) ∙ stands in
         record {
@@ -405,7 +410,7 @@ module _ {T S K : Type 0} (t : tapes.Meaning T) (s : sources.Meaning S) (k : sin
 
     module _ (same : after.entries ≡ store.entries) (acts : List Act) (refusal : Refusal) (refusing : Refusing acts refusal) (j2 : S) (y : K) where
       does_so : (bytes : List ℕ) (entries : List Entry) → entries ≡ store.entries →
-          tapes.Tells t a (λ c. LineDoes c store.words store.entries asked bytes (record { acts = acts ++ reply (refusal_line refusal) ∷ []; entries = entries }))
+          tape_calls.Tells t a (λ c. LineDoes c store.words store.entries asked bytes (record { acts = acts ++ reply (refusal_line refusal) ∷ []; entries = entries }))
       does_so bytes entries is =
           Tells-map t a _ (λ c. LineDoes c store.words store.entries asked bytes (record { acts = acts ++ reply (refusal_line refusal) ∷ []; entries = entries }))
           (λ c known. (known.0, known.1, ap (λ (es : List Entry). record { acts = acts ++ reply (refusal_line refusal) ∷ []; entries = es }) is ∙ sym (known.2.1 bytes))) refusing.told
@@ -516,11 +521,11 @@ module _ {T S K : Type 0} (t : tapes.Meaning T) (s : sources.Meaning S) (k : sin
   list_as : (r : Result Appended StoreFault) → answer ≡ r → KeepsList r store after
   list_as r is = subst (λ (r : Result Appended StoreFault). KeepsList r store after) is list
 
-  free : ¬ (answer ≡ Err store_fault.Protected) → tapes.Tells t u.tape (λ c. c.info.protected ≡ false)
+  free : ¬ (answer ≡ Err store_fault.Protected) → tape_calls.Tells t u.tape (λ c. c.info.protected ≡ false)
   free other = mark_told t store u fits false (unmarked (is_protected u.drive.deck) (answer ≡ Err store_fault.Protected) mark other)
 
   pub by_ok : (y : K) (answered : Appended) → answer ≡ Ok answered → (r : Result (Unit {0}) SinkFailed) →
-      sinks.Writes k x y (appended_line answered.number answered.bytes answered.start answered.end) r → ItemEnds t s k store after (out u.tape i x) (out b j y) (line.Append name promised date) (replied_so r)
+      sink_calls.Writes k x y (appended_line answered.number answered.bytes answered.start answered.end) r → ItemEnds t s k store after (out u.tape i x) (out b j y) (line.Append name promised date) (replied_so r)
   by_ok y answered is r wrote =
       let as_ok = ran_as (Ok answered) is in
       appended_ends t s k store after name promised date both none u.tape b i j x left (Ok answered) as_ok y answered as_ok.ends (free (λ e. let no = sym is ∙ e in cc)) r wrote

@@ -4,7 +4,7 @@ use Rattle.std.specs.Option.{option_map}
 use Rattle.std.proofs.lemmas.Bool.{cases_Bool}
 use Rattle.std.proofs.lemmas.List.{length-append, length-take-le, take-append-drop}
 use Rattle.qic_base.specs.Cartridge.{Cartridge}
-use Rattle.qic_base.specs.Cause.{Rose}
+use Rattle.qic_base.specs.Tape.{Rose}
 use Rattle.qic_base.specs.Sink as sinks
 use Rattle.qic_base.specs.Source as sources
 use Rattle.qic_base.specs.Tape as tapes
@@ -14,10 +14,9 @@ use Rattle.qic_base.proofs.Joins.{cut_is_longer}
 use Rattle.segment_io.proofs.Going.{tells_always}
 use Rattle.command_spec.specs.declared.line.Line.{Line}
 use Rattle.command_spec.specs.declared.line.Line.TheVariants as line
-use Rattle.command_spec.specs.Input.{AtEnd, AtStop, AtFault, promised, most_items}
-use Rattle.qic_base.specs.Source.{Gave}
+use Rattle.command_spec.specs.Input.{AtEnd, AtStop, AtFault, promised, most_items, IsLineText}
+use Rattle.qic_base.specs.SourceCalls.{Gave}
 use Rattle.tape_script.specs.Reading.{GaveInLine, BeginsWithNo}
-use Rattle.command_spec.specs.Input.{IsLineText}
 use Rattle.qic_base.proofs.Giving.{Gave-Gave}
 use Rattle.tape_script.proofs.Rests.{any_rest, whole_told}
 use Rattle.volume_store.specs.Mounting.{StoreView}

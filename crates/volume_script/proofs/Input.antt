@@ -7,8 +7,9 @@ use Rattle.std.specs.Option.{option_map}
 use Rattle.command_laws.proofs.ScriptInput.{SameLine, same_line}
 use Rattle.command_laws.proofs.TextLined.{end_no_newline}
 use Rattle.command_laws.proofs.TextLines.{one_line}
-use Rattle.command_spec.specs.CommandWords.{SpellsAll, Word}
-use Rattle.command_spec.specs.Input.{words_of, IsLineText, IsItem, promised, Item, IsFault, most_items, HasStop}
+use Rattle.command_spec.specs.Command.{SpellsAll, Word}
+use Rattle.command_laws.specs.CommandTerms.{words_of}
+use Rattle.command_spec.specs.Input.{IsLineText, IsItem, promised, Item, IsFault, most_items, HasStop}
 use Rattle.command_spec.specs.Script.{EndsEarly}
 use Rattle.command_spec.specs.declared.line.Line.{Line}
 use Rattle.tape_script.proofs.Rests.{Rest}

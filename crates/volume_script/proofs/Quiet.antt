@@ -5,55 +5,58 @@ use Rattle.std.specs.Prelude.{◌↔◌}
 use Rattle.qic_base.specs.Cartridge.{Cartridge, IsPlace}
 use Rattle.qic_base.specs.declared.sink.SinkFailed.{SinkFailed}
 use Rattle.qic_base.specs.declared.tape.TapeInfo.{TapeInfo}
-use Rattle.qic_base.specs.Sink as sinks
-use Rattle.qic_base.specs.Source as sources
 use Rattle.qic_base.specs.Step.{Wear}
-use Rattle.qic_base.specs.Tape as tapes
 use Rattle.qic_base.proofs.Steps.{Tells-map}
 use Rattle.qic_base.proofs.Writing.{TakesBoth}
 use Rattle.qic_base.specs.Acts.{Act, Outside, Failing, TapeFails, SourceFails, SinkFails, Went, Cut}
-use Rattle.qic_base.specs.Acts.{no_source, around}
+use Rattle.qic_base.specs.Terms.{no_source, around}
 use Rattle.qic_base.proofs.Joins.{cut_is_longer, sink_cut_one}
 use Rattle.cartridge_spec.specs.Table.{Entry}
 use Rattle.cartridge_spec.specs.Volumes.{volume_length}
-use Rattle.drive_spec.specs.Deck.{is_protected, segments_per_track}
+use Rattle.drive_spec.specs.Terms.{is_protected}
+use Rattle.drive_spec.specs.Deck.{segments_per_track}
 use Rattle.drive_states.specs.declared.fault.HandFault.{HandFault}
-use Rattle.drive_states.specs.declared.fault.HandFault.TheVariants as hand
 use Rattle.drive_states.specs.Hand.{Wears}
 use Rattle.drive_states.specs.Unit.{UnitView}
 use Rattle.host_driver.specs.Fits.{segments_of}
-use Rattle.command_spec.specs.Restore.{Restored, LostIn, MismatchIn, Restores, framed, pieces}
-use Rattle.command_spec.specs.Restore as restoring
-use Rattle.command_spec.specs.Scrub.{Scrubs, counts_of, looked_at}
+use Rattle.command_spec.specs.Restore.{Restored, LostIn, MismatchIn, Restores, framed, pieces, volume_at}
+use Rattle.command_spec.specs.Scrub.{Scrubs, looked_at}
+use Rattle.command_laws.specs.Terms.{counts_of}
 use Rattle.segment_io.proofs.Going.{tells_always}
 use Rattle.segment_mending.specs.Mending.{reported}
 use Rattle.segment_mending.specs.declared.report.ScrubReport.{ScrubReport}
 use Rattle.command_spec.specs.declared.line.Line.{Line}
-use Rattle.command_spec.specs.declared.line.Line.TheVariants as line
 use Rattle.command_spec.specs.Input.{promised}
 use Rattle.qic_base.proofs.Giving.{Gave-nothing}
 use Rattle.tape_script.proofs.Rests.{any_rest}
 use Rattle.command_spec.specs.Lines.{list_text, lost_line}
 use Rattle.volume_output.specs.Output.{GaveVolume, VolumeCut}
 use Rattle.volume_store.specs.Scrubbing.{HasMended, MendCut}
-use Rattle.volume_store.specs.declared.fault.StoreFault.TheVariants as store_fault
 use Rattle.volume_store.specs.Mounting.{StoreView, StoreFits}
 use Rattle.volume_store.specs.Restoring.{RestoreEnds}
-use Rattle.command_spec.specs.Restore.{volume_at}
 use Rattle.volume_store.proofs.Copies.{IsLearnt, told_learnt, tells_two}
-use Rattle.command_spec.specs.declared.refusal.Refusal.TheVariants as why
 use Rattle.volume_script.specs.Items.{ItemDone, ItemCut, ItemEnds, WouldDo}
-use Rattle.command_spec.specs.Script.{refusal_line, restored_line}
+use Rattle.command_spec.specs.Script.{refusal_line, Did, LineDoes, given_as, reply}
+use Rattle.command_laws.specs.CommandTerms.{restored_line}
 use Rattle.volume_script.specs.Promised.{replied_so}
-use Rattle.command_spec.specs.Script.{Did, LineDoes, given_as, reply}
 use Rattle.command_laws.proofs.ScriptLifting.{out, TakesNone, printed_went, printed_cut, replied_went, replied_cut, rested}
 use Rattle.command_laws.proofs.ScriptPlain.{given, line_one}
 use Rattle.volume_script.proofs.Plain.{would_without}
 use Rattle.command_laws.proofs.ScriptPlaces.{place_or_not}
+use Rattle.qic_base.specs.Sink as sinks
+use Rattle.qic_base.specs.SinkCalls as sink_calls
+use Rattle.qic_base.specs.Source as sources
+use Rattle.qic_base.specs.Tape as tapes
+use Rattle.qic_base.specs.TapeCalls as tape_calls
+use Rattle.drive_states.specs.declared.fault.HandFault.TheVariants as hand
+use Rattle.command_spec.specs.Restore as restoring
+use Rattle.command_spec.specs.declared.line.Line.TheVariants as line
+use Rattle.volume_store.specs.declared.fault.StoreFault.TheVariants as store_fault
+use Rattle.command_spec.specs.declared.refusal.Refusal.TheVariants as why
 
 -- the mark that is told is the one that the drive knows
 pub mark_told : {T : Type 0} (t : tapes.Meaning T) (store : StoreView) (u : UnitView T) → StoreFits t store u → (mark : Bool) → is_protected u.drive.deck ≡ mark →
-    tapes.Tells t u.tape (λ c. c.info.protected ≡ mark)
+    tape_calls.Tells t u.tape (λ c. c.info.protected ≡ mark)
 mark_told t store u fits mark is =
     Tells-map t u.tape (IsLearnt store.host) (λ c. c.info.protected ≡ mark) (λ c known. known.protected ∙ sym (ap is_protected fits.host.deck) ∙ is)
     (told_learnt t store.host u fits.host fits.agrees)
@@ -65,12 +68,12 @@ unmarked false P both never = refl
 
 module _ {T S K : Type 0} (t : tapes.Meaning T) (s : sources.Meaning S) (k : sinks.Meaning K) (store after : StoreView) (asked : Line) (quiet : promised asked ≡ 0) (a b : T) (i : S) (x y : K) where
   pub quiet_done : (acts : List Act) → Went t s k (out a i x) (out b i y) acts →
-      tapes.Tells t a (λ c. LineDoes c store.words store.entries asked [] (record { acts = acts; entries = after.entries })) →
+      tape_calls.Tells t a (λ c. LineDoes c store.words store.entries asked [] (record { acts = acts; entries = after.entries })) →
       ItemDone t s k store after (out a i x) (out b i y) asked
   quiet_done acts went told = record { bytes = []; kept = sym quiet; gave = Gave-nothing s i i refl; acts = acts; went = went; told = told }
 
   pub quiet_cut : (failing : Failing) (acts : List Act) → Cut t s k (out a i x) (out b i y) acts failing →
-      tapes.Tells t a (λ c. (did : Did) → LineDoes c store.words store.entries asked [] did → Cut t s k (out a i x) (out b i y) did.acts failing) →
+      tape_calls.Tells t a (λ c. (did : Did) → LineDoes c store.words store.entries asked [] did → Cut t s k (out a i x) (out b i y) did.acts failing) →
       ItemCut t s k store (out a i x) (out b i y) asked failing
   quiet_cut failing acts cut told =
       let left = any_rest (s.left i) in record {
@@ -86,7 +89,7 @@ module _ {T S K : Type 0} (t : tapes.Meaning T) (s : sources.Meaning S) (k : sin
       }
 
   -- what it did is known
-  pub known_cut : (failing : Failing) (did : Did) → Cut t s k (out a i x) (out b i y) did.acts failing → tapes.Tells t a (λ c. LineDoes c store.words store.entries asked [] did) →
+  pub known_cut : (failing : Failing) (did : Did) → Cut t s k (out a i x) (out b i y) did.acts failing → tape_calls.Tells t a (λ c. LineDoes c store.words store.entries asked [] did) →
       ItemCut t s k store (out a i x) (out b i y) asked failing
   known_cut failing did cut told =
       quiet_cut failing did.acts cut
@@ -97,19 +100,19 @@ module _ {T S K : Type 0} (t : tapes.Meaning T) (s : sources.Meaning S) (k : sin
 
   -- a reply behind some acts
   pub replied : TakesBoth k → TakesNone k → (z : K) (acts : List Act) (text : List ℕ) (r : Result (Unit {0}) SinkFailed) → after.entries ≡ store.entries →
-      Went t s k (out a i x) (out b i z) acts → sinks.Writes k z y text r →
-      tapes.Tells t a (λ c. LineDoes c store.words store.entries asked [] (record { acts = acts ++ reply text ∷ []; entries = store.entries })) →
+      Went t s k (out a i x) (out b i z) acts → sink_calls.Writes k z y text r →
+      tape_calls.Tells t a (λ c. LineDoes c store.words store.entries asked [] (record { acts = acts ++ reply text ∷ []; entries = store.entries })) →
       ItemEnds t s k store after (out a i x) (out b i y) asked (replied_so r)
   replied both none z acts text (Ok done) same went wrote told =
       quiet_done (acts ++ reply text ∷ []) (replied_went t s k both (out a i x) b i z y acts text went wrote)
-      (subst (λ (es : List Entry). tapes.Tells t a (λ c. LineDoes c store.words store.entries asked [] (record { acts = acts ++ reply text ∷ []; entries = es }))) (sym same) told)
+      (subst (λ (es : List Entry). tape_calls.Tells t a (λ c. LineDoes c store.words store.entries asked [] (record { acts = acts ++ reply text ∷ []; entries = es }))) (sym same) told)
   replied both none z acts text (Err failed) same went broke told =
       known_cut SinkFails (record { acts = acts ++ reply text ∷ []; entries = store.entries }) (replied_cut t s k both none (out a i x) b i z y acts text went broke) told
 
 -- ---- list
 
 pub listed : {T S K : Type 0} (t : tapes.Meaning T) (s : sources.Meaning S) (k : sinks.Meaning K) (store after : StoreView) (a : T) (i : S) (x y : K) → TakesBoth k → TakesNone k →
-    (r : Result (Unit {0}) SinkFailed) → after.entries ≡ store.entries → sinks.Writes k x y (list_text store.words store.entries) r →
+    (r : Result (Unit {0}) SinkFailed) → after.entries ≡ store.entries → sink_calls.Writes k x y (list_text store.words store.entries) r →
     ItemEnds t s k store after (out a i x) (out a i y) line.List (replied_so r)
 listed t s k store after a i x y both none r same wrote =
     replied t s k store after line.List refl a a i x y both none x [] (list_text store.words store.entries) r same (rested t s k none a i i x (omega arith)) wrote
@@ -132,7 +135,7 @@ module _ {T S K : Type 0} (t : tapes.Meaning T) (s : sources.Meaning S) (k : sin
 
   -- this was given, and this replied
   gave_back : (e : Entry) (ending : restoring.GivingEnd) (text : List ℕ) (r : Result (Unit {0}) SinkFailed) → volume_at store.entries number ≡ Some e →
-      (gave : GaveVolume t k store.words (pieces store.words e) true (around a x) (around b z) ending) → sinks.Writes k z y text r →
+      (gave : GaveVolume t k store.words (pieces store.words e) true (around a x) (around b z) ending) → sink_calls.Writes k z y text r →
       given store.words store.entries number e gave.acts ending ≡ record { acts = framed (pieces store.words e) gave.acts ++ reply text ∷ []; entries = store.entries } →
       ItemEnds t s k store after (out a i x) (out b i y) restores (replied_so r)
   gave_back e ending text r numbered gave wrote is =
@@ -143,28 +146,28 @@ module _ {T S K : Type 0} (t : tapes.Meaning T) (s : sources.Meaning S) (k : sin
       (λ c read. inr (record { entry = e; numbered = numbered; acts = gave.acts; ending = ending; restores = read; is = sym is })) gave.told)
 
   pub restored_ends : (bytes : ℕ) (r : Result (Unit {0}) SinkFailed) → RestoreEnds t k store number true (around a x) (around b z) (Ok bytes) →
-      sinks.Writes k z y (restored_line number bytes) r → ItemEnds t s k store after (out a i x) (out b i y) restores (replied_so r)
+      sink_calls.Writes k z y (restored_line number bytes) r → ItemEnds t s k store after (out a i x) (out b i y) restores (replied_so r)
   restored_ends bytes r (e, numbered, (long, gave)) wrote =
       gave_back e Restored (restored_line number (volume_length store.words e)) r numbered gave
-      (subst (λ (n : ℕ). sinks.Writes k z y (restored_line number n) r) long wrote) refl
+      (subst (λ (n : ℕ). sink_calls.Writes k z y (restored_line number n) r) long wrote) refl
 
   pub lost_ends : (segment lost : ℕ) (r : Result (Unit {0}) SinkFailed) → RestoreEnds t k store number true (around a x) (around b z) (Err (store_fault.Lost segment lost)) →
-      sinks.Writes k z y (refusal_line (why.Lost segment lost)) r → ItemEnds t s k store after (out a i x) (out b i y) restores (replied_so r)
+      sink_calls.Writes k z y (refusal_line (why.Lost segment lost)) r → ItemEnds t s k store after (out a i x) (out b i y) restores (replied_so r)
   lost_ends segment lost r (e, numbered, gave) wrote = gave_back e (LostIn segment lost) (refusal_line (why.Lost segment lost)) r numbered gave wrote refl
 
   pub mismatch_ends : (segment : ℕ) (r : Result (Unit {0}) SinkFailed) → RestoreEnds t k store number true (around a x) (around b z) (Err (store_fault.Mismatch segment)) →
-      sinks.Writes k z y (refusal_line (why.Mismatch segment)) r → ItemEnds t s k store after (out a i x) (out b i y) restores (replied_so r)
+      sink_calls.Writes k z y (refusal_line (why.Mismatch segment)) r → ItemEnds t s k store after (out a i x) (out b i y) restores (replied_so r)
   mismatch_ends segment r (e, numbered, gave) wrote = gave_back e (MismatchIn segment) (refusal_line (why.Mismatch segment)) r numbered gave wrote refl
 
   pub no_volume_ends : (asked count : ℕ) (r : Result (Unit {0}) SinkFailed) → RestoreEnds t k store number true (around a x) (around b z) (Err (store_fault.NoVolume asked count)) →
-      sinks.Writes k z y (refusal_line (why.NoVolume asked count)) r → ItemEnds t s k store after (out a i x) (out b i y) restores (replied_so r)
+      sink_calls.Writes k z y (refusal_line (why.NoVolume asked count)) r → ItemEnds t s k store after (out a i x) (out b i y) restores (replied_so r)
   no_volume_ends asked count r none_given wrote =
       let text : List ℕ = refusal_line (why.NoVolume number (length store.entries)) in
       let said : refusal_line (why.NoVolume asked count) ≡ text =
       ap (λ (n : ℕ). refusal_line (why.NoVolume n count)) none_given.named ∙ ap (λ (n : ℕ). refusal_line (why.NoVolume number n)) none_given.counted in
       subst (λ (w : T). ItemEnds t s k store after (out a i x) (out w i y) restores (replied_so r)) (sym none_given.tape)
       (replied t s k store after restores refl a a i x y both none x [] text r same (rested t s k none a i i x (omega arith))
-      (subst (λ (w : K). sinks.Writes k w y text r) none_given.sink (subst (λ (l : List ℕ). sinks.Writes k z y l r) said wrote))
+      (subst (λ (w : K). sink_calls.Writes k w y text r) none_given.sink (subst (λ (l : List ℕ). sink_calls.Writes k z y l r) said wrote))
       (tells_always t a (λ c. LineDoes c store.words store.entries restores [] (record { acts = [] ++ reply text ∷ []; entries = store.entries })) (λ c. inl (none_given.none, refl))))
 
   pub restore_cut : (failing : Failing) (e : Entry) → failing ≢ SourceFails → volume_at store.entries number ≡ Some e →
@@ -196,26 +199,26 @@ module _ {T S K : Type 0} (t : tapes.Meaning T) (s : sources.Meaning S) (k : sin
 -- ---- scrub
 
 module _ {T S K : Type 0} (t : tapes.Meaning T) (s : sources.Meaning S) (k : sinks.Meaning K) (store after : StoreView) (a b : T) (i : S) (x y : K) (same : after.entries ≡ store.entries) where
-  pub scrub_locked : TakesBoth k → TakesNone k → (z : K) (r : Result (Unit {0}) SinkFailed) → tapes.Tells t a (λ c. c.info.protected ≡ true) → b ≡ a → z ≡ x →
-      sinks.Writes k z y (refusal_line why.Protected) r → ItemEnds t s k store after (out a i x) (out b i y) line.Scrub (replied_so r)
+  pub scrub_locked : TakesBoth k → TakesNone k → (z : K) (r : Result (Unit {0}) SinkFailed) → tape_calls.Tells t a (λ c. c.info.protected ≡ true) → b ≡ a → z ≡ x →
+      sink_calls.Writes k z y (refusal_line why.Protected) r → ItemEnds t s k store after (out a i x) (out b i y) line.Scrub (replied_so r)
   scrub_locked both none z r mark tape sink wrote =
       subst (λ (w : T). ItemEnds t s k store after (out a i x) (out w i y) line.Scrub (replied_so r)) (sym tape)
       (replied t s k store after line.Scrub refl a a i x y both none x [] (refusal_line why.Protected) r same (rested t s k none a i i x (omega arith))
-      (subst (λ (w : K). sinks.Writes k w y (refusal_line why.Protected) r) sink wrote)
+      (subst (λ (w : K). sink_calls.Writes k w y (refusal_line why.Protected) r) sink wrote)
       (Tells-map t a (λ c. c.info.protected ≡ true)
       (λ c. LineDoes c store.words store.entries line.Scrub [] (record { acts = [] ++ reply (refusal_line why.Protected) ∷ []; entries = store.entries })) (λ c is. inl (is, refl)) mark))
 
-  pub scrub_done : (report : ScrubReport) → tapes.Tells t a (λ c. c.info.protected ≡ false) → HasMended t k store.words store.entries (around a x) (around b y) report →
+  pub scrub_done : (report : ScrubReport) → tape_calls.Tells t a (λ c. c.info.protected ≡ false) → HasMended t k store.words store.entries (around a x) (around b y) report →
       ItemDone t s k store after (out a i x) (out b i y) line.Scrub
   scrub_done report free did =
       quiet_done t s k store after line.Scrub refl a b i x y did.acts (printed_went t s k a b i i x y did.acts (omega arith) did.went)
-      (subst (λ (es : List Entry). tapes.Tells t a (λ c. LineDoes c store.words store.entries line.Scrub [] (record { acts = did.acts; entries = es }))) (sym same)
+      (subst (λ (es : List Entry). tape_calls.Tells t a (λ c. LineDoes c store.words store.entries line.Scrub [] (record { acts = did.acts; entries = es }))) (sym same)
       (tells_two t a (λ c. c.info.protected ≡ false)
       (λ c. (scrubs : Scrubs c store.words store.entries did.acts) × (reported report ≡ counts_of c (looked_at store.words store.entries) scrubs.sayings))
       (λ c. LineDoes c store.words store.entries line.Scrub [] (record { acts = did.acts; entries = store.entries }))
       (λ c off is. inr (off, (did.acts, is.0, refl))) free did.told))
 
-  pub scrub_cut : (failing : Failing) → failing ≢ SourceFails → tapes.Tells t a (λ c. c.info.protected ≡ false) → MendCut t k store.words store.entries (around a x) (around b y) failing →
+  pub scrub_cut : (failing : Failing) → failing ≢ SourceFails → tape_calls.Tells t a (λ c. c.info.protected ≡ false) → MendCut t k store.words store.entries (around a x) (around b y) failing →
       ItemCut t s k store (out a i x) (out b i y) line.Scrub failing
   scrub_cut failing other free cut =
       quiet_cut t s k store after line.Scrub refl a b i x y failing cut.acts (printed_cut t s k a b i i x y cut.acts failing other (omega arith) cut.cut)
@@ -233,7 +236,7 @@ module _ {T S K : Type 0} (t : tapes.Meaning T) (s : sources.Meaning S) (k : sin
 
 -- the length that is told is the one that the drive knows
 pub length_told : {T : Type 0} (t : tapes.Meaning T) (store : StoreView) (u : UnitView T) → StoreFits t store u →
-    tapes.Tells t u.tape (λ c. c.info.segments_per_track ≡ segments_per_track u.drive.deck)
+    tape_calls.Tells t u.tape (λ c. c.info.segments_per_track ≡ segments_per_track u.drive.deck)
 length_told t store u fits =
     Tells-map t u.tape (IsLearnt store.host) (λ c. c.info.segments_per_track ≡ segments_per_track u.drive.deck)
     (λ c known. known.length_told ∙ sym (by_cartridge u.drive.deck.cartridge fits.host.cartridge))
@@ -268,13 +271,13 @@ module _ {T S K : Type 0} (t : tapes.Meaning T) (s : sources.Meaning S) (k : sin
   worn_act = record { steps = Wear segment sector ∷ []; text = lost_line segment sector }
 
   worn_does : IsPlace (segments_per_track old.drive.deck) segment sector →
-      tapes.Tells t old.tape (λ c. LineDoes c store.words store.entries loses [] (record { acts = worn_act ∷ []; entries = store.entries }))
+      tape_calls.Tells t old.tape (λ c. LineDoes c store.words store.entries loses [] (record { acts = worn_act ∷ []; entries = store.entries }))
   worn_does place =
       Tells-map t old.tape (λ c. c.info.segments_per_track ≡ segments_per_track old.drive.deck)
       (λ c. LineDoes c store.words store.entries loses [] (record { acts = worn_act ∷ []; entries = store.entries }))
       (λ c is. inr (subst (λ (n : ℕ). IsPlace n segment sector) (sym is) place, refl)) (length_told t store old fits)
 
-  pub worn_ends : TakesBoth k → TakesNone k → (r : Result (Unit {0}) SinkFailed) → Wearing t old new segment sector (Ok tt) → sinks.Writes k x y (lost_line segment sector) r →
+  pub worn_ends : TakesBoth k → TakesNone k → (r : Result (Unit {0}) SinkFailed) → Wearing t old new segment sector (Ok tt) → sink_calls.Writes k x y (lost_line segment sector) r →
       ItemEnds t s k store store (out old.tape i x) (out new.tape i y) loses (replied_so r)
   worn_ends both none (Ok done) (Worn place did) wrote =
       quiet_done t s k store store loses refl old.tape new.tape i x y (worn_act ∷ [])
@@ -284,7 +287,7 @@ module _ {T S K : Type 0} (t : tapes.Meaning T) (s : sources.Meaning S) (k : sin
       (sink_cut_one t s k (out old.tape i x) (out new.tape i y) worn_act did broke (omega arith)) (worn_does place)
 
   pub absent_ends : TakesBoth k → TakesNone k → (r : Result (Unit {0}) SinkFailed) → Wearing t old new segment sector (Err hand.BadPlace) →
-      sinks.Writes k x y (refusal_line (why.Place segment sector)) r → ItemEnds t s k store store (out old.tape i x) (out new.tape i y) loses (replied_so r)
+      sink_calls.Writes k x y (refusal_line (why.Place segment sector)) r → ItemEnds t s k store store (out old.tape i x) (out new.tape i y) loses (replied_so r)
   absent_ends both none r (Worn place did) wrote = absurd did
   absent_ends both none r (Absent missing same) wrote =
       let text : List ℕ = refusal_line (why.Place segment sector) in

@@ -4,9 +4,6 @@ use Rattle.std.specs.Option.{option_map}
 use Rattle.std.proofs.lemmas.List.{length-append, length_push}
 use Rattle.std.proofs.Math.Seq.{drop-append_seam}
 use Rattle.qic_base.specs.Cartridge.{Cartridge}
-use Rattle.qic_base.specs.Sink as sinks
-use Rattle.qic_base.specs.Source as sources
-use Rattle.qic_base.specs.Tape as tapes
 use Rattle.qic_base.proofs.Steps.{Done-nothing, Tells-map}
 use Rattle.qic_base.proofs.Writing.{TakesBoth}
 use Rattle.qic_base.specs.Acts.{Act, Outside, Failing, TapeFails, SourceFails, SinkFails, Went, Cut, steps_of, text_of}
@@ -15,33 +12,44 @@ use Rattle.cartridge_spec.specs.Table.{Entry}
 use Rattle.cartridge_spec.specs.Settling.{changed_by}
 use Rattle.segment_io.proofs.Going.{tells_always}
 use Rattle.command_spec.specs.declared.line.Line.{Line}
-use Rattle.command_spec.specs.declared.line.Line.TheVariants as line
-use Rattle.command_spec.specs.Input.{Item, IsItem, IsFault, Ending, AtEnd, AtStop, AtFault, ItemsEnd, HasItems, IsScript, most_items, promised}
-use Rattle.qic_base.specs.Source.{Gave}
-use Rattle.command_spec.specs.Input.{IsLineText}
+use Rattle.command_spec.specs.Input.{Item, IsItem, IsFault, Ending, AtEnd, AtStop, AtFault, ItemsEnd, HasItems, IsScript, most_items, promised, IsLineText, input_status}
+use Rattle.qic_base.specs.SourceCalls.{Gave}
 use Rattle.qic_base.proofs.Giving.{Gave-Gave, Gave-end, Gave-nothing}
-use Rattle.command_laws.proofs.TextInputs.{one_reading}
-use Rattle.command_laws.proofs.TextInputs as inputs
+use Rattle.command_laws.proofs.TextInputs.{one_reading, no_ending}
 use Rattle.tape_script.proofs.Rests.{any_rest, ended_rest, whole_told, left_behind}
 use Rattle.tape_script.specs.Reading.{GaveEnd}
 use Rattle.volume_store.specs.Mounting.{StoreView}
 use Rattle.volume_store.proofs.Copies.{tells_two}
 use Rattle.volume_store.proofs.Ending.{back}
 use Rattle.volume_script.specs.declared.fault.ScriptFault.{ScriptFault}
-use Rattle.volume_script.specs.declared.fault.ScriptFault.TheVariants as fault
 use Rattle.volume_script.specs.Ending.{HearsEnd, RepliesEnd}
 use Rattle.volume_script.specs.Heard.{longest, HeardItem, HeardNone, HeardShort, HeardCut, Hears, NextDoes}
 use Rattle.command_laws.specs.ScriptItems.{EarlyDoes}
-use Rattle.command_spec.specs.Script.{end_line}
+use Rattle.command_spec.specs.Script.{end_line, Did, EndDoes, EndsEarly, ItemsDo, ScriptDoes, acts_of, cartridge_behind, entries_behind, place_behind, reply, items_taken}
 use Rattle.volume_script.specs.Runs.{Leaves, Ended, CutOff}
-use Rattle.volume_script.specs.Runs as runs
-use Rattle.command_spec.specs.Script.{Answer, AllDone, FaultIn, Did, EndDoes, EndsEarly, FaultDoes, ItemDoes, ItemsDo, ScriptRun, ScriptDoes, acts_of, script_answer, cartridge_behind, entries_behind, place_behind, reply, items_taken}
+use Rattle.command_laws.specs.ScriptAnswers.{Answer, AllDone, FaultIn, script_answer, script_status}
+use Rattle.command_laws.specs.CommandTerms.{FaultDoes, ItemDoes}
+use Rattle.command_spec.specs.Outcome.{CommandOutcome}
 use Rattle.volume_script.proofs.Appended.{flip}
 use Rattle.volume_script.proofs.Hearing.{early_of}
 use Rattle.volume_script.proofs.Input.{no_line_fault, no_line_early, early_fault, none_rest, on_rest, stop_rest}
 use Rattle.command_laws.proofs.ScriptLifting.{out, TakesNone, replied_went, replied_cut}
-use Rattle.command_laws.proofs.TextInputs.{no_ending}
 use Rattle.command_laws.proofs.ScriptReading.{Reads, reads_more, read_end, place_is, split_reading, acts_of-append, entries_behind-append, cartridge_is, do_more, split_doing}
+use Rattle.qic_base.specs.Sink as sinks
+use Rattle.qic_base.specs.SinkCalls as sink_calls
+use Rattle.qic_base.specs.Source as sources
+use Rattle.qic_base.specs.Tape as tapes
+use Rattle.qic_base.specs.TapeCalls as tape_calls
+use Rattle.command_spec.specs.declared.line.Line.TheVariants as line
+use Rattle.command_laws.proofs.TextInputs as inputs
+use Rattle.volume_script.specs.declared.fault.ScriptFault.TheVariants as fault
+use Rattle.volume_script.specs.Runs as runs
+
+-- the answer by what ended the input
+status_is : (ending : Ending) → input_status ending ≡ script_status (script_answer ending)
+status_is AtEnd = refl
+status_is AtStop = refl
+status_is (AtFault number place) = refl
 
 plain_place : (texts : List ℕ) → 0 + length texts ≡ length texts
 plain_place texts = omega arith
@@ -64,7 +72,7 @@ pub record SoFar {T S K : Type 0} (t : tapes.Meaning T) (s : sources.Meaning S) 
   pub gave : Gave s start.source now.source texts
   pub acts : List Act
   pub went : Went t s k start now acts
-  pub told : tapes.Tells t start.tape (Ran first store items acts)
+  pub told : tape_calls.Tells t start.tape (Ran first store items acts)
   pub words : store.words ≡ first.words
 
 module _ {T S K : Type 0} {t : tapes.Meaning T} {s : sources.Meaning S} {k : sinks.Meaning K} where
@@ -85,7 +93,7 @@ module _ {T S K : Type 0} {t : tapes.Meaning T} {s : sources.Meaning S} {k : sin
 
   module _ (both : TakesBoth k) (first store after : StoreView) (start now new : Outside T S K) (lines place : ℕ) (far : SoFar t s k first store start now lines place) where
     -- what is told of the cartridge behind the items so far
-    at_start : (P : Cartridge → Type 0) → tapes.Tells t now.tape P → tapes.Tells t start.tape (λ c. Ran first store far.items far.acts c × P (changed_by (steps_of far.acts) c))
+    at_start : (P : Cartridge → Type 0) → tape_calls.Tells t now.tape P → tape_calls.Tells t start.tape (λ c. Ran first store far.items far.acts c × P (changed_by (steps_of far.acts) c))
     at_start P told =
         tells_two t start.tape (Ran first store far.items far.acts) (λ c. P (changed_by (steps_of far.acts) c)) (λ c. Ran first store far.items far.acts c × P (changed_by (steps_of far.acts) c))
         (λ c ran is. (ran, is)) far.told (back t start.tape now.tape (steps_of far.acts) P far.went.did.told told)
@@ -129,7 +137,7 @@ module _ {T S K : Type 0} {t : tapes.Meaning T} {s : sources.Meaning S} {k : sin
 
     -- how the input ends behind the items is how it ends
     ended_so : (rest : List ℕ) (ending : Ending) (answer : Answer) (last : List Act) → lines ≤ most_items → Went t s k now new last → IfSome (s.left now.source) (λ bytes. bytes ≡ rest) →
-        ItemsEnd IsItem (lines + 1) place rest ending → script_answer ending ≡ answer → tapes.Tells t now.tape (λ c. EndDoes c store.words store.entries rest ending last) →
+        ItemsEnd IsItem (lines + 1) place rest ending → script_answer ending ≡ answer → tape_calls.Tells t now.tape (λ c. EndDoes c store.words store.entries rest ending last) →
         (answer ≡ AllDone → last ≡ reply end_line ∷ []) →
         ((read : IsScript (far.texts ++ rest) far.items ending) → Leaves s start.source new.source (items_taken (far.texts ++ rest) far.items ending read) answer) →
         Ended t s k first start new answer
@@ -142,8 +150,8 @@ module _ {T S K : Type 0} {t : tapes.Meaning T} {s : sources.Meaning S} {k : sin
         record {
           input = input;
           is_told = whole_told (s.left start.source) (s.left now.source) far.texts rest far.gave told;
-          outcome = record { acts = far.acts ++ last; taken = items_taken input far.items ending read; answer = script_answer ending };
-          told = Tells-map t start.tape _ (λ c. ScriptDoes c first.words first.entries input (record { acts = far.acts ++ last; taken = items_taken input far.items ending read; answer = script_answer ending }))
+          outcome = record { acts = far.acts ++ last; taken = items_taken input far.items ending read; status = input_status ending };
+          told = Tells-map t start.tape _ (λ c. ScriptDoes c first.words first.entries input (record { acts = far.acts ++ last; taken = items_taken input far.items ending read; status = input_status ending }))
               (λ c both_told.
               let ran = both_told.0 in
               let P : Cartridge → Type 0 = λ d. EndDoes d store.words store.entries rest ending last in
@@ -158,9 +166,9 @@ module _ {T S K : Type 0} {t : tapes.Meaning T} {s : sources.Meaning S} {k : sin
                 did = ran.ran_so;
                 last = last;
                 ends = subst V (sym behind) (subst R (sym ran.entries) (subst Q far.words (subst P (behind_is c ran) both_told.1)));
-                is = ap (λ (acts : List Act). record { acts = acts ++ last; taken = items_taken input far.items ending read; answer = script_answer ending }) ran.are;
+                is = ap (λ (acts : List Act). record { acts = acts ++ last; taken = items_taken input far.items ending read; status = input_status ending }) ran.are;
               }) (at_start (λ c. EndDoes c store.words store.entries rest ending last) does);
-          answered = answered;
+          answered = status_is ending ∙ ap script_status answered;
           went = went_both t s k both start now new far.acts last far.went went;
           left = left read;
           items = far.items;
@@ -180,7 +188,7 @@ module _ {T S K : Type 0} {t : tapes.Meaning T} {s : sources.Meaning S} {k : sin
         record {
           input = input;
           is_told = whole_told (s.left start.source) (s.left now.source) far.texts heard.rest far.gave heard.is_told;
-          told = Tells-map t start.tape _ (λ c. (outcome : ScriptRun) → ScriptDoes c first.words first.entries input outcome → Cut t s k start new outcome.acts failing)
+          told = Tells-map t start.tape _ (λ c. (outcome : CommandOutcome) → ScriptDoes c first.words first.entries input outcome → Cut t s k start new outcome.acts failing)
               (λ c both_told outcome does. by_outcome c both_told.0 both_told.1 outcome does)
               (at_start (λ c. (acts : List Act) → NextDoes c store.words store.entries (lines + 1) place heard.rest acts → Cut t s k now new acts failing) heard.told);
           acts = far.acts ++ heard.acts;
@@ -224,7 +232,7 @@ module _ {T S K : Type 0} {t : tapes.Meaning T} {s : sources.Meaning S} {k : sin
 
         by_outcome : (c : Cartridge) → Ran first store far.items far.acts c →
             ((acts : List Act) → NextDoes (changed_by (steps_of far.acts) c) store.words store.entries (lines + 1) place heard.rest acts → Cut t s k now new acts failing) →
-            (outcome : ScriptRun) → ScriptDoes c first.words first.entries (far.texts ++ heard.rest) outcome → Cut t s k start new outcome.acts failing
+            (outcome : CommandOutcome) → ScriptDoes c first.words first.entries (far.texts ++ heard.rest) outcome → Cut t s k start new outcome.acts failing
         by_outcome c ran each outcome does =
             let input : List ℕ = far.texts ++ heard.rest in
             let reading = split_reading far.items far.texts heard.rest 1 0 (lines + 1) place input does.items does.ending far.reads refl
@@ -234,7 +242,7 @@ module _ {T S K : Type 0} {t : tapes.Meaning T} {s : sources.Meaning S} {k : sin
             let Q : List Did → Type 0 = λ ds. EndDoes (cartridge_behind c ds) first.words (entries_behind first.entries ds) (drop (place_behind 1 0 input does.items does.ending does.read) input) does.ending does.last in
             let R : List ℕ → Type 0 = λ bs. EndDoes (cartridge_behind c (ran.dids ++ doing.rears)) first.words (entries_behind first.entries (ran.dids ++ doing.rears)) bs does.ending does.last in
             let V : List Item → Type 0 = λ is. Reads far.texts is in
-            subst (λ (o : ScriptRun). Cut t s k start new o.acts failing) (sym does.is)
+            subst (λ (o : CommandOutcome). Cut t s k start new o.acts failing) (sym does.is)
             (subst (λ (ds : List Did). Cut t s k start new (acts_of ds ++ does.last) failing) (sym doing.whole)
             (by_more c ran each reading.more doing.rears does.ending does.last reading.read doing.ran_so
             (λ none.
@@ -266,7 +274,7 @@ module _ {T S K : Type 0} {t : tapes.Meaning T} {s : sources.Meaning S} {k : sin
           (replied_went t s k both now tape source sink y [] end_line went wrote) told ends answered
           (tells_always t now.tape (λ c. EndDoes c store.words store.entries rest ending (reply end_line ∷ [])) does) (λ done. refl) left
 
-      unreplied_end : sinks.BrokeOff k sink y end_line → CutOff t s k first start (out tape source y) SinkFails
+      unreplied_end : sink_calls.BrokeOff k sink y end_line → CutOff t s k first start (out tape source y) SinkFails
       unreplied_end broke =
           let cut = replied_cut t s k both none now tape source sink y [] end_line went broke in
           cut_so both first store store start now (out tape source y) lines place far SinkFails few (record {
@@ -320,7 +328,7 @@ module _ {T S K : Type 0} {t : tapes.Meaning T} {s : sources.Meaning S} {k : sin
     )
 
     faulty : (new : Outside T S K) (rest bytes : List ℕ) (number at : ℕ) (last : List Act) → number ≡ lines + 1 → at ≡ place → IfSome (s.left now.source) (λ bytes. bytes ≡ rest) →
-        IsFault IsItem (lines + 1) rest → Went t s k now new last → Gave s now.source new.source bytes → tapes.Tells t now.tape (λ c. FaultDoes c store.words store.entries number rest last) →
+        IsFault IsItem (lines + 1) rest → Went t s k now new last → Gave s now.source new.source bytes → tape_calls.Tells t now.tape (λ c. FaultDoes c store.words store.entries number rest last) →
         Ended t s k first start new (FaultIn number at)
     faulty new rest bytes number at last same equal told is went gave does =
         ended_so both first store store start now new lines place far rest (AtFault number at) (FaultIn number at) last few went told (is, same, equal) refl does (λ done. cc)

@@ -5,7 +5,7 @@ use Rattle.std.specs.Prelude.{is_some}
 use Rattle.qic_base.specs.Source.{Meaning}
 use Rattle.tape_script.specs.declared.line.LineRead.{LineRead}
 use Rattle.tape_script.specs.declared.line.LineRead.TheVariants as read
-use Rattle.qic_base.specs.Source.{Gave}
+use Rattle.qic_base.specs.SourceCalls.{Gave}
 use Rattle.tape_script.specs.Reading.{ReadsLine, Skips}
 use Rattle.volume_script.specs.declared.limited.Limited.{Limited}
 use Rattle.volume_script.specs.Limited.{Lends}

@@ -1,9 +1,10 @@
 -- What the line did behind the last that may be an item, and the last reply (this project's own).
 use Rattle.std.specs.Prelude.{◌≡◌, ℕ, ◌<◌, Result, Ok, Err, codes}
-use Rattle.qic_base.specs.Cause.{Rose}
+use Rattle.qic_base.specs.Tape.{Rose}
 use Rattle.qic_base.specs.Sink as sinks
+use Rattle.qic_base.specs.SinkCalls as sink_calls
 use Rattle.qic_base.specs.Source as sources
-use Rattle.qic_base.specs.Source.{GaveSome}
+use Rattle.qic_base.specs.SourceCalls.{GaveSome}
 use Rattle.tape_script.specs.Reading.{BeginsWithNo, GaveEnd}
 use Rattle.volume_script.specs.declared.fault.ScriptFault.{ScriptFault}
 use Rattle.volume_script.specs.declared.fault.ScriptFault.TheVariants as fault
@@ -24,5 +25,5 @@ HearsEnd s old new number place (Err other) = ⊥
 
 abbrev pub RepliesEnd : {K : Type 0} (k : sinks.Meaning K) (old new : K) → Result (Unit {0}) ScriptFault → Type 0
 RepliesEnd k old new (Ok done) = sinks.Wrote k old new end_line
-RepliesEnd k old new (Err fault.Sink) = sinks.BrokeOff k old new end_line
+RepliesEnd k old new (Err fault.Sink) = sink_calls.BrokeOff k old new end_line
 RepliesEnd k old new (Err other) = ⊥

@@ -1,21 +1,22 @@
 -- What one line of the input did to the outside, with what follows it (this project's own).
 use Rattle.std.specs.Prelude.{◌≡◌, ◌⊎◌, ℕ, ◌<◌, ◌≤◌, List, [], ◌++◌, length, Option, Some, None, IfSome, Result, Ok, Err}
 use Rattle.qic_base.specs.Cartridge.{Cartridge}
-use Rattle.qic_base.specs.Sink as sinks
-use Rattle.qic_base.specs.Source as sources
-use Rattle.qic_base.specs.Tape as tapes
 use Rattle.qic_base.specs.Acts.{Act, Outside, Failing, TapeFails, SourceFails, SinkFails, Went, Cut}
 use Rattle.cartridge_spec.specs.Table.{Entry}
 use Rattle.command_spec.specs.declared.line.Line.{Line}
-use Rattle.command_spec.specs.Input.{Item, IsItem, Ending, ItemsEnd, most_items, promised}
-use Rattle.qic_base.specs.Source.{Gave, GaveSome, HasEnded}
+use Rattle.command_spec.specs.Input.{Item, IsItem, Ending, ItemsEnd, most_items, promised, IsLineText}
+use Rattle.qic_base.specs.SourceCalls.{Gave, GaveSome, HasEnded}
 use Rattle.tape_script.specs.Reading.{BeginsWithNo, GaveEnd}
-use Rattle.command_spec.specs.Input.{IsLineText}
 use Rattle.volume_store.specs.Mounting.{StoreView}
 use Rattle.volume_script.specs.declared.fault.ScriptFault.{ScriptFault}
-use Rattle.volume_script.specs.declared.fault.ScriptFault.TheVariants as fault
 use Rattle.command_laws.specs.ScriptItems.{EarlyDoes}
-use Rattle.command_spec.specs.Script.{Did, ItemDoes, EndDoes}
+use Rattle.command_spec.specs.Script.{Did, EndDoes}
+use Rattle.command_laws.specs.CommandTerms.{ItemDoes}
+use Rattle.qic_base.specs.Sink as sinks
+use Rattle.qic_base.specs.Source as sources
+use Rattle.qic_base.specs.Tape as tapes
+use Rattle.qic_base.specs.TapeCalls as tape_calls
+use Rattle.volume_script.specs.declared.fault.ScriptFault.TheVariants as fault
 
 -- no item has more bytes: its line has a u8 of them, and it promises a u32
 abbrev pub longest : ℕ
@@ -30,7 +31,7 @@ pub record HeardItem {T S K : Type 0} (t : tapes.Meaning T) (s : sources.Meaning
   pub gave : Gave s old.source new.source text
   pub acts : List Act
   pub went : Went t s k old new acts
-  pub told : tapes.Tells t old.tape (λ c. ItemDoes c store.words store.entries item (record { acts = acts; entries = after.entries }))
+  pub told : tape_calls.Tells t old.tape (λ c. ItemDoes c store.words store.entries item (record { acts = acts; entries = after.entries }))
 
 -- bytes were taken that begin with no line
 pub record HeardNone {T S K : Type 0} (t : tapes.Meaning T) (s : sources.Meaning S) (k : sinks.Meaning K) (old new : Outside T S K) : Type 0 where
@@ -51,7 +52,7 @@ pub record HeardShort {T S K : Type 0} (t : tapes.Meaning T) (s : sources.Meanin
   pub ended : HasEnded s new.source
   pub acts : List Act
   pub went : Went t s k old new acts
-  pub told : tapes.Tells t old.tape (λ c. EarlyDoes c store.words store.entries asked bytes acts)
+  pub told : tape_calls.Tells t old.tape (λ c. EarlyDoes c store.words store.entries asked bytes acts)
 
 -- what the plain machine does next, where these bytes are left: an item, or the last acts
 abbrev pub NextDoes : Cartridge → (words : List ℕ) → List Entry → (number place : ℕ) → (rest : List ℕ) → List Act → Type 0
@@ -64,7 +65,7 @@ NextDoes c words entries number place rest acts =
 pub record HeardCut {T S K : Type 0} (t : tapes.Meaning T) (s : sources.Meaning S) (k : sinks.Meaning K) (store : StoreView) (old new : Outside T S K) (number place : ℕ) (failing : Failing) : Type 0 where
   pub rest : List ℕ
   pub is_told : IfSome (s.left old.source) (λ bytes. bytes ≡ rest)
-  pub told : tapes.Tells t old.tape (λ c. (acts : List Act) → NextDoes c store.words store.entries number place rest acts → Cut t s k old new acts failing)
+  pub told : tape_calls.Tells t old.tape (λ c. (acts : List Act) → NextDoes c store.words store.entries number place rest acts → Cut t s k old new acts failing)
   -- and over any tape
   pub acts : List Act
   pub cut : Cut t s k old new acts failing
@@ -73,7 +74,7 @@ pub record HeardCut {T S K : Type 0} (t : tapes.Meaning T) (s : sources.Meaning 
 pub record HeardMismatch {T S K : Type 0} (t : tapes.Meaning T) (s : sources.Meaning S) (k : sinks.Meaning K) (old new : Outside T S K) : Type 0 where
   pub acts : List Act
   pub went : Went t s k old new acts
-  pub told : tapes.Tells t old.tape (λ c. ⊥)
+  pub told : tape_calls.Tells t old.tape (λ c. ⊥)
   pub bytes : List ℕ
   pub gave : Gave s old.source new.source bytes
 

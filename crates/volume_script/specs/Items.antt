@@ -7,12 +7,13 @@ use Rattle.command_spec.specs.Script.{LineDoes, Did}
 use Rattle.command_spec.specs.declared.line.Line.{Line}
 use Rattle.qic_base.specs.Acts.{Act, Outside, Went, Failing, Cut, TapeFails, SourceFails, SinkFails}
 use Rattle.qic_base.specs.Cartridge.{Cartridge}
-use Rattle.qic_base.specs.Source.{Gave, HasEnded}
+use Rattle.qic_base.specs.SourceCalls.{Gave, HasEnded}
 use Rattle.volume_script.specs.declared.fault.ItemFault.{ItemFault}
 use Rattle.volume_store.specs.Mounting.{StoreView}
 use Rattle.qic_base.specs.Sink as sinks
 use Rattle.qic_base.specs.Source as sources
 use Rattle.qic_base.specs.Tape as tapes
+use Rattle.qic_base.specs.TapeCalls as tape_calls
 use Rattle.volume_script.specs.declared.fault.ItemFault.TheVariants as fault
 
 -- The line was carried out, with all the bytes that it promises.
@@ -22,7 +23,7 @@ pub record ItemDone {T S K : Type 0} (t : tapes.Meaning T) (s : sources.Meaning 
   pub gave : Gave s old.source new.source bytes
   pub acts : List Act
   pub went : Went t s k old new acts
-  pub told : tapes.Tells t old.tape (λ c. LineDoes c store.words store.entries asked bytes (record { acts = acts; entries = after.entries }))
+  pub told : tape_calls.Tells t old.tape (λ c. LineDoes c store.words store.entries asked bytes (record { acts = acts; entries = after.entries }))
 
 -- The source ended before them.
 pub record ItemShort {T S K : Type 0} (t : tapes.Meaning T) (s : sources.Meaning S) (k : sinks.Meaning K) (store : StoreView) (old new : Outside T S K) (asked : Line) : Type 0 where
@@ -32,7 +33,7 @@ pub record ItemShort {T S K : Type 0} (t : tapes.Meaning T) (s : sources.Meaning
   pub ended : HasEnded s new.source
   pub acts : List Act
   pub went : Went t s k old new acts
-  pub told : tapes.Tells t old.tape (λ c. EarlyDoes c store.words store.entries asked bytes acts)
+  pub told : tape_calls.Tells t old.tape (λ c. EarlyDoes c store.words store.entries asked bytes acts)
 
 -- what a line does with the first of some bytes, where these are all that is left: as many as it promises, or fewer
 abbrev pub WouldDo : Cartridge → (words : List ℕ) → List Entry → Line → (rest : List ℕ) → List Act → Type 0
@@ -45,7 +46,7 @@ WouldDo c words entries asked rest acts =
 pub record ItemCut {T S K : Type 0} (t : tapes.Meaning T) (s : sources.Meaning S) (k : sinks.Meaning K) (store : StoreView) (old new : Outside T S K) (asked : Line) (failing : Failing) : Type 0 where
   pub rest : List ℕ
   pub is_told : IfSome (s.left old.source) (λ bytes. bytes ≡ rest)
-  pub told : tapes.Tells t old.tape (λ c. (acts : List Act) → WouldDo c store.words store.entries asked rest acts → Cut t s k old new acts failing)
+  pub told : tape_calls.Tells t old.tape (λ c. (acts : List Act) → WouldDo c store.words store.entries asked rest acts → Cut t s k old new acts failing)
   -- and over any tape
   pub acts : List Act
   pub cut : Cut t s k old new acts failing
@@ -54,7 +55,7 @@ pub record ItemCut {T S K : Type 0} (t : tapes.Meaning T) (s : sources.Meaning S
 pub record ItemMismatched {T S K : Type 0} (t : tapes.Meaning T) (s : sources.Meaning S) (k : sinks.Meaning K) (old new : Outside T S K) : Type 0 where
   pub acts : List Act
   pub went : Went t s k old new acts
-  pub told : tapes.Tells t old.tape (λ c. ⊥)
+  pub told : tape_calls.Tells t old.tape (λ c. ⊥)
   pub bytes : List ℕ
   pub gave : Gave s old.source new.source bytes
 

@@ -5,7 +5,7 @@ use Rattle.std.proofs.lemmas.List.{length-append}
 use Rattle.std.specs.Prelude.{◌≡◌, ℕ, ◌+◌, [], take}
 use Rattle.std.specs.Option.{option_map}
 use Rattle.qic_base.specs.Source.{Meaning}
-use Rattle.qic_base.specs.Source.{GaveSome}
+use Rattle.qic_base.specs.SourceCalls.{GaveSome}
 use Rattle.qic_base.proofs.Giving.{Gave-nothing, Gave-Gave}
 use Rattle.volume_script.specs.declared.limited.Limited.{Limited}
 

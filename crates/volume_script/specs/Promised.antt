@@ -1,11 +1,12 @@
 -- An append of promised bytes, and a refusal that takes what is left of them, by their answers (this project's own).
 use Rattle.std.specs.Prelude.{◌≡◌, ℕ, ◌<◌, ◌≤◌, List, length, Some, Result, Ok, Err}
-use Rattle.qic_base.specs.Cause.{Rose}
+use Rattle.qic_base.specs.Tape.{Rose}
 use Rattle.qic_base.specs.Sink as sinks
+use Rattle.qic_base.specs.SinkCalls as sink_calls
 use Rattle.qic_base.specs.Source as sources
 use Rattle.qic_base.specs.Tape as tapes
-use Rattle.qic_base.specs.Acts.{reading}
-use Rattle.qic_base.specs.Source.{Gave, HasEnded}
+use Rattle.qic_base.specs.Terms.{reading}
+use Rattle.qic_base.specs.SourceCalls.{Gave, HasEnded}
 use Rattle.volume_store.specs.Appending.{AppendEnds, FaultsUnread}
 use Rattle.volume_store.specs.Mounting.{StoreView}
 use Rattle.volume_store.specs.declared.appended.Appended.{Appended}
@@ -52,7 +53,7 @@ pub record GaveNone {S : Type 0} (s : sources.Meaning S) (i j : S) : Type 0 wher
 abbrev pub Refuses : {S K : Type 0} (s : sources.Meaning S) (k : sinks.Meaning K) (i j : S) (x y : K) (left : ℕ) → Refusal → Result (Unit {0}) ItemFault → Type 0
 Refuses s k i j x y left why (Ok done) = GaveAll s i j left × sinks.Wrote k x y (refusal_line why)
 Refuses s k i j x y left why (Err fault.Short) = GaveShort s i j left × (y ≡ x)
-Refuses s k i j x y left why (Err fault.Sink) = GaveAll s i j left × sinks.BrokeOff k x y (refusal_line why)
+Refuses s k i j x y left why (Err fault.Sink) = GaveAll s i j left × sink_calls.BrokeOff k x y (refusal_line why)
 Refuses s k i j x y left why (Err fault.Source) = GaveNone s i j × (y ≡ x)
 Refuses s k i j x y left why (Err other) = ⊥
 

@@ -1,16 +1,18 @@
 -- How a run of a script ended (this project's own).
 use Rattle.std.specs.Prelude.{◌≡◌, ℕ, ◌+◌, ◌++◌, List, drop, IfSome, Result, Ok, Err}
 use Rattle.std.specs.Option.{option_map}
-use Rattle.qic_base.specs.Sink as sinks
-use Rattle.qic_base.specs.Source as sources
-use Rattle.qic_base.specs.Tape as tapes
 use Rattle.qic_base.specs.Acts.{Act, text_of, Outside, Failing, TapeFails, SourceFails, SinkFails, Went, Cut}
 use Rattle.command_spec.specs.Input.{Item, Ending, IsScript}
 use Rattle.volume_store.specs.Mounting.{StoreView}
 use Rattle.volume_script.specs.declared.fault.ScriptFault.{ScriptFault}
+use Rattle.command_spec.specs.Script.{end_line, ScriptDoes}
+use Rattle.command_laws.specs.ScriptAnswers.{Answer, AllDone, FaultIn, script_answer, script_status}
+use Rattle.command_spec.specs.Outcome.{CommandOutcome}
+use Rattle.qic_base.specs.Sink as sinks
+use Rattle.qic_base.specs.Source as sources
+use Rattle.qic_base.specs.Tape as tapes
+use Rattle.qic_base.specs.TapeCalls as tape_calls
 use Rattle.volume_script.specs.declared.fault.ScriptFault.TheVariants as fault
-use Rattle.command_spec.specs.Script.{end_line}
-use Rattle.command_spec.specs.Script.{Answer, AllDone, FaultIn, ScriptRun, ScriptDoes, script_answer}
 
 -- What is left of the source: the bytes behind those taken; or, after a fault of the input, an end of the bytes from its
 -- place on.
@@ -23,9 +25,9 @@ Leaves s old new taken (FaultIn number place) = (more : ℕ) × (s.left new ≡ 
 pub record Ended {T S K : Type 0} (t : tapes.Meaning T) (s : sources.Meaning S) (k : sinks.Meaning K) (store : StoreView) (old new : Outside T S K) (answer : Answer) : Type 0 where
   pub input : List ℕ
   pub is_told : IfSome (s.left old.source) (λ bytes. input ≡ bytes)
-  pub outcome : ScriptRun
-  pub told : tapes.Tells t old.tape (λ c. ScriptDoes c store.words store.entries input outcome)
-  pub answered : outcome.answer ≡ answer
+  pub outcome : CommandOutcome
+  pub told : tape_calls.Tells t old.tape (λ c. ScriptDoes c store.words store.entries input outcome)
+  pub answered : outcome.status ≡ script_status answer
   pub went : Went t s k old new outcome.acts
   pub left : Leaves s old.source new.source outcome.taken answer
   -- and over any tape
@@ -40,7 +42,7 @@ pub record Ended {T S K : Type 0} (t : tapes.Meaning T) (s : sources.Meaning S) 
 pub record Mismatched {T S K : Type 0} (t : tapes.Meaning T) (s : sources.Meaning S) (k : sinks.Meaning K) (old new : Outside T S K) : Type 0 where
   pub acts : List Act
   pub went : Went t s k old new acts
-  pub told : tapes.Tells t old.tape (λ c. ⊥)
+  pub told : tape_calls.Tells t old.tape (λ c. ⊥)
   pub taken : ℕ
   pub left : s.left new.source ≡ option_map (drop taken) (s.left old.source)
 
@@ -48,7 +50,7 @@ pub record Mismatched {T S K : Type 0} (t : tapes.Meaning T) (s : sources.Meanin
 pub record CutOff {T S K : Type 0} (t : tapes.Meaning T) (s : sources.Meaning S) (k : sinks.Meaning K) (store : StoreView) (old new : Outside T S K) (failing : Failing) : Type 0 where
   pub input : List ℕ
   pub is_told : IfSome (s.left old.source) (λ bytes. input ≡ bytes)
-  pub told : tapes.Tells t old.tape (λ c. (outcome : ScriptRun) → ScriptDoes c store.words store.entries input outcome →
+  pub told : tape_calls.Tells t old.tape (λ c. (outcome : CommandOutcome) → ScriptDoes c store.words store.entries input outcome →
       Cut t s k old new outcome.acts failing)
   -- and over any tape
   pub acts : List Act

@@ -1,7 +1,7 @@
 //! A volume of a script appended.
 
 ghost use Rattle.std.specs.Prelude.{◌≡◌, ◌≢◌, ◌↔◌, true, Err, is_some};
-ghost use Rattle.drive_spec.specs.Deck.{is_protected};
+ghost use Rattle.drive_spec.specs.Terms.{is_protected};
 ghost use Rattle.command_spec.specs.declared.line.Line.TheVariants.{Append};
 ghost use Rattle.volume_store.specs.Appending.{KeepsFormat, KeepsList};
 ghost use Rattle.volume_store.specs.Mounting.{StoreFits};

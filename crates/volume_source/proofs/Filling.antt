@@ -4,7 +4,6 @@ use Rattle.std.specs.Prelude.{IfSome, min}
 use Rattle.std.proofs.lemmas.Bool.{cases_lt}
 use Rattle.std.proofs.lemmas.List.{length-take-le}
 use Rattle.std.proofs.lemmas.Option.{same_Some}
-use Rattle.cartridge_laws.proofs.Sayings.{cartridge_sectors}
 use Rattle.command_laws.proofs.RestoreCounts.{length-bytes_in}
 use Rattle.cartridge_spec.specs.Appending.{bytes_in}
 use Rattle.cartridge_spec.specs.Says.{Says, Data}
@@ -13,9 +12,9 @@ use Rattle.command_spec.specs.Restore.{Piece, LostIn, MismatchIn, PieceEnds, pie
 use Rattle.drive_states.specs.Unit.{UnitView}
 use Rattle.qic_base.proofs.Steps.{Done-told, Broke-told, Tells-map}
 use Rattle.qic_base.specs.Cartridge.{Cartridge}
-use Rattle.qic_base.specs.Cause.{Rose}
-use Rattle.qic_base.specs.Source.{HasEnded}
-use Rattle.qic_base.specs.Tape.{Meaning, Done, Broke, Stops, Tells}
+use Rattle.qic_base.specs.Tape.{Rose, Meaning, Done, Broke, Stops}
+use Rattle.qic_base.specs.SourceCalls.{HasEnded}
+use Rattle.qic_base.specs.TapeCalls.{Tells}
 use Rattle.segment_io.proofs.Going.{done_moved}
 use Rattle.volume_output.specs.Part.{ReadsPiece}
 use Rattle.volume_store.specs.Mounting.{StoreView, StoreFits, KeepsStore}
@@ -201,7 +200,7 @@ module _ {T : Type 0} (m : Meaning T) (s : SourceView T) (store : StoreView) (un
         pub part_held : IsHeld store.part count 0
         part_held =
             let long : length (bytes_in store.part) ≡ 1024 * length store.part =
-            length-bytes_in store.part (cartridge_sectors store.part piece_reads.are) in
+            length-bytes_in store.part piece_reads.are in
             let within : count ≤ 1024 * length store.part = piece_reads.within in
             record {
               within = omega arith;

@@ -11,9 +11,9 @@ use Rattle.command_spec.specs.Restore.{Piece, GivingEnd, LostIn, MismatchIn, Pie
 use Rattle.drive_states.specs.Unit.{UnitView}
 use Rattle.qic_base.proofs.Steps.{Rose-after, Rose-before, Stops-nothing, Stops-Stops}
 use Rattle.qic_base.specs.Cartridge.{Cartridge}
-use Rattle.qic_base.specs.Cause.{Rose}
+use Rattle.qic_base.specs.Tape.{Rose, Meaning, Stops}
 use Rattle.qic_base.specs.Step.{effects}
-use Rattle.qic_base.specs.Tape.{Meaning, Stops, Tells}
+use Rattle.qic_base.specs.TapeCalls.{Tells}
 use Rattle.volume_source.specs.Given.{given_bytes}
 use Rattle.volume_store.specs.Mounting.{StoreView, StoreFits, KeepsStore}
 use Rattle.volume_store.specs.declared.fault.StoreFault.{StoreFault}

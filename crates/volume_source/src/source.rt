@@ -2,9 +2,9 @@
 
 ghost use Rattle.std.specs.Prelude.{◌≡◌, ◌↔◌, ◌+◌, ◌*◌, ◌<◌, ◌≤◌, true, false, None, Ok, length, take, drop, IfOk, IfSome, IsSomeAnd, OnErr, is_some};
 ghost use Rattle.std.specs.Option.{option_map};
-ghost use Rattle.qic_base.specs.Cause.{HasCause};
-ghost use Rattle.qic_base.specs.Source.{Gives, HasEnded};
-ghost use Rattle.qic_base.specs.Tape.{Tells};
+ghost use Rattle.qic_base.specs.Terms.{HasCause};
+ghost use Rattle.qic_base.specs.SourceCalls.{Gives, HasEnded};
+ghost use Rattle.qic_base.specs.TapeCalls.{Tells};
 ghost use Rattle.command_spec.specs.Restore.{GivenBytes};
 ghost use Rattle.volume_store.specs.Mounting.{StoreFits};
 ghost use Rattle.volume_source.specs.Source.{IsSoundSource, KeepsVolume, count_after, first_refusal, keeps_itself, keeps_on, new_source, pieces_of_number, source_means, unread_in};

@@ -5,18 +5,18 @@ use Rattle.std.specs.Int.{w32, bit_at}
 use Rattle.std.specs.Int.Bits.{or_zero_l}
 use Rattle.std.proofs.lemmas.Bool.{cases_lt}
 use Rattle.std.proofs.lemmas.Nat.Bits.{bit_at-zero, bit_at_set_same, bit_at_set_other}
-use Rattle.qic_base.specs.LostSet.{lost_places}
+use Rattle.qic_base.specs.Cartridge.{lost_places}
 use Rattle.qic_base.specs.Step.{Step}
-use Rattle.qic_base.specs.Tape.{Meaning, Done, Broke, Does}
+use Rattle.qic_base.specs.Tape.{Meaning, Done, Broke}
+use Rattle.qic_base.specs.TapeCalls.{Does}
 use Rattle.qic_base.proofs.Steps.{Done-Done, Done-Broke, Broke-front}
 use Rattle.erasure_solve.specs.Lost.{is_lost}
 use Rattle.erasure_solve.proofs.Places.{is_lost_from}
 use Rattle.cartridge_spec.specs.Shape.{sector_at}
 use Rattle.cartridge_spec.specs.Says.{with_parity}
-use Rattle.cartridge_spec.specs.Shape.{sectors_of}
-use Rattle.cartridge_spec.specs.Settling.{writes_of}
+use Rattle.cartridge_laws.specs.Terms.{sectors_of}
+use Rattle.cartridge_spec.specs.Settling.{writes_of, block_writes}
 use Rattle.cartridge_laws.specs.Writes.{named_writes}
-use Rattle.cartridge_spec.specs.Settling.{block_writes}
 use Rattle.cartridge_spec.specs.Appending.{table_writes}
 use Rattle.volume_store.proofs.Mending.{index_of}
 

@@ -3,19 +3,20 @@ use Rattle.std.proofs.Common.{ℕ, List, subst, Err, ◌≡◌, ◌++◌, refl, 
 use Rattle.std.proofs.lemmas.List.{append-nil}
 use Rattle.cartridge_laws.proofs.Hiding.{nothing_is_hidden}
 use Rattle.cartridge_spec.specs.HeaderAndTable.{TableIs, table_cells}
-use Rattle.cartridge_spec.specs.Mounting.{HasList}
+use Rattle.cartridge_laws.specs.Terms.{HasList}
 use Rattle.cartridge_spec.specs.Says.{HasNoBlock, ByCode, LostSectors, TableSays}
 use Rattle.cartridge_spec.specs.Settling.{settling_steps}
 use Rattle.cartridge_spec.specs.Table.{Entry, Shows, table_with}
 use Rattle.command_laws.proofs.StoreAgain.{list_shown, table_one}
-use Rattle.drive_spec.specs.Deck.{is_protected}
+use Rattle.drive_spec.specs.Terms.{is_protected}
 use Rattle.drive_states.specs.Unit.{UnitView}
 use Rattle.host_driver.specs.Fits.{Fits, AgreesWithTape}
 use Rattle.host_driver.specs.declared.host.Host.{Host}
 use Rattle.qic_base.proofs.Steps.{Tells-read, Done-after_reads, Broke-after_reads, Tells-map}
 use Rattle.qic_base.specs.Cartridge.{Cartridge}
 use Rattle.qic_base.specs.Step.{Step}
-use Rattle.qic_base.specs.Tape.{Meaning, Broke, Tells, Done, Does}
+use Rattle.qic_base.specs.Tape.{Meaning, Broke, Done}
+use Rattle.qic_base.specs.TapeCalls.{Tells, Does}
 use Rattle.qic_base.specs.declared.tape.SectorView.{SectorView}
 use Rattle.segment_io.proofs.Going.{tells_always}
 use Rattle.segment_io.specs.declared.fault.SegFault.{SegFault}

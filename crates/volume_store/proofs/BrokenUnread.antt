@@ -3,10 +3,11 @@ use Rattle.std.proofs.Common.{◌≡◌, inl, inr, List, [], ℕ, Result, Ok, Er
 use Rattle.qic_base.specs.Source as sources
 use Rattle.qic_base.specs.Step.{Step}
 use Rattle.qic_base.specs.Tape as tapes
-use Rattle.qic_base.specs.Tape.{Broke, Tells}
+use Rattle.qic_base.specs.Tape.{Broke}
+use Rattle.qic_base.specs.TapeCalls.{Tells}
 use Rattle.qic_base.proofs.Steps.{Tells-map}
 use Rattle.qic_base.specs.Acts.{Cut, Failing, Outside, TapeFails, SourceFails}
-use Rattle.qic_base.specs.Acts.{no_sink, reading}
+use Rattle.qic_base.specs.Terms.{no_sink, reading}
 use Rattle.cartridge_spec.specs.HeaderAndTable.{TableIs}
 use Rattle.cartridge_spec.specs.Settling.{settling_steps}
 use Rattle.segment_io.proofs.Going.{tells_always}

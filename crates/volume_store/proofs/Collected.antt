@@ -1,30 +1,31 @@
 -- The calls that solve the table's segment, one by one.
 use Rattle.std.proofs.Common.{◌≡◌, ◌↔◌, ℕ, zero, suc, ◌+◌, ◌-◌, ◌*◌, ◌%◌, ◌^◌, ◌<◌, ◌≤◌, ◌++◌, refl, sym, ◌∙◌, ap, subst, arith, inl, inr, List, [], ◌∷◌, length, take, drop, map, get_or, replicate, Option, Some, None, slice_get, IfSome, Err, Bool, true, false, nat_lt}
 use Rattle.std.specs.Prelude.{◌==◌, if◌then◌else◌}
-use borrow.Rule.Slice.PartMut.{put_mid}
 use Rattle.std.specs.Int.{bit_at}
 use Rattle.std.proofs.lemmas.Bool.{cases_eq}
 use Rattle.std.proofs.lemmas.List.{length-append, length-drop, length-take-le, take_at, take_all}
 use Rattle.std.proofs.lemmas.Nat.{one_shl}
 use Rattle.std.proofs.lemmas.Nat.Bits.{bit_at-pow_same, bit_at-pow_other}
-use Rattle.qic_base.specs.LostSet.{IsLost, lost_places}
+use Rattle.qic_base.specs.Terms.{IsLost}
+use Rattle.qic_base.specs.Cartridge.{lost_places}
 use Rattle.qic_base.specs.declared.tape.SectorView.{SectorView}
 use Rattle.qic_base.specs.declared.tape.SectorView.TheVariants.{Holds}
 use Rattle.cartridge_spec.specs.Code.{IsCodeBlock}
 use Rattle.cartridge_laws.specs.Says.{LosesData}
-use Rattle.cartridge_spec.specs.Says.{hidden}
+use Rattle.cartridge_laws.specs.Terms.{hidden, last_used, sets_by_one}
+use Rattle.cartridge_spec.specs.Says.{set_of, sets_by, with_used}
 use Rattle.cartridge_spec.specs.Shape.{usable_count}
-use Rattle.cartridge_spec.specs.TableSets.{last_used, set_of, sets_by, sets_by_one, with_used}
 use Rattle.cartridge_laws.proofs.Segments.{count_of_whole}
 use Rattle.segment_io.specs.Gathered.{Gathered}
 use Rattle.segment_io.specs.Reading.{Solves, HasSolved}
 use Rattle.segment_io.specs.declared.fault.SegFault.{SegFault}
-use Rattle.segment_io.specs.declared.fault.SegFault.TheVariants as seg
 use Rattle.volume_table.specs.declared.sets_tried.Trials.{Trials}
 use Rattle.volume_table.specs.Trials.{AreTrials, IsLastUsed, tried}
 use Rattle.volume_store.specs.Reading.{Unsolved, IsSolved}
 use Rattle.volume_store.proofs.Stale.{put_end}
 use Rattle.volume_store.proofs.Trials.{IsCollected}
+use borrow.Rule.Slice.PartMut.{put_mid}
+use Rattle.segment_io.specs.declared.fault.SegFault.TheVariants as seg
 
 -- ---- a set of one place
 

@@ -3,16 +3,18 @@ use Rattle.std.proofs.Common.{◌≡◌, ℕ, ◌*◌, Bool, true, false, List, 
 use Rattle.std.specs.Option.{option_map_or}
 use Rattle.qic_base.specs.Cartridge.{Cartridge}
 use Rattle.qic_base.specs.Step.{Step}
-use Rattle.qic_base.specs.Tape.{Meaning, Done, Tells}
+use Rattle.qic_base.specs.Tape.{Meaning, Done}
+use Rattle.qic_base.specs.TapeCalls.{Tells}
 use Rattle.qic_base.specs.declared.tape.TapeInfo.{TapeInfo}
-use Rattle.drive_spec.specs.Deck.{is_referenced, is_protected}
+use Rattle.drive_spec.specs.Terms.{is_referenced, is_protected}
 use Rattle.drive_states.specs.Unit.{UnitView}
 use Rattle.host_driver.specs.declared.host.Host.{Host}
 use Rattle.host_driver.specs.Fits.{Fits, AgreesWithTape, segments_of, deck_of}
 use Rattle.qic_base.proofs.Steps.{Done-after_reads, Broke-after_reads}
 use Rattle.cartridge_spec.specs.Header.{number, header_fault, has_signature, number_in}
 use Rattle.cartridge_spec.specs.Says.{Saying, Says, Data}
-use Rattle.cartridge_spec.specs.HeaderAndTable.{copy_cells, CopyReads, CopyDoesNotRead, IsInForce}
+use Rattle.cartridge_spec.specs.HeaderAndTable.{copy_cells, CopyReads, CopyDoesNotRead}
+use Rattle.cartridge_laws.specs.Terms.{IsInForce}
 use Rattle.cartridge_laws.proofs.Sayings.{says_is_function}
 use Rattle.cartridge_laws.proofs.Segments.{length-whole_cells}
 use Rattle.header_segments.specs.declared.header.Header.{Header}
@@ -21,9 +23,9 @@ use Rattle.cartridge_laws.specs.HeaderLaws.{AreTaken}
 use Rattle.cartridge_laws.proofs.HeaderRefusals.{fault-segments, length-words_in}
 use Rattle.segment_io.specs.Reading.{HasSolved}
 use Rattle.volume_store.specs.declared.fault.StoreFault.{StoreFault}
-use Rattle.volume_store.specs.declared.fault.StoreFault.TheVariants as fault
 use Rattle.volume_store.specs.Finding.{Leaves, Refuses, is_tape, TakesHeader, FindsCopy, FindsHeader, HasCopy, HasFormat, HasWords, HasMap}
 use Rattle.volume_store.proofs.TableSegment.{data_of-whole}
+use Rattle.volume_store.specs.declared.fault.StoreFault.TheVariants as fault
 
 -- ---- calls that only read
 

@@ -15,7 +15,7 @@ use Rattle.cartridge_laws.specs.AppendSettled.{IsSettledFor}
 use Rattle.cartridge_laws.specs.Table.{IsSoundList}
 use Rattle.cartridge_spec.specs.Appending.{taken_by}
 use Rattle.cartridge_spec.specs.HeaderAndTable.{TableIs, table_cells}
-use Rattle.cartridge_spec.specs.Mounting.{HasList}
+use Rattle.cartridge_laws.specs.Terms.{HasList}
 use Rattle.cartridge_spec.specs.Says.{TableSays, AsRead, ByCode, LostSectors, Data, with_parity}
 use Rattle.cartridge_spec.specs.Settling.{changed_by, settling_steps}
 use Rattle.cartridge_spec.specs.Table.{Entry, Shows}
@@ -23,16 +23,19 @@ use Rattle.command_laws.proofs.StoreAgain.{table_one}
 use Rattle.command_laws.proofs.StoreBehind.{input_behind, settled_behind}
 use Rattle.command_laws.proofs.StoreEnding.{took_fits, list_more}
 use Rattle.command_laws.proofs.StoreSettled.{table_sectors, table_size}
-use Rattle.command_spec.specs.Append.{Taking, Fits, TooLong, TooShort, taking, Kept, room_in, free_in, bytes_taken, entry_for, input_writes, entry_acts, append_acts, silently}
+use Rattle.command_spec.specs.Append.{Taking, Fits, TooLong, TooShort, taking, Kept, room_in, input_writes, entry_acts, append_acts}
+use Rattle.command_laws.specs.CommandTerms.{entry_for, free_in, bytes_taken, silently}
 use Rattle.gf256_qic.proofs.Parities.{parity_block}
 use Rattle.qic_base.proofs.Giving.{Gave-nothing}
 use Rattle.qic_base.proofs.Joins.{went_both, went_then_cut, cut_is_longer}
 use Rattle.qic_base.proofs.Steps.{Tells-map, Broke-front, Done-before_reads}
 use Rattle.qic_base.proofs.Writing.{TakesBoth}
-use Rattle.qic_base.specs.Acts.{no_sink, Outside, Act, Failing, TapeFails, SourceFails, Went, Cut, steps_of, reading}
-use Rattle.qic_base.specs.Cartridge.{Cartridge, IsCartridge}
+use Rattle.qic_base.specs.Terms.{no_sink, reading, IsCartridge}
+use Rattle.qic_base.specs.Acts.{Outside, Act, Failing, TapeFails, SourceFails, Went, Cut, steps_of}
+use Rattle.qic_base.specs.Cartridge.{Cartridge}
 use Rattle.qic_base.specs.Step.{Step, effects}
-use Rattle.qic_base.specs.Tape.{Tells, IsToldRight, Done, Broke}
+use Rattle.qic_base.specs.TapeCalls.{Tells, IsToldRight}
+use Rattle.qic_base.specs.Tape.{Done, Broke}
 use Rattle.volume_input.proofs.Inputs.{left_of, whole_told}
 use Rattle.volume_input.specs.declared.written.Written.{Written}
 use Rattle.volume_store.proofs.Copies.{tells_two}

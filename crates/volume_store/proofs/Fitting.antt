@@ -3,24 +3,23 @@ use Rattle.std.proofs.Common.{◌≡◌, ◌≢◌, ℕ, ◌-◌, ◌*◌, ◌/�
 use Rattle.std.specs.Option.{option_map}
 use Rattle.std.proofs.lemmas.List.{length-append}
 use Rattle.cartridge_laws.proofs.MountSettles.{settling_settles}
-use Rattle.cartridge_spec.specs.Mounting.{HasList}
-use Rattle.qic_base.specs.Cartridge.{Cartridge, IsCartridge}
-use Rattle.qic_base.specs.Source as sources
+use Rattle.cartridge_laws.specs.Terms.{HasList, slot_sector, last_end}
+use Rattle.qic_base.specs.Cartridge.{Cartridge}
+use Rattle.qic_base.specs.Terms.{IsCartridge, reading}
 use Rattle.qic_base.specs.Step.{Step, effects}
-use Rattle.qic_base.specs.Tape as tapes
-use Rattle.qic_base.specs.Tape.{Meaning, Done, Tells}
+use Rattle.qic_base.specs.Tape.{Meaning, Done}
+use Rattle.qic_base.specs.TapeCalls.{Tells}
 use Rattle.qic_base.specs.declared.tape.TapeInfo.{TapeInfo}
 use Rattle.qic_base.proofs.Steps.{Tells-map, Done-told}
 use Rattle.cartridge_spec.specs.Formatting.{IsLabel}
 use Rattle.cartridge_laws.proofs.FormatWriting.{effects-some}
-use Rattle.qic_base.specs.Acts.{steps_of, reading}
+use Rattle.qic_base.specs.Acts.{steps_of}
 use Rattle.cartridge_spec.specs.HeaderAndTable.{IsArea, TableIs}
-use Rattle.cartridge_spec.specs.Table.{slot_bytes, slot_sector, table_with, Entry, Shows}
+use Rattle.cartridge_spec.specs.Table.{slot_bytes, table_with, Entry, Shows}
 use Rattle.cartridge_laws.specs.Table.{IsSoundList}
 use Rattle.cartridge_spec.specs.Settling.{changed_by, settling_steps}
 use Rattle.cartridge_laws.proofs.SlotBytes.{length-slot_bytes, slot_are_bytes}
 use Rattle.cartridge_laws.proofs.Slots.{slot_area}
-use Rattle.cartridge_spec.specs.Appending.{last_end}
 use Rattle.cartridge_laws.specs.AppendSettled.{IsSettledFor}
 use Rattle.cartridge_laws.proofs.AppendDead.{settled_is_settled_for, table_settled}
 use Rattle.cartridge_laws.proofs.AppendKeeping.{AreIn}
@@ -32,9 +31,9 @@ use Rattle.host_driver.specs.Calls.{Keeps}
 use Rattle.host_driver.specs.Fits.{Fits, AgreesWithTape, segments_of}
 use Rattle.cartridge_laws.proofs.MountWhole.{table_is_area}
 use Rattle.volume_store.specs.declared.fault.StoreFault.{StoreFault}
-use Rattle.volume_store.specs.declared.fault.StoreFault.TheVariants as fault
 use Rattle.volume_store.specs.Again.{IsSettledAgain, IsAdded, SettlesAgain, AddsEntry, entry_writes}
-use Rattle.command_spec.specs.Append.{kept_in, input_writes}
+use Rattle.command_laws.specs.CommandTerms.{kept_in}
+use Rattle.command_spec.specs.Append.{input_writes}
 use Rattle.volume_store.specs.Appending.{InputIs}
 use Rattle.volume_store.specs.Mounting.{StoreView, StoreFits}
 use Rattle.command_laws.proofs.StoreAgain.{table_one}
@@ -42,6 +41,9 @@ use Rattle.command_laws.proofs.StoreBehind.{input_behind, settled_behind, front_
 use Rattle.volume_store.proofs.Copies.{tells_two}
 use Rattle.volume_store.proofs.Ending.{has_list}
 use Rattle.volume_store.proofs.Storing.{one_length, still_primary, still_referenced}
+use Rattle.qic_base.specs.Source as sources
+use Rattle.qic_base.specs.Tape as tapes
+use Rattle.volume_store.specs.declared.fault.StoreFault.TheVariants as fault
 
 -- the drive knows of a cartridge, so the tape doesn't tell that there is none
 pub not_empty : {T : Type 0} (m : Meaning T) (h : Host) (u : UnitView T) → Fits m h u → AgreesWithTape m u → m.told u.tape ≡ Some None → ⊥

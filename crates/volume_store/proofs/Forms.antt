@@ -4,19 +4,20 @@ use Rattle.cartridge_spec.specs.Says.{Saying}
 use Rattle.cartridge_spec.specs.Settling.{changed_by}
 use Rattle.cartridge_spec.specs.Table.{Entry}
 use Rattle.command_laws.proofs.ScrubForms.{found_may_be, shallow_is_scrub}
-use Rattle.command_spec.specs.Scrub.{Looked, Counts, SayInTurn, Scrubs, IsScrubText, looked_at, steps_in, line_in, look_act, looking_acts, lines_of, unread_count, counts_of, counts_line, last_act}
-use Rattle.command_spec.specs.ScrubForms.{Finding, FindInTurn, MayFind, MayBeFound, ScrubsAs, IsTextFor, finding_acts, lines_for, sayings_of, counts_for}
+use Rattle.command_spec.specs.Scrub.{Looked, Counts, SayInTurn, Scrubs, IsScrubText, looked_at, steps_in, line_in, looking_acts, lines_of, unread_count, counts_line, Finding, FindInTurn, MayFind, MayBeFound, ScrubsAs, IsTextFor, finding_acts, lines_for, sayings_of}
+use Rattle.command_laws.specs.Terms.{counts_of, last_act, look_act, counts_for}
 use Rattle.command_spec.specs.declared.depth.Depth.TheVariants.{Shallow}
 use Rattle.qic_base.proofs.Steps.{Tells-map}
-use Rattle.qic_base.specs.Acts.{Act, steps_of, text_of, Outside, Failing, TapeFails, SinkFails, Cut, no_source}
+use Rattle.qic_base.specs.Acts.{Act, steps_of, text_of, Outside, Failing, TapeFails, SinkFails, Cut}
+use Rattle.qic_base.specs.Terms.{no_source}
 use Rattle.qic_base.specs.Cartridge.{Cartridge}
-use Rattle.qic_base.specs.Sink as sinks
-use Rattle.qic_base.specs.Tape as tapes
 use Rattle.segment_mending.specs.Mending.{reported, HasScrubbed, ScrubCut}
 use Rattle.segment_mending.specs.declared.report.ScrubReport.{ScrubReport}
 use Rattle.volume_store.specs.Mounting.{StoreView}
 use Rattle.volume_store.specs.Scrubbing.{HasMended, MendCut, MendEnds, MendEndsAs}
 use Rattle.volume_store.specs.declared.fault.StoreFault.{StoreFault}
+use Rattle.qic_base.specs.Sink as sinks
+use Rattle.qic_base.specs.Tape as tapes
 use Rattle.volume_store.specs.declared.fault.StoreFault.TheVariants as fault
 
 -- ---- findings without a wrong sector

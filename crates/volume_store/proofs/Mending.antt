@@ -6,13 +6,13 @@ use Rattle.std.proofs.lemmas.List.{map-append, length-take-le, take_at}
 use Rattle.cartridge_spec.specs.Code.{parity_sectors}
 use Rattle.std.proofs.lemmas.List.Elements.{filter-append}
 use Rattle.std.proofs.lemmas.List.FromFn.{get_or-range_with_len}
-use Rattle.qic_base.specs.LostSet.{lost_places}
+use Rattle.qic_base.specs.Cartridge.{lost_places}
 use Rattle.erasure_solve.specs.Lost.{is_lost}
-use Rattle.cartridge_spec.specs.Shape.{sector_at}
+use Rattle.cartridge_spec.specs.Shape.{sector_at, usable_places}
 use Rattle.cartridge_spec.specs.Says.{whole_mask}
-use Rattle.cartridge_spec.specs.Shape.{usable_places, sectors_of}
+use Rattle.cartridge_laws.specs.Terms.{sectors_of, places_where}
 use Rattle.cartridge_laws.proofs.Segments.{places_of_whole}
-use Rattle.cartridge_spec.specs.Settling.{places_where, block_writes}
+use Rattle.cartridge_spec.specs.Settling.{block_writes}
 use Rattle.volume_store.specs.declared.table_reader.Unread.{Unread}
 use Rattle.volume_store.specs.Settling.{collected_block, is_stale, mending_steps}
 use Rattle.qic_base.specs.Step.{Step, WriteSector}
@@ -39,7 +39,6 @@ places_filter mask (suc n) test same =
     ∙ sym (filter_more test n)
 
 pub places_of_set : (mask : ℕ) (test : ℕ → Bool) → ((i : ℕ) → i < 32 → is_lost mask i ≡ test i) → lost_places mask 32 ≡ places_where test
-unfolding places_where
 places_of_set mask test same = places_filter mask 32 test same
 
 -- tests that agree have the same places
@@ -50,7 +49,6 @@ filter_same a (suc n) one other same =
     ∙ ap (λ (l : List ℕ). cond (other a) (a ∷ l) l) (filter_same (a + 1) n one other (λ i within. same i (omega arith)))
 
 pub places_same : (one other : ℕ → Bool) → ((i : ℕ) → i < 32 → one i ≡ other i) → places_where one ≡ places_where other
-unfolding places_where
 places_same one other same = filter_same 0 32 one other (λ i within. same i (omega arith))
 
 -- the place of a whole segment's sector is its index

@@ -28,9 +28,7 @@ refuses_table host c words header sectors entries (fault.Foreign field value) le
   formatted = sound_format c words header has;
   area = found.area;
   table = found.table;
-  slot = found.bad.slot;
-  first = subst (λ (last : ℕ). IsFirstFault found.area last found.bad.slot) (last_learnt host c learnt) found.bad.first;
-  named = found.bad.is_named;
+  first = subst (λ (last : ℕ). IsFirstFault found.area last (fault_as field value)) (last_learnt host c learnt) found.bad.first;
 })
 refuses_table host c words header sectors entries (fault.Lost segment lost) learnt has found = (found.0, (sound_format c words header has, found.1))
 refuses_table host c words header sectors entries fault.TableMismatch learnt has found = (sound_format c words header has, found)

@@ -1,15 +1,17 @@
 -- In which order an append asked its source and wrote its entry, by what its stages did.
-use Rattle.std.proofs.Common.{◌≡◌, ℕ, List, [], ◌∷◌, ◌++◌, length, drop, ◌<◌, Option, Some, None, IfSome, Result, Ok, Err, inl, inr, refl, sym, ap, ◌∙◌, subst}
+use Rattle.std.proofs.Common.{◌≡◌, ℕ, List, [], ◌∷◌, ◌++◌, length, drop, Option, Some, None, IfSome, Result, Ok, Err, inl, inr, refl, sym, ap, ◌∙◌, subst, ◌<◌}
 use Rattle.std.specs.Option.{option_map}
 use Rattle.std.proofs.lemmas.List.Elements.{All-nil}
 use Rattle.cartridge_spec.specs.HeaderAndTable.{TableIs}
 use Rattle.cartridge_spec.specs.Settling.{settling_steps}
 use Rattle.command_laws.proofs.StoreAgain.{table_one}
-use Rattle.command_spec.specs.Append.{Fits, bytes_taken, input_writes}
+use Rattle.command_spec.specs.Append.{Fits, input_writes}
+use Rattle.command_laws.specs.CommandTerms.{bytes_taken}
 use Rattle.qic_base.proofs.Giving.{Gave-nothing}
 use Rattle.qic_base.proofs.Joins.{went_then_cut}
 use Rattle.qic_base.proofs.Steps.{Tells-map, Broke-front}
-use Rattle.qic_base.specs.Acts.{Act, Cut, Failing, Outside, SourceFails, TapeFails, no_sink, reading}
+use Rattle.qic_base.specs.Acts.{Act, Cut, Failing, Outside, SourceFails, TapeFails}
+use Rattle.qic_base.specs.Terms.{no_sink, reading}
 use Rattle.qic_base.specs.Step.{Step}
 use Rattle.volume_input.proofs.Inputs.{left_of, whole_told}
 use Rattle.volume_input.specs.declared.written.Written.{Written}

@@ -1,11 +1,11 @@
 -- What a restore gave, by its answer, and the fit of a store behind a call that keeps its list.
-use Rattle.std.proofs.Common.{◌≡◌, ℕ, zero, suc, ◌-◌, ◌*◌, ◌<◌, ◌++◌, Bool, true, false, List, [], ◌∷◌, length, Option, Some, None, IfSome, Result, Ok, Err, refl, sym, ap, ◌∙◌, subst, arith, slice_get, append_assoc}
+use Rattle.std.proofs.Common.{◌≡◌, ℕ, zero, suc, ◌-◌, ◌*◌, ◌<◌, ◌×◌, ◌++◌, Bool, true, false, List, [], ◌∷◌, length, Option, Some, None, IfSome, Result, Ok, Err, refl, sym, ap, ◌∙◌, subst, arith, slice_get, append_assoc}
 use Rattle.std.proofs.lemmas.Option.{slice_get_past}
-use Rattle.cartridge_spec.specs.Mounting.{HasList}
+use Rattle.cartridge_laws.specs.Terms.{HasList}
 use Rattle.qic_base.specs.Cartridge.{Cartridge}
-use Rattle.qic_base.specs.Sink as sinks
 use Rattle.qic_base.specs.Step.{Step}
-use Rattle.qic_base.specs.Tape.{Meaning, Done, Tells}
+use Rattle.qic_base.specs.Tape.{Meaning, Done}
+use Rattle.qic_base.specs.TapeCalls.{Tells}
 use Rattle.qic_base.proofs.Steps.{Done-told}
 use Rattle.qic_base.specs.Acts.{Act, Outside, SinkFails, Parted, steps_of}
 use Rattle.qic_base.proofs.Joins.{steps_of-append}
@@ -18,12 +18,13 @@ use Rattle.host_driver.specs.Calls.{Keeps}
 use Rattle.host_driver.specs.Fits.{segments_of}
 use Rattle.command_spec.specs.Restore.{Piece, GivingEnd, framed, pieces, pieces_of, volume_at}
 use Rattle.volume_output.specs.declared.fault.OutputFault.{OutputFault}
-use Rattle.volume_output.specs.declared.fault.OutputFault.TheVariants as output
 use Rattle.volume_output.specs.Output.{GaveVolume, VolumeCut, OutputEnds}
 use Rattle.command_laws.specs.OutputText.{AreOf, printed}
 use Rattle.volume_store.specs.Mounting.{StoreView, StoreFits, KeepsStore}
 use Rattle.volume_store.specs.Restoring.{RestoreEnds, fault_of_output}
 use Rattle.volume_store.proofs.Storing.{one_length, still_primary, still_referenced}
+use Rattle.qic_base.specs.Sink as sinks
+use Rattle.volume_output.specs.declared.fault.OutputFault.TheVariants as output
 
 -- ---- the volume
 
@@ -41,6 +42,12 @@ length_is words bytes at e is long = subst (λ (o : Option Entry). IfSome o (λ 
 pub length_there : (store : StoreView) (i : ℕ) (e : Entry) (bytes : ℕ) → slice_get store.entries i ≡ Some e →
     IfSome (slice_get store.entries i) (λ entry. bytes ≡ volume_length store.words entry) → bytes ≡ volume_length store.words e
 length_there store i e bytes at long = length_is store.words bytes (slice_get store.entries i) e at long
+
+-- a volume that is there, and its length
+pub volume_told : (store : StoreView) (number : ℕ) (e : Entry) (bytes : ℕ) → 0 < number → slice_get store.entries (number - 1) ≡ Some e →
+    IfSome (slice_get store.entries (number - 1)) (λ entry. bytes ≡ volume_length store.words entry) →
+    (volume_at store.entries number ≡ Some e) × (bytes ≡ volume_length store.words e)
+volume_told store number e bytes some at long = (volume_there store.entries number e some at, length_there store (number - 1) e bytes at long)
 
 -- ---- what it gave
 

@@ -2,32 +2,31 @@
 use Rattle.std.proofs.Common.{◌≡◌, ℕ, ◌-◌, ◌++◌, false, List, length, Contains, Option, Some, None, inl, inr, IfSome, IsSomeAnd, Result, Ok, Err, refl, sym, ap, ◌∙◌, subst}
 use Rattle.std.specs.Option.{option_map}
 use Rattle.std.proofs.lemmas.List.Elements.{All-take}
-use Rattle.cartridge_spec.specs.Mounting.{HasList}
-use Rattle.qic_base.specs.Cartridge.{Cartridge}
-use Rattle.qic_base.specs.Sink as sinks
-use Rattle.qic_base.specs.Step.{effects}
-use Rattle.qic_base.specs.Stop.{Torn}
-use Rattle.qic_base.specs.Tape.{Meaning, Tells, IsToldRight}
+use Rattle.cartridge_laws.specs.Terms.{HasList, data_of}
+use Rattle.qic_base.specs.Cartridge.{Cartridge, IsSector}
+use Rattle.qic_base.specs.Step.{effects, Torn}
+use Rattle.qic_base.specs.Tape.{Meaning}
+use Rattle.qic_base.specs.TapeCalls.{Tells, IsToldRight}
 use Rattle.qic_base.specs.declared.tape.SectorView.{SectorView}
 use Rattle.qic_base.specs.declared.tape.TapeInfo.{TapeInfo}
 use Rattle.qic_base.proofs.Steps.{Torn-all}
-use Rattle.qic_base.specs.Acts.{Act, Outside, SinkFails, Cut, steps_of, no_source}
+use Rattle.qic_base.specs.Acts.{Act, Outside, SinkFails, Cut, steps_of}
+use Rattle.qic_base.specs.Terms.{no_source}
 use Rattle.qic_base.proofs.Outcomes.{cut_is_torn}
-use Rattle.cartridge_spec.specs.Code.{IsSector}
 use Rattle.cartridge_spec.specs.HeaderAndTable.{table_cells}
-use Rattle.cartridge_spec.specs.Says.{Agrees, data_of, whole_mask}
+use Rattle.cartridge_spec.specs.Says.{Agrees, whole_mask}
 use Rattle.cartridge_spec.specs.Table.{Entry}
 use Rattle.cartridge_laws.specs.Table.{IsSoundList}
 use Rattle.cartridge_laws.proofs.FormatStanding.{same_cells}
-use Rattle.cartridge_laws.proofs.Sayings.{block_from_data, cartridge_sectors}
+use Rattle.cartridge_laws.proofs.Sayings.{block_from_data}
 use Rattle.drive_states.specs.Unit.{UnitView}
 use Rattle.host_driver.specs.declared.host.Host.{Host}
 use Rattle.host_driver.specs.Fits.{Fits, AgreesWithTape, segments_of}
 use Rattle.command_laws.specs.ScrubFound.{without_all}
 use Rattle.command_laws.specs.ScrubMended.{IsBeingMended}
 use Rattle.command_laws.specs.ScrubSayings.{Rise}
-use Rattle.command_spec.specs.Scrub.{Looked, whole_segment, looked_at}
-use Rattle.command_spec.specs.ScrubForms.{Finding, ScrubsAs, counts_for}
+use Rattle.command_spec.specs.Scrub.{Looked, whole_segment, looked_at, Finding, ScrubsAs}
+use Rattle.command_laws.specs.Terms.{counts_for}
 use Rattle.command_spec.specs.declared.depth.Depth.{Depth}
 use Rattle.command_laws.proofs.ScrubBeside.{not_the_table}
 use Rattle.command_laws.proofs.ScrubForms.{AsSeen, as_seen, IsLeft, stopped_left}
@@ -35,9 +34,10 @@ use Rattle.command_laws.proofs.ScrubOneWrong.{form_always}
 use Rattle.command_laws.proofs.ScrubSeen.{SameIn, IsSeen}
 use Rattle.command_laws.proofs.ScrubStanding.{written_kept, looks_in_front}
 use Rattle.segment_mending.specs.declared.fault.ScrubFault.{ScrubFault}
-use Rattle.segment_mending.specs.declared.fault.ScrubFault.TheVariants as fault
 use Rattle.segment_mending.specs.declared.report.ScrubReport.{ScrubReport}
 use Rattle.segment_mending.specs.Mending.{HasScrubbed, ScrubCut, ScrubEnds, reported}
+use Rattle.qic_base.specs.Sink as sinks
+use Rattle.segment_mending.specs.declared.fault.ScrubFault.TheVariants as fault
 
 -- ---- a cartridge that is being mended
 
@@ -51,7 +51,7 @@ mended_list looked c d entries rise among way has =
       code = has.code;
       agrees = subst (Agrees (table_cells d)) whole
           (written_kept looked c d (whole_segment 2) data_sectors rise among
-          (cartridge_sectors data_sectors (All-take IsSector (length has.block - 3) has.block has.code.sectors)) way
+          (All-take IsSector (length has.block - 3) has.block has.code.sectors) way
           (subst (Agrees (table_cells c)) (sym whole) has.agrees));
       shown = has.shown;
     }

@@ -11,12 +11,13 @@ use Rattle.cartridge_laws.proofs.Segments.{cells_of_whole}
 use Rattle.cartridge_laws.specs.Segment.{IsUnreadable}
 use Rattle.cartridge_spec.specs.Code.{parity_sectors}
 use Rattle.cartridge_spec.specs.HeaderAndTable.{table_cells}
-use Rattle.cartridge_spec.specs.Settling.{holds, is_unsettled, holds_other, is_left_out, block_writes, places_where, settling_places, settling_steps, writes_of, changed_by}
+use Rattle.cartridge_spec.specs.Settling.{holds, holds_other, block_writes, settling_places, settling_steps, writes_of, changed_by}
+use Rattle.cartridge_laws.specs.Terms.{places_where, is_unsettled, is_left_out}
 use Rattle.cartridge_spec.specs.Shape.{is_unreadable, sector_at}
 use Rattle.erasure_solve.proofs.Places.{is_lost_from}
 use Rattle.erasure_solve.specs.Lost.{is_lost}
 use Rattle.qic_base.specs.Cartridge.{Cartridge, view_at}
-use Rattle.qic_base.specs.LostSet.{IsLost}
+use Rattle.qic_base.specs.Terms.{IsLost}
 use Rattle.qic_base.specs.Step.{WriteSector, changed}
 use Rattle.qic_base.specs.declared.tape.SectorView.{SectorView}
 use Rattle.qic_base.specs.declared.tape.SectorView.TheVariants.{Blank, Defect, Lost, Holds}

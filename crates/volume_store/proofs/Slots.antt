@@ -1,11 +1,11 @@
 -- The slot that a fault of the volume table names is one of the table's.
 use Rattle.std.proofs.Common.{◌≡◌, ℕ, ◌<◌, Bool, true, false, cond, not, ◌||◌, List, Some, None, sym, ap, subst}
 use Rattle.std.proofs.lemmas.Option.{same_Some}
-use Rattle.cartridge_spec.specs.Table.{TableFault, ForeignSlot, BadRange, IsFirstFault, slot_fault, slot, is_free, is_used, some_free_below, has_bad_range}
+use Rattle.cartridge_laws.specs.Terms.{TableFault, ForeignSlot, BadRange}
+use Rattle.cartridge_spec.specs.Table.{IsFirstFault, slot_fault, slot, is_free, is_used, some_free_below, has_bad_range}
 
 abbrev pub fault_number : TableFault → ℕ
-fault_number (ForeignSlot i) = i
-fault_number (BadRange i) = i
+fault_number fault = fault.value
 
 pick_number : (free foreign bad : Bool) (i : ℕ) (f : TableFault) →
     cond free None (cond foreign (Some (ForeignSlot i)) (cond bad (Some (BadRange i)) None)) ≡ Some f → fault_number f ≡ i

@@ -1,17 +1,16 @@
 -- An append stage by stage, from a store that fits a unit whose cartridge may be written: the list, the fit, and how it ended.
 use Rattle.std.proofs.Common.{◌≡◌, ◌≢◌, ◌⊎◌, inl, inr, ℕ, ◌-◌, false, List, [], ◌∷◌, ◌++◌, length, Option, Err, sym, ◌∙◌, subst, arith}
-use Rattle.cartridge_spec.specs.Mounting.{HasList}
-use Rattle.qic_base.specs.Cartridge.{IsCartridge}
-use Rattle.qic_base.specs.Source as sources
-use Rattle.qic_base.specs.Tape as tapes
-use Rattle.qic_base.specs.Tape.{Meaning, Tells, IsToldRight}
+use Rattle.cartridge_laws.specs.Terms.{HasList}
+use Rattle.qic_base.specs.Terms.{IsCartridge, reading}
+use Rattle.qic_base.specs.Tape.{Meaning}
+use Rattle.qic_base.specs.TapeCalls.{Tells, IsToldRight}
 use Rattle.qic_base.proofs.Steps.{Tells-map}
 use Rattle.cartridge_spec.specs.Formatting.{IsLabel}
-use Rattle.qic_base.specs.Acts.{steps_of, reading}
+use Rattle.qic_base.specs.Acts.{steps_of}
 use Rattle.cartridge_spec.specs.Table.{Entry}
 use Rattle.cartridge_laws.specs.Table.{IsSoundList}
 use Rattle.cartridge_laws.specs.AppendSettled.{IsSettledFor}
-use Rattle.drive_spec.specs.Deck.{is_protected}
+use Rattle.drive_spec.specs.Terms.{is_protected}
 use Rattle.drive_states.specs.Unit.{UnitView}
 use Rattle.host_driver.specs.declared.host.Host.{Host}
 use Rattle.host_driver.specs.Calls.{Keeps}
@@ -20,16 +19,19 @@ use Rattle.host_driver.proofs.Keeping.{keeps_both}
 use Rattle.volume_input.specs.declared.written.Written.{Written}
 use Rattle.volume_store.specs.declared.appended.Appended.{Appended}
 use Rattle.volume_store.specs.declared.fault.StoreFault.{StoreFault}
-use Rattle.volume_store.specs.declared.fault.StoreFault.TheVariants as fault
 use Rattle.volume_store.specs.Again.{IsSettledAgain, IsAdded, IsOfReading, SettlesAgain, AddsEntry}
 use Rattle.volume_store.specs.Appending.{InputIs, InputWritten, HasAppended, AppendEnds}
-use Rattle.command_spec.specs.Append.{kept_in, input_writes}
+use Rattle.command_laws.specs.CommandTerms.{kept_in}
+use Rattle.command_spec.specs.Append.{input_writes}
 use Rattle.volume_store.specs.Mounting.{StoreView, StoreFits}
 use Rattle.command_laws.proofs.StoreBehind.{input_behind}
 use Rattle.volume_store.proofs.Copies.{IsLearnt, told_learnt, tells_two}
-use Rattle.volume_store.proofs.Ending as ending
 use Rattle.volume_store.proofs.Ending.{right_tells, made}
 use Rattle.volume_store.proofs.Fitting.{DidBehind, Listed, adding_refused, fits_with, input_did, least_end, lists_added, lists_later, not_empty, same_told, settled_later, settling_refused}
+use Rattle.qic_base.specs.Source as sources
+use Rattle.qic_base.specs.Tape as tapes
+use Rattle.volume_store.specs.declared.fault.StoreFault.TheVariants as fault
+use Rattle.volume_store.proofs.Ending as ending
 
 -- a store that fits a unit, of whose told cartridge is known that it may be written
 pub record IsWritable {T : Type 0} (t : Meaning T) (store : StoreView) (u : UnitView T) : Type 0 where

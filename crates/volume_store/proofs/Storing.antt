@@ -5,20 +5,23 @@ use Rattle.std.specs.List.{range_with_len}
 use Rattle.std.specs.Option.{option_map, option_map_or}
 use Rattle.std.proofs.lemmas.List.Sums.{sum_by_push}
 use Rattle.cartridge_laws.proofs.MountSettles.{settling_settles}
-use Rattle.qic_base.specs.Cartridge.{Cartridge, IsCartridge}
+use Rattle.qic_base.specs.Cartridge.{Cartridge}
+use Rattle.qic_base.specs.Terms.{IsCartridge}
 use Rattle.qic_base.specs.Step.{Step, WriteSector, changed, effects}
-use Rattle.qic_base.specs.Tape.{Meaning, Done, Tells, IsToldRight}
+use Rattle.qic_base.specs.Tape.{Meaning, Done}
+use Rattle.qic_base.specs.TapeCalls.{Tells, IsToldRight}
 use Rattle.qic_base.specs.declared.tape.TapeInfo.{TapeInfo}
 use Rattle.cartridge_spec.specs.Header.{Header}
 use Rattle.cartridge_spec.specs.Table.{Entry}
 use Rattle.cartridge_laws.specs.Table.{IsSoundList, LieBehind}
 use Rattle.cartridge_spec.specs.HeaderAndTable.{TableIs}
-use Rattle.cartridge_spec.specs.Mounting.{settled, HasList}
+use Rattle.cartridge_spec.specs.Mounting.{settled}
+use Rattle.cartridge_laws.specs.Terms.{HasList}
 use Rattle.cartridge_spec.specs.Settling.{writes_of, changed_by, settling_steps, block_writes, settling_places}
 use Rattle.cartridge_spec.specs.Shape.{sector_at, usable_places}
 use Rattle.cartridge_spec.specs.Says.{whole_mask, with_parity}
 use Rattle.cartridge_spec.specs.Code.{parity_sectors}
-use Rattle.drive_spec.specs.Deck.{is_protected, is_referenced}
+use Rattle.drive_spec.specs.Terms.{is_protected, is_referenced}
 use Rattle.drive_states.specs.Sound.{HasLength}
 use Rattle.drive_states.specs.Unit.{UnitView}
 use Rattle.host_driver.specs.declared.host.Host.{Host}

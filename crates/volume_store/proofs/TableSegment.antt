@@ -4,15 +4,17 @@ use Rattle.std.specs.List.{slice_get}
 use Rattle.std.proofs.lemmas.Nat.Bits.{bit_at-zero}
 use Rattle.std.proofs.lemmas.List.{get_or-take, take_all}
 use Rattle.std.proofs.lemmas.Option.{slice_get-get_or, slice_get_within}
-use Rattle.qic_base.specs.Cartridge.{Cartridge}
-use Rattle.qic_base.specs.LostSet.{lost_places, IsLost}
-use Rattle.qic_base.specs.Tape.{Meaning, Tells}
+use Rattle.qic_base.specs.Cartridge.{Cartridge, lost_places}
+use Rattle.qic_base.specs.Terms.{IsLost}
+use Rattle.qic_base.specs.Tape.{Meaning}
+use Rattle.qic_base.specs.TapeCalls.{Tells}
 use Rattle.qic_base.proofs.Steps.{Tells-map}
 use Rattle.qic_base.specs.declared.tape.SectorView.{SectorView}
 use Rattle.qic_base.specs.declared.tape.SectorView.TheVariants.{Blank, Defect, Lost, Holds}
 use Rattle.cartridge_laws.specs.Segment.{IsUnreadable}
 use Rattle.cartridge_spec.specs.Shape.{is_unreadable}
-use Rattle.cartridge_spec.specs.Says.{unreadable_count, unreadable_data, ReadsAll, TableSays, ByCode, LostSectors, data_of}
+use Rattle.cartridge_spec.specs.Says.{unreadable_count, ReadsAll, TableSays, ByCode, LostSectors}
+use Rattle.cartridge_laws.specs.Terms.{unreadable_data, data_of}
 use Rattle.cartridge_laws.specs.Says.{LosesData}
 use Rattle.cartridge_spec.specs.HeaderAndTable.{table_cells, TableIs}
 use Rattle.cartridge_laws.proofs.Cells.{unreadable_count-first}
@@ -20,14 +22,14 @@ use Rattle.cartridge_laws.specs.Shape.{Carries}
 use Rattle.cartridge_laws.proofs.Segments.{length-whole_cells, count_of_whole}
 use Rattle.segment_io.specs.Gathered.{Gathered, IsUnreadableAt, NamesUnreadable}
 use Rattle.segment_io.specs.declared.fault.SegFault.{SegFault}
-use Rattle.segment_io.specs.declared.fault.SegFault.TheVariants as seg
 use Rattle.segment_io.proofs.SolvedCells.{says_lost}
 use Rattle.volume_store.specs.declared.table_reader.Unread.{Unread}
 use Rattle.cartridge_spec.specs.Table.{Entry}
 use Rattle.volume_store.specs.declared.fault.StoreFault.{StoreFault}
-use Rattle.volume_store.specs.declared.fault.StoreFault.TheVariants as store
 use Rattle.volume_store.specs.Finding.{FindsTable, FindsVolumes, DecodesTable}
 use Rattle.volume_store.specs.Reading.{IsReadBut, SolvesTable}
+use Rattle.segment_io.specs.declared.fault.SegFault.TheVariants as seg
+use Rattle.volume_store.specs.declared.fault.StoreFault.TheVariants as store
 
 pub get-take : {A : Type 0} (n : ℕ) (xs : List A) (i : ℕ) → i < n → slice_get (take n xs) i ≡ slice_get xs i
 get-take zero xs i h = absurd (omega arith)

@@ -2,13 +2,15 @@
 use Rattle.std.proofs.Common.{◌≡◌, ◌≢◌, ◌↔◌, ℕ, zero, suc, ◌/◌, ◌%◌, ◌^◌, ◌<◌, ◌≤◌, ◌++◌, inl, inr, refl, sym, ◌∙◌, ap, subst, arith, true, List, [], ◌∷◌, length, take, drop, map, Option, Some, slice_get, IfSome, IsSomeAnd}
 use Rattle.std.proofs.lemmas.Bool.{cases_eq, cases_lt, eqb-true, eq-eqb, false≢true}
 use Rattle.std.proofs.lemmas.List.{length-take-le, take_at, take_all}
-use Rattle.qic_base.specs.LostSet.{IsLost, lost_places}
+use Rattle.std.proofs.lemmas.List.Elements.{All-nil, All-cons}
+use Rattle.qic_base.specs.Terms.{IsLost}
+use Rattle.qic_base.specs.Cartridge.{lost_places}
 use Rattle.qic_base.specs.declared.tape.SectorView.{SectorView}
 use Rattle.qic_base.specs.declared.tape.SectorView.TheVariants.{Holds}
 use Rattle.cartridge_laws.specs.Segment.{IsUnreadable}
-use Rattle.cartridge_spec.specs.Says.{Mismatch, ByCode, TableSays, HasBlock, HasNoBlock, HasNoBlocks, HasFirstBlock, Agrees, hidden, unreadable_count}
+use Rattle.cartridge_spec.specs.Says.{Mismatch, ByCode, TableSays, HasBlock, HasNoBlock, HasFirstBlock, Agrees, unreadable_count, set_of, sets_by}
+use Rattle.cartridge_laws.specs.Terms.{HasNoBlocks, hidden, unreadable_places, last_used, table_sets}
 use Rattle.cartridge_laws.specs.Says.{LosesData}
-use Rattle.cartridge_spec.specs.TableSets.{set_of, sets_by, table_sets, unreadable_places, last_used}
 use Rattle.cartridge_laws.proofs.Hiding.{nothing_is_hidden}
 use Rattle.cartridge_laws.proofs.Readings.{AreSmall, small_sets}
 use Rattle.cartridge_laws.proofs.Sets.{names, IsOneOf, length-hidden, named_is_one, one_is_named, unreadable_is_named}
@@ -111,9 +113,10 @@ no_block_outside cells sectors set count good unsolved = unsolved (hidden set ce
 
 none_of : (cells : List SectorView) (sectors : List (List ℕ)) (sets : List ℕ) → length cells ≡ 32 → EachSet (IsGood cells sectors) sets →
     ((i other : ℕ) → slice_get sets i ≡ Some other → Unsolved other sectors) → HasNoBlocks sets cells
-none_of cells sectors [] count good each = tt
+none_of cells sectors [] count good each = All-nil (λ (s : ℕ). HasNoBlock (hidden s cells))
 none_of cells sectors (set ∷ sets) count good each =
-    (no_block_outside cells sectors set count good.0 (each 0 set refl), none_of cells sectors sets count good.1 (λ i other at. each (suc i) other at))
+    All-cons (λ (s : ℕ). HasNoBlock (hidden s cells)) set sets (no_block_outside cells sectors set count good.0 (each 0 set refl))
+    (none_of cells sectors sets count good.1 (λ i other at. each (suc i) other at))
 
 first_of : (cells : List SectorView) (sectors : List (List ℕ)) (sets : List ℕ) (place set : ℕ) (area : List (List ℕ)) → length cells ≡ 32 →
     EachSet (IsGood cells sectors) sets → slice_get sets place ≡ Some set →
@@ -135,10 +138,9 @@ pub says_mismatch : (cells : List SectorView) (lost : ℕ) (used : Option ℕ) (
     IsUnsolved (lost ∷ further lost used) old new → TableSays cells (ByCode Mismatch)
 says_mismatch cells lost used old new is unsolved =
     let few : unreadable_count cells ≤ 3 = few_cells cells lost used old is in
-    let none : HasNoBlocks (0 ∷ further lost used) cells = (
-      nothing_out cells (unsolved.each 0 lost refl cells is.count is.gathered few),
-      none_of cells old (further lost used) is.count (all_good cells lost used old is) (λ i other at. unsolved.each (suc i) other at),
-    ) in (
+    let none : HasNoBlocks (0 ∷ further lost used) cells = All-cons (λ (s : ℕ). HasNoBlock (hidden s cells)) 0 (further lost used)
+      (nothing_out cells (unsolved.each 0 lost refl cells is.count is.gathered few))
+      (none_of cells old (further lost used) is.count (all_good cells lost used old is) (λ i other at. unsolved.each (suc i) other at)) in (
       collected_loses cells lost old is.gathered is.loses,
       (few, subst (λ (sets : List ℕ). HasNoBlocks sets cells) (sym (sets_are cells lost used old is)) none),
     )

@@ -5,21 +5,21 @@ use Rattle.std.specs.List.{range_with_len}
 use Rattle.std.specs.Option.{option_map}
 use Rattle.std.proofs.lemmas.Bool.{cases_Bool, cases_eq, eqb-true, eq-eqb, ne_eqb, false≢true}
 use Rattle.std.proofs.lemmas.Option.{slice_get_within, slice_get-get_or}
-use Rattle.qic_base.specs.LostSet.{IsLost, lost_places}
+use Rattle.qic_base.specs.Terms.{IsLost}
+use Rattle.qic_base.specs.Cartridge.{lost_places}
 use Rattle.qic_base.specs.declared.tape.SectorView.{SectorView}
 use Rattle.qic_base.specs.declared.tape.SectorView.TheVariants.{Blank, Defect, Lost, Holds}
 use Rattle.erasure_solve.specs.Lost.{is_lost}
 use Rattle.erasure_solve.proofs.Places.{is_lost_from}
 use Rattle.cartridge_laws.specs.Segment.{IsUnreadable}
 use Rattle.cartridge_spec.specs.Shape.{is_unreadable}
-use Rattle.cartridge_spec.specs.Says.{hidden, hidden_from}
-use Rattle.cartridge_spec.specs.TableSets.{set_of, with_used, sets_by, sets_by_one, sets_by_two, unreadable_from, unreadable_places, last_used, last_used_below, shows_used_slot, has_used_slot}
+use Rattle.cartridge_laws.specs.Terms.{hidden, sets_by_one, sets_by_two, unreadable_places, last_used, has_used_slot}
+use Rattle.cartridge_spec.specs.Says.{hidden_from, set_of, with_used, sets_by, unreadable_from, last_used_below, shows_used_slot}
 use Rattle.cartridge_laws.proofs.Cells.{unreadable_at}
 use Rattle.cartridge_laws.proofs.Sets.{names, IsOneOf, named_is_one, one_is_named}
 use Rattle.volume_table.proofs.Used.{shows_lost, shows_kept}
 use Rattle.segment_io.specs.Gathered.{Gathered, NamesUnreadable, IsUnreadableAt}
 use Rattle.volume_store.proofs.Mending.{places_of_set}
-use Rattle.cartridge_spec.specs.Settling.{places_where}
 
 -- ---- which cells are lost
 
@@ -64,7 +64,6 @@ unreadable_filter place (cell ∷ cells) test same =
 
 -- the unreadable places are those that are lost
 pub places_lost : (cells : List SectorView) (lost : ℕ) → length cells ≡ 32 → NamesUnreadable cells lost → unreadable_places cells ≡ lost_places lost 32
-unfolding places_where
 places_lost cells lost count names =
     unreadable_filter 0 cells (is_lost lost) (λ i within.
     let same : 0 + i ≡ i = omega arith in ap (is_lost lost) same ∙ same_lost cells lost i names)

@@ -1,7 +1,7 @@
 -- A store behind a sector that was worn.
 use Rattle.std.proofs.Common.{◌≡◌, false, List, ℕ, [], ◌∷◌, Option, Some, None, IfSome, sym, subst, Result, Ok, Err, refl}
 use Rattle.std.specs.Option.{option_map}
-use Rattle.cartridge_spec.specs.Mounting.{HasList}
+use Rattle.cartridge_laws.specs.Terms.{HasList}
 use Rattle.cartridge_spec.specs.Table.{Entry}
 use Rattle.command_laws.proofs.StoreWorn.{worn_list}
 use Rattle.drive_states.specs.Hand.{Wears}
@@ -9,7 +9,8 @@ use Rattle.drive_states.specs.Unit.{UnitView}
 use Rattle.drive_states.specs.declared.fault.HandFault.{HandFault}
 use Rattle.qic_base.specs.Cartridge.{Cartridge}
 use Rattle.qic_base.specs.Step.{Wear, effects}
-use Rattle.qic_base.specs.Tape.{Meaning, Done, Tells}
+use Rattle.qic_base.specs.Tape.{Meaning, Done}
+use Rattle.qic_base.specs.TapeCalls.{Tells}
 use Rattle.drive_states.specs.declared.fault.HandFault.TheVariants as fault
 
 -- the list stands where it may be written

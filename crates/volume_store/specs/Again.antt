@@ -1,13 +1,14 @@
 -- The volume table read again, settled again, and written with one entry more, by the answers of the calls (this project's
 -- own).
 use Rattle.std.specs.Prelude.{◌≡◌, ◌⊎◌, ℕ, ◌<◌, ◌++◌, List, [], ◌∷◌, length, take, Result, Ok, Err}
-use Rattle.cartridge_spec.specs.Mounting.{HasList}
+use Rattle.cartridge_laws.specs.Terms.{HasList, slot_sector}
 use Rattle.qic_base.specs.Cartridge.{Cartridge}
 use Rattle.qic_base.specs.Step.{Step}
-use Rattle.qic_base.specs.Tape.{Meaning, Done, Broke, Tells}
+use Rattle.qic_base.specs.Tape.{Meaning, Done, Broke}
+use Rattle.qic_base.specs.TapeCalls.{Tells}
 use Rattle.cartridge_spec.specs.HeaderAndTable.{table_cells, TableIs}
 use Rattle.cartridge_spec.specs.Says.{TableSays, LostSectors, ByCode}
-use Rattle.cartridge_spec.specs.Table.{slot_sector, table_with, Entry, Shows}
+use Rattle.cartridge_spec.specs.Table.{table_with, Entry, Shows}
 use Rattle.cartridge_spec.specs.Appending.{table_writes}
 use Rattle.cartridge_spec.specs.Settling.{settling_steps}
 use Rattle.volume_store.specs.Reading.{IsReadBut}

@@ -1,14 +1,16 @@
 -- What an append does, by the map, the list, the table's data and the input; and how the call ended (this project's own).
-use Rattle.std.specs.Prelude.{◌≡◌, ◌⊎◌, ℕ, ◌<◌, List, drop, Option, Some, true, All, IfSome, IfNone, [], length, is_some, Result, Ok, Err, ◌≤◌, ◌+◌, ◌∷◌, ◌++◌}
+use Rattle.std.specs.Prelude.{◌≡◌, ℕ, ◌<◌, List, drop, Option, All, IfSome, IfNone, [], length, is_some, Result, Ok, Err, ◌≤◌, ◌+◌, ◌∷◌, ◌++◌, ◌⊎◌, Some, true}
 use Rattle.std.specs.Option.{option_map}
 use Rattle.cartridge_spec.specs.HeaderAndTable.{TableIs, table_cells}
 use Rattle.cartridge_spec.specs.Says.{LostSectors, ByCode, TableSays}
 use Rattle.cartridge_spec.specs.Settling.{settling_steps}
 use Rattle.cartridge_spec.specs.Table.{Entry, Shows}
-use Rattle.command_spec.specs.Append.{Taking, taking, bytes_taken, has_promised_room, room_in, input_writes, kept_in, entry_for, Fits, TooLong, TooShort, Kept, append_acts, silently}
-use Rattle.qic_base.specs.Acts.{Outside, Went, no_sink, Failing, Cut, TapeFails, SourceFails, Act}
+use Rattle.command_spec.specs.Append.{Taking, taking, room_in, input_writes, Fits, TooLong, TooShort, Kept, append_acts, has_promised_room}
+use Rattle.command_laws.specs.CommandTerms.{kept_in, entry_for, bytes_taken, silently}
+use Rattle.qic_base.specs.Acts.{Outside, Went, Failing, Cut, TapeFails, SourceFails, Act}
+use Rattle.qic_base.specs.Terms.{no_sink}
 use Rattle.qic_base.specs.Cartridge.{Cartridge}
-use Rattle.qic_base.specs.Cause.{Rose}
+use Rattle.qic_base.specs.Tape.{Rose}
 use Rattle.qic_base.specs.Step.{Step}
 use Rattle.tape_script.specs.Reading.{Skips}
 use Rattle.volume_input.specs.declared.written.Written.{Written}
@@ -17,6 +19,7 @@ use Rattle.volume_store.specs.declared.appended.Appended.{Appended}
 use Rattle.volume_store.specs.declared.fault.StoreFault.{StoreFault}
 use Rattle.qic_base.specs.Source as sources
 use Rattle.qic_base.specs.Tape as tapes
+use Rattle.qic_base.specs.TapeCalls as tape_calls
 use Rattle.volume_store.specs.declared.fault.StoreFault.TheVariants as fault
 
 -- The segments were written, and this became of the input that the source told, or of some input where it tells none.
@@ -69,7 +72,7 @@ pub record AppendRan {T S : Type 0} (t : tapes.Meaning T) (s : sources.Meaning S
   pub table : List (List ℕ)
   pub settling : List Step
   pub shown : Shows table store.entries
-  pub known : tapes.Tells t old.tape (λ c. TableIs c table × (settling ≡ settling_steps table c))
+  pub known : tape_calls.Tells t old.tape (λ c. TableIs c table × (settling ≡ settling_steps table c))
   pub input : List ℕ
   pub is_told : IfSome (s.left old.source) (λ bytes. input ≡ bytes)
   pub content : IfNone (s.left old.source) (All (λ b. b < 256) input)
@@ -93,7 +96,7 @@ pub record HasAppended {T S : Type 0} (t : tapes.Meaning T) (s : sources.Meaning
 pub record TableRefused {T S : Type 0} (t : tapes.Meaning T) (s : sources.Meaning S) (old new : Outside T S (Unit {0})) (Says : Cartridge → Type 0) : Type 0 where
   pub acts : List Act
   pub went : Went t s no_sink old new acts
-  pub told : tapes.Tells t old.tape (λ c. (acts ≡ []) × (new.source ≡ old.source) × Says c)
+  pub told : tape_calls.Tells t old.tape (λ c. (acts ≡ []) × (new.source ≡ old.source) × Says c)
   pub taken : ℕ
   pub left : s.left new.source ≡ option_map (drop taken) (s.left old.source)
 
@@ -102,7 +105,7 @@ pub record AppendCut {T S : Type 0} (t : tapes.Meaning T) (s : sources.Meaning S
   pub input : List ℕ
   pub is_told : IfSome (s.left old.source) (λ bytes. input ≡ bytes)
   pub content : IfNone (s.left old.source) (All (λ b. b < 256) input)
-  pub told : tapes.Tells t old.tape (λ c. (table : List (List ℕ)) → TableIs c table → (reply : Entry → List ℕ) →
+  pub told : tape_calls.Tells t old.tape (λ c. (table : List (List ℕ)) → TableIs c table → (reply : Entry → List ℕ) →
       Cut t s no_sink old new (append_acts (kept_by store table (settling_steps table c)) name date promised reply input) failing)
   -- and over any tape
   pub acts : List Act
@@ -112,7 +115,7 @@ pub record AppendCut {T S : Type 0} (t : tapes.Meaning T) (s : sources.Meaning S
 -- where the table's segment says no data, a fault of the outside came before anything was done
 abbrev pub CutUnread : {T S : Type 0} (t : tapes.Meaning T) (s : sources.Meaning S) (old new : Outside T S (Unit {0})) → Failing → Type 0
 CutUnread t s old new failing =
-    tapes.Tells t old.tape (λ c. ((table : List (List ℕ)) → TableIs c table → ⊥) → Cut t s no_sink old new [] failing)
+    tape_calls.Tells t old.tape (λ c. ((table : List (List ℕ)) → TableIs c table → ⊥) → Cut t s no_sink old new [] failing)
 
 abbrev pub FaultsUnread : {T S : Type 0} (t : tapes.Meaning T) (s : sources.Meaning S) (old new : Outside T S (Unit {0})) → Result Appended StoreFault → Type 0
 FaultsUnread t s old new (Err fault.Source) = CutUnread t s old new SourceFails
@@ -161,7 +164,7 @@ AskedFor words entries n old new answer = HasRoomFor words entries (Some n)
 pub record MayAsk {T : Type 0} (t : tapes.Meaning T) (old : T) (store : StoreView) (promised : Option ℕ) : Type 0 where
   pub table : List (List ℕ)
   pub shown : Shows table store.entries
-  pub read : tapes.Tells t old (λ c. TableIs c table)
+  pub read : tape_calls.Tells t old (λ c. TableIs c table)
   pub room : HasRoomFor store.words store.entries promised
 
 -- it was asked only then
@@ -177,7 +180,7 @@ pub record CutBeforeEntry {T S : Type 0} (t : tapes.Meaning T) (s : sources.Mean
   pub input : List ℕ
   pub is_told : IfSome (s.left old.source) (λ bytes. input ≡ bytes)
   pub content : IfNone (s.left old.source) (All (λ b. b < 256) input)
-  pub told : tapes.Tells t old.tape (λ c. (table : List (List ℕ)) → TableIs c table →
+  pub told : tape_calls.Tells t old.tape (λ c. (table : List (List ℕ)) → TableIs c table →
       Cut t s no_sink old new (acts_before_entry (kept_by store table (settling_steps table c)) promised input) failing)
 
 -- the source had given all bytes of the volume

@@ -6,12 +6,13 @@ use Rattle.qic_base.specs.Step.{Step}
 use Rattle.qic_base.specs.Tape.{Meaning, Done, Broke}
 use Rattle.qic_base.specs.declared.foreign.ForeignField.{ForeignField}
 use Rattle.qic_base.specs.declared.foreign.ForeignField.TheVariants.{FormatCode, FirstHeader, SecondHeader, FirstData, LastData, SegmentsPerTrack, Tracks, TrackMaximum, SectorMaximum, Map, Slot, Range}
-use Rattle.cartridge_spec.specs.Header.{HeaderFault, fault_as, has_signature, header_fault, Shows}
+use Rattle.cartridge_spec.specs.Header.{HeaderFault, has_signature, header_fault, Shows}
+use Rattle.cartridge_laws.specs.Terms.{fault_as}
 use Rattle.cartridge_spec.specs.Says.{TableSays}
 use Rattle.cartridge_spec.specs.Says as says
-use Rattle.cartridge_spec.specs.Table.{Entry, TableFault, HasNoFault, IsFirstFault}
+use Rattle.cartridge_spec.specs.Table.{Entry, HasNoFault, IsFirstFault}
 use Rattle.cartridge_spec.specs.Table as tables
-use Rattle.cartridge_spec.specs.HeaderAndTable.{table_cells, TableIs, slot_refusal, CopyReads, CopyDoesNotRead, IsFormatted, IsUnformatted}
+use Rattle.cartridge_spec.specs.HeaderAndTable.{table_cells, TableIs, CopyReads, CopyDoesNotRead, IsFormatted, IsUnformatted}
 use Rattle.cartridge_spec.specs.Mounting.{RefusesHeader}
 use Rattle.header_segments.specs.declared.header.Header.{Header}
 use Rattle.header_segments.specs.Header.{header_of}
@@ -153,9 +154,7 @@ pub record ShowsVolumes (area : List (List ℕ)) (last : ℕ) (entries : List En
 
 -- a slot is at fault
 pub record HasBadSlot (area : List (List ℕ)) (last : ℕ) (fault : HeaderFault) : Type 0 where
-  pub slot : TableFault
-  pub first : IsFirstFault area last slot
-  pub is_named : slot_refusal slot ≡ fault
+  pub first : IsFirstFault area last fault
 
 -- how the decoding of the table's data ended
 abbrev pub DecodesTable : (area : List (List ℕ)) (last : ℕ) (entries : List Entry) → Result (Unit {0}) StoreFault → Type 0

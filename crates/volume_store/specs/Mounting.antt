@@ -1,12 +1,13 @@
 -- How a cartridge is mounted, what a store shows of it, and when a store fits a unit (this project's own).
 use Rattle.std.specs.Prelude.{◌≡◌, ℕ, List, take, Result, Ok, Err, ◌⊎◌, [], ◌-◌, ◌*◌, true, false, length}
 use Rattle.cartridge_laws.specs.Table.{IsSoundList}
-use Rattle.cartridge_spec.specs.Header.{fault_as, Header}
+use Rattle.cartridge_laws.specs.Terms.{fault_as, HasList}
+use Rattle.cartridge_spec.specs.Header.{Header}
 use Rattle.cartridge_spec.specs.HeaderAndTable.{table_cells}
-use Rattle.cartridge_spec.specs.Mounting.{Mounts, HasList}
+use Rattle.cartridge_spec.specs.Mounting.{Mounts}
 use Rattle.cartridge_spec.specs.Settling.{settling_steps}
 use Rattle.cartridge_spec.specs.Table.{Entry}
-use Rattle.drive_spec.specs.Deck.{is_referenced}
+use Rattle.drive_spec.specs.Terms.{is_referenced}
 use Rattle.drive_states.specs.Unit.{UnitView}
 use Rattle.header_segments.specs.Header.{header_of}
 use Rattle.host_driver.specs.Fits.{Fits, IsAtRest, AgreesWithTape, segments_of}
@@ -14,7 +15,8 @@ use Rattle.host_driver.specs.declared.host.Host.{Host}
 use Rattle.qic117_commands.specs.Views.{is_primary}
 use Rattle.qic_base.specs.Cartridge.{Cartridge}
 use Rattle.qic_base.specs.Step.{Step}
-use Rattle.qic_base.specs.Tape.{Meaning, Done, Tells, Broke}
+use Rattle.qic_base.specs.Tape.{Meaning, Done, Broke}
+use Rattle.qic_base.specs.TapeCalls.{Tells}
 use Rattle.volume_store.specs.Reading.{IsReadBut}
 use Rattle.volume_store.specs.declared.fault.StoreFault.{StoreFault}
 use Rattle.volume_store.specs.declared.fault.StoreFault.TheVariants.{NotFormatted, Foreign, Lost, TableMismatch, Tape}

@@ -3,7 +3,8 @@ use Rattle.std.specs.Prelude.{◌≡◌, ℕ, [], Option, Some, length, slice_ge
 use Rattle.cartridge_spec.specs.Table.{Entry}
 use Rattle.cartridge_spec.specs.Volumes.{volume_length}
 use Rattle.command_spec.specs.Restore.{volume_at, Restored, LostIn, MismatchIn, pieces}
-use Rattle.qic_base.specs.Acts.{Outside, TapeFails, SinkFails, around}
+use Rattle.qic_base.specs.Acts.{Outside, TapeFails, SinkFails}
+use Rattle.qic_base.specs.Terms.{around}
 use Rattle.volume_output.specs.Output.{GaveVolume, VolumeCut}
 use Rattle.volume_output.specs.Part.{OfPiece, ReadsPiece, LosesPiece, MismatchesPiece}
 use Rattle.volume_output.specs.declared.fault.OutputFault.{OutputFault}

@@ -1,15 +1,16 @@
 //! A volume appended.
 
-ghost use Rattle.std.specs.Prelude.{◌≡◌, ◌-◌, ◌+◌, ◌*◌, ◌≤◌, IfSome, Some, None, true, length};
-ghost use Rattle.qic_base.specs.Acts.{reading};
-ghost use Rattle.cartridge_spec.specs.Appending.{last_end, room};
+ghost use Rattle.std.specs.Prelude.{◌≡◌, ◌-◌, ◌+◌, ◌*◌, ◌≤◌, Some, None, true, length, IfSome};
+ghost use Rattle.cartridge_laws.specs.Terms.{last_end};
+ghost use Rattle.qic_base.specs.Terms.{reading};
+ghost use Rattle.cartridge_spec.specs.Appending.{room};
 ghost use Rattle.cartridge_laws.specs.Table.{IsSoundList};
-ghost use Rattle.drive_spec.specs.Deck.{is_referenced};
+ghost use Rattle.drive_spec.specs.Terms.{is_referenced};
 ghost use Rattle.cartridge_spec.specs.Formatting.{IsLabel};
 ghost use Rattle.host_driver.specs.Calls.{IsReady, MayWrite, Keeps};
 ghost use Rattle.host_driver.specs.Fits.{segments_of};
 ghost use Rattle.qic_base.specs.declared.TheConstants.{LONGEST};
-ghost use Rattle.volume_store.specs.Appending.{AskedFor, InputIs, TakesNone};
+ghost use Rattle.volume_store.specs.Appending.{InputIs, TakesNone, AskedFor};
 
 use crate::fault::StoreFault;
 use crate::store::capacity_between;

@@ -1,9 +1,9 @@
 //! What a cartridge says, learnt by reads alone.
 
 ghost use Rattle.std.specs.Prelude.{◌≡◌, ◌≢◌, ◌-◌, ◌*◌, [], true, length, take, IsOk, IfOk, OnOk};
-ghost use Rattle.qic_base.specs.Tape.{Tells};
+ghost use Rattle.qic_base.specs.TapeCalls.{Tells};
 ghost use Rattle.qic117_commands.specs.Views.{is_primary};
-ghost use Rattle.drive_spec.specs.Deck.{is_referenced};
+ghost use Rattle.drive_spec.specs.Terms.{is_referenced};
 ghost use Rattle.host_driver.specs.Calls.{IsReady};
 ghost use Rattle.host_driver.specs.Fits.{AgreesWithTape, segments_of};
 ghost use Rattle.volume_store.specs.Finding.{Leaves, NamesCause, RefusesMounting, HasWords, ShowsVolumes};

@@ -1,9 +1,9 @@
 //! The volume table read again: settled, and written with one entry more.
 
 ghost use Rattle.std.specs.Prelude.{◌≡◌, ◌≢◌, ◌⊎◌, ◌<◌, ◌++◌, ◌∷◌, [], true, length, take, OnOk, OnErr};
-ghost use Rattle.qic_base.specs.Tape.{Tells};
+ghost use Rattle.qic_base.specs.TapeCalls.{Tells};
 ghost use Rattle.cartridge_spec.specs.Table.{Shows};
-ghost use Rattle.drive_spec.specs.Deck.{is_referenced};
+ghost use Rattle.drive_spec.specs.Terms.{is_referenced};
 ghost use Rattle.drive_states.specs.Reach.{reads_in};
 ghost use Rattle.host_driver.specs.Calls.{IsReady, MayWrite, Keeps};
 ghost use Rattle.host_driver.specs.Fits.{AgreesWithTape};

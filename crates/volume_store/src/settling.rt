@@ -3,10 +3,10 @@
 
 ghost use Rattle.std.specs.Prelude.{◌≡◌, ◌<◌, ◌^◌, ◌==◌, ◌&&◌, ◌||◌, ◌++◌, ℕ, true, not, length, take, IsOkUnless};
 ghost use Rattle.std.specs.Str.{bytes_eq};
-ghost use Rattle.qic_base.specs.Tape.{Does};
+ghost use Rattle.qic_base.specs.TapeCalls.{Does};
 ghost use Rattle.qic117_commands.specs.Views.{is_primary};
 ghost use Rattle.erasure_solve.specs.Lost.{is_lost};
-ghost use Rattle.drive_spec.specs.Deck.{is_protected, is_referenced};
+ghost use Rattle.drive_spec.specs.Terms.{is_protected, is_referenced};
 ghost use Rattle.host_driver.specs.Calls.{IsReady, Keeps};
 ghost use Rattle.volume_store.specs.Settling.{collected_block, is_stale, mending_steps};
 

@@ -1,8 +1,9 @@
 //! A mounted cartridge.
 
 ghost use Rattle.std.specs.Prelude.{◌≡◌, ◌≢◌, ◌↔◌, ◌+◌, ◌-◌, ◌*◌, ◌^◌, ◌<◌, ◌≤◌, true, Err, IfOk, IfSome, slice_get, length};
-ghost use Rattle.qic_base.specs.Acts.{around, reading};
-ghost use Rattle.drive_spec.specs.Deck.{is_protected, segments_per_track};
+ghost use Rattle.qic_base.specs.Terms.{around, reading};
+ghost use Rattle.drive_spec.specs.Terms.{is_protected};
+ghost use Rattle.drive_spec.specs.Deck.{segments_per_track};
 ghost use Rattle.drive_states.specs.Hand.{Wears};
 ghost use Rattle.qic_base.specs.Cartridge.{IsPlace};
 ghost use Rattle.host_driver.specs.Calls.{IsReady};
@@ -10,7 +11,7 @@ ghost use Rattle.host_driver.specs.Fits.{AgreesWithTape, deck_of, segments_of};
 ghost use Rattle.cartridge_spec.specs.Shape.{mask_at, marked_sectors};
 ghost use Rattle.cartridge_spec.specs.Volumes.{capacity_between, volume_length};
 ghost use Rattle.header_segments.specs.Header.{header_of};
-ghost use Rattle.volume_store.specs.Appending.{AppendEnds, FaultsUnread, InOrder, KeepsFormat, KeepsList};
+ghost use Rattle.volume_store.specs.Appending.{AppendEnds, FaultsUnread, KeepsFormat, KeepsList, InOrder};
 ghost use Rattle.volume_store.specs.Finding.{NamesCause, RefusesMounting};
 ghost use Rattle.volume_store.specs.Mounting.{MountDoes, StoreFits, KeepsStore};
 ghost use Rattle.volume_store.specs.Restoring.{RestoreEnds, ReadsPart, fault_of_output};

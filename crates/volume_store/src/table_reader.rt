@@ -1,12 +1,13 @@
 //! The volume table's segment read.
 
 ghost use Rattle.std.specs.Prelude.{◌≡◌, ◌≢◌, ◌<◌, ◌≤◌, ◌↔◌, ◌++◌, ℕ, List, Some, true, length, take, drop, IfOk, IfSome, IsOkUnless};
-ghost use Rattle.qic_base.specs.LostSet.{IsLost, lost_places};
-ghost use Rattle.qic_base.specs.Tape.{Tells};
+ghost use Rattle.qic_base.specs.Terms.{IsLost};
+ghost use Rattle.qic_base.specs.Cartridge.{lost_places};
+ghost use Rattle.qic_base.specs.TapeCalls.{Tells};
 ghost use Rattle.qic_base.specs.declared.tape.SectorView.{SectorView};
 ghost use Rattle.cartridge_spec.specs.HeaderAndTable.{table_cells};
 ghost use Rattle.cartridge_laws.specs.Says.{LosesData};
-ghost use Rattle.drive_spec.specs.Deck.{is_referenced};
+ghost use Rattle.drive_spec.specs.Terms.{is_referenced};
 ghost use Rattle.drive_states.specs.Reach.{reads_in};
 ghost use Rattle.host_driver.specs.Calls.{IsReady, Keeps};
 ghost use Rattle.segment_io.specs.Gathered.{Gathered};

@@ -1,13 +1,12 @@
 //! The entry of a new volume written into the volume table.
 
 ghost use Rattle.std.specs.Prelude.{◌≡◌, ◌<◌, ◌^◌, ◌++◌, ◌∷◌, [], true, length, take, IsOkUnless};
-ghost use Rattle.qic_base.specs.Tape.{Does};
+ghost use Rattle.qic_base.specs.TapeCalls.{Does};
 ghost use Rattle.cartridge_spec.specs.Appending.{table_writes};
 ghost use Rattle.cartridge_spec.specs.Says.{with_parity};
-ghost use Rattle.cartridge_spec.specs.Shape.{sectors_of};
-ghost use Rattle.cartridge_spec.specs.Table.{slot_bytes, slot_sector, with_slot};
-ghost use Rattle.cartridge_spec.specs.Table.{Shows};
-ghost use Rattle.drive_spec.specs.Deck.{is_referenced};
+ghost use Rattle.cartridge_laws.specs.Terms.{sectors_of, slot_sector, with_slot};
+ghost use Rattle.cartridge_spec.specs.Table.{slot_bytes, Shows};
+ghost use Rattle.drive_spec.specs.Terms.{is_referenced};
 ghost use Rattle.host_driver.specs.Calls.{IsReady, MayWrite, Keeps};
 ghost use Rattle.cartridge_spec.specs.Settling.{block_writes};
 ghost use Rattle.volume_table.specs.Entry.{entry_of};

@@ -1,8 +1,8 @@
 //! The list of volumes read.
 
 ghost use Rattle.std.specs.Prelude.{◌≡◌, ◌≢◌, ℕ, ◌-◌, ◌*◌, [], true, length, take, OnOk};
-ghost use Rattle.qic_base.specs.Tape.{Tells};
-ghost use Rattle.drive_spec.specs.Deck.{is_referenced};
+ghost use Rattle.qic_base.specs.TapeCalls.{Tells};
+ghost use Rattle.drive_spec.specs.Terms.{is_referenced};
 ghost use Rattle.drive_states.specs.Reach.{reads_in};
 ghost use Rattle.host_driver.specs.Calls.{IsReady, Keeps};
 ghost use Rattle.host_driver.specs.Fits.{segments_of};

@@ -7,10 +7,12 @@ use Rattle.std.proofs.lemmas.Bool.Decides.{nat_tests}
 use Rattle.std.proofs.lemmas.List.{length-append}
 use Rattle.std.proofs.lemmas.Nat.{or_comm}
 use Rattle.std.proofs.lemmas.Nat.Bits.{bit_at-zero, bit_at-lt, bit_at_or, bit_at-pow_same, bit_at-pow_other, bit_at_above, same_from_bits}
-use Rattle.qic_base.specs.LostSet.{IsLost, lost_places}
+use Rattle.qic_base.specs.Terms.{IsLost}
+use Rattle.qic_base.specs.Cartridge.{lost_places}
 use Rattle.qic_base.proofs.LostSetLaws.{lost_places-lost, lost_places-kept}
 use Rattle.cartridge_laws.specs.Says.{LosesData}
-use Rattle.cartridge_spec.specs.TableSets.{set_of, with_used, sets_by, sets_by_one, sets_by_two}
+use Rattle.cartridge_spec.specs.Says.{set_of, with_used, sets_by}
+use Rattle.cartridge_laws.specs.Terms.{sets_by_one, sets_by_two}
 use Rattle.volume_table.specs.Trials.{with_place, with_last_used, tried}
 
 -- ---- sets of places

@@ -2,13 +2,13 @@
 use Rattle.std.proofs.Common.{◌≡◌, ◌↔◌, ℕ, zero, suc, ◌+◌, ◌*◌, ◌/◌, ◌%◌, ◌^◌, ◌<◌, inl, inr, refl, sym, ◌∙◌, ap, subst, arith, Bool, true, false, List, [], ◌∷◌, length, take, drop, map, Option, Some, None, slice_get, unwrap_or}
 use Rattle.std.specs.Prelude.{◌||◌, ◌==◌, if◌then◌else◌}
 use Rattle.std.proofs.lemmas.Bool.{cases_eq, cases_lt, cases_Bool, ne_eqb, eq-eqb, false≢true}
-use Rattle.qic_base.specs.LostSet.{IsLost}
+use Rattle.qic_base.specs.Terms.{IsLost}
 use Rattle.qic_base.specs.declared.tape.SectorView.{SectorView}
 use Rattle.qic_base.specs.declared.tape.SectorView.TheVariants.{Lost, Holds}
 use Rattle.cartridge_spec.specs.Shape.{sector_at}
-use Rattle.cartridge_spec.specs.Says.{hidden, hidden_from}
+use Rattle.cartridge_laws.specs.Terms.{hidden, has_used_slot, last_used}
+use Rattle.cartridge_spec.specs.Says.{hidden_from, some_used_below, shows_used_slot, last_used_below}
 use Rattle.cartridge_spec.specs.Table.{slot, is_used}
-use Rattle.cartridge_spec.specs.TableSets.{some_used_below, has_used_slot, shows_used_slot, last_used_below, last_used}
 use Rattle.volume_table.specs.Trials.{ShowsUsed, IsLastUsed}
 
 -- ---- the slots of a sector

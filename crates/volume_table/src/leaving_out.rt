@@ -2,12 +2,12 @@
 //! block agrees with the readable ones (this project's profile).
 
 ghost use Rattle.std.specs.Prelude.{◌≡◌, ◌<◌, ◌≤◌, ◌↔◌, ◌+◌, ◌++◌, ℕ, List, length, map, slice_get, unwrap_or, IfSome};
-ghost use Rattle.qic_base.specs.LostSet.{lost_places};
+ghost use Rattle.qic_base.specs.Cartridge.{lost_places};
 ghost use Rattle.qic_base.specs.declared.tape.SectorView.TheVariants.{Holds, Lost};
-ghost use Rattle.cartridge_spec.specs.Says.{hidden};
+ghost use Rattle.cartridge_laws.specs.Terms.{hidden, has_used_slot, last_used};
 ghost use Rattle.cartridge_laws.specs.Says.{LosesData};
 ghost use Rattle.cartridge_spec.specs.Shape.{sector_at};
-ghost use Rattle.cartridge_spec.specs.TableSets.{has_used_slot, last_used, shows_used_slot};
+ghost use Rattle.cartridge_spec.specs.Says.{shows_used_slot};
 ghost use Rattle.volume_table.specs.Trials.{AreTrials, IsLastUsed, ShowsUsed, tried, with_last_used, with_place};
 
 use crate::reading::DATA_SECTORS;

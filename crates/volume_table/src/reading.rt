@@ -1,7 +1,7 @@
 //! How the table's segment is read, by which of its sectors are unreadable.
 
 ghost use Rattle.std.specs.Prelude.{◌≡◌, ◌<◌, ◌≤◌, ◌↔◌, ℕ, length, IsTrue};
-ghost use Rattle.qic_base.specs.LostSet.{lost_places};
+ghost use Rattle.qic_base.specs.Cartridge.{lost_places};
 ghost use Rattle.cartridge_laws.specs.Says.{LosesData};
 
 use crate::table::Table;

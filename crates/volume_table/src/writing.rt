@@ -1,7 +1,8 @@
 //! An entry as the bytes of a slot.
 
 ghost use Rattle.std.specs.Prelude.{◌≡◌, ◌<◌, length};
-ghost use Rattle.cartridge_spec.specs.Table.{slot_bytes, with_slot};
+ghost use Rattle.cartridge_spec.specs.Table.{slot_bytes};
+ghost use Rattle.cartridge_laws.specs.Terms.{with_slot};
 ghost use Rattle.cartridge_laws.specs.Slots.{FitsSlot};
 ghost use Rattle.volume_table.specs.Entry.{entry_of};
 

@@ -1,5 +1,5 @@
 use Rattle.std.proofs.Common.{◌≡◌, ℕ, refl, ◌∙◌, ap, subst, sym, arith}
-use Rattle.qic_base.specs.LostSet.{lost_places}
+use Rattle.qic_base.specs.Cartridge.{lost_places}
 use Rattle.gf256_qic.specs.Code.{IsSolvable}
 use Rattle.erasure_solve.specs.Lost.{is_lost, lost_count}
 use Rattle.code_speed.proofs.solved.Goals as goal

@@ -18,10 +18,11 @@ use Rattle.command_laws.proofs.CommandWhole.{some_whole}
 use Rattle.command_laws.proofs.WholeSteps.{spoiled_whole}
 use Rattle.command_laws.proofs.TextCommands.{only, three_words, spelled_length, IsNumber-value, IsRead, Reading, word_at, number_value, named}
 use Rattle.command_laws.specs.CommandRecord.{CommandLaws, NeitherReads}
-use Rattle.command_spec.specs.CommandWords.{HasForm}
-use Rattle.command_spec.specs.Commands.Defect.{DefectOutcome, defect_command}
+use Rattle.command_spec.specs.Command.{HasForm}
+use Rattle.command_spec.specs.Single.{DefectOutcome, defect_command}
 use Rattle.command_spec.specs.Outcome.{HasPlace}
-use Rattle.qic_base.specs.Cartridge.{view_at, IsCartridge}
+use Rattle.qic_base.specs.Cartridge.{view_at}
+use Rattle.qic_base.specs.Terms.{IsCartridge}
 use Rattle.qic_base.specs.Step.{changed, Spoil}
 use Rattle.qic_base.specs.Tape.{spoil_answer}
 use Rattle.command_spec.specs.declared.status.Status.TheVariants as status

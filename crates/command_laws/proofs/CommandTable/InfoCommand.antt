@@ -12,11 +12,11 @@ use Rattle.command_laws.proofs.CommandUnread.{open_unread}
 use Rattle.command_laws.proofs.CommandWhole.{shows_whole, some_whole}
 use Rattle.command_laws.proofs.TextCommands.{only, one_word, spelled_length, IsRead, Reading, named}
 use Rattle.command_laws.specs.CommandRecord.{CommandLaws}
-use Rattle.command_spec.specs.CommandWords.{HasForm}
-use Rattle.command_spec.specs.Complete.{CanBeMounted}
-use Rattle.command_spec.specs.Commands.Info.{InfoOutcome, telling, info_command}
+use Rattle.command_spec.specs.Command.{HasForm, CanBeMounted}
+use Rattle.command_laws.specs.Terms.{InfoOutcome, telling}
+use Rattle.command_spec.specs.Single.{info_command}
 use Rattle.command_spec.specs.Outcome.{Shows}
-use Rattle.qic_base.specs.Cartridge.{IsCartridge}
+use Rattle.qic_base.specs.Terms.{IsCartridge}
 use Rattle.command_spec.specs.declared.status.Status.TheVariants as status
 use Rattle.command_spec.specs.declared.words.Words.TheVariants as words
 

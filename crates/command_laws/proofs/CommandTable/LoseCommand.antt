@@ -18,11 +18,11 @@ use Rattle.command_laws.proofs.CommandWhole.{some_whole}
 use Rattle.command_laws.proofs.WholeSteps.{worn_whole}
 use Rattle.command_laws.proofs.TextCommands.{only, three_words, spelled_length, IsNumber-value, IsRead, Reading, word_at, number_value, named}
 use Rattle.command_laws.specs.CommandRecord.{CommandLaws, NeitherReads}
-use Rattle.command_spec.specs.CommandWords.{HasForm}
-use Rattle.command_spec.specs.Commands.Lose.{LoseOutcome, lose_command}
+use Rattle.command_spec.specs.Command.{HasForm}
+use Rattle.command_spec.specs.Single.{LoseOutcome, lose_command}
 use Rattle.command_spec.specs.Outcome.{HasPlace}
 use Rattle.qic_base.specs.Step.{changed, Wear}
-use Rattle.qic_base.specs.Cartridge.{IsCartridge}
+use Rattle.qic_base.specs.Terms.{IsCartridge}
 use Rattle.command_spec.specs.declared.status.Status.TheVariants as status
 use Rattle.command_spec.specs.declared.words.Words.TheVariants as words
 

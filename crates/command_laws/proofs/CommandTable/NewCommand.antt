@@ -5,8 +5,8 @@ use Rattle.command_laws.proofs.CommandTexts.{plain_texts}
 use Rattle.command_laws.proofs.CommandWhole.{renewed_whole}
 use Rattle.command_laws.proofs.TextCommands.{only, two_words, spelled_length, IsNumber-value, IsRead, Reading, word_at, number_value, named}
 use Rattle.command_laws.specs.CommandRecord.{CommandLaws}
-use Rattle.command_spec.specs.CommandWords.{HasForm}
-use Rattle.command_spec.specs.Commands.New.{new_command}
+use Rattle.command_spec.specs.Command.{HasForm}
+use Rattle.command_spec.specs.Single.{new_command}
 use Rattle.command_spec.specs.declared.words.Words.TheVariants as words
 
 values_are : (words : List (List ℕ)) (segments : ℕ) → HasForm words (new_command segments).forms → (new_command segments).values

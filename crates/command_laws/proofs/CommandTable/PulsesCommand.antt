@@ -14,11 +14,10 @@ use Rattle.command_laws.proofs.CommandWhole.{some_whole}
 use Rattle.command_laws.proofs.WholeSteps.{referenced_whole}
 use Rattle.command_laws.proofs.TextCommands.{only, one_word, spelled_length, IsRead, Reading, named}
 use Rattle.command_laws.specs.CommandRecord.{CommandLaws, NeitherReads}
-use Rattle.command_spec.specs.CommandWords.{HasForm}
-use Rattle.command_spec.specs.Pulses.{AreLevels}
-use Rattle.command_spec.specs.Commands.PulsesCommand.{pulses_command}
+use Rattle.command_spec.specs.Command.{HasForm}
+use Rattle.command_spec.specs.Pulses.{AreLevels, pulses_command}
 use Rattle.qic_base.specs.Step.{changed, SetReferenced}
-use Rattle.qic_base.specs.Cartridge.{IsCartridge}
+use Rattle.qic_base.specs.Terms.{IsCartridge}
 use Rattle.command_spec.specs.declared.words.Words.TheVariants as words
 
 -- its words are read as it

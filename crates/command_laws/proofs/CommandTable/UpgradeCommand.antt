@@ -14,9 +14,10 @@ use Rattle.command_laws.proofs.CommandWhole.{some_whole, step_whole}
 use Rattle.command_laws.proofs.WholeSteps.{upgraded_whole}
 use Rattle.command_laws.proofs.TextCommands.{one_word, only, spelled_length, IsRead, Reading, named}
 use Rattle.command_laws.specs.CommandRecord.{CommandLaws, NeitherReads}
-use Rattle.command_spec.specs.CommandWords.{HasForm}
+use Rattle.command_spec.specs.Command.{HasForm}
 use Rattle.command_spec.specs.Lines.{upgraded_line}
-use Rattle.command_spec.specs.Commands.Upgrade.{UpgradeOutcome, upgrade_command}
+use Rattle.command_laws.specs.Terms.{UpgradeOutcome}
+use Rattle.command_spec.specs.Single.{upgrade_command}
 use Rattle.qic_base.specs.Cartridge.{Cartridge}
 use Rattle.qic_base.specs.Step.{Upgrade, changed}
 use Rattle.command_spec.specs.declared.status.Status.TheVariants as status
@@ -93,7 +94,7 @@ upgrade_laws = record {
   unformatted = λ is c input outcome free bare plain. absurd (cc);
   in_front = λ is c segment input outcome free first plain. absurd (cc);
   done = λ held input outcome whole values. where_some (λ c. Unit {0}) held (λ h. UpgradeOutcome h outcome → outcome.status ≡ status.Done) (λ c can does. ap status_of does);
-  texts = plain_texts _ (upgraded_line 2) (2, record { oldest = omega arith; newest = omega arith }, refl);
+  texts = plain_texts _ (upgraded_line 2) (2, omega arith, omega arith, refl);
   blind = λ is. record {
     any = λ held input other outcome plain. plain;
     no_append = refl;

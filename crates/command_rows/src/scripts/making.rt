@@ -31,3 +31,20 @@ fn a_made_volume_stands_behind_a_failing_sink(rt: HostRuntime) {
         put_away(unit);
     }
 }
+
+#[test]
+fn a_sector_more_is_lost_behind_a_failing_sink(rt: HostRuntime) {
+    let alloc = rt.alloc();
+    // In the table's segment: that with the slot, the last one of data, and the parity.
+    for lost in [0, 28, 29, 30, 31] {
+        let mut unit = formatted(&rt, alloc);
+        assert_eq!(rt;
+            told_into(&rt, alloc, &["make", "1", "1"], &mut unit, ROOM, 0, b""),
+            (Status::SinkFault, true),
+            "sector {lost}"
+        );
+        assert_eq!(rt; unit.wear(2, lost), Ok(()), "sector {lost}");
+        prints(&rt, alloc, &mut unit, &["list"], LIST);
+        put_away(unit);
+    }
+}

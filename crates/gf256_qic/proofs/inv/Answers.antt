@@ -1,5 +1,5 @@
 use Rattle.std.proofs.Common.{ℕ, ◌-◌, ◌∙◌, sym, ap}
-use Rattle.cartridge_spec.specs.Field.{product, power}
+use Rattle.cartridge_spec.specs.Code.{product, power}
 use Rattle.gf256_qic.proofs.Exponents.{inverse_by_exponent}
 use Rattle.gf256_qic.proofs.inv.Goals as goal
 

@@ -1,5 +1,5 @@
 use Rattle.std.proofs.Common.{ℕ, ◌∙◌, sym, ap}
-use Rattle.cartridge_spec.specs.Field.{product, power}
+use Rattle.cartridge_spec.specs.Code.{product, power}
 use Rattle.gf256_qic.proofs.Products.{product_zero_left, product_zero_right}
 use Rattle.gf256_qic.proofs.Exponents.{product_by_exponents}
 use Rattle.gf256_qic.proofs.mul.Goals as goal

@@ -1,5 +1,5 @@
 use Rattle.std.proofs.Common.{◌≡◌, ◌%◌, ◌^◌}
-use Rattle.cartridge_spec.specs.Field.{product, power}
+use Rattle.cartridge_spec.specs.Code.{product, power}
 use Rattle.gf256_qic.proofs.mul_by_shifts.Given as goal
 
 abbrev pub invariant-loop-place : goal.invariant-loop-place

@@ -1,5 +1,5 @@
 use Rattle.std.proofs.Common.{◌∙◌, sym, ap, arith}
-use Rattle.cartridge_spec.specs.Field.{power}
+use Rattle.cartridge_spec.specs.Code.{power}
 use Rattle.gf256_qic.proofs.Powers.{power_none}
 use Rattle.gf256_qic.proofs.Exponents.{power_of_zero, power_product}
 use Rattle.gf256_qic.proofs.pow.Goals as goal

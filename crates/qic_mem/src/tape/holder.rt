@@ -2,9 +2,11 @@
 
 ghost use Rattle.std.specs.Prelude.{◌≡◌, ◌≢◌, ◌*◌, false, true, None, length, IfOk, IfSome, IsSomeAnd};
 ghost use Rattle.std.specs.Option.{option_map, ForSome};
-ghost use Rattle.qic_base.specs.Cartridge.{IsLength, IsPlace, new_version, view_at, place_of};
+ghost use Rattle.qic_base.specs.Cartridge.{IsLength, IsPlace, view_at};
+ghost use Rattle.qic_base.specs.Terms.{new_version, place_of};
 ghost use Rattle.qic_base.specs.Step.{WriteSector, FormatSegment, SetReferenced, SetProtected, Renew, Wear, Spoil, Upgrade};
-ghost use Rattle.qic_base.specs.Tape.{Reads, write_answer, spoil_answer};
+ghost use Rattle.qic_base.specs.TapeCalls.{Reads, write_answer};
+ghost use Rattle.qic_base.specs.Tape.{spoil_answer};
 ghost use Rattle.qic_mem.specs.TapeChange.{step_of, IsReached, is_past};
 ghost use Rattle.qic_mem.specs.Held.{FitsRoom};
 ghost use Rattle.qic_mem.specs.Outcome.{lost_by, left_by, size_ended};

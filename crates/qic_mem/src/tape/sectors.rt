@@ -1,9 +1,11 @@
 //! The sectors of a cartridge in memory.
 
 ghost use Rattle.std.specs.Prelude.{◌≡◌, ◌≢◌, ◌<◌, ◌≤◌, ◌+◌, ◌++◌, length, drop, map, replicate, All, IfOk};
-ghost use Rattle.qic_base.specs.Cartridge.{IsView, zero_sector};
+ghost use Rattle.qic_base.specs.Terms.{IsView};
+ghost use Rattle.qic_base.specs.Cartridge.{zero_sector};
 ghost use Rattle.qic_base.specs.Step.{written_view, formatted_view, worn_view, spoiled_view};
-ghost use Rattle.qic_base.specs.Tape.{Reads, write_answer, spoil_answer};
+ghost use Rattle.qic_base.specs.TapeCalls.{Reads, write_answer};
+ghost use Rattle.qic_base.specs.Tape.{spoil_answer};
 ghost use Rattle.qic_mem.specs.Sectors.{view_in, changed_at, changed_from, views_prop};
 
 use qic_base::{NoMemory, SectorRead, SectorView, SectorWrite};

@@ -1,6 +1,6 @@
 -- The columns of the blocks before the present one are done.
 use Rattle.std.proofs.Common.{◌≡◌, ◌*◌, ◌<◌, length, All}
-use Rattle.cartridge_spec.specs.Code.{IsSector}
+use Rattle.qic_base.specs.Cartridge.{IsSector}
 use Rattle.segment_parity.specs.Register.{HasColumns}
 use Rattle.segment_parity.proofs.parity_of.Given as goal
 

@@ -1,7 +1,7 @@
 use Rattle.std.proofs.Common.{ℕ, ◌≤◌, sym, subst, arith, List, [], length, All, get_or, take, take_all}
 use Rattle.std.proofs.lemmas.List.{take_more}
 use Rattle.std.proofs.lemmas.List.Elements.{All-nil, All-push}
-use Rattle.cartridge_spec.specs.Code.{IsSector}
+use Rattle.qic_base.specs.Cartridge.{IsSector}
 use Rattle.segment_parity.specs.Register.{AreParity}
 use Rattle.segment_parity.proofs.Blocks.{parity_of_none, block_put}
 use Rattle.segment_parity.proofs.put_columns.Goals as goal

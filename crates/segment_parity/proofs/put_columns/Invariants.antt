@@ -1,6 +1,6 @@
 -- The sectors before the present one are shifted in.
 use Rattle.std.proofs.Common.{All, take}
-use Rattle.cartridge_spec.specs.Code.{IsSector}
+use Rattle.qic_base.specs.Cartridge.{IsSector}
 use Rattle.segment_parity.specs.Register.{AreParity}
 use Rattle.segment_parity.proofs.put_columns.Given as goal
 

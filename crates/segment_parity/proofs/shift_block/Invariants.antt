@@ -1,5 +1,5 @@
 use Rattle.std.proofs.Common.{◌≡◌, ℕ, List, [], ◌∷◌, ◌++◌, length, All}
-use Rattle.cartridge_spec.specs.Code.{IsSector}
+use Rattle.qic_base.specs.Cartridge.{IsSector}
 use Rattle.segment_parity.specs.Register.{AreParity}
 use Rattle.segment_parity.proofs.Blocks.{Untouched}
 use Rattle.segment_parity.proofs.shift_block.Given as goal

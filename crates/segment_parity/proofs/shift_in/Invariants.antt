@@ -1,5 +1,5 @@
 use Rattle.std.proofs.Common.{◌≡◌, length, All}
-use Rattle.cartridge_spec.specs.Code.{IsSector}
+use Rattle.qic_base.specs.Cartridge.{IsSector}
 use Rattle.segment_parity.specs.Register.{Shifted}
 use Rattle.segment_parity.proofs.Steps.{Untouched}
 use Rattle.segment_parity.proofs.shift_in.Given as goal

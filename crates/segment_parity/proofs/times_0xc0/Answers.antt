@@ -1,5 +1,5 @@
 use Rattle.std.proofs.Common.{◌∙◌, ap, bit_xor}
-use Rattle.cartridge_spec.specs.Field.{product}
+use Rattle.cartridge_spec.specs.Code.{product}
 use Rattle.segment_parity.proofs.Rows.{product_0xC0}
 use Rattle.segment_parity.proofs.times_0xc0.Goals as goal
 

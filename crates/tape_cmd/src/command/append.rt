@@ -3,7 +3,7 @@
 ghost use Rattle.std.specs.Prelude.{◌<◌, ◌^◌};
 ghost use Rattle.cartridge_spec.specs.Formatting.{IsLabel};
 ghost use Rattle.command_spec.specs.declared.words.Words.TheVariants.{Append};
-ghost use Rattle.command_spec.specs.Runs.{CommandEnds};
+ghost use Rattle.command_spec.specs.Machine.{CommandEnds};
 
 use crate::Status;
 use crate::lines::printed;

@@ -2,10 +2,10 @@
 
 ghost use Rattle.std.specs.Prelude.{◌≡◌, ◌*◌, ◌++◌};
 ghost use Rattle.command_spec.specs.declared.words.Words.TheVariants.{Info};
-ghost use Rattle.qic_base.specs.Sink.{Writes};
+ghost use Rattle.qic_base.specs.SinkCalls.{Writes};
 ghost use Rattle.header_segments.specs.Header.{header_of};
 ghost use Rattle.command_spec.specs.Lines.{label_lines, count_lines};
-ghost use Rattle.command_spec.specs.Runs.{EndsBlind};
+ghost use Rattle.command_spec.specs.Machine.{EndsBlind};
 
 use crate::Status;
 use crate::lines::printed;

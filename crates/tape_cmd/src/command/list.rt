@@ -1,7 +1,7 @@
 //! The volumes of a cartridge, listed.
 
 ghost use Rattle.command_spec.specs.declared.words.Words.TheVariants.{List};
-ghost use Rattle.command_spec.specs.Runs.{EndsBlind};
+ghost use Rattle.command_spec.specs.Machine.{EndsBlind};
 
 use crate::Status;
 use crate::lines::printed;

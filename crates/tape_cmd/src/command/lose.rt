@@ -1,7 +1,7 @@
 //! A sector lost.
 
 ghost use Rattle.command_spec.specs.declared.words.Words.TheVariants.{Lose};
-ghost use Rattle.command_spec.specs.Runs.{EndsBlind};
+ghost use Rattle.command_spec.specs.Machine.{EndsBlind};
 
 use crate::Status;
 use crate::lines::printed;

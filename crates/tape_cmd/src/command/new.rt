@@ -2,7 +2,7 @@
 
 ghost use Rattle.qic_base.specs.Cartridge.{IsLength};
 ghost use Rattle.command_spec.specs.declared.words.Words.TheVariants.{New};
-ghost use Rattle.command_spec.specs.Runs.{EndsBlind};
+ghost use Rattle.command_spec.specs.Machine.{EndsBlind};
 
 use crate::Status;
 use crate::lines::printed;

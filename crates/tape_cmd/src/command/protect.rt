@@ -1,7 +1,7 @@
 //! The protect switch moved.
 
 ghost use Rattle.command_spec.specs.declared.words.Words.TheVariants.{Protect};
-ghost use Rattle.command_spec.specs.Runs.{EndsBlind};
+ghost use Rattle.command_spec.specs.Machine.{EndsBlind};
 
 use crate::Status;
 use crate::lines::{printed, protected_text};

@@ -1,7 +1,7 @@
 //! Trains of step pulses from a source, and the line level that each leaves.
 
 ghost use Rattle.command_spec.specs.declared.words.Words.TheVariants.{Pulses};
-ghost use Rattle.command_spec.specs.Runs.{CommandEnds};
+ghost use Rattle.command_spec.specs.Machine.{CommandEnds};
 
 use crate::Status;
 use drive_states::Unit;

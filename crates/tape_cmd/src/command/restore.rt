@@ -1,7 +1,7 @@
 //! A volume given back.
 
 ghost use Rattle.command_spec.specs.declared.words.Words.TheVariants.{Restore};
-ghost use Rattle.command_spec.specs.Runs.{EndsBlind};
+ghost use Rattle.command_spec.specs.Machine.{EndsBlind};
 
 use crate::Status;
 use crate::opening::{open, store_status};

@@ -2,7 +2,7 @@
 
 ghost use Rattle.std.specs.Prelude.{◌≡◌};
 ghost use Rattle.command_spec.specs.declared.words.Words.TheVariants.{Script};
-ghost use Rattle.command_spec.specs.Runs.{CommandEnds};
+ghost use Rattle.command_spec.specs.Machine.{CommandEnds};
 ghost use Rattle.tape_cmd.specs.Script.{run_status};
 
 use crate::Status;

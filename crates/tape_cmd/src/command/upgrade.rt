@@ -1,7 +1,7 @@
 //! The cartridge kept in the newest layout.
 
 ghost use Rattle.command_spec.specs.declared.words.Words.TheVariants.{Upgrade};
-ghost use Rattle.command_spec.specs.Runs.{EndsBlind};
+ghost use Rattle.command_spec.specs.Machine.{EndsBlind};
 
 use crate::Status;
 use crate::lines::printed;

@@ -1,5 +1,6 @@
 use Rattle.std.proofs.Common.{◌≡◌, ℕ, ◌<◌, get_or}
-use Rattle.cartridge_spec.specs.Header.{byte_in, word_in, IsInMap}
+use Rattle.cartridge_laws.specs.Terms.{byte_in, IsInMap}
+use Rattle.cartridge_spec.specs.Header.{word_in}
 use Rattle.bad_sector_map.proofs.words.write_words.Given as goal
 
 abbrev pub invariant-loop-segment : goal.invariant-loop-segment

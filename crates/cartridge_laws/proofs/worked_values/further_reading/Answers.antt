@@ -1,8 +1,7 @@
 use Rattle.std.proofs.Common.{refl}
 use Rattle.cartridge_spec.specs.Table.{slot}
-use Rattle.cartridge_spec.specs.TableSets.{last_used_below, set_of, some_used_below, unreadable_from}
-use Rattle.qic_base.specs.Field.{number_at}
-use Rattle.qic_base.specs.Name.{filled}
+use Rattle.cartridge_spec.specs.Says.{last_used_below, set_of, some_used_below, unreadable_from}
+use Rattle.qic_base.specs.Field.{number_at, filled}
 use Rattle.cartridge_laws.proofs.worked_values.further_reading.Goals as goal
 
 pub returns-clause-data_alone : goal.returns-clause-data_alone

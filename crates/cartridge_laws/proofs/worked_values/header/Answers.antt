@@ -3,8 +3,7 @@ use Rattle.cartridge_laws.proofs.EachElement.{each}
 use Rattle.cartridge_laws.specs.WorkedValues.{header_bytes}
 use Rattle.cartridge_spec.specs.Formatting.{fresh_header}
 use Rattle.cartridge_spec.specs.Header.{Holds, header_fields, profile_fields}
-use Rattle.qic_base.specs.Field.{number_at}
-use Rattle.qic_base.specs.Name.{filled}
+use Rattle.qic_base.specs.Field.{number_at, filled}
 use Rattle.cartridge_laws.proofs.worked_values.header.Goals as goal
 
 pub returns-clause-fields : goal.returns-clause-fields

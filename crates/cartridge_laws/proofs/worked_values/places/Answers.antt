@@ -1,5 +1,5 @@
 use Rattle.std.proofs.Common.{arith, refl}
-use Rattle.qic_base.specs.Name.{filled}
+use Rattle.qic_base.specs.Field.{filled}
 use Rattle.cartridge_laws.proofs.worked_values.places.Goals as goal
 
 pub returns-clause-shortest : goal.returns-clause-shortest

@@ -1,5 +1,5 @@
 use Rattle.std.proofs.Common.{refl}
-use Rattle.qic_base.specs.LostSet.{lost_places}
+use Rattle.qic_base.specs.Cartridge.{lost_places}
 use Rattle.cartridge_laws.proofs.worked_values.room.Goals as goal
 
 pub returns-clause-empty : goal.returns-clause-empty

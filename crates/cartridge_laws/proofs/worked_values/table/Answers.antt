@@ -1,8 +1,7 @@
 use Rattle.std.proofs.Common.{refl}
 use Rattle.cartridge_spec.specs.Table.{slot, slot_fault, some_free_below}
-use Rattle.qic_base.specs.Field.{little_endian_bytes, number_at}
-use Rattle.qic_base.specs.LostSet.{lost_places}
-use Rattle.qic_base.specs.Name.{filled}
+use Rattle.qic_base.specs.Field.{little_endian_bytes, number_at, filled}
+use Rattle.qic_base.specs.Cartridge.{lost_places}
 use Rattle.cartridge_laws.proofs.worked_values.table.Goals as goal
 
 pub returns-clause-front : goal.returns-clause-front

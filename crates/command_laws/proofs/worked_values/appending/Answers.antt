@@ -1,6 +1,6 @@
 use Rattle.std.proofs.Common.{refl}
-use Rattle.qic_base.specs.LostSet.{lost_places}
-use Rattle.qic_base.specs.Name.{filled}
+use Rattle.qic_base.specs.Cartridge.{lost_places}
+use Rattle.qic_base.specs.Field.{filled}
 use Rattle.command_laws.proofs.worked_values.appending.Goals as goal
 
 pub returns-clause-pieces : goal.returns-clause-pieces

@@ -1,7 +1,7 @@
 use Rattle.std.proofs.Common.{refl}
 use Rattle.command_spec.specs.Lines.{number_line, place_line}
-use Rattle.qic_base.specs.LostSet.{lost_places}
-use Rattle.qic_base.specs.Name.{filled}
+use Rattle.qic_base.specs.Cartridge.{lost_places}
+use Rattle.qic_base.specs.Field.{filled}
 use Rattle.std.specs.Fmt.{digits}
 use Rattle.command_laws.proofs.worked_values.copies.Goals as goal
 

@@ -1,7 +1,7 @@
 use Rattle.std.proofs.Common.{refl}
 use Rattle.command_spec.specs.Lines.{appended_line, count_lines, date_form, date_text, label_lines, list_text, name_text, number_line, place_line, trimmed, volume_line, volume_lines}
-use Rattle.qic_base.specs.LostSet.{lost_places}
-use Rattle.qic_base.specs.Name.{filled}
+use Rattle.qic_base.specs.Cartridge.{lost_places}
+use Rattle.qic_base.specs.Field.{filled}
 use Rattle.std.specs.Fmt.{digits}
 use Rattle.command_laws.proofs.worked_values.lines.Goals as goal
 

@@ -1,5 +1,5 @@
 use Rattle.std.proofs.Common.{◌≡◌, ℕ, ◌∙◌, ap, [], ◌∷◌, bit_xor}
-use Rattle.cartridge_spec.specs.Field.{product}
+use Rattle.cartridge_spec.specs.Code.{product}
 use Rattle.erasure_solve.specs.Correction.{scale}
 use Rattle.erasure_solve.proofs.Algebra.{scale_from}
 use Rattle.erasure_solve.proofs.coefficients.factors.Goals as goal

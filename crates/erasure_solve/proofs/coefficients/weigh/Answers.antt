@@ -1,5 +1,5 @@
 use Rattle.std.proofs.Common.{◌∙◌, ap, bit_xor}
-use Rattle.cartridge_spec.specs.Field.{product}
+use Rattle.cartridge_spec.specs.Code.{product}
 use Rattle.erasure_solve.specs.Rows.{weighed_sum}
 use Rattle.erasure_solve.proofs.coefficients.weigh.Goals as goal
 

@@ -1,6 +1,6 @@
 use Rattle.std.proofs.Common.{ℕ, ◌≤◌, subst, arith, List, [], length, All, take_all}
 use Rattle.std.proofs.lemmas.List.Elements.{All-more}
-use Rattle.cartridge_spec.specs.Code.{IsSector}
+use Rattle.qic_base.specs.Cartridge.{IsSector}
 use Rattle.erasure_solve.proofs.values.are_sectors.Goals as goal
 
 pub loop-sector-preserved : goal.loop-sector-preserved

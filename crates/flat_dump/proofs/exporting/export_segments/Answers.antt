@@ -2,7 +2,8 @@ use Rattle.std.proofs.Common.{◌+◌, ◌∷◌, ◌++◌, [], ℕ, List, ◌�
 use Rattle.std.specs.List.{flat_map}
 use Rattle.qic_base.proofs.Steps.{Broke-after_reads, Done-after_reads}
 use Rattle.qic_base.proofs.Writing.{Wrote-Wrote, Wrote-BrokeOff}
-use Rattle.qic_base.specs.Sink.{Wrote, BrokeOff}
+use Rattle.qic_base.specs.Sink.{Wrote}
+use Rattle.qic_base.specs.SinkCalls.{BrokeOff}
 use Rattle.flat_dump.specs.Seen.{SegmentsSeen}
 use Rattle.flat_dump.proofs.Dumping.{segment_more, are_first}
 use Rattle.flat_dump.proofs.exporting.export_segments.Goals as goal

@@ -34,11 +34,9 @@ returns-in-Ok-finish-clause-fills g c = λ first begins.
     let n : ℕ = c.in-Some.n in
     let fits = fits_counted c.args.segments_per_track (length was.dump) n is.0 (subst (λ (k : ℕ). IsDumpOf c.args.segments_per_track k n) was.bytes is.1) in
     let within = fits_within c.args.segments_per_track (length was.dump) n fits in
-    let needed = was.needed in
-    let size = was.size in
     let more : ℕ = 28 * n - c.in-Ok.copied.segments in
-    let order : c.in-Ok.copied.segments + more ≡ 28 * n = omega arith in
-    let long : length was.file ≡ 64 + 32864 * c.in-Ok.copied.segments = length-laid was.file was.views was.laid ∙ (omega arith) in
+    let order : c.in-Ok.copied.segments + more ≡ 28 * n = omega (arith, was.needed) in
+    let long : length was.file ≡ 64 + 32864 * c.in-Ok.copied.segments = length-laid was.file was.views was.laid ∙ (omega (arith, was.size)) in
     imported_is g.S.Source.means g.D.Disk.means c.args.source.now c.args.disk.now c.copy_segments.new.disk c.args.mask.now c.most_segments-most.result c.in-Ok.copied was n more is.0 order
     (c.most_segments-most.ensures.enough (length was.dump) n is.0 fits) c.args.segments_per_track fits first c.finish.new.disk c.imported_as.result
     (c.in-Ok-finish.ensures first was.file more long order (was.goes first begins)) c.imported_as.ensures.segments (c.imported_as.ensures.lost more order)
@@ -50,11 +48,9 @@ returns-in-Err-finish-clause-fills g c = λ first begins.
     let n : ℕ = c.in-Some.n in
     let fits = fits_counted c.args.segments_per_track (length was.dump) n is.0 (subst (λ (k : ℕ). IsDumpOf c.args.segments_per_track k n) was.bytes is.1) in
     let within = fits_within c.args.segments_per_track (length was.dump) n fits in
-    let needed = was.needed in
-    let size = was.size in
     let more : ℕ = 28 * n - c.in-Ok.copied.segments in
-    let order : c.in-Ok.copied.segments + more ≡ 28 * n = omega arith in
-    let long : length was.file ≡ 64 + 32864 * c.in-Ok.copied.segments = length-laid was.file was.views was.laid ∙ (omega arith) in
+    let order : c.in-Ok.copied.segments + more ≡ 28 * n = omega (arith, was.needed) in
+    let long : length was.file ≡ 64 + 32864 * c.in-Ok.copied.segments = length-laid was.file was.views was.laid ∙ (omega (arith, was.size)) in
     failed_is g.S.Source.means g.D.Disk.means c.args.source.now c.args.disk.now c.copy_segments.new.disk c.args.mask.now c.most_segments-most.result c.in-Ok.copied was n more is.0 order
     (c.most_segments-most.ensures.enough (length was.dump) n is.0 fits) c.args.segments_per_track fits first c.finish.new.disk
     (c.in-Err-finish.ensures first was.file more long order (was.goes first begins))

@@ -4,20 +4,21 @@ use Rattle.qic_base.specs.Step.{FormatSegment}
 use Rattle.qic_base.specs.Tape.{Done, Broke}
 use Rattle.qic117_commands.specs.Views.{is_format}
 use Rattle.drive_spec.specs.Deck.{segments_per_track, is_streaming}
+use Rattle.host_driver.specs.Place.{StreamsAt}
 use Rattle.host_driver.proofs.Keeping.{keeps_both, mode_kept}
 use Rattle.segment_io.proofs.Going.{done_moved}
 use Rattle.formatter.specs.Steps.{formats_from, track_formats}
 use Rattle.formatter.proofs.Parts.{done_one, broke_one}
-use Rattle.formatter.proofs.Places.{length_known, length_kept, before_first, before_next, first_within, none_before}
+use Rattle.formatter.proofs.Places.{length_kept, before_first, before_next}
 use Rattle.formatter.proofs.clearing.clear_track.Goals as goal
 
 pub loop-preserved : goal.loop-preserved
 loop-preserved g c =
     let before = c.loop.invariant in
     let more = c.in_ok-format_here.ensures in
-    let n : ℕ = c.from-count.result in
+    let n : ℕ = c.in_ok-count.count in
     let count : n ≡ segments_per_track c.args.unit.now.drive.deck =
-    c.from-count.ensures ∙ c.segments_per_track.ensures.value ∙ c.geometry.ensures ∙ length_known c.requires.ready.fits in
+    c.in_ok-count.ensures.count in
     let within : c.loop.counter < n = c.loop-test.true in
     let at = before.before.streams within in
     record {
@@ -34,9 +35,9 @@ loop-preserved g c =
 pub returns-in_err-format_here-clause-did : goal.returns-in_err-format_here-clause-did
 returns-in_err-format_here-clause-did g c =
     let before = c.loop.invariant in
-    let n : ℕ = c.from-count.result in
+    let n : ℕ = c.in_ok-count.count in
     let count : n ≡ segments_per_track c.args.unit.now.drive.deck =
-    c.from-count.ensures ∙ c.segments_per_track.ensures.value ∙ c.geometry.ensures ∙ length_known c.requires.ready.fits in
+    c.in_ok-count.ensures.count in
     let within : c.loop.counter < n = c.loop-test.true in
     let at = before.before.streams within in
     let broke : Broke g.T.Tape.means c.args.unit.now.tape c.format_here.new.unit.tape (track_formats n c.args.track) =
@@ -47,32 +48,19 @@ returns-in_err-format_here-clause-did g c =
     let p = err_from_is_err_and c.from_residual-in_err-format_here.result c.from_residual-in_err-format_here.ensures.1 in
     rw p.1 whole
 
-pub go_to-requires-clause-on_tape : goal.go_to-requires-clause-on_tape
-go_to-requires-clause-on_tape g c =
-    let count : c.from-count.result ≡ segments_per_track c.args.unit.now.drive.deck =
-    c.from-count.ensures ∙ c.segments_per_track.ensures.value ∙ c.geometry.ensures ∙ length_known c.requires.ready.fits in
-    let some : 0 < c.from-count.result = omega (arith, c.segments_per_track.ensures.length.shortest, c.from-count.ensures) in
-    first_within c.args.track c.from-count.result (segments_per_track c.args.unit.now.drive.deck) count some c.requires.track
-
-pub go_to-requires-clause-first : goal.go_to-requires-clause-first
-go_to-requires-clause-first g c = λ formats.
-    let count : c.from-count.result ≡ segments_per_track c.args.unit.now.drive.deck =
-    c.from-count.ensures ∙ c.segments_per_track.ensures.value ∙ c.geometry.ensures ∙ length_known c.requires.ready.fits in
-    let some : 0 < c.from-count.result = omega (arith, c.segments_per_track.ensures.length.shortest, c.from-count.ensures) in
-    none_before c.args.track c.from-count.result (segments_per_track c.args.unit.now.drive.deck) count some
-
-pub returns-in_err-go_to : goal.returns-in_err-go_to
-returns-in_err-go_to g c = let no = c.in_err-go_to.ensures.ok in absurd (cc)
+pub returns-in_err-count : goal.returns-in_err-count
+returns-in_err-count g c = let no = c.in_err-count.ensures.ok in absurd (cc)
 
 pub loop-init : goal.loop-init
 loop-init g c =
-    let n : ℕ = c.from-count.result in
-    let some : 0 < n = omega (arith, c.segments_per_track.ensures.length.shortest, c.from-count.ensures) in
+    let n : ℕ = c.in_ok-count.count in
+    let count : n ≡ segments_per_track c.args.unit.now.drive.deck = c.in_ok-count.ensures.count in
+    let some : 0 < n = omega (arith, count, c.in_ok-count.ensures.some) in
     record {
-      formatted = done_moved g.T.Tape.means c.args.unit.now.tape c.go_to.new.unit.tape c.go_to.ensures.tape;
-      before = before_first n (c.args.track * n) c.go_to.new.unit.drive.deck some c.go_to.ensures.place;
-      mode = mode_kept is_format true c.args.unit.now.drive.deck c.go_to.new.unit.drive.deck c.go_to.ensures.keeps.same c.requires.format;
-      keeps = c.go_to.ensures.keeps;
+      formatted = done_moved g.T.Tape.means c.args.unit.now.tape c.go_to_track.new.unit.tape c.in_ok-count.ensures.tape;
+      before = before_first n (c.args.track * n) c.go_to_track.new.unit.drive.deck some (subst (λ (k : ℕ). StreamsAt (c.args.track * k) 0 c.go_to_track.new.unit.drive.deck) (sym count) c.in_ok-count.ensures.place);
+      mode = mode_kept is_format true c.args.unit.now.drive.deck c.go_to_track.new.unit.drive.deck c.in_ok-count.ensures.keeps.same c.requires.format;
+      keeps = c.in_ok-count.ensures.keeps;
     }
 
 pub format_here-requires-clause-ready : goal.format_here-requires-clause-ready
@@ -99,9 +87,9 @@ returns-in_err-format_here-clause-keeps g c = keeps_both c.loop.invariant.keeps 
 
 pub returns-clause-did : goal.returns-clause-did
 returns-clause-did g c =
-    let n : ℕ = c.from-count.result in
+    let n : ℕ = c.in_ok-count.count in
     let count : n ≡ segments_per_track c.args.unit.now.drive.deck =
-    c.from-count.ensures ∙ c.segments_per_track.ensures.value ∙ c.geometry.ensures ∙ length_known c.requires.ready.fits in
+    c.in_ok-count.ensures.count in
     let all : c.loop.counter ≡ n = omega arith in
     subst (λ (k : ℕ). Done g.T.Tape.means c.args.unit.now.tape c.loop.unit.tape (track_formats k c.args.track)) count
     (subst (λ (k : ℕ). Done g.T.Tape.means c.args.unit.now.tape c.loop.unit.tape (formats_from (c.args.track * n) k)) all c.loop.invariant.formatted)

@@ -2,8 +2,9 @@ use Rattle.std.proofs.Common.{◌≡◌, ℕ, List, length, take, ap, subst, sym
 use Rattle.std.proofs.lemmas.List.{length-take-le}
 use Rattle.cartridge_spec.specs.Header.{SpellsHeader}
 use Rattle.cartridge_spec.specs.Says.{with_parity}
-use Rattle.cartridge_laws.proofs.Sayings.{cartridge_sectors, parity_put}
-use Rattle.cartridge_spec.specs.Formatting.{fresh_header, IsFreshArea}
+use Rattle.cartridge_laws.proofs.Sayings.{parity_put}
+use Rattle.cartridge_spec.specs.Formatting.{fresh_header}
+use Rattle.cartridge_laws.specs.Terms.{IsFreshArea}
 use Rattle.formatter.proofs.Copies.{block_data}
 use Rattle.formatter.proofs.header.spell.Goals as goal
 
@@ -23,6 +24,6 @@ returns-clause-fresh c =
     ap (take 29) (parity_put c.put_header.new.sectors c.put_parity.new.sectors long c.put_parity.ensures.parity) ∙ block_data (take 29 c.put_header.new.sectors) size in
     subst (λ (area : List (List ℕ)). IsFreshArea c.args.geometry c.args.label.now c.args.date c.args.map.now area) (sym data_sectors)
     (record {
-      size = record { size = size; sectors = cartridge_sectors (take 29 c.put_header.new.sectors) c.put_parity.ensures.data };
+      size = record { size = size; sectors = c.put_parity.ensures.data };
       spells = subst (λ (n : ℕ). SpellsHeader (fresh_header n c.args.label.now c.args.date) c.args.map.now (take 29 c.put_header.new.sectors)) c.segments_per_track.ensures.value c.put_header.ensures;
     })

@@ -1,7 +1,8 @@
 use Rattle.std.proofs.Common.{◌≡◌, ℕ, ◌^◌, ◌<◌, true, List, subst, sym, arith}
 use Rattle.std.proofs.lemmas.Result.{err_from_is_err_and}
 use Rattle.qic_base.specs.Step.{Step}
-use Rattle.qic_base.specs.Tape.{Done, Broke, Does}
+use Rattle.qic_base.specs.Tape.{Done, Broke}
+use Rattle.qic_base.specs.TapeCalls.{Does}
 use Rattle.qic_base.proofs.Steps.{Broke-front}
 use Rattle.cartridge_spec.specs.Formatting.{copy_writes}
 use Rattle.cartridge_laws.specs.Writes.{named_writes}

@@ -1,32 +1,33 @@
 use Rattle.std.proofs.Common.{◌≡◌, ℕ, ◌+◌, ◌*◌, ◌<◌, ◌≤◌, true, [], length, subst, sym, ◌∙◌, refl, arith}
 use Rattle.std.proofs.lemmas.Result.{err_from_is_err_and}
-use Rattle.qic_base.specs.Tape.{Done, Tells}
+use Rattle.qic_base.specs.Tape.{Done}
+use Rattle.qic_base.specs.TapeCalls.{Tells}
 use Rattle.qic_base.proofs.Steps.{Done-after_reads, Broke-after_reads, Tells-read}
 use Rattle.drive_spec.specs.Deck.{segments_per_track, is_streaming}
 use Rattle.drive_states.specs.Reach.{reads_in, segment_of}
+use Rattle.host_driver.specs.Place.{StreamsAt}
 use Rattle.host_driver.proofs.Keeping.{keeps_both, mode_kept}
 use Rattle.segment_io.proofs.Going.{done_moved, tells_always, under_first}
 use Rattle.formatter.specs.Marking.{MarksBelow}
 use Rattle.formatter.proofs.Marks.{tells_chain}
-use Rattle.formatter.proofs.Places.{length_known, length_kept, before_first, before_next, streaming_under, segment_within, first_within, none_before}
+use Rattle.formatter.proofs.Places.{length_kept, before_first, before_next, streaming_under, segment_within}
 use Rattle.formatter.proofs.marking.mark_track.Goals as goal
 
 pub loop-offset-init : goal.loop-offset-init
 loop-offset-init g c =
-    let n : ℕ = c.from-count.result in
-    let long : 3 ≤ c.segments_per_track.result = c.segments_per_track.ensures.length.shortest in
-    let count : n ≡ c.segments_per_track.result = c.from-count.ensures in
-    let some : 0 < n = omega arith in
+    let n : ℕ = c.in_ok-count.count in
+    let count : n ≡ segments_per_track c.args.unit.now.drive.deck = c.in_ok-count.ensures.count in
+    let some : 0 < n = omega (arith, count, c.in_ok-count.ensures.some) in
     record {
-      read = done_moved g.T.Tape.means c.args.unit.now.tape c.go_to.new.unit.tape c.go_to.ensures.tape;
+      read = done_moved g.T.Tape.means c.args.unit.now.tape c.go_to_track.new.unit.tape c.in_ok-count.ensures.tape;
       marks = tells_always g.T.Tape.means c.args.unit.now.tape
           (λ d. MarksBelow d c.args.map.now (32 * (c.args.track * n)) → MarksBelow d c.args.map.now (32 * (c.args.track * n + 0)))
           (λ d marks. let same : 32 * (c.args.track * n) ≡ 32 * (c.args.track * n + 0) = omega arith in subst (MarksBelow d c.args.map.now) same marks);
       words = refl;
       room = refl;
-      before = before_first n (c.args.track * n) c.go_to.new.unit.drive.deck some c.go_to.ensures.place;
-      mode = mode_kept reads_in true c.args.unit.now.drive.deck c.go_to.new.unit.drive.deck c.go_to.ensures.keeps.same c.requires.mode;
-      keeps = c.go_to.ensures.keeps;
+      before = before_first n (c.args.track * n) c.go_to_track.new.unit.drive.deck some (subst (λ (k : ℕ). StreamsAt (c.args.track * k) 0 c.go_to_track.new.unit.drive.deck) (sym count) c.in_ok-count.ensures.place);
+      mode = mode_kept reads_in true c.args.unit.now.drive.deck c.go_to_track.new.unit.drive.deck c.in_ok-count.ensures.keeps.same c.requires.mode;
+      keeps = c.in_ok-count.ensures.keeps;
     }
 
 pub loop-offset-preserved : goal.loop-offset-preserved
@@ -34,9 +35,9 @@ loop-offset-preserved g c =
     let before = c.loop-offset.invariant in
     let more = c.in_ok-mark_segment.ensures in
     let idle = c.next_segment.ensures in
-    let n : ℕ = c.from-count.result in
+    let n : ℕ = c.in_ok-count.count in
     let count : n ≡ segments_per_track c.args.unit.now.drive.deck =
-    c.from-count.ensures ∙ c.segments_per_track.ensures.value ∙ c.geometry.ensures ∙ length_known c.requires.ready.fits in
+    c.in_ok-count.ensures.count in
     let within : c.loop-offset.offset < n = c.loop-offset-test.true in
     let streams : is_streaming c.mark_segment.new.unit.drive.deck.motion ≡ true = streaming_under _ 32 c.mark_segment.new.unit.drive.deck more.under in
     let here : c.args.track * n + c.loop-offset.offset ≡ segment_of c.mark_segment.new.unit.drive.deck = more.under.here in
@@ -61,22 +62,8 @@ loop-offset-preserved g c =
       keeps = keeps_both both idle.keeps;
     }
 
-pub go_to-requires-clause-on_tape : goal.go_to-requires-clause-on_tape
-go_to-requires-clause-on_tape g c =
-    let count : c.from-count.result ≡ segments_per_track c.args.unit.now.drive.deck =
-    c.from-count.ensures ∙ c.segments_per_track.ensures.value ∙ c.geometry.ensures ∙ length_known c.requires.ready.fits in
-    let some : 0 < c.from-count.result = omega (arith, c.segments_per_track.ensures.length.shortest, c.from-count.ensures) in
-    first_within c.args.track c.from-count.result (segments_per_track c.args.unit.now.drive.deck) count some c.requires.track
-
-pub go_to-requires-clause-first : goal.go_to-requires-clause-first
-go_to-requires-clause-first g c = λ formats.
-    let count : c.from-count.result ≡ segments_per_track c.args.unit.now.drive.deck =
-    c.from-count.ensures ∙ c.segments_per_track.ensures.value ∙ c.geometry.ensures ∙ length_known c.requires.ready.fits in
-    let some : 0 < c.from-count.result = omega (arith, c.segments_per_track.ensures.length.shortest, c.from-count.ensures) in
-    none_before c.args.track c.from-count.result (segments_per_track c.args.unit.now.drive.deck) count some
-
-pub returns-in_err-go_to : goal.returns-in_err-go_to
-returns-in_err-go_to g c = let no = c.in_err-go_to.ensures.ok in absurd (cc)
+pub returns-in_err-count : goal.returns-in_err-count
+returns-in_err-count g c = let no = c.in_err-count.ensures.ok in absurd (cc)
 
 pub mark_segment-requires-clause-ready : goal.mark_segment-requires-clause-ready
 mark_segment-requires-clause-ready g c = c.loop-offset.invariant.keeps.ready
@@ -86,14 +73,14 @@ mark_segment-requires-clause-mode g c = c.loop-offset.invariant.mode
 
 pub mark_segment-requires-clause-under : goal.mark_segment-requires-clause-under
 mark_segment-requires-clause-under g c =
-    under_first (c.args.track * c.from-count.result + c.loop-offset.offset) c.loop-offset.unit.drive.deck
+    under_first (c.args.track * c.in_ok-count.count + c.loop-offset.offset) c.loop-offset.unit.drive.deck
     (c.loop-offset.invariant.before.streams c.loop-offset-test.true)
 
 pub mark_segment-requires-clause-segment : goal.mark_segment-requires-clause-segment
 mark_segment-requires-clause-segment g c =
-    let count : c.from-count.result ≡ segments_per_track c.args.unit.now.drive.deck =
-    c.from-count.ensures ∙ c.segments_per_track.ensures.value ∙ c.geometry.ensures ∙ length_known c.requires.ready.fits in
-    segment_within c.args.track c.loop-offset.offset c.from-count.result (length c.loop-offset.map) (segments_per_track c.args.unit.now.drive.deck)
+    let count : c.in_ok-count.count ≡ segments_per_track c.args.unit.now.drive.deck =
+    c.in_ok-count.ensures.count in
+    segment_within c.args.track c.loop-offset.offset c.in_ok-count.count (length c.loop-offset.map) (segments_per_track c.args.unit.now.drive.deck)
     count c.loop-offset-test.true c.requires.track (c.loop-offset.invariant.words ∙ c.requires.words)
 
 pub mark_segment-requires-clause-room : goal.mark_segment-requires-clause-room
@@ -133,9 +120,9 @@ returns-clause-did g c = c.loop-offset.invariant.read
 
 pub returns-clause-marks : goal.returns-clause-marks
 returns-clause-marks g c =
-    let n : ℕ = c.from-count.result in
-    let count : c.from-count.result ≡ segments_per_track c.args.unit.now.drive.deck =
-    c.from-count.ensures ∙ c.segments_per_track.ensures.value ∙ c.geometry.ensures ∙ length_known c.requires.ready.fits in
+    let n : ℕ = c.in_ok-count.count in
+    let count : c.in_ok-count.count ≡ segments_per_track c.args.unit.now.drive.deck =
+    c.in_ok-count.ensures.count in
     let all : c.loop-offset.offset ≡ n = omega arith in
     let next : 32 * (c.args.track * n + c.loop-offset.offset) ≡ 32 * ((c.args.track + 1) * n) = omega arith in
     subst (λ (k : ℕ). Tells g.T.Tape.means c.args.unit.now.tape (λ d. MarksBelow d c.args.map.now (32 * (c.args.track * k)) → MarksBelow d c.loop-offset.map (32 * ((c.args.track + 1) * k)))) count

@@ -1,6 +1,7 @@
 -- The sectors before the head are read, and marked where they can't be.
 use Rattle.std.proofs.Common.{◌≡◌, ◌+◌, ◌*◌, [], true, length}
-use Rattle.qic_base.specs.Tape.{Done, Tells}
+use Rattle.qic_base.specs.Tape.{Done}
+use Rattle.qic_base.specs.TapeCalls.{Tells}
 use Rattle.drive_states.specs.Reach.{reads_in}
 use Rattle.host_driver.specs.Calls.{Keeps}
 use Rattle.formatter.specs.Marking.{MarksBelow}

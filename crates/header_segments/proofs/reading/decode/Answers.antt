@@ -1,5 +1,6 @@
 use Rattle.std.proofs.Common.{◌≡◌, ℕ, ◌*◌, sym, ap, ◌∙◌, arith}
-use Rattle.cartridge_spec.specs.Header.{number, number_in, words_in}
+use Rattle.cartridge_spec.specs.Header.{number, number_in}
+use Rattle.cartridge_laws.specs.Terms.{words_in}
 use Rattle.header_segments.proofs.Refusals.{refusal-segments}
 use Rattle.header_segments.proofs.reading.decode.Goals as goal
 

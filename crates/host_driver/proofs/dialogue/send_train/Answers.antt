@@ -1,6 +1,6 @@
 use Rattle.std.proofs.Common.{◌≡◌, List, [], ◌∷◌, ap, ◌∙◌, subst, OnOk, OnErr, arith}
 use Rattle.qic_base.specs.Step.{Step, SetReferenced}
-use Rattle.qic_base.specs.Tape.{Does}
+use Rattle.qic_base.specs.TapeCalls.{Does}
 use Rattle.drive_spec.specs.Record.{Record}
 use Rattle.drive_spec.specs.Row.{after_gap}
 use Rattle.drive_spec.specs.Steps.{gap_steps}

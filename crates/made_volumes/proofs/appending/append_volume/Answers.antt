@@ -1,5 +1,5 @@
 use Rattle.std.proofs.Common.{Err, ap}
-use Rattle.drive_spec.specs.Deck.{is_protected}
+use Rattle.drive_spec.specs.Terms.{is_protected}
 use Rattle.made_volumes.proofs.Appends.{append_so_at, append_done, appended_entry, not_marked}
 use Rattle.made_volumes.proofs.appending.append_volume.Goals as goal
 

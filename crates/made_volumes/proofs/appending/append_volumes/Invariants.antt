@@ -1,10 +1,9 @@
 -- The volumes before the present one were appended.
 use Rattle.std.proofs.Common.{◌≡◌, ◌-◌, ◌≤◌}
-use Rattle.qic_base.specs.Acts.{around, no_sink}
+use Rattle.qic_base.specs.Terms.{around, no_sink}
 use Rattle.volume_store.specs.Appending.{KeepsFormat}
 use Rattle.volume_store.specs.Mounting.{StoreFits}
-use Rattle.command_spec.specs.Make.{appending, made_list}
-use Rattle.command_spec.specs.Make.{Done}
+use Rattle.command_spec.specs.Make.{appending, made_list, Done}
 use Rattle.made_volumes.specs.Runs.{HasRun}
 use Rattle.made_volumes.proofs.appending.append_volumes.Given as goal
 

@@ -1,6 +1,6 @@
 use Rattle.std.proofs.Common.{◌≡◌, ◌++◌, List, ℕ, length, replicate, ◌-◌, codes, decimal, ap, ◌∙◌}
 use Rattle.std.proofs.lemmas.List.{drop-replicate}
-use Rattle.qic_base.specs.Name.{filled}
+use Rattle.qic_base.specs.Field.{filled}
 use Rattle.made_volumes.proofs.appending.made_name.Goals as goal
 
 pub returns : goal.returns

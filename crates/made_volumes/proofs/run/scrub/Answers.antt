@@ -1,5 +1,5 @@
 use Rattle.std.proofs.Common.{Err, ap}
-use Rattle.drive_spec.specs.Deck.{is_protected}
+use Rattle.drive_spec.specs.Terms.{is_protected}
 use Rattle.made_volumes.proofs.Appends.{not_marked}
 use Rattle.made_volumes.proofs.Others.{scrub_done, scrub_so, scrub_never_full}
 use Rattle.made_volumes.proofs.run.scrub.Goals as goal

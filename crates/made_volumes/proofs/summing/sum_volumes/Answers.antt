@@ -1,9 +1,8 @@
 use Rattle.std.proofs.Common.{◌≡◌, ℕ, ◌+◌, ◌-◌, [], ◌∷◌, length, Err, Ok, refl, ◌∙◌, subst, arith}
 use Rattle.std.proofs.lemmas.Grind.{common_steps}
-use Rattle.qic_base.specs.Acts.{around}
+use Rattle.qic_base.specs.Terms.{around}
 use Rattle.made_volumes.specs.declared.fault.MakeFault.{MakeFault}
-use Rattle.command_spec.specs.Make.{SumVolume, summing}
-use Rattle.command_spec.specs.Make.{Done}
+use Rattle.command_spec.specs.Make.{SumVolume, summing, Done}
 use Rattle.made_volumes.specs.Runs.{HasRun}
 use Rattle.made_volumes.proofs.Going.{sums_begun, sums_next, sums_failed, same_store}
 use Rattle.made_volumes.proofs.summing.sum_volumes.Goals as goal

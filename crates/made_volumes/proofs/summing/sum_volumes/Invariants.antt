@@ -1,9 +1,8 @@
 -- The volumes before the present one were summed.
 use Rattle.std.proofs.Common.{ℕ, ◌+◌, ◌-◌, ◌≤◌}
-use Rattle.qic_base.specs.Acts.{around}
+use Rattle.qic_base.specs.Terms.{around}
 use Rattle.volume_store.specs.Mounting.{StoreFits, KeepsStore}
-use Rattle.command_spec.specs.Make.{summing}
-use Rattle.command_spec.specs.Make.{Done}
+use Rattle.command_spec.specs.Make.{summing, Done}
 use Rattle.made_volumes.specs.Runs.{HasRun}
 use Rattle.made_volumes.proofs.summing.sum_volumes.Given as goal
 

@@ -1,12 +1,11 @@
 use Rattle.std.proofs.Common.{◌≡◌, ℕ, ◌+◌, length, Err, Ok, refl, sym, ap, ◌∙◌, subst, arith}
 use Rattle.std.proofs.lemmas.Grind.{common_steps}
-use Rattle.qic_base.specs.Acts.{around, no_sink}
+use Rattle.qic_base.specs.Terms.{around, no_sink}
 use Rattle.cartridge_spec.specs.Volumes.{carrying, carrying_segments}
 use Rattle.volume_table.specs.Entry.{entry_of}
 use Rattle.volume_store.specs.Mounting.{StoreView}
 use Rattle.made_volumes.specs.declared.fault.MakeFault.{MakeFault}
-use Rattle.command_spec.specs.Make.{wearing_in}
-use Rattle.command_spec.specs.Make.{Done}
+use Rattle.command_spec.specs.Make.{wearing_in, Done}
 use Rattle.made_volumes.specs.Runs.{HasRun, RunEnds}
 use Rattle.made_volumes.proofs.Going.{segments_begun, segments_next, segments_failed, of_entry}
 use Rattle.segment_mending.proofs.Looked.{carrying_below}

@@ -1,10 +1,9 @@
 -- The segments below the present one were gone through.
 use Rattle.std.proofs.Common.{◌≡◌, ℕ, ◌≤◌}
-use Rattle.qic_base.specs.Acts.{around, no_sink}
+use Rattle.qic_base.specs.Terms.{around, no_sink}
 use Rattle.segment_mending.proofs.Looked.{carrying_below}
 use Rattle.volume_store.specs.Mounting.{StoreFits}
-use Rattle.command_spec.specs.Make.{wearing_in}
-use Rattle.command_spec.specs.Make.{Done}
+use Rattle.command_spec.specs.Make.{wearing_in, Done}
 use Rattle.made_volumes.specs.Runs.{HasRun}
 use Rattle.made_volumes.proofs.wearing.wear_volume.Given as goal
 

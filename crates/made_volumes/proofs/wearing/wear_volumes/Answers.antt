@@ -1,13 +1,12 @@
 use Rattle.std.proofs.Common.{◌≡◌, ◌-◌, ◌<◌, List, length, take, drop, slice_get, IfSome, Err, Ok, refl, ◌∙◌, subst, arith}
 use Rattle.std.proofs.lemmas.Grind.{common_steps}
 use Rattle.std.proofs.lemmas.List.{take_all, length-drop}
-use Rattle.qic_base.specs.Acts.{around, no_sink}
+use Rattle.qic_base.specs.Terms.{around, no_sink}
 use Rattle.cartridge_spec.specs.Table.{Entry}
 use Rattle.cartridge_spec.specs.Volumes.{carrying_segments}
 use Rattle.volume_store.specs.Mounting.{StoreView}
 use Rattle.made_volumes.specs.declared.fault.MakeFault.{MakeFault}
-use Rattle.command_spec.specs.Make.{wearing_in, wearing_volumes}
-use Rattle.command_spec.specs.Make.{Done}
+use Rattle.command_spec.specs.Make.{wearing_in, wearing_volumes, Done}
 use Rattle.made_volumes.specs.Runs.{HasRun, RunEnds}
 use Rattle.made_volumes.proofs.Going.{volumes_begun, volume_there, volumes_go_on, volumes_failed}
 use Rattle.made_volumes.proofs.wearing.wear_volumes.Goals as goal

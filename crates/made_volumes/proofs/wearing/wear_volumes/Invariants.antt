@@ -1,9 +1,8 @@
 -- The volumes before the present one were gone through.
 use Rattle.std.proofs.Common.{◌≡◌, ℕ, ◌-◌, ◌≤◌, take, drop}
-use Rattle.qic_base.specs.Acts.{around, no_sink}
+use Rattle.qic_base.specs.Terms.{around, no_sink}
 use Rattle.volume_store.specs.Mounting.{StoreFits}
-use Rattle.command_spec.specs.Make.{wearing_volumes}
-use Rattle.command_spec.specs.Make.{Done}
+use Rattle.command_spec.specs.Make.{wearing_volumes, Done}
 use Rattle.made_volumes.specs.Runs.{HasRun}
 use Rattle.made_volumes.proofs.wearing.wear_volumes.Given as goal
 

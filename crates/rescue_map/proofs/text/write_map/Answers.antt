@@ -1,5 +1,6 @@
 use Rattle.std.proofs.Common.{◌≡◌, List, ℕ, refl, subst}
-use Rattle.qic_base.specs.Sink.{Wrote, BrokeOff}
+use Rattle.qic_base.specs.Sink.{Wrote}
+use Rattle.qic_base.specs.SinkCalls.{BrokeOff}
 use Rattle.qic_base.proofs.Writing.{BrokeOff-longer}
 use Rattle.rescue_map.specs.Text.{head_text, blocks_text, runs_of, map_text}
 use Rattle.rescue_map.proofs.Texting.{writes_behind}

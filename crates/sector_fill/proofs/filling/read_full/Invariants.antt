@@ -1,5 +1,5 @@
 use Rattle.std.proofs.Common.{◌≡◌, ◌≤◌, ◌-◌, length, take}
-use Rattle.qic_base.specs.Source.{Gave}
+use Rattle.qic_base.specs.SourceCalls.{Gave}
 use Rattle.sector_fill.proofs.filling.read_full.Given as goal
 
 abbrev pub invariant-loop-len : goal.invariant-loop-len

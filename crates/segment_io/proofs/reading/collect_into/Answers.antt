@@ -1,5 +1,5 @@
 use Rattle.std.proofs.Common.{ℕ, ◌+◌, true, List, length, ap, subst, sym, ◌∙◌, arith, ◌≡◌, ◌^◌, ◌<◌}
-use Rattle.qic_base.specs.LostSet.{lost_places}
+use Rattle.qic_base.specs.Cartridge.{lost_places}
 use Rattle.qic_base.specs.declared.tape.SectorView.{SectorView}
 use Rattle.qic_base.proofs.Steps.{Done-after_reads}
 use Rattle.cartridge_spec.specs.Shape.{usable_count}

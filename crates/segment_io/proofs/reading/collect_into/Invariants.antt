@@ -1,7 +1,8 @@
 -- The sectors below the index are gathered, and the tape was only read.
 use Rattle.std.proofs.Common.{◌≡◌, [], true, length, ◌^◌, ◌<◌}
-use Rattle.qic_base.specs.LostSet.{lost_places}
-use Rattle.qic_base.specs.Tape.{Done, Tells}
+use Rattle.qic_base.specs.Cartridge.{lost_places}
+use Rattle.qic_base.specs.Tape.{Done}
+use Rattle.qic_base.specs.TapeCalls.{Tells}
 use Rattle.drive_states.specs.Reach.{reads_in, IsUnder}
 use Rattle.host_driver.specs.Calls.{Keeps}
 use Rattle.segment_io.specs.Gathered.{Gathered, cells_below}

@@ -1,6 +1,6 @@
 -- The places below the present one are written, and the register has the data before it.
 use Rattle.std.proofs.Common.{◌≡◌, ◌-◌, ◌^◌, length}
-use Rattle.qic_base.specs.LostSet.{lost_places}
+use Rattle.qic_base.specs.Cartridge.{lost_places}
 use Rattle.qic_base.specs.Tape.{Done}
 use Rattle.cartridge_spec.specs.Shape.{usable_count}
 use Rattle.drive_states.specs.Reach.{IsUnder}

@@ -1,7 +1,8 @@
 use Rattle.std.proofs.Common.{◌≡◌, ℕ, ◌+◌, ◌≤◌, List, [], ◌∷◌, length, refl, ap, subst, sym, ◌∙◌, arith}
-use Rattle.qic_base.specs.LostSet.{IsLost, lost_places}
+use Rattle.qic_base.specs.Terms.{IsLost}
+use Rattle.qic_base.specs.Cartridge.{lost_places}
 use Rattle.qic_base.specs.Step.{Step, WriteSector}
-use Rattle.qic_base.specs.Tape.{Does}
+use Rattle.qic_base.specs.TapeCalls.{Does}
 use Rattle.cartridge_spec.specs.Shape.{sector_at}
 use Rattle.cartridge_laws.proofs.Places.{count_below, count_more, count_same}
 use Rattle.segment_io.specs.Register.{completed}

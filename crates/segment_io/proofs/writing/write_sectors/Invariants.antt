@@ -1,6 +1,6 @@
 -- The named places below the present one are written.
 use Rattle.std.proofs.Common.{◌≡◌, length}
-use Rattle.qic_base.specs.LostSet.{lost_places}
+use Rattle.qic_base.specs.Cartridge.{lost_places}
 use Rattle.qic_base.specs.Tape.{Done}
 use Rattle.drive_states.specs.Reach.{IsUnder}
 use Rattle.host_driver.specs.Calls.{MayWrite, Keeps}

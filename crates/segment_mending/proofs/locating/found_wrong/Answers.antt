@@ -1,9 +1,8 @@
 use Rattle.std.proofs.Common.{◌≡◌, ℕ, ◌<◌, List, arith, subst, sym, take, Some, true, false}
 use Rattle.cartridge_laws.proofs.Places.{count_below, usable_small}
 use Rattle.cartridge_spec.specs.Shape.{usable_count}
-use Rattle.cartridge_spec.specs.Wear.{worn}
-use Rattle.command_spec.specs.Scrub.{Looked, cells_at, reads}
-use Rattle.command_spec.specs.ScrubForms.{HasFound}
+use Rattle.cartridge_spec.specs.Volumes.{worn}
+use Rattle.command_spec.specs.Scrub.{Looked, cells_at, reads, HasFound}
 use Rattle.command_spec.specs.declared.depth.Depth.TheVariants as depths
 use Rattle.segment_io.specs.Gathered.{NamesUnreadable}
 use Rattle.segment_mending.specs.Locating.{data_in}

@@ -1,5 +1,5 @@
 use Rattle.std.proofs.Common.{◌≡◌, ℕ, List, [], sym, ap, ◌∙◌, subst, refl}
-use Rattle.qic_base.specs.LostSet.{lost_places}
+use Rattle.qic_base.specs.Cartridge.{lost_places}
 use Rattle.qic_base.specs.Step.{Step}
 use Rattle.qic_base.specs.Tape.{Done}
 use Rattle.qic_base.proofs.Steps.{Done-nothing}

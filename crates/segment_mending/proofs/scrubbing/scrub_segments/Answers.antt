@@ -1,6 +1,7 @@
 use Rattle.std.proofs.Common.{◌≡◌, ℕ, List, [], ◌∷◌, subst, Err, ◌∙◌}
 use Rattle.qic_base.specs.Sink as sinks
-use Rattle.qic_base.specs.Acts.{around}
+use Rattle.qic_base.specs.SinkCalls as sink_calls
+use Rattle.qic_base.specs.Terms.{around}
 use Rattle.cartridge_spec.specs.Table.{Entry}
 use Rattle.command_spec.specs.Scrub.{whole_segment, looked_volumes, looked_at}
 use Rattle.segment_mending.specs.declared.fault.ScrubFault.{ScrubFault}
@@ -65,4 +66,4 @@ returns-in-Err-clause-ends g c =
     looked_both c.args.depth g.met.K.Sink.took_both (whole_segment 0 ∷ whole_segment 1 ∷ whole_segment 2 ∷ []) (looked_volumes words entries) a b d none_counted
     (reported c.look_at_front.new.report) (reported report) c.in_ok-look_at_front.ensures.looks c.in_ok-look_at_volumes.ensures.looks in
     line_cut g.T.Tape.means g.K.Sink.means c.args.depth words entries a d report looked g.met.K.Sink.took_both c.write_text.new.sink
-    (subst (sinks.BrokeOff g.K.Sink.means c.look_at_volumes.new.sink c.write_text.new.sink) (c.bytes.ensures ∙ c.counts_text.ensures) c.in-Err.ensures)
+    (subst (sink_calls.BrokeOff g.K.Sink.means c.look_at_volumes.new.sink c.write_text.new.sink) (c.bytes.ensures ∙ c.counts_text.ensures) c.in-Err.ensures)

@@ -1,5 +1,5 @@
 use Rattle.std.proofs.Common.{◌≡◌, ℕ, ◌+◌, ◌-◌, ◌≤◌, ◌++◌, List, [], length, sym, ap, subst, ◌∙◌, arith, Err}
-use Rattle.qic_base.specs.Acts.{around}
+use Rattle.qic_base.specs.Terms.{around}
 use Rattle.cartridge_spec.specs.Volumes.{carrying}
 use Rattle.command_spec.specs.Scrub.{Looked, looked_segments}
 use Rattle.host_driver.proofs.Keeping.{keeps_none, keeps_both}

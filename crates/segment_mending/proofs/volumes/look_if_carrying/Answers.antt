@@ -1,6 +1,7 @@
 use Rattle.std.proofs.Common.{◌≡◌, ℕ, List, ap, sym, subst, ◌∙◌, arith, [], length}
-use Rattle.qic_base.specs.Acts.{around}
-use Rattle.cartridge_spec.specs.Shape.{mask_at, sectors_of, usable_count}
+use Rattle.qic_base.specs.Terms.{around}
+use Rattle.cartridge_spec.specs.Shape.{mask_at, usable_count}
+use Rattle.cartridge_laws.specs.Terms.{sectors_of}
 use Rattle.cartridge_spec.specs.Volumes.{carrying}
 use Rattle.command_spec.specs.Scrub.{Looked, looked_segments}
 use Rattle.segment_mending.specs.Looking.{HasLooked}

@@ -1,6 +1,6 @@
 use Rattle.std.proofs.Common.{◌≡◌, false, refl, rules}
 use Rattle.command_spec.specs.Commands.{traits_of}
-use Rattle.command_spec.specs.Runs.{EndsBlind}
+use Rattle.command_spec.specs.Machine.{EndsBlind}
 use Rattle.command_spec.specs.declared.words.Words.TheVariants.{New, Defect, Lose, Protect, Format, Info, List, Restore, Scrub, ScrubDeep, Make, Upgrade}
 use Rattle.command_laws.proofs.CommandPromises.{ends_over}
 use Rattle.tape_cmd.proofs.command.carry_out.Goals as goal

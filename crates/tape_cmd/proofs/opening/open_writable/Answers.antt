@@ -1,7 +1,7 @@
 use Rattle.std.specs.Prelude.{ℕ}
 use Rattle.std.proofs.Common.{◌≡◌, false, sym, ap, ◌∙◌}
 use Rattle.std.specs.Option.{option_map_or}
-use Rattle.drive_spec.specs.Deck.{is_protected}
+use Rattle.drive_spec.specs.Terms.{is_protected}
 use Rattle.store_opening.proofs.Started.{there_of, present}
 use Rattle.store_opening.proofs.Mounted.{open_shown, open_failed as mount_failed}
 use Rattle.store_opening.specs.declared.opening.OpenFault.TheVariants.{Refused}

@@ -1,5 +1,6 @@
 use Rattle.std.proofs.Common.{◌++◌, ℕ, codes, decimal, refl, subst}
-use Rattle.qic_base.specs.Sink.{BrokeOff, Wrote, Writes}
+use Rattle.qic_base.specs.SinkCalls.{BrokeOff, Writes}
+use Rattle.qic_base.specs.Sink.{Wrote}
 use Rattle.qic_base.proofs.Writing.{BrokeOff-longer}
 use Rattle.rescue_map.proofs.Texting.{writes_behind}
 use Rattle.tape_import.specs.Texts.{imported_text}

@@ -1,5 +1,5 @@
 use Rattle.std.proofs.Common.{◌++◌, ◌≡◌, ◌∙◌, ℕ, List, ap, codes, decimal, sym, subst}
-use Rattle.qic_base.specs.Sink.{Writes}
+use Rattle.qic_base.specs.SinkCalls.{Writes}
 use Rattle.tape_import.specs.Texts.{status_text}
 use Rattle.tape_import.proofs.status.write_status.Goals as goal
 

@@ -1,6 +1,6 @@
 use Rattle.std.proofs.Common.{◌≡◌, List, ap, subst, OnOk, arith}
 use Rattle.qic_base.specs.Step.{Step}
-use Rattle.qic_base.specs.Tape.{Does}
+use Rattle.qic_base.specs.TapeCalls.{Does}
 use Rattle.drive_spec.specs.Record.{Record}
 use Rattle.drive_spec.specs.Steps.{gap_steps}
 use Rattle.drive_states.specs.Unit.{UnitView}

@@ -1,5 +1,5 @@
 use Rattle.std.proofs.Common.{◌≡◌, ◌+◌, ◌*◌, ◌/◌, ◌%◌, refl, arith}
-use Rattle.qic_base.specs.Date.{IsDate}
+use Rattle.qic_base.specs.Field.{IsDate}
 use Rattle.command_laws.proofs.TextDates.{HasFields, fields_of}
 use Rattle.tape_script.proofs.Dates.{one_pair, form_from_fields}
 use Rattle.tape_script.proofs.date.read_date.Goals as goal

@@ -1,8 +1,8 @@
 use Rattle.std.proofs.Common.{◌≡◌, ◌≢◌, ◌⊎◌, List, ℕ, inl, inr, ◌+◌, ◌-◌, ◌∷◌, ◌++◌, [], length, take, ap, ◌∙◌, arith}
 use Rattle.std.proofs.lemmas.List.{length_push, length-take-le}
 use Rattle.std.proofs.lemmas.List.Elements.{All-take}
-use Rattle.command_spec.specs.Input.{IsLine}
-use Rattle.qic_base.specs.Source.{HasEnded}
+use Rattle.command_laws.specs.CommandTerms.{IsLine}
+use Rattle.qic_base.specs.SourceCalls.{HasEnded}
 use Rattle.tape_script.proofs.Lined.{one_newline, BeginsWithNo-line, BeginsWithNo-open}
 use Rattle.tape_script.proofs.line.read_line.Goals as goal
 

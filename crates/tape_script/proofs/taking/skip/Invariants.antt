@@ -1,5 +1,5 @@
 use Rattle.std.proofs.Common.{◌≤◌, ◌-◌}
-use Rattle.qic_base.specs.Source.{GaveSome}
+use Rattle.qic_base.specs.SourceCalls.{GaveSome}
 use Rattle.tape_script.proofs.taking.skip.Given as goal
 
 abbrev pub invariant-loop-left : goal.invariant-loop-left

@@ -1,5 +1,5 @@
 use Rattle.std.proofs.Common.{◌≡◌, ◌≤◌, ◌-◌, length, take}
-use Rattle.qic_base.specs.Source.{Gave}
+use Rattle.qic_base.specs.SourceCalls.{Gave}
 use Rattle.command_laws.specs.TextReading.{NoNewline}
 use Rattle.tape_script.proofs.taking.take_line.Given as goal
 

@@ -1,5 +1,5 @@
 use Rattle.std.proofs.Common.{All, take}
-use Rattle.cartridge_spec.specs.Code.{IsSector}
+use Rattle.qic_base.specs.Cartridge.{IsSector}
 use Rattle.volume_input.proofs.filling.are_sectors.Given as goal
 
 abbrev pub invariant-loop-sector : goal.invariant-loop-sector

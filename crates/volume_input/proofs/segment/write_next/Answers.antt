@@ -1,5 +1,5 @@
 use Rattle.std.proofs.Common.{◌≡◌, ◌⊎◌, inl, inr, ◌-◌, ◌≤◌, min, true, All, subst, arith}
-use Rattle.cartridge_spec.specs.Code.{IsSector}
+use Rattle.qic_base.specs.Cartridge.{IsSector}
 use Rattle.volume_input.proofs.Next.{data_sectors, source_fault, came_short, next_written, next_broken}
 use Rattle.volume_input.proofs.Places.{data_most}
 use Rattle.volume_input.proofs.segment.write_next.Goals as goal

@@ -1,6 +1,7 @@
 use Rattle.std.proofs.Common.{◌≡◌, ◌+◌, ◌++◌, List, ℕ, take, drop, length, ap, ◌∙◌, arith, subst}
 use Rattle.std.proofs.lemmas.List.{take_all}
-use Rattle.qic_base.specs.Sink.{Wrote, Writes}
+use Rattle.qic_base.specs.Sink.{Wrote}
+use Rattle.qic_base.specs.SinkCalls.{Writes}
 use Rattle.qic_base.proofs.Writing.{Wrote-Wrote, Wrote-BrokeOff, BrokeOff-longer}
 use Rattle.cartridge_spec.specs.Volumes.{volume_length}
 use Rattle.volume_table.specs.Entry.{entry_of}

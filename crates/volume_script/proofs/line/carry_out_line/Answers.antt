@@ -1,6 +1,6 @@
 use Rattle.std.proofs.Common.{◌∙◌, refl, inr, subst, arith}
 use Rattle.qic_base.specs.Acts.{SourceFails, SinkFails, TapeFails}
-use Rattle.qic_base.specs.Source.{Gave}
+use Rattle.qic_base.specs.SourceCalls.{Gave}
 use Rattle.volume_script.proofs.Hearing.{heard_item, heard_mismatch, heard_cut, unheard}
 use Rattle.volume_script.proofs.Input.{end_text, line_short}
 use Rattle.command_laws.proofs.ScriptLifting.{rested}

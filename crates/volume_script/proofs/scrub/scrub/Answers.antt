@@ -1,6 +1,6 @@
 use Rattle.std.proofs.Common.{◌≡◌, Err, false, ap}
 use Rattle.qic_base.specs.Acts.{SinkFails, TapeFails}
-use Rattle.drive_spec.specs.Deck.{is_protected}
+use Rattle.drive_spec.specs.Terms.{is_protected}
 use Rattle.volume_store.specs.declared.fault.StoreFault.TheVariants as store_fault
 use Rattle.volume_script.proofs.Quiet.{mark_told, unmarked, scrub_locked, scrub_cut}
 use Rattle.volume_script.proofs.scrub.scrub.Goals as goal

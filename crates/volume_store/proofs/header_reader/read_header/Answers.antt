@@ -4,10 +4,10 @@ use Rattle.qic_base.specs.declared.tape.TapeInfo.{TapeInfo}
 use Rattle.host_driver.specs.declared.host.Host.{Host}
 use Rattle.host_driver.proofs.Keeping.{keeps_both}
 use Rattle.volume_store.specs.declared.fault.StoreFault.TheVariants.{Tape}
-use Rattle.qic_base.specs.Tape.{Tells}
+use Rattle.qic_base.specs.TapeCalls.{Tells}
 use Rattle.qic_base.proofs.Steps.{Tells-read, Done-after_reads}
 use Rattle.cartridge_spec.specs.HeaderAndTable.{CopyDoesNotRead}
-use Rattle.drive_spec.specs.Deck.{is_referenced}
+use Rattle.drive_spec.specs.Terms.{is_referenced}
 use Rattle.host_driver.specs.Fits.{segments_of, deck_of}
 use Rattle.header_segments.specs.declared.header.Header.{Header}
 use Rattle.volume_store.specs.declared.fault.StoreFault.{StoreFault}

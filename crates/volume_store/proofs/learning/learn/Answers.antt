@@ -1,5 +1,6 @@
 use Rattle.std.proofs.Common.{◌≡◌, ◌≢◌, ℕ, ◌-◌, ◌*◌, List, [], Result, Err, sym, ap, ◌∙◌, subst}
-use Rattle.qic_base.specs.Tape.{Done, Tells}
+use Rattle.qic_base.specs.Tape.{Done}
+use Rattle.qic_base.specs.TapeCalls.{Tells}
 use Rattle.qic_base.proofs.Steps.{Done-after_reads, Tells-read}
 use Rattle.cartridge_spec.specs.Table.{Entry}
 use Rattle.header_segments.specs.declared.header.Header.{Header}

@@ -1,16 +1,16 @@
 use Rattle.std.proofs.Common.{◌≢◌, ◌∙◌, ℕ, List, take, Err, sym, ap, subst}
-use Rattle.cartridge_spec.specs.Mounting.{HasList}
+use Rattle.cartridge_laws.specs.Terms.{HasList}
 use Rattle.qic_base.proofs.Steps.{Tells-map}
-use Rattle.qic_base.specs.Tape.{Tells}
+use Rattle.qic_base.specs.TapeCalls.{Tells}
 use Rattle.cartridge_spec.specs.HeaderAndTable.{TableIs}
 use Rattle.cartridge_spec.specs.Table.{Entry, Shows}
 use Rattle.segment_io.specs.declared.fault.SegFault.{SegFault}
-use Rattle.segment_io.specs.declared.fault.SegFault.TheVariants as seg
 use Rattle.volume_store.specs.declared.fault.StoreFault.{StoreFault}
 use Rattle.volume_store.specs.declared.table_reader.Unread.{Unread}
 use Rattle.volume_store.specs.Again.{FindsList}
 use Rattle.volume_store.specs.Finding.{FindsTable, refusal_of}
 use Rattle.volume_store.proofs.Again.{list_missing, finds_fault}
+use Rattle.segment_io.specs.declared.fault.SegFault.TheVariants as seg
 use Rattle.volume_store.proofs.refreshing.read_list.Goals as goal
 
 pub returns-else-is_shown_by-clause-found : goal.returns-else-is_shown_by-clause-found

@@ -3,7 +3,7 @@ use Rattle.volume_store.specs.declared.table_reader.Unread.{Unread}
 use Rattle.qic_base.proofs.Steps.{Tells-map}
 use Rattle.cartridge_spec.specs.HeaderAndTable.{TableIs}
 use Rattle.volume_store.specs.Again.{HasTable}
-use Rattle.drive_spec.specs.Deck.{is_protected}
+use Rattle.drive_spec.specs.Terms.{is_protected}
 use Rattle.volume_store.specs.declared.fault.StoreFault.{StoreFault}
 use Rattle.volume_store.specs.Settling.{mending_steps}
 use Rattle.volume_store.proofs.Again.{broke_reading, fault_unread, settled_by, settles_refused, told_mending, reads_unless, reads_on}

@@ -1,6 +1,6 @@
 use Rattle.std.proofs.Common.{◌≡◌, ℕ, ◌++◌, Bool, List, Err, sym, ap, ◌∙◌}
-use Rattle.cartridge_spec.specs.Shape.{sectors_of}
-use Rattle.drive_spec.specs.Deck.{is_protected}
+use Rattle.cartridge_laws.specs.Terms.{sectors_of}
+use Rattle.drive_spec.specs.Terms.{is_protected}
 use Rattle.cartridge_spec.specs.Settling.{block_writes}
 use Rattle.volume_store.specs.declared.fault.StoreFault.{StoreFault}
 use Rattle.volume_store.specs.Settling.{mending_steps}

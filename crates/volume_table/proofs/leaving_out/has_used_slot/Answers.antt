@@ -1,7 +1,7 @@
 use Rattle.std.proofs.Common.{sym, ap, ◌∙◌, arith, add-one}
 use Rattle.cartridge_spec.specs.Shape.{sector_at}
 use Rattle.cartridge_spec.specs.Table.{is_used}
-use Rattle.cartridge_spec.specs.TableSets.{some_used_below}
+use Rattle.cartridge_spec.specs.Says.{some_used_below}
 use Rattle.volume_table.proofs.SlotLaws.{is_used-signature, not_used-signature}
 use Rattle.volume_table.proofs.Used.{slot_alone, none_below, none_more, some_here}
 use Rattle.volume_table.proofs.leaving_out.has_used_slot.Goals as goal

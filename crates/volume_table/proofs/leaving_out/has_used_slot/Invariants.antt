@@ -1,6 +1,6 @@
 use Rattle.std.proofs.Common.{◌≡◌, false}
 use Rattle.cartridge_spec.specs.Shape.{sector_at}
-use Rattle.cartridge_spec.specs.TableSets.{some_used_below}
+use Rattle.cartridge_spec.specs.Says.{some_used_below}
 use Rattle.volume_table.proofs.leaving_out.has_used_slot.Given as goal
 
 abbrev pub invariant-loop-slot : goal.invariant-loop-slot

@@ -1,8 +1,8 @@
 use Rattle.std.proofs.Common.{◌≡◌, suc, ◌+◌, List, map, sym, ap, ◌∙◌, subst, arith, add-one}
 use Rattle.qic_base.specs.declared.tape.SectorView.{SectorView}
 use Rattle.qic_base.specs.declared.tape.SectorView.TheVariants.{Holds}
-use Rattle.cartridge_spec.specs.Says.{hidden}
-use Rattle.cartridge_spec.specs.TableSets.{last_used_below}
+use Rattle.cartridge_laws.specs.Terms.{hidden}
+use Rattle.cartridge_spec.specs.Says.{last_used_below}
 use Rattle.volume_table.proofs.Used.{last_none, last_here, last_before, IsAnswer, is_answer}
 use Rattle.volume_table.proofs.leaving_out.last_used.Goals as goal
 use Rattle.volume_table.proofs.leaving_out.last_used.Goals.{then-shows_used_slot, else-shows_used_slot}

@@ -1,7 +1,7 @@
 use Rattle.std.proofs.Common.{◌≡◌, map}
 use Rattle.qic_base.specs.declared.tape.SectorView.TheVariants.{Holds}
-use Rattle.cartridge_spec.specs.Says.{hidden}
-use Rattle.cartridge_spec.specs.TableSets.{last_used_below}
+use Rattle.cartridge_laws.specs.Terms.{hidden}
+use Rattle.cartridge_spec.specs.Says.{last_used_below}
 use Rattle.volume_table.proofs.leaving_out.last_used.Given as goal
 
 abbrev pub invariant-loop-place : goal.invariant-loop-place

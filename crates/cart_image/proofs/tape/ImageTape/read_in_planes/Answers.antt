@@ -1,5 +1,5 @@
 use Rattle.std.proofs.Common.{[], refl, sym, ◌∙◌}
-use Rattle.qic_base.specs.Tape.{Reads}
+use Rattle.qic_base.specs.TapeCalls.{Reads}
 use Rattle.cart_image.proofs.Exits.{Carried-looked}
 use Rattle.cart_image.proofs.Known.{in-segment, segment-place, known-state, state-at, view-read}
 use Rattle.cart_image.proofs.Runs.{Looks-Looks}

@@ -1,5 +1,5 @@
 use Rattle.std.proofs.Common.{[]}
-use Rattle.qic_base.specs.Tape.{Reads}
+use Rattle.qic_base.specs.TapeCalls.{Reads}
 use Rattle.cart_image.proofs.Tapes.{Tape-done, Tape-broke, looks-done, looks-broke, tape-settled, view-fact, size-same}
 use Rattle.cart_image.proofs.tape.ImageTapeTape.read_sector.Goals as goal
 

@@ -1,6 +1,6 @@
 use Rattle.std.proofs.Common.{[], ◌∷◌, refl, arith, ◌≡◌}
 use Rattle.qic_base.specs.Step.{WriteSector, written_view}
-use Rattle.qic_base.specs.Tape.{write_answer}
+use Rattle.qic_base.specs.TapeCalls.{write_answer}
 use Rattle.cart_image.specs.Image.{view_in}
 use Rattle.cart_image.specs.Layout.{write_sector_steps}
 use Rattle.cart_image.proofs.Carries.{Failed-Broke}

@@ -1,5 +1,5 @@
 use Rattle.std.proofs.Common.{◌≡◌, true, sym, ◌∙◌, arith}
-use Rattle.drive_spec.specs.Deck.{is_protected}
+use Rattle.drive_spec.specs.Terms.{is_protected}
 use Rattle.drive_states.proofs.Places.{one_place, Writes-protected, IsSound-reached, IsIn-reached}
 use Rattle.drive_states.proofs.sectors.Drive+Primary+T.write_sector.Goals as goal
 

@@ -1,5 +1,5 @@
 use Rattle.std.proofs.Common.{ℕ, ◌∙◌, sym, ap}
-use Rattle.cartridge_spec.specs.Field.{power}
+use Rattle.cartridge_spec.specs.Code.{power}
 use Rattle.gf256_qic.proofs.Distance.{power_apart}
 use Rattle.erasure_solve.specs.Correction.{correction_factors}
 use Rattle.erasure_solve.proofs.coefficients.Coefficients.at.Goals as goal

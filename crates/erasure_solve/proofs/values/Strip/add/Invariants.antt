@@ -1,5 +1,5 @@
 use Rattle.std.proofs.Common.{◌≡◌, ℕ, ◌+◌, ◌<◌, ◌≤◌, get_or, bit_xor}
-use Rattle.cartridge_spec.specs.Field.{product}
+use Rattle.cartridge_spec.specs.Code.{product}
 use Rattle.erasure_solve.proofs.values.Strip.add.Given as goal
 
 abbrev pub invariant-loop-j : goal.invariant-loop-j

@@ -1,5 +1,5 @@
 use Rattle.std.proofs.Common.{◌≡◌, ℕ, ◌+◌, ◌*◌, ◌∙◌, ap, subst, arith, List}
-use Rattle.cartridge_spec.specs.Field.{product}
+use Rattle.cartridge_spec.specs.Code.{product}
 use Rattle.erasure_solve.proofs.Columns.{AreFirst, values_more, none_first, all_first}
 use Rattle.erasure_solve.proofs.values.Values.of.Goals as goal
 

@@ -5,7 +5,7 @@ use Rattle.qic117_commands.specs.declared.command.Command.TheVariants.{EnterPrim
 use Rattle.qic117_commands.specs.declared.view.Mode.TheVariants.{Format}
 use Rattle.qic117_commands.proofs.Rows.{sameb-format}
 use Rattle.drive_spec.specs.declared.deck.Deck.{Deck}
-use Rattle.drive_spec.specs.Deck.{refusal_of, is_protected}
+use Rattle.drive_spec.specs.Terms.{refusal_of, is_protected}
 use Rattle.drive_spec.specs.Effects.{accepted}
 use Rattle.host_driver.specs.Commands.{entry_of}
 use Rattle.host_driver.proofs.Taking.{stands_known, primary_of, entry_taken}

@@ -1,8 +1,7 @@
 use Rattle.std.proofs.Common.{ap, ◌∙◌}
 use Rattle.qic117_commands.specs.declared.command.Command.{Command}
-use Rattle.drive_spec.specs.Deck.{refusal_of}
+use Rattle.drive_spec.specs.Terms.{refusal_of, begun}
 use Rattle.drive_spec.specs.Effects.{accepted}
-use Rattle.drive_spec.specs.Row.{begun}
 use Rattle.host_driver.specs.Commands.{is_plain}
 use Rattle.host_driver.proofs.Taking.{entered_as, entry_plain, entry_idle}
 use Rattle.host_driver.proofs.host.Host.enter_at_once.Goals as goal

@@ -5,13 +5,12 @@ use Rattle.qic117_commands.specs.declared.command.Command.TheVariants.{WriteRefe
 use Rattle.drive_spec.specs.declared.deck.Deck.{Deck}
 use Rattle.drive_spec.specs.Deck.{is_streaming}
 use Rattle.drive_spec.specs.Record.{Record}
-use Rattle.drive_spec.specs.Row.{obeying}
+use Rattle.drive_spec.specs.Terms.{obeying}
 use Rattle.drive_states.specs.Unreferenced.{without_reference}
 use Rattle.drive_states.proofs.Bounds.{reference_of}
-use Rattle.host_driver.specs.Train.{TakesTrain, after_train, train_steps}
+use Rattle.host_driver.specs.Train.{TakesTrain, after_train, train_steps, ready_deck}
 use Rattle.std.proofs.lemmas.Result.{err_from_is_err_and}
 use Rattle.host_driver.specs.Place.{StandsAt}
-use Rattle.host_driver.specs.Train.{ready_deck}
 use Rattle.host_driver.proofs.Marks.{reference_agrees, unmarked}
 use Rattle.host_driver.proofs.Sending.{references, format_mode}
 use Rattle.host_driver.proofs.host.Host.reference.Goals as goal

@@ -1,9 +1,9 @@
 use Rattle.std.proofs.Common.{◌≡◌, ◌/◌, ◌%◌, ap, ◌∙◌, arith}
 use Rattle.qic117_commands.specs.declared.command.Command.{Command}
 use Rattle.drive_spec.specs.declared.deck.Deck.{Deck}
-use Rattle.drive_spec.specs.Deck.{refusal_of, is_streaming}
+use Rattle.drive_spec.specs.Terms.{refusal_of, begun}
+use Rattle.drive_spec.specs.Deck.{is_streaming}
 use Rattle.drive_spec.specs.Effects.{accepted}
-use Rattle.drive_spec.specs.Row.{begun}
 use Rattle.drive_states.specs.Typed.{is_seeking}
 use Rattle.host_driver.specs.Train.{ready_deck}
 use Rattle.host_driver.proofs.Taking.{stands_known, skip_of, skip_awaits, given_low, given_high, takes_low, takes_high}

@@ -1,7 +1,7 @@
 use Rattle.std.proofs.Common.{◌≡◌, ◌⊎◌, inl, inr, ◌+◌, ◌∷◌, ◌++◌, [], List, ℕ, length, take, ap, ◌∙◌, arith}
 use Rattle.std.proofs.lemmas.List.{length_push, length-take-le}
 use Rattle.command_spec.specs.Input.{IsLined}
-use Rattle.qic_base.specs.Source.{HasEnded}
+use Rattle.qic_base.specs.SourceCalls.{HasEnded}
 use Rattle.tape_script.proofs.Lined.{BeginsWithNo-line, BeginsWithNo-open, BeginsWithNo-by}
 use Rattle.pulse_dialogue.specs.Lines.{IsLine}
 use Rattle.pulse_dialogue.specs.Reading.{IsLineText}

@@ -1,5 +1,5 @@
 use Rattle.std.proofs.Common.{◌++◌, ap, refl, subst}
-use Rattle.qic_base.specs.Sink.{Writes}
+use Rattle.qic_base.specs.SinkCalls.{Writes}
 use Rattle.qic_base.proofs.Writing.{BrokeOff-longer}
 use Rattle.pulse_dialogue.specs.declared.context.Context.{Context}
 use Rattle.pulse_dialogue.specs.declared.teller.Teller.{Teller}

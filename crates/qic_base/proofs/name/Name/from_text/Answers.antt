@@ -1,6 +1,6 @@
 use Rattle.std.proofs.Common.{◌++◌, length, ap}
 use Rattle.std.proofs.lemmas.List.{drop-replicate}
-use Rattle.qic_base.specs.Name.{filled}
+use Rattle.qic_base.specs.Field.{filled}
 use Rattle.qic_base.proofs.name.Name.from_text.Goals as goal
 
 pub returns-clause-bytes : goal.returns-clause-bytes

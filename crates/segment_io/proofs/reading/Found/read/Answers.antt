@@ -1,7 +1,7 @@
 use Rattle.std.proofs.Common.{◌≡◌, ℕ, ◌+◌, List, length, refl, ap, subst, sym, ◌∙◌, [], ◌∷◌, ◌++◌}
-use Rattle.qic_base.specs.LostSet.{IsLost, lost_places}
-use Rattle.qic_base.specs.Cartridge.{view_at}
-use Rattle.qic_base.specs.Tape.{Tells}
+use Rattle.qic_base.specs.Terms.{IsLost}
+use Rattle.qic_base.specs.Cartridge.{lost_places, view_at}
+use Rattle.qic_base.specs.TapeCalls.{Tells}
 use Rattle.qic_base.specs.declared.tape.SectorView.{SectorView}
 use Rattle.qic_base.proofs.Steps.{Tells-map}
 use Rattle.segment_io.specs.Gathered.{Gathered, cells_below}

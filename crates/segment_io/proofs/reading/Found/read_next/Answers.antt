@@ -1,7 +1,7 @@
 use Rattle.std.proofs.Common.{◌≡◌, ◌≢◌, ℕ, ◌+◌, ◌^◌, ◌<◌, arith, List, [], ◌∷◌, ◌++◌, length, get_or, set, subst, sym, inl, inr}
 use Rattle.std.proofs.Math.Pow.{pow-lt}
 use Rattle.qic_base.specs.Cartridge.{view_at}
-use Rattle.qic_base.specs.Tape.{Reads}
+use Rattle.qic_base.specs.TapeCalls.{Reads}
 use Rattle.qic_base.specs.declared.tape.SectorRead.{SectorRead}
 use Rattle.qic_base.specs.declared.tape.SectorRead.TheVariants as read
 use Rattle.qic_base.specs.declared.tape.SectorView.{SectorView}

@@ -1,6 +1,6 @@
 use Rattle.std.proofs.Common.{None, Err, ap, subst}
-use Rattle.qic_base.specs.Acts.{reading}
-use Rattle.qic_base.specs.Sink.{Writes}
+use Rattle.qic_base.specs.Terms.{reading}
+use Rattle.qic_base.specs.SinkCalls.{Writes}
 use Rattle.volume_store.specs.declared.fault.StoreFault.{StoreFault}
 use Rattle.volume_store.specs.Appending.{AppendEnds}
 use Rattle.command_spec.specs.Lines.{appended_line}

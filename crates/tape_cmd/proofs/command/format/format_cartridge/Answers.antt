@@ -1,6 +1,7 @@
 use Rattle.std.proofs.Common.{◌≡◌, ◌↔◌, ◌∙◌, true, false, Err, sym, ap, subst}
 use Rattle.std.specs.Option.{option_map_or}
-use Rattle.drive_spec.specs.Deck.{segments_per_track, is_protected}
+use Rattle.drive_spec.specs.Deck.{segments_per_track}
+use Rattle.drive_spec.specs.Terms.{is_protected}
 use Rattle.formatter.specs.Formats.{Formats, HasFormatted}
 use Rattle.formatter.specs.declared.fault.FormatFault.TheVariants as fault
 use Rattle.tape_cmd.proofs.Formats.{not_true, format_unstarted, format_faulted, format_printed}

@@ -1,5 +1,5 @@
 use Rattle.std.proofs.Common.{◌≡◌, ◌*◌, ◌++◌, ◌∙◌, List, ℕ, length, ap, subst}
-use Rattle.qic_base.specs.Sink.{Writes}
+use Rattle.qic_base.specs.SinkCalls.{Writes}
 use Rattle.cartridge_spec.specs.Header.{Header}
 use Rattle.cartridge_spec.specs.Shape.{marked_sectors}
 use Rattle.header_segments.specs.Header.{header_of}

@@ -1,5 +1,6 @@
 use Rattle.std.proofs.Common.{◌*◌}
-use Rattle.qic_base.specs.Sink.{Wrote, Writes}
+use Rattle.qic_base.specs.Sink.{Wrote}
+use Rattle.qic_base.specs.SinkCalls.{Writes}
 use Rattle.header_segments.specs.Header.{header_of}
 use Rattle.command_spec.specs.Lines.{label_lines, count_lines}
 use Rattle.command_laws.proofs.LineListings.{Writes-after}

@@ -1,5 +1,5 @@
 use Rattle.std.proofs.Common.{false, Err, subst}
-use Rattle.qic_base.specs.Acts.{around}
+use Rattle.qic_base.specs.Terms.{around}
 use Rattle.volume_store.specs.declared.fault.StoreFault.{StoreFault}
 use Rattle.volume_store.specs.Restoring.{RestoreEnds}
 use Rattle.tape_cmd.proofs.Restored.{restore_refused, restore_done, restore_failed}

@@ -1,6 +1,6 @@
 use Rattle.std.proofs.Common.{Err, ap, subst}
 use Rattle.command_spec.specs.declared.depth.Depth.TheVariants.{Deep}
-use Rattle.qic_base.specs.Acts.{around}
+use Rattle.qic_base.specs.Terms.{around}
 use Rattle.volume_store.specs.declared.fault.StoreFault.{StoreFault}
 use Rattle.volume_store.specs.Scrubbing.{MendEndsAs}
 use Rattle.store_opening.proofs.Opened.{unlocked_where}

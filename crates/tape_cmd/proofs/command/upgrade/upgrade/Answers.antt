@@ -25,7 +25,7 @@ returns-in-Ok g c =
     let before = known_before g.T.Tape.means c.args.unit.now.tape c.insert.new.self.tape _ c.in_default.ensures.did c.in_default.ensures.inserted.known.told in
     let done = (rw c.in-Ok.is at came.fact).1 in
     rw c.printed.ensures (printed g.T.Tape.means g.K.Sink.means Upgrade is_blind c.args.unit.now.tape c.upgrade.new.self.tape c.args.sink.now c.write_text.new.sink
-    (carried_out Upgrading (upgraded_line c.in-Ok.version)) c.write_text.result refl refl (c.in-Ok.version, done.layout, refl)
+    (carried_out Upgrading (upgraded_line c.in-Ok.version)) c.write_text.result refl refl (c.in-Ok.version, done.layout.oldest, done.layout.newest, refl)
     (told_known_beside _ _ (λ d. c.in-Ok.version ≡ d.version) (λ h. Rules Upgrade h (carried_out Upgrading (upgraded_line c.in-Ok.version))) before
     (told_at_start g.T.Tape.means c.args.unit.now.tape c.insert.new.self.tape c.in_default.ensures.did (λ d. c.in-Ok.version ≡ d.version) done.told)
     (λ held known told. λ input. upgrade_present came.info c.in-Ok.version held (sym came.known ∙ known) told))

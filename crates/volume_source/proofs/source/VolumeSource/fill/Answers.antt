@@ -1,10 +1,25 @@
-use Rattle.std.proofs.Common.{◌≡◌, ℕ, ◌+◌, ◌<◌, length, List, take, Some, None, Ok, Err, sym, ◌∙◌, subst}
+use Rattle.std.proofs.Common.{◌≡◌, ℕ, ◌+◌, ◌<◌, length, List, take, Option, Some, None, Ok, Err, sym, ◌∙◌, subst}
 use Rattle.cartridge_spec.specs.Appending.{bytes_in}
+use Rattle.drive_states.specs.Unit.{UnitView}
+use Rattle.volume_store.specs.Mounting.{StoreView}
 use Rattle.volume_store.specs.Restoring.{ReadsPart}
+use Rattle.volume_store.specs.declared.fault.StoreFault.{StoreFault}
 use Rattle.volume_source.proofs.Bytes.{none_unread, none_held, some_unread}
 use Rattle.volume_source.proofs.Filling.{after, part_reads, part_held, part_some, some_sound, some_kept, some_left, none_sound, none_kept, none_ended, refused_sound, refused_kept, left_still}
 use Rattle.volume_source.specs.Source.{SourceView, KeepsVolume, first_refusal, left_where, unread_in}
 use Rattle.volume_source.proofs.source.VolumeSource.fill.Goals as goal
+
+-- the source as it was before the piece, from its parts
+abbrev seen : {T : Type 0} → StoreView → UnitView T → (number done : ℕ) → (unread : List ℕ) → (faults : ℕ) → Option StoreFault → SourceView T
+seen store unit number done unread faults fault = record {
+  store = store;
+  unit = unit;
+  number = number;
+  done = done;
+  unread = unread;
+  faults = faults;
+  fault = fault;
+}
 
 pub returns-then-self-clause-some : goal.returns-then-self-clause-some
 returns-then-self-clause-some g c = λ is.
@@ -15,15 +30,7 @@ pub invariant_of-self : goal.invariant_of-self
 invariant_of-self g c =
     let m = g.T.Tape.means in
     let i = c.self.inside in
-    let v : SourceView g.row.T.Denot = record {
-      store = i.store;
-      unit = i.unit;
-      number = i.number;
-      done = i.next;
-      unread = unread_in i.store.part i.held i.given;
-      faults = i.refusals;
-      fault = i.fault;
-    } in
+    let v = seen i.store i.unit i.number i.next (unread_in i.store.part i.held i.given) i.refusals i.fault in
     let store = c.part.new.self in
     let unit = c.part.new.unit in
     let count = c.in-Ok-Some.bytes in
@@ -37,15 +44,7 @@ pub invariant_of-self-in-Ok-None : goal.invariant_of-self-in-Ok-None
 invariant_of-self-in-Ok-None g c =
     let m = g.T.Tape.means in
     let i = c.self.inside in
-    let v : SourceView g.row.T.Denot = record {
-      store = i.store;
-      unit = i.unit;
-      number = i.number;
-      done = i.next;
-      unread = unread_in i.store.part i.held i.given;
-      faults = i.refusals;
-      fault = i.fault;
-    } in
+    let v = seen i.store i.unit i.number i.next (unread_in i.store.part i.held i.given) i.refusals i.fault in
     let store = c.part.new.self in
     let unit = c.part.new.unit in
     let part : ReadsPart m v.store store v.number v.done v.unit.tape unit.tape (Ok None) = rw c.in-Ok-None.field-0-is at c.in-Ok-None.ensures.ends in
@@ -58,15 +57,7 @@ pub invariant_of-self-in-Err : goal.invariant_of-self-in-Err
 invariant_of-self-in-Err g c =
     let m = g.T.Tape.means in
     let i = c.self.inside in
-    let v : SourceView g.row.T.Denot = record {
-      store = i.store;
-      unit = i.unit;
-      number = i.number;
-      done = i.next;
-      unread = unread_in i.store.part i.held i.given;
-      faults = i.refusals;
-      fault = i.fault;
-    } in
+    let v = seen i.store i.unit i.number i.next (unread_in i.store.part i.held i.given) i.refusals i.fault in
     let store = c.part.new.self in
     let unit = c.part.new.unit in
     let why = c.in-Err.fault in
@@ -82,15 +73,7 @@ pub returns-in-Ok-Some-clause-kept : goal.returns-in-Ok-Some-clause-kept
 returns-in-Ok-Some-clause-kept g c =
     let m = g.T.Tape.means in
     let i = c.self.inside in
-    let v : SourceView g.row.T.Denot = record {
-      store = i.store;
-      unit = i.unit;
-      number = i.number;
-      done = i.next;
-      unread = unread_in i.store.part i.held i.given;
-      faults = i.refusals;
-      fault = i.fault;
-    } in
+    let v = seen i.store i.unit i.number i.next (unread_in i.store.part i.held i.given) i.refusals i.fault in
     let store = c.part.new.self in
     let unit = c.part.new.unit in
     let count = c.in-Ok-Some.bytes in
@@ -104,15 +87,7 @@ pub returns-in-Ok-Some-clause-left : goal.returns-in-Ok-Some-clause-left
 returns-in-Ok-Some-clause-left g c =
     let m = g.T.Tape.means in
     let i = c.self.inside in
-    let v : SourceView g.row.T.Denot = record {
-      store = i.store;
-      unit = i.unit;
-      number = i.number;
-      done = i.next;
-      unread = unread_in i.store.part i.held i.given;
-      faults = i.refusals;
-      fault = i.fault;
-    } in
+    let v = seen i.store i.unit i.number i.next (unread_in i.store.part i.held i.given) i.refusals i.fault in
     let store = c.part.new.self in
     let unit = c.part.new.unit in
     let count = c.in-Ok-Some.bytes in
@@ -126,15 +101,7 @@ pub returns-in-Ok-Some-clause-some : goal.returns-in-Ok-Some-clause-some
 returns-in-Ok-Some-clause-some g c = λ is.
     let m = g.T.Tape.means in
     let i = c.self.inside in
-    let v : SourceView g.row.T.Denot = record {
-      store = i.store;
-      unit = i.unit;
-      number = i.number;
-      done = i.next;
-      unread = unread_in i.store.part i.held i.given;
-      faults = i.refusals;
-      fault = i.fault;
-    } in
+    let v = seen i.store i.unit i.number i.next (unread_in i.store.part i.held i.given) i.refusals i.fault in
     let store = c.part.new.self in
     let unit = c.part.new.unit in
     let count = c.in-Ok-Some.bytes in
@@ -146,15 +113,7 @@ pub returns-in-Ok-None-clause-kept : goal.returns-in-Ok-None-clause-kept
 returns-in-Ok-None-clause-kept g c =
     let m = g.T.Tape.means in
     let i = c.self.inside in
-    let v : SourceView g.row.T.Denot = record {
-      store = i.store;
-      unit = i.unit;
-      number = i.number;
-      done = i.next;
-      unread = unread_in i.store.part i.held i.given;
-      faults = i.refusals;
-      fault = i.fault;
-    } in
+    let v = seen i.store i.unit i.number i.next (unread_in i.store.part i.held i.given) i.refusals i.fault in
     let store = c.part.new.self in
     let unit = c.part.new.unit in
     let part : ReadsPart m v.store store v.number v.done v.unit.tape unit.tape (Ok None) = rw c.in-Ok-None.field-0-is at c.in-Ok-None.ensures.ends in
@@ -167,15 +126,7 @@ pub returns-in-Ok-None-clause-ended : goal.returns-in-Ok-None-clause-ended
 returns-in-Ok-None-clause-ended g c = λ is.
     let m = g.T.Tape.means in
     let i = c.self.inside in
-    let v : SourceView g.row.T.Denot = record {
-      store = i.store;
-      unit = i.unit;
-      number = i.number;
-      done = i.next;
-      unread = unread_in i.store.part i.held i.given;
-      faults = i.refusals;
-      fault = i.fault;
-    } in
+    let v = seen i.store i.unit i.number i.next (unread_in i.store.part i.held i.given) i.refusals i.fault in
     let store = c.part.new.self in
     let unit = c.part.new.unit in
     let part : ReadsPart m v.store store v.number v.done v.unit.tape unit.tape (Ok None) = rw c.in-Ok-None.field-0-is at c.in-Ok-None.ensures.ends in
@@ -187,15 +138,7 @@ pub returns-in-Err-clause-kept : goal.returns-in-Err-clause-kept
 returns-in-Err-clause-kept g c =
     let m = g.T.Tape.means in
     let i = c.self.inside in
-    let v : SourceView g.row.T.Denot = record {
-      store = i.store;
-      unit = i.unit;
-      number = i.number;
-      done = i.next;
-      unread = unread_in i.store.part i.held i.given;
-      faults = i.refusals;
-      fault = i.fault;
-    } in
+    let v = seen i.store i.unit i.number i.next (unread_in i.store.part i.held i.given) i.refusals i.fault in
     let store = c.part.new.self in
     let unit = c.part.new.unit in
     let why = c.in-Err.fault in
@@ -210,15 +153,7 @@ pub returns-in-Err-clause-left : goal.returns-in-Err-clause-left
 returns-in-Err-clause-left g c =
     let m = g.T.Tape.means in
     let i = c.self.inside in
-    let v : SourceView g.row.T.Denot = record {
-      store = i.store;
-      unit = i.unit;
-      number = i.number;
-      done = i.next;
-      unread = unread_in i.store.part i.held i.given;
-      faults = i.refusals;
-      fault = i.fault;
-    } in
+    let v = seen i.store i.unit i.number i.next (unread_in i.store.part i.held i.given) i.refusals i.fault in
     let store = c.part.new.self in
     let unit = c.part.new.unit in
     let why = c.in-Err.fault in

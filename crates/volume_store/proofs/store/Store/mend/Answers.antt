@@ -1,15 +1,15 @@
 use Rattle.std.proofs.Common.{◌≡◌, ◌-◌, List, length, take, Ok, Err, false, sym, ap, subst}
-use Rattle.cartridge_spec.specs.Mounting.{HasList}
-use Rattle.qic_base.specs.Acts.{around}
+use Rattle.cartridge_laws.specs.Terms.{HasList}
+use Rattle.qic_base.specs.Terms.{around}
 use Rattle.cartridge_spec.specs.Table.{Entry}
 use Rattle.header_segments.specs.Header.{header_of}
-use Rattle.qic_base.specs.Tape.{Tells}
-use Rattle.segment_mending.specs.declared.fault.ScrubFault.TheVariants as scrub
+use Rattle.qic_base.specs.TapeCalls.{Tells}
 use Rattle.volume_store.specs.Mounting.{StoreView}
 use Rattle.volume_store.proofs.Restored.{still_fits}
 use Rattle.volume_store.proofs.Scrubs.{told_there, scrub_lists}
-use Rattle.volume_store.proofs.store.Store.mend.Goals as goal
 use Rattle.volume_store.proofs.store.Store.mend.Goals.{in-Ok, in-Err-Sink, in-Err-Tape}
+use Rattle.segment_mending.specs.declared.fault.ScrubFault.TheVariants as scrub
+use Rattle.volume_store.proofs.store.Store.mend.Goals as goal
 
 pub returns-clause-fits : goal.returns-clause-fits
 returns-clause-fits g c = λ other.

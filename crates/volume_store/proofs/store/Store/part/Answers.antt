@@ -1,14 +1,14 @@
 use Rattle.std.proofs.Common.{◌≡◌, ◌-◌, ◌<◌, inl, inr, false, take, Some, None, Ok, Err, refl, ap, ◌∙◌, arith, slice_get}
 use Rattle.cartridge_spec.specs.Table.{Entry}
-use Rattle.cartridge_spec.specs.Volumes.{carrying, volume_length}
-use Rattle.cartridge_spec.specs.Mounting.{HasList}
+use Rattle.cartridge_spec.specs.Volumes.{carrying}
+use Rattle.cartridge_laws.specs.Terms.{HasList}
 use Rattle.command_spec.specs.Restore.{pieces_of}
 use Rattle.header_segments.specs.Header.{header_of}
-use Rattle.qic_base.specs.Tape.{Tells}
+use Rattle.qic_base.specs.TapeCalls.{Tells}
 use Rattle.volume_store.specs.Mounting.{StoreView}
 use Rattle.volume_table.specs.Entry.{entry_of}
 use Rattle.volume_store.proofs.Parts.{piece_of_volume, part_failed, part_tells}
-use Rattle.volume_store.proofs.Restored.{no_volume, volume_there, length_there, still_fits}
+use Rattle.volume_store.proofs.Restored.{no_volume, volume_told, still_fits}
 use Rattle.volume_store.proofs.Storing.{ends_within}
 use Rattle.volume_store.proofs.store.Store.part.Goals as goal
 
@@ -38,43 +38,34 @@ pub returns-in-Ok-None-clause-ends : goal.returns-in-Ok-None-clause-ends
 returns-in-Ok-None-clause-ends g c =
     let store : StoreView = c.args.self.now in
     let e : Entry = entry_of c.entry-entry.result.now in
-    let none = c.if-number-eq0.false in
-    let some : 0 < c.args.number = omega arith in
-    let there = volume_there store.entries c.args.number e some c.entry-entry.ensures in
-    let long : c.length-length.result ≡ volume_length store.words e =
-    length_there store (c.args.number - 1) e c.length-length.result c.entry-entry.ensures c.length-length.ensures in
+    let some : 0 < c.args.number = omega (arith, c.if-number-eq0.false) in
+    let told = volume_told store c.args.number e c.length-length.result some c.entry-entry.ensures c.length-length.ensures in
     let words : c.self.inside.map ≡ store.words = ap (λ (v : StoreView). v.words) c.self.view_is in (
       e,
-      there,
+      told.0,
       piece_of_volume g.T.Tape.means c.args.unit.now.tape c.read_part.new.unit.tape c.args.part c.read_part.new.work store c.self.inside.map e
-          c.length-length.result (Ok None) words long (rw c.in-Ok-None.field-0-is at c.in-Ok-None.ensures.ends),
+          c.length-length.result (Ok None) words told.1 (rw c.in-Ok-None.field-0-is at c.in-Ok-None.ensures.ends),
     )
 
 pub returns-in-Ok-Some-clause-ends : goal.returns-in-Ok-Some-clause-ends
 returns-in-Ok-Some-clause-ends g c =
     let store : StoreView = c.args.self.now in
     let e : Entry = entry_of c.entry-entry.result.now in
-    let none = c.if-number-eq0.false in
-    let some : 0 < c.args.number = omega arith in
-    let there = volume_there store.entries c.args.number e some c.entry-entry.ensures in
-    let long : c.length-length.result ≡ volume_length store.words e =
-    length_there store (c.args.number - 1) e c.length-length.result c.entry-entry.ensures c.length-length.ensures in
+    let some : 0 < c.args.number = omega (arith, c.if-number-eq0.false) in
+    let told = volume_told store c.args.number e c.length-length.result some c.entry-entry.ensures c.length-length.ensures in
     let words : c.self.inside.map ≡ store.words = ap (λ (v : StoreView). v.words) c.self.view_is in (
       e,
-      there,
+      told.0,
       piece_of_volume g.T.Tape.means c.args.unit.now.tape c.read_part.new.unit.tape c.args.part c.read_part.new.work store c.self.inside.map e
-          c.length-length.result (Ok (Some c.in-Ok-Some.read)) words long (rw c.in-Ok-Some.field-0-is at c.in-Ok-Some.ensures.ends),
+          c.length-length.result (Ok (Some c.in-Ok-Some.read)) words told.1 (rw c.in-Ok-Some.field-0-is at c.in-Ok-Some.ensures.ends),
     )
 
 pub returns-in-Err-clause-ends : goal.returns-in-Err-clause-ends
 returns-in-Err-clause-ends g c =
     let store : StoreView = c.args.self.now in
     let e : Entry = entry_of c.entry-entry.result.now in
-    let none = c.if-number-eq0.false in
-    let some : 0 < c.args.number = omega arith in
-    let there = volume_there store.entries c.args.number e some c.entry-entry.ensures in
-    let long : c.length-length.result ≡ volume_length store.words e =
-    length_there store (c.args.number - 1) e c.length-length.result c.entry-entry.ensures c.length-length.ensures in
+    let some : 0 < c.args.number = omega (arith, c.if-number-eq0.false) in
+    let told = volume_told store c.args.number e c.length-length.result some c.entry-entry.ensures c.length-length.ensures in
     let words : c.self.inside.map ≡ store.words = ap (λ (v : StoreView). v.words) c.self.view_is in
     let after : StoreView = record {
       host = c.read_part.new.host;
@@ -84,9 +75,9 @@ returns-in-Err-clause-ends g c =
       part = take c.self.inside.shown c.read_part.new.work;
     } in
     rw c.output_fault.ensures (part_failed g.T.Tape.means c.args.unit.now.tape c.read_part.new.unit.tape c.args.part c.read_part.new.work store after c.args.number e
-    c.in-Err.fault there
+    c.in-Err.fault told.0
     (piece_of_volume g.T.Tape.means c.args.unit.now.tape c.read_part.new.unit.tape c.args.part c.read_part.new.work store c.self.inside.map e
-    c.length-length.result (Err c.in-Err.fault) words long c.in-Err.ensures.ends))
+    c.length-length.result (Err c.in-Err.fault) words told.1 c.in-Err.ensures.ends))
 
 pub returns-in-Err-clause-fits : goal.returns-in-Err-clause-fits
 returns-in-Err-clause-fits g c =

@@ -1,19 +1,19 @@
 use Rattle.std.proofs.Common.{◌≡◌, ◌-◌, ◌<◌, take, Some, Ok, Err, false, ap, ◌∙◌, arith, slice_get}
-use Rattle.cartridge_spec.specs.Mounting.{HasList}
-use Rattle.qic_base.specs.Acts.{around}
+use Rattle.cartridge_laws.specs.Terms.{HasList}
+use Rattle.qic_base.specs.Terms.{around}
 use Rattle.cartridge_spec.specs.Table.{Entry}
 use Rattle.cartridge_spec.specs.Volumes.{carrying, volume_length}
 use Rattle.header_segments.specs.Header.{header_of}
-use Rattle.qic_base.specs.Tape.{Tells}
+use Rattle.qic_base.specs.TapeCalls.{Tells}
 use Rattle.command_spec.specs.Restore.{pieces_of}
-use Rattle.volume_output.specs.declared.fault.OutputFault.TheVariants as output
 use Rattle.volume_store.specs.Mounting.{StoreView}
 use Rattle.volume_store.specs.Restoring.{fault_of_output}
 use Rattle.volume_table.specs.Entry.{entry_of}
 use Rattle.volume_store.proofs.Restored.{volume_there, length_there, of_volume, restore_failed, output_told, still_fits}
 use Rattle.volume_store.proofs.Storing.{ends_within}
-use Rattle.volume_store.proofs.store.Store.restore.Goals as goal
 use Rattle.volume_store.proofs.store.Store.restore.Goals.{in-Ok, in-Err}
+use Rattle.volume_output.specs.declared.fault.OutputFault.TheVariants as output
+use Rattle.volume_store.proofs.store.Store.restore.Goals as goal
 
 pub write_volume-requires-clause-on_tape : goal.write_volume-requires-clause-on_tape
 write_volume-requires-clause-on_tape g c =

@@ -1,4 +1,4 @@
-use Rattle.qic_base.specs.Acts.{around}
+use Rattle.qic_base.specs.Terms.{around}
 use Rattle.volume_store.proofs.Forms.{plain_ends}
 use Rattle.volume_store.proofs.store.Store.scrub.Goals as goal
 

@@ -1,0 +1,127 @@
+-- The commands that take no stream and give none: the plain machine of each, and its record (this project's own).
+use Rattle.std.specs.Prelude.{◌≡◌, ℕ, [], ◌∷◌, codes, ◌⊎◌, true, false, Option, Some, None, IsSomeAnd, ◌≤◌, Bool, if◌then◌else◌, ◌*◌, List, ◌<◌, ◌^◌, length}
+use Rattle.cartridge_spec.specs.Formatting.{HasNoHeader, clearing_steps, format_steps, IsFirstDefectInFront, HasNoDefectInFront, IsFreshWith, IsLabel}
+use Rattle.cartridge_spec.specs.Header.{Header}
+use Rattle.cartridge_spec.specs.Shape.{marked_sectors}
+use Rattle.cartridge_spec.specs.Table.{Entry}
+use Rattle.cartridge_spec.specs.Volumes.{WearSpares}
+use Rattle.command_spec.specs.Command.{Command, plain_command, IsUnprotected, CanBeMounted, none_of_them, Word, Number, AnyNumber, Name, dated}
+use Rattle.command_spec.specs.Lines.{blank_line, defect_line, lost_line, protected_line, upgraded_line, formatted_line, info_text, list_text}
+use Rattle.command_spec.specs.Outcome.{carried_out, CommandOutcome, refused, refused_behind, HasPlace, StepOutcome, acted, Shows, OpenOutcome}
+use Rattle.qic_base.specs.Cartridge.{IsLength, Cartridge, view_at}
+use Rattle.qic_base.specs.Step.{Renew, Spoil, Wear, SetProtected, Upgrade}
+use Rattle.qic_base.specs.Tape.{spoil_answer}
+use Rattle.qic_base.specs.declared.TheConstants.{LONGEST}
+use Rattle.command_spec.specs.declared.status.Status.TheVariants as status
+
+-- a new cartridge needs none before it, and keeps nothing of that which it takes the place of
+abbrev pub new_command : (segments : ℕ) → Command
+new_command segments =
+    record (plain_command ((Word (codes "new") ∷ Number 3 LONGEST segments ∷ []) ∷ [])
+    (λ held input outcome. outcome ≡ carried_out (Renew segments) (blank_line segments)) (λ text. text ≡ blank_line segments)) {
+      values = IsLength segments;
+      keeps_volumes = λ c plain. ⊥;
+      keeps_list = λ c. ⊥;
+      keeps_copies = λ c. ⊥;
+      keeps_live = ⊥;
+    }
+
+-- a formatted sector stays as it is
+abbrev pub DefectOutcome : (segment sector : ℕ) → Option Cartridge → CommandOutcome → Type 0
+DefectOutcome segment sector None outcome = outcome ≡ refused status.NoCartridge
+DefectOutcome segment sector (Some c) outcome =
+    (¬ (HasPlace c segment sector) × (outcome ≡ refused status.BadPlace))
+    ⊎ (HasPlace c segment sector × (spoil_answer (view_at c segment sector) ≡ false)
+    × (outcome ≡ refused_behind (Spoil segment sector ∷ []) status.NotBlank))
+    ⊎ (HasPlace c segment sector × (spoil_answer (view_at c segment sector) ≡ true)
+    × (outcome ≡ carried_out (Spoil segment sector) (defect_line segment sector)))
+
+abbrev pub defect_command : (segment sector : ℕ) → Command
+defect_command segment sector =
+    record (plain_command ((Word (codes "defect") ∷ AnyNumber segment ∷ AnyNumber sector ∷ []) ∷ [])
+    (λ held input outcome. DefectOutcome segment sector held outcome) (λ text. text ≡ defect_line segment sector)) {
+      traits = record none_of_them { cartridge = true; sector = true; blank = true };
+      needs = λ held input. IsSomeAnd held (λ c. HasPlace c segment sector × (spoil_answer (view_at c segment sector) ≡ true));
+    }
+
+abbrev pub LoseOutcome : (segment sector : ℕ) → Option Cartridge → CommandOutcome → Type 0
+LoseOutcome segment sector None outcome = outcome ≡ refused status.NoCartridge
+LoseOutcome segment sector (Some c) outcome =
+    (¬ (HasPlace c segment sector) × (outcome ≡ refused status.BadPlace))
+    ⊎ (HasPlace c segment sector × (outcome ≡ carried_out (Wear segment sector) (lost_line segment sector)))
+
+-- A sector that is worn has to spare the header and the table, and header copies that can't be read, unless both are bare.
+abbrev pub lose_command : (segment sector : ℕ) → Command
+lose_command segment sector =
+    record (plain_command ((Word (codes "lose") ∷ AnyNumber segment ∷ AnyNumber sector ∷ []) ∷ [])
+    (λ held input outcome. LoseOutcome segment sector held outcome) (λ text. text ≡ lost_line segment sector)) {
+      traits = record none_of_them { cartridge = true; sector = true };
+      needs = λ held input. IsSomeAnd held (λ c. HasPlace c segment sector);
+      keeps_volumes = λ c plain. HasPlace c segment sector → WearSpares c plain segment sector;
+      keeps_list = λ c. HasPlace c segment sector → 3 ≤ segment;
+      keeps_unread = λ c. HasPlace c segment sector → (2 ≤ segment) ⊎ HasNoHeader c;
+    }
+
+abbrev pub protect_command : Bool → Command
+protect_command on =
+    record (plain_command ((Word (codes "protect") ∷ Word (if on then codes "on" else codes "off") ∷ []) ∷ [])
+    (λ held input outcome. StepOutcome (SetProtected on) (λ c. protected_line on) held outcome) (λ text. text ≡ protected_line on)) {
+      traits = record none_of_them { cartridge = true };
+      needs = λ held input. IsSomeAnd held (λ c. Unit {0});
+    }
+
+-- a cartridge is kept in the newest layout from now on, a protected one too, and the version before is told
+abbrev pub upgrade_command : Command
+upgrade_command =
+    record (plain_command ((Word (codes "upgrade") ∷ []) ∷ [])
+    (λ held input outcome. StepOutcome Upgrade (λ c. upgraded_line c.version) held outcome)
+    (λ text. (version : ℕ) × (1 ≤ version) × (version ≤ 2) × (text ≡ upgraded_line version))) {
+      traits = record none_of_them { cartridge = true };
+      needs = λ held input. IsSomeAnd held (λ c. Unit {0});
+    }
+
+-- Formatting with this label and this date word: the map marks just the cartridge's defects, of which none may lie in the segments
+-- 0 to 2; where one does, the segments were formatted and no header was written.
+abbrev pub FormatOutcome : (label : List ℕ) → (date : ℕ) → Option Cartridge → CommandOutcome → Type 0
+FormatOutcome label date None outcome = outcome ≡ refused status.NoCartridge
+FormatOutcome label date (Some c) outcome =
+    ((c.info.protected ≡ true) × (outcome ≡ refused status.Protected))
+    ⊎ ((c.info.protected ≡ false)
+    × ((segment : ℕ) × IsFirstDefectInFront c segment
+    × (outcome ≡ refused_behind (clearing_steps c.info.segments_per_track) (status.DefectInFront segment))))
+    ⊎ ((c.info.protected ≡ false) × HasNoDefectInFront c
+    × ((words : List ℕ) × ((area : List (List ℕ)) × IsFreshWith c label date words area
+    × (outcome ≡ acted (format_steps c.info.segments_per_track area)
+    (formatted_line (28 * c.info.segments_per_track) (marked_sectors words))))))
+
+-- formatting empties a cartridge, and writes its header, but for a protected one
+abbrev pub format_command : (label : List ℕ) → (date : ℕ) → Command
+format_command label date =
+    record (plain_command (dated (Word (codes "format") ∷ Name label ∷ []) date)
+    (λ held input outcome. FormatOutcome label date held outcome)
+    (λ text. (segments : ℕ) × ((bad : ℕ) × (text ≡ formatted_line segments bad)))) {
+      values = IsLabel label × (date < 2 ^ 32);
+      traits = record none_of_them { memory = true; cartridge = true; writable = true; formats = true };
+      needs = λ held input. IsSomeAnd held (λ c. IsUnprotected c × HasNoDefectInFront c);
+      keeps_volumes = λ c plain. c.info.protected ≡ true;
+      keeps_list = λ c. c.info.protected ≡ true;
+      keeps_copies = λ c. c.info.protected ≡ true;
+    }
+
+abbrev pub info_command : Command
+info_command =
+    record (plain_command ((Word (codes "info") ∷ []) ∷ [])
+    (λ held input outcome. OpenOutcome (Shows (λ header words entries. info_text header words (length entries))) held outcome)
+    (λ text. (header : Header) × ((words : List ℕ) × ((volumes : ℕ) × (text ≡ info_text header words volumes))))) {
+      traits = record none_of_them { memory = true; cartridge = true; mounts = true };
+      needs = λ held input. IsSomeAnd held CanBeMounted;
+    }
+
+abbrev pub list_command : Command
+list_command =
+    record (plain_command ((Word (codes "list") ∷ []) ∷ [])
+    (λ held input outcome. OpenOutcome (Shows (λ header words entries. list_text words entries)) held outcome)
+    (λ text. (words : List ℕ) × ((entries : List Entry) × (text ≡ list_text words entries)))) {
+      traits = record none_of_them { memory = true; cartridge = true; mounts = true };
+      needs = λ held input. IsSomeAnd held CanBeMounted;
+    }
