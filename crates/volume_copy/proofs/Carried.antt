@@ -1,4 +1,4 @@
--- The missing volumes copied one after the other, where both tapes tell their cartridges: what the plain machine does with them.
+-- The missing volumes copied one after the other, where both tapes tell: what the plain machine does with them.
 use Rattle.std.proofs.Common.{◌≡◌, ◌≢◌, ◌⊎◌, ℕ, zero, suc, ◌+◌, false, List, [], ◌∷◌, ◌++◌, length, drop, All, slice_get, Some, Ok, Err, refl, ap, sym, subst, ◌∙◌, arith, inl, inr, add-one, append-nil, append_assoc, length-append}
 use Rattle.std.proofs.Math.ListN.{drop_of_length-le}
 use Rattle.std.proofs.lemmas.List.Elements.{All-drop, All-head, All-tail}

@@ -1,4 +1,4 @@
--- What a copy comes to where both tapes tell what their drives hold: the plain machine's outcome, carried out or cut off.
+-- What a copy comes to where both tapes tell: the plain machine's outcome, carried out or cut off.
 use Rattle.std.proofs.Common.{◌≡◌, ℕ, Bool, true, false, List, [], ◌∷◌, All, Option, Some, None, IfSome, IsSomeAnd, refl, ap, sym, subst, ◌∙◌, arith, inl, inr, append-nil}
 use Rattle.cartridge_laws.proofs.MountWhole.{table_is_area}
 use Rattle.cartridge_spec.specs.Mounting.{Mounting, Mounts, settled}

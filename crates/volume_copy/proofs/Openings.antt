@@ -33,7 +33,7 @@ use Rattle.volume_store.specs.declared.fault.StoreFault.TheVariants as fault
 
 -- ---- opened
 
--- the drive held this cartridge, which mounts as the store shows it; what the tape tells then is that cartridge, settled
+-- the drive held this cartridge, which mounts as the store shows it; the tape tells it then, settled
 pub record OpenedAt {T : Type 0} (m : tapes.Meaning T) (held : Option Cartridge) (unit : UnitView T) (store : StoreView) (steps : List TapeStep) : Type 0 where
   pub cartridge : Cartridge
   pub is : held ≡ Some cartridge
