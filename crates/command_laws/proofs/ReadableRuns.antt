@@ -215,7 +215,7 @@ format_leaves_readable told words held left (inr (command, spelled, leaves)) lab
     by_leaves : FormatLeaves label date (Some c) left → IsSomeAnd left ReadableOrNot
     by_leaves (inl (locked, same)) = some_and ReadableOrNot c left (as_it_was c reads) same
     by_leaves (inr (inl (free, torn))) = some_weaker left (λ d kept. cleared_so c d reads kept) (clearing_stopped c left whole torn)
-    by_leaves (inr (inr (free, none, (map_words, (area, fresh, torn))))) = format_torn c area left whole fresh.fresh.size none reads torn
+    by_leaves (inr (inr (free, none, (map_words, (area, fresh, torn))))) = format_torn c area left whole fresh.size none reads torn
 
 format_reads : (label : List ℕ) (date : ℕ) (c : Cartridge) (outcome : CommandOutcome) → IsCartridge c → FormatOutcome label date (Some c) outcome → outcome.status ≡ status.Done →
     IsSomeAnd (effects (steps_of outcome.acts) (Some c)) CanBeRead

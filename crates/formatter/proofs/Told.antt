@@ -82,11 +82,9 @@ first_defect m a b n words segment right size long done told first =
     let low : segment < 3 = first.in_front in
     record {
       in_front = first.in_front;
-      here = record {
-        index = some.sector;
-        within = some.within;
-        is_defect = (defects.each segment some.sector (omega arith) some.within).0 some.is_marked;
-      };
+      index = some.sector;
+      within = some.within;
+      is_defect = (defects.each segment some.sector (omega arith) some.within).0 some.is_marked;
       before = λ t below. no_defect c words t whole defects (omega arith) (first.before t below);
     })
 
