@@ -1,13 +1,13 @@
 -- No copy puts in a new cartridge, so that a volume table that takes each write goes on to do so.
-use Rattle.std.proofs.Common.{◌≡◌, ◌⊎◌, ℕ, List, [], ◌∷◌, ◌++◌, length, Option, Some, None, inl, inr, refl, sym, ap, ◌∙◌, subst, append_assoc}
+use Rattle.std.proofs.Common.{◌≡◌, ℕ, List, [], ◌∷◌, ◌++◌, length, Option, Some, None, inl, inr, sym, ap, ◌∙◌, subst, append_assoc}
 use Rattle.cartridge_laws.proofs.ChangeLive.{steps_keep_live}
 use Rattle.cartridge_laws.specs.ChangeSteps.{HasNoRenew}
 use Rattle.cartridge_spec.specs.Mounting.{Mounting}
 use Rattle.cartridge_spec.specs.Table.{Entry}
 use Rattle.command_laws.proofs.CommandSteps.{AreNoRenew, append_none, none_both, none_in_settling, settled_none}
 use Rattle.command_laws.specs.CopyLaws.{CopiedTableLives}
-use Rattle.command_spec.specs.Append.{Kept, append_acts, entry_acts, room_in, taking}
-use Rattle.command_spec.specs.Copying.{Compares, Copies, CopiesVolume, CopyOutcome, CopyYields, DoneOf, FromMounted, IsBegun, IsGiven, Side, ToDoes, ToMounted, behind_copy, copied_behind, copy_acts, first_difference, kept_on, length_on, missing, side_of}
+use Rattle.command_spec.specs.Append.{Kept, entry_acts, room_in, taking}
+use Rattle.command_spec.specs.Copying.{Compares, Copies, CopiesVolume, CopyOutcome, CopyYields, DoneOf, FromMounted, IsBegun, Side, ToDoes, ToMounted, behind_copy, copied_behind, copy_acts, first_difference, kept_on, length_on, missing, side_of}
 use Rattle.command_spec.specs.Outcome.{settling_act}
 use Rattle.command_spec.specs.Restore.{GivingEnd, LostIn, MismatchIn, Restored}
 use Rattle.command_spec.specs.declared.copy_status.CopyStatus.{CopyStatus}

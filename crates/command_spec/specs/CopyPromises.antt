@@ -49,8 +49,8 @@ pub record CopyWent {A B K : Type 0} (a : tapes.Meaning A) (b : tapes.Meaning B)
   pub settling : tapes.Done a old.from new.from outcome.settling
   pub went : Went b no_source k (around old.to old.sink) (around new.to new.sink) outcome.acts
 
--- A fault of the source's tape broke it off: in the settling of that, before anything was done to the target, or in a reading behind
--- it, once first ones of its acts went.
+-- A fault of the source's tape broke it off: in the settling of that, before anything was done to the target, or in a
+-- reading behind it, once first ones of its acts went.
 pub record FromCut {A B K : Type 0} (a : tapes.Meaning A) (b : tapes.Meaning B) (k : sinks.Meaning K) (old new : Decks A B K) (from to : Option Cartridge) : Type 0 where
   pub outcome : CopyOutcome
   pub plain : CopyYields from to outcome
@@ -131,7 +131,7 @@ EndsVolume c found header words table entries =
     (e : Entry) × Contains entries e × ((read : List Act) × ((ending : GivingEnd) × Restores (settled table c) words (pieces words e) read ending
     × (giving_status ending ≡ status.From found)))
 
--- .. of the target: it is protected, or an append to it is refused; the room is that behind its volumes and those that were copied
+-- .. of the target: it is protected, or an append to it is refused; the room is that behind its volumes and the copied ones
 abbrev pub EndsAppend : Cartridge → CopyFault → Header → (words : List ℕ) → (table : List (List ℕ)) → List Entry → Type 0
 EndsAppend c fault.Protected header words table entries = c.info.protected ≡ true
 EndsAppend c (fault.Full need have) header words table entries =
@@ -161,7 +161,7 @@ FromAnswers held status.FromAbsent = held ≡ None
 FromAnswers held (status.From found) = IsSomeAnd held (λ c. (m : Mounting) × Mounts c m × MountingRefuses m found (EndsVolume c found))
 FromAnswers held answer = MountsSome held
 
--- .. and of the target's: each volume is copied once that takes volumes, and the segment of none is that of the volume table
+-- .. and of the target's: a volume is copied once that takes more, and none lies in the segment of the volume table
 abbrev pub ToAnswers : Option Cartridge → CopyStatus → Type 0
 ToAnswers held status.Usage = Unit {0}
 ToAnswers held status.NoMemory = Unit {0}
@@ -195,8 +195,8 @@ is_before_copies (status.To (fault.Foreign field value)) = true
 is_before_copies (status.Differs number) = true
 is_before_copies answer = false
 
--- whole lines at an answer but a fault of the sink, all of them at Done, and none where no volume was copied; behind that fault
--- a front, and not all
+-- whole lines at an answer but a fault of the sink, all of them at Done, and none where no volume was copied; behind that
+-- fault a front, and not all
 abbrev pub IsCopyText : CopyStatus → List ℕ → Type 0
 IsCopyText status.Done text = (count : ℕ) × ((lengths : List ℕ) × (text ≡ copy_text count lengths))
 IsCopyText status.SinkFault text =
@@ -289,8 +289,8 @@ pub record CopyPromises {A B K : Type 0} (a : tapes.Meaning A) (b : tapes.Meanin
   -- table, and stands for what it stood for.
   pub from_left : EachLeft a old.from new.from FromLeaves
   pub from_stays : EachLeft a old.from new.from SourceStays
-  -- The target stands for its volumes with some of the missing ones, in their order, where its volume table takes each write, as it
-  -- does then behind the copy too; those whose lines were written whole are among them when it is over.
+  -- The target stands for its volumes with some of the missing ones, in their order, where its volume table takes each
+  -- write, as it does then behind the copy too; those whose lines were written whole are among them when it is over.
   pub to_left : IfSome (a.told old.from) (λ from. EachLeft b old.to new.to (ToLeaves from))
   pub to_lives : IfSome (a.told old.from) (λ from. EachLeft b old.to new.to TargetLives)
   pub to_grows : IfSome (a.told old.from) (λ from. EachLeft b old.to new.to (TargetGrows from))

@@ -1,28 +1,28 @@
 -- What a copy's answer says, and what it prints, over any tapes and sink.
-use Rattle.std.proofs.Common.{◌≡◌, ◌≢◌, ◌⊎◌, ℕ, ◌+◌, ◌<◌, ◌≤◌, Bool, true, false, List, [], ◌∷◌, ◌++◌, length, Option, Some, None, IfSome, IsSomeAnd, Result, Ok, Err, refl, ap, sym, subst, ◌∙◌, arith, inl, inr, append-nil, append_assoc, length-append}
+use Rattle.std.proofs.Common.{◌≡◌, ◌≢◌, ◌⊎◌, ℕ, ◌+◌, ◌<◌, ◌≤◌, Bool, true, false, List, [], ◌∷◌, ◌++◌, length, Option, Some, None, Result, Ok, Err, refl, ap, sym, subst, ◌∙◌, arith, inl, inr, append_assoc, length-append}
 use Rattle.std.specs.Prelude.{if◌then◌else◌, ◌==◌, nat_lt, not}
-use Rattle.std.proofs.lemmas.Bool.{and_from, lt-ltb, ltb-true, ne_eqb}
+use Rattle.std.proofs.lemmas.Bool.{and_from, lt-ltb, ne_eqb}
 use Rattle.cartridge_spec.specs.Table.{Entry}
 use Rattle.cartridge_spec.specs.Volumes.{volume_length}
 use Rattle.command_spec.specs.Copied.{copied_lines}
-use Rattle.command_spec.specs.CopyPromises.{CopiesJoin, Decks, HasKind, HasRisen, IsCopyText, PrintsCopies, copy_text, is_before_copies}
+use Rattle.command_spec.specs.CopyPromises.{CopiesJoin, Decks, HasKind, HasRisen, IsCopyText, PrintsCopies, is_before_copies}
 use Rattle.command_spec.specs.Copying.{copied_line, difference, is_alike}
 use Rattle.command_spec.specs.Lines.{count_line}
 use Rattle.command_spec.specs.Outcome.{is_refused}
 use Rattle.command_spec.specs.declared.copy_status.CopyStatus.{CopyStatus}
 use Rattle.drive_states.specs.Unit.{UnitView}
-use Rattle.qic_base.proofs.Steps.{Done-nothing, Rose-after}
+use Rattle.qic_base.proofs.Steps.{Rose-after}
 use Rattle.qic_base.proofs.Writing.{TakesBoth, some_longer}
 use Rattle.qic_base.specs.Terms.{reading}
 use Rattle.qic_base.specs.Tape.{Rose}
 use Rattle.qic_base.specs.declared.foreign.ForeignField.{ForeignField}
-use Rattle.store_opening.specs.Opening.{HasOpened, OpenFails}
+use Rattle.store_opening.specs.Opening.{OpenFails}
 use Rattle.store_opening.specs.declared.opening.OpenFault.{OpenFault}
 use Rattle.volume_copy.proofs.Ends.{decks_of}
-use Rattle.volume_copy.proofs.Goes.{AllGoes, Chained, Early, GoesOn, append_kind, append_late, chained, goes_broke, goes_both, goes_done, goes_same, lines_more, missing_goes, one_goes, too_short}
-use Rattle.volume_copy.specs.Faults.{copy_fault, from_status, to_status}
-use Rattle.volume_copy.specs.Runs.{AreOpened, BothRefused, CopiesOne, CopyView, HasRun, IsCounted, IsRefused, IsUnlike, IsUnprinted, MissingEnds, PrintsCount, RunEnds, SideView, Units, append_answer, append_status, next_number}
-use Rattle.volume_source.specs.Source.{IsOfPart, SourceView, new_source, source_means}
+use Rattle.volume_copy.proofs.Goes.{Chained, GoesOn, append_kind, append_late, chained, goes_broke, goes_both, goes_done, goes_same, lines_more, missing_goes}
+use Rattle.volume_copy.specs.Faults.{from_status, to_status}
+use Rattle.volume_copy.specs.Runs.{BothRefused, CopiesOne, CopyView, HasRun, IsCounted, IsRefused, IsUnprinted, MissingEnds, PrintsCount, RunEnds, SideView, Units, append_answer, append_status, next_number}
+use Rattle.volume_source.specs.Source.{IsOfPart, new_source, source_means}
 use Rattle.volume_store.specs.Appending.{AppendEnds}
 use Rattle.volume_store.specs.Finding.{IsForeign}
 use Rattle.volume_store.specs.declared.appended.Appended.{Appended}

@@ -1,5 +1,5 @@
--- The missing volumes copied one after the other, where both tapes tell their cartridges: what the plain machine does with them.
-use Rattle.std.proofs.Common.{◌≡◌, ◌≢◌, ◌⊎◌, ℕ, zero, suc, ◌+◌, ◌≤◌, Bool, true, false, List, [], ◌∷◌, ◌++◌, length, drop, All, slice_get, Option, Some, None, Ok, Err, refl, ap, sym, subst, ◌∙◌, arith, inl, inr, add-one, append-nil, append_assoc, length-append}
+-- The missing volumes copied one after the other, where both tapes tell: what the plain machine does with them.
+use Rattle.std.proofs.Common.{◌≡◌, ◌≢◌, ◌⊎◌, ℕ, zero, suc, ◌+◌, false, List, [], ◌∷◌, ◌++◌, length, drop, All, slice_get, Some, Ok, Err, refl, ap, sym, subst, ◌∙◌, arith, inl, inr, add-one, append-nil, append_assoc, length-append}
 use Rattle.std.proofs.Math.ListN.{drop_of_length-le}
 use Rattle.std.proofs.lemmas.List.Elements.{All-drop, All-head, All-tail}
 use Rattle.cartridge_spec.specs.Table.{Entry}
@@ -20,7 +20,7 @@ use Rattle.volume_copy.proofs.Appended.{side_over}
 use Rattle.volume_copy.proofs.Goes.{one_done, one_goes}
 use Rattle.volume_copy.proofs.Lists.{from_index}
 use Rattle.volume_copy.proofs.Volume.{IsCopied, IsTurned, IsUngiven, IsUnwritten, is_copied, is_outside, is_refused}
-use Rattle.volume_copy.specs.Runs.{CopiesOne, CopyView, HasCopied, HaveCopied, IsCounted, IsRefused, IsUnprinted, MissingEnds, PrintsCount, SideFits, SideView, next_number}
+use Rattle.volume_copy.specs.Runs.{CopyView, HasCopied, HaveCopied, IsCounted, IsRefused, IsUnprinted, MissingEnds, PrintsCount, SideFits, SideView, next_number}
 use Rattle.volume_source.specs.Source.{SourceView, new_source, source_means}
 use Rattle.command_spec.specs.declared.copy_fault.CopyFault.TheVariants as copy
 use Rattle.command_spec.specs.declared.copy_status.CopyStatus.TheVariants as status

@@ -1,5 +1,5 @@
 -- What a copy's answer says of one cartridge, where that one is told, and what is left of the source.
-use Rattle.std.proofs.Common.{◌≡◌, ◌≢◌, ◌⊎◌, ℕ, zero, suc, ◌+◌, ◌<◌, ◌≤◌, Bool, true, false, List, [], ◌∷◌, ◌++◌, length, Contains, Option, Some, None, IfSome, IsSomeAnd, Result, Ok, Err, refl, ap, sym, subst, ◌∙◌, arith, inl, inr, append-nil}
+use Rattle.std.proofs.Common.{◌≡◌, ◌⊎◌, ℕ, zero, suc, ◌<◌, ◌≤◌, Bool, true, false, List, [], length, Contains, Option, Some, None, IsSomeAnd, Ok, Err, refl, ap, sym, subst, ◌∙◌, arith, inl, inr}
 use Rattle.std.specs.Option.{option_map}
 use Rattle.std.specs.Prelude.{is_some}
 use Rattle.std.proofs.lemmas.Bool.{ltb-true}
@@ -7,17 +7,16 @@ use Rattle.cartridge_laws.proofs.FormatWriting.{some_and}
 use Rattle.cartridge_laws.proofs.MountKeeping.{stopped_stands}
 use Rattle.cartridge_spec.specs.Appending.{room}
 use Rattle.cartridge_spec.specs.Header.{Header}
-use Rattle.cartridge_spec.specs.HeaderAndTable.{TableIs, table_cells}
 use Rattle.cartridge_spec.specs.Mounting.{Mounting, Mounts, settled}
 use Rattle.cartridge_spec.specs.Settling.{changed_by, settling_steps}
 use Rattle.cartridge_spec.specs.Table.{Entry}
-use Rattle.cartridge_spec.specs.Volumes.{Plain, Stands, volume_length}
+use Rattle.cartridge_spec.specs.Volumes.{Stands, volume_length}
 use Rattle.command_laws.proofs.CommandEnds.{LeftBy, each_left, over_at, told_whole}
 use Rattle.command_laws.proofs.CopyOutcomes.{IsTarget}
 use Rattle.command_laws.proofs.MountedListed.{mounted_listed}
 use Rattle.cartridge_laws.proofs.MountSettled.{settled_keeps_table}
 use Rattle.command_laws.specs.CommandTerms.{silently}
-use Rattle.command_spec.specs.CopyPromises.{EndsAppend, EndsVolume, FromAnswers, FromLeaves, MountingRefuses, MountsSome, SourceStays, TakesMore, ToAnswers, TornSettling}
+use Rattle.command_spec.specs.CopyPromises.{EndsAppend, EndsVolume, FromAnswers, FromLeaves, MountingRefuses, MountsSome, SourceStays, TakesMore, ToAnswers}
 use Rattle.command_spec.specs.Copying.{giving_status}
 use Rattle.command_spec.specs.Headline.{EachLeft}
 use Rattle.command_spec.specs.Restore.{GivingEnd, LostIn, MismatchIn, Restores, pieces}
@@ -27,7 +26,6 @@ use Rattle.drive_spec.specs.Terms.{is_protected}
 use Rattle.drive_states.specs.Unit.{UnitView}
 use Rattle.host_driver.specs.Fits.{deck_of}
 use Rattle.qic_base.proofs.Steps.{Done-before_reads, Done-nothing, Done-told, Torn-all}
-use Rattle.qic_base.proofs.Writing.{TakesBoth}
 use Rattle.qic_base.specs.Acts.{Act, steps_of}
 use Rattle.qic_base.specs.Terms.{reading, IsCartridge}
 use Rattle.qic_base.specs.Cartridge.{Cartridge}
@@ -36,14 +34,14 @@ use Rattle.qic_base.specs.declared.tape.TapeInfo.{TapeInfo}
 use Rattle.store_opening.specs.Opening.{HasOpened, OpenFails}
 use Rattle.store_opening.specs.declared.opening.OpenFault.{OpenFault}
 use Rattle.volume_copy.proofs.Answering.{FailsSo, differs_at_most, fails_so}
-use Rattle.volume_copy.proofs.Appended.{AddsOne, adds_one, adds_to_target, all_acts, never_protected, side_over, tells_at, told_behind}
+use Rattle.volume_copy.proofs.Appended.{adds_one, adds_to_target, all_acts, never_protected, side_over, tells_at, told_behind}
 use Rattle.volume_copy.proofs.Ends.{AtStart, decks_of}
 use Rattle.volume_copy.proofs.Following.{each_left_map}
 use Rattle.volume_copy.proofs.Given.{left_before, long, numbered_there, refused_so, unread_restored}
 use Rattle.volume_copy.proofs.Goes.{Chained, chained, missing_goes, too_long, too_short}
 use Rattle.volume_copy.proofs.Openings.{OpenedAt, RefusedAs, opened_at, opened_mark, refused_as}
 use Rattle.volume_copy.specs.Faults.{copy_fault, from_status, to_status}
-use Rattle.volume_copy.specs.Runs.{BothRefused, CopiesOne, CopyView, HasCopied, HasRun, HaveCopied, IsCounted, IsRefused, IsUnlike, IsUnprinted, PrintsCount, RunEnds, SideFits, Units, append_status, next_number}
+use Rattle.volume_copy.specs.Runs.{CopyView, HasCopied, HasRun, HaveCopied, IsCounted, IsRefused, IsUnlike, IsUnprinted, PrintsCount, RunEnds, Units, append_status, next_number}
 use Rattle.volume_source.specs.Source.{IsOfPart, IsRefusal, new_source, source_means}
 use Rattle.volume_store.specs.Appending.{AppendEnds}
 use Rattle.volume_store.specs.Mounting.{IsSettling, MountRefuses, StoreView}

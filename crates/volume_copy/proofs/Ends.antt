@@ -1,35 +1,31 @@
--- What a copy comes to where both tapes tell what their drives hold: the plain machine's outcome, carried out or cut off.
-use Rattle.std.proofs.Common.{◌≡◌, ◌≢◌, ◌⊎◌, ℕ, ◌≤◌, Bool, true, false, List, [], ◌∷◌, ◌++◌, All, Option, Some, None, IfSome, IsSomeAnd, refl, ap, sym, subst, ◌∙◌, arith, inl, inr, append-nil}
-use Rattle.std.specs.Option.{option_map}
+-- What a copy comes to where both tapes tell: the plain machine's outcome, carried out or cut off.
+use Rattle.std.proofs.Common.{◌≡◌, ℕ, Bool, true, false, List, [], ◌∷◌, All, Option, Some, None, IfSome, IsSomeAnd, refl, ap, sym, subst, ◌∙◌, arith, inl, inr, append-nil}
 use Rattle.cartridge_laws.proofs.MountWhole.{table_is_area}
 use Rattle.cartridge_spec.specs.Mounting.{Mounting, Mounts, settled}
-use Rattle.cartridge_spec.specs.Settling.{settling_steps}
-use Rattle.cartridge_spec.specs.Table.{Entry}
 use Rattle.command_laws.proofs.CommandEnds.{over_at, told_whole}
 use Rattle.command_laws.proofs.CommandOpened.{quiet}
 use Rattle.command_laws.proofs.CopyOutcomes.{IsTarget, copies_something}
 use Rattle.command_laws.proofs.CopyValues.{HasValues, shown_values}
 use Rattle.command_laws.proofs.MountedListed.{mounted_listed}
 use Rattle.cartridge_laws.proofs.MountSettled.{settled_keeps_table}
-use Rattle.command_spec.specs.CopyPromises.{CopyEnds, CopyWent, Decks, FromCut, IsUnasked, OverBoth, PrintingCut, ToCut}
-use Rattle.command_spec.specs.Copying.{Compares, Copies, CopyOutcome, CopyYields, Side, ToDoes, ToMounted, copy_refused, missing, side_of}
-use Rattle.command_spec.specs.Outcome.{settling_act}
+use Rattle.command_spec.specs.CopyPromises.{CopyEnds, CopyWent, Decks, FromCut, IsUnasked, PrintingCut, ToCut}
+use Rattle.command_spec.specs.Copying.{Compares, Copies, CopyOutcome, CopyYields, Side, ToDoes, ToMounted, copy_refused, missing}
 use Rattle.command_spec.specs.declared.copy_status.CopyStatus.{CopyStatus}
 use Rattle.drive_spec.specs.Terms.{is_protected}
 use Rattle.drive_states.specs.Unit.{UnitView}
 use Rattle.host_driver.specs.Fits.{deck_of}
-use Rattle.qic_base.proofs.Steps.{Broke-front, Done-Done, Done-before_reads, Done-nothing}
+use Rattle.qic_base.proofs.Steps.{Broke-front, Done-before_reads, Done-nothing}
 use Rattle.qic_base.proofs.Writing.{TakesBoth}
-use Rattle.qic_base.specs.Acts.{Act, Outside, SinkFails, TapeCut, TapeFails, Went, next_steps, steps_of, text_of}
+use Rattle.qic_base.specs.Acts.{Act, Outside, SinkFails, TapeCut, TapeFails, Went}
 use Rattle.qic_base.specs.Terms.{around, no_source, IsCartridge}
 use Rattle.qic_base.specs.Cartridge.{Cartridge}
-use Rattle.qic_base.specs.Step.{Step as TapeStep, effects}
+use Rattle.qic_base.specs.Step.{Step as TapeStep}
 use Rattle.qic_base.specs.declared.tape.TapeInfo.{TapeInfo}
 use Rattle.store_opening.proofs.Opened.{cut_behind, opening_cut, went_behind}
-use Rattle.store_opening.specs.Opening.{HasOpened, IsOpened, OpenFails}
+use Rattle.store_opening.specs.Opening.{HasOpened, OpenFails}
 use Rattle.store_opening.specs.declared.opening.OpenFault.{OpenFault}
 use Rattle.volume_copy.proofs.Appended.{side_over}
-use Rattle.volume_copy.proofs.Carried.{AllCarried, Carried, Reached, SinkBroke, SourceBroke, TargetBroke, carried, seen}
+use Rattle.volume_copy.proofs.Carried.{Carried, Reached, carried, seen}
 use Rattle.volume_copy.proofs.Goes.{missing_goes}
 use Rattle.volume_copy.proofs.Openings.{OpenedAt, RefusedAs, locked_steps, opened_at, opened_mark, refused_as, settles_first, source_begins, target_begins}
 use Rattle.volume_copy.proofs.Volume.{is_outside}

@@ -1,5 +1,5 @@
 -- What follows of a copy's ends, where both tapes tell: completeness, and what is left of the target.
-use Rattle.std.proofs.Common.{◌≡◌, ◌≢◌, ◌⊎◌, ℕ, ◌≤◌, Bool, true, false, List, [], ◌∷◌, ◌++◌, length, Option, Some, None, IfSome, IsSomeAnd, refl, ap, sym, subst, ◌∙◌, arith, inl, inr, append-nil, append_assoc}
+use Rattle.std.proofs.Common.{◌≡◌, ◌≢◌, ◌⊎◌, ℕ, List, [], ◌∷◌, ◌++◌, length, Option, Some, None, IsSomeAnd, refl, ap, sym, subst, ◌∙◌, inl, inr, append-nil, append_assoc}
 use Rattle.std.specs.Option.{option_map}
 use Rattle.std.specs.Prelude.{is_some}
 use Rattle.cartridge_laws.proofs.FormatWriting.{effects-some, some_and}
@@ -14,7 +14,7 @@ use Rattle.command_laws.proofs.CopyPrinted.{printed_copies_stand}
 use Rattle.command_laws.proofs.CopySteps.{copied_table_lives}
 use Rattle.command_laws.specs.ActStops.{IsLeftBy}
 use Rattle.command_spec.specs.Copied.{BeginsLike, CanBeCopied, StandAlike, StandsPrinted, StandsUpTo, copied}
-use Rattle.command_spec.specs.CopyPromises.{CopyEnds, CopyIsOver, CopyWent, Decks, FromCut, HasRisen, NoDeckRose, PrintingCut, TargetGrows, TargetLives, ToCut, ToLeaves}
+use Rattle.command_spec.specs.CopyPromises.{CopyEnds, CopyIsOver, CopyWent, Decks, HasRisen, NoDeckRose, TargetGrows, TargetLives, ToLeaves}
 use Rattle.command_spec.specs.Copying.{CopyOutcome, CopyYields}
 use Rattle.command_spec.specs.Headline.{EachLeft, ToldNow}
 use Rattle.command_spec.specs.declared.copy_status.CopyStatus.{CopyStatus}

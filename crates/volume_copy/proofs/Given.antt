@@ -1,5 +1,5 @@
 -- What the source of a copy gives, where its tape tells its cartridge.
-use Rattle.std.proofs.Common.{◌≡◌, ℕ, zero, suc, ◌+◌, ◌-◌, ◌<◌, ◌≤◌, List, [], ◌∷◌, ◌++◌, length, drop, All, Contains, slice_get, Option, Some, None, IfSome, Result, refl, ap, sym, subst, ◌∙◌, arith, length-append}
+use Rattle.std.proofs.Common.{◌≡◌, ℕ, zero, suc, ◌+◌, ◌-◌, ◌<◌, ◌≤◌, List, [], ◌∷◌, ◌++◌, length, drop, All, Contains, slice_get, Some, IfSome, Result, refl, ap, sym, subst, ◌∙◌, arith, length-append}
 use Rattle.std.specs.Option.{option_map}
 use Rattle.std.proofs.lemmas.List.Elements.{All-drop, All-head, Contains-get_or}
 use Rattle.std.proofs.lemmas.List.{length-drop}
@@ -12,7 +12,7 @@ use Rattle.command_laws.proofs.CommandEnds.{over_at}
 use Rattle.command_laws.proofs.RestoreCounts.{FitsIn, pieces_fit, pieces_hold_all}
 use Rattle.command_laws.proofs.RestoreGiven.{given_is_long, length-given}
 use Rattle.command_spec.specs.Copying.{GivenBytes}
-use Rattle.command_spec.specs.Restore.{GivingEnd, IsRead, LostIn, MismatchIn, Piece, PieceEnds, Restored, Restores, bytes_held, pieces, volume_at}
+use Rattle.command_spec.specs.Restore.{GivingEnd, Piece, PieceEnds, Restored, Restores, bytes_held, pieces, volume_at}
 use Rattle.command_laws.specs.CommandTerms.{act_of}
 use Rattle.command_spec.specs.declared.copy_status.CopyStatus.{CopyStatus}
 use Rattle.qic_base.specs.Acts.{Act}
@@ -21,8 +21,6 @@ use Rattle.volume_copy.specs.Runs.{CopiesOne, SideView}
 use Rattle.volume_source.proofs.Bytes.{given_is}
 use Rattle.volume_source.specs.Given.{given_bytes}
 use Rattle.volume_source.specs.Source.{FirstRead, FirstUnread, IsRefusal, Reads, SourceView, bytes_left, left_where, new_source, pieces_at, pieces_of_number, source_means, source_pieces}
-use Rattle.volume_store.specs.Mounting.{StoreView}
-use Rattle.volume_store.specs.declared.fault.StoreFault.{StoreFault}
 use Rattle.qic_base.specs.Tape as tapes
 
 -- ---- pieces that are read

@@ -1,8 +1,8 @@
 -- What a copy does to both tapes and the sink, over any of them.
-use Rattle.std.proofs.Common.{◌≡◌, ◌≢◌, ◌⊎◌, ℕ, zero, suc, ◌+◌, ◌<◌, ◌≤◌, ◌&&◌, Bool, true, false, nat_le, List, [], ◌∷◌, ◌++◌, length, take, Option, Some, None, Result, Ok, Err, refl, ap, sym, subst, ◌∙◌, arith, inl, inr, append-nil, append_assoc, length-append}
+use Rattle.std.proofs.Common.{◌≡◌, ◌⊎◌, ℕ, zero, suc, ◌+◌, ◌<◌, ◌≤◌, Bool, true, false, nat_le, List, [], ◌∷◌, ◌++◌, length, take, Option, Some, None, Result, Ok, Err, refl, ap, sym, subst, ◌∙◌, arith, inl, inr, append-nil, append_assoc, length-append}
 use Rattle.std.specs.Prelude.{if◌then◌else◌, ◌==◌, ◌||◌, nat_lt, is_some}
 use Rattle.std.specs.Option.{option_map}
-use Rattle.std.proofs.lemmas.Bool.{and_from, and_cases, cases_Bool, leb-false, leb-true, ltb-true, ltb-false, lt-ltb}
+use Rattle.std.proofs.lemmas.Bool.{and_from, and_cases, leb-false, lt-ltb}
 use Rattle.cartridge_spec.specs.Appending.{room}
 use Rattle.cartridge_spec.specs.Table.{Entry}
 use Rattle.cartridge_spec.specs.Volumes.{volume_length}
@@ -17,21 +17,16 @@ use Rattle.qic_base.proofs.Steps.{Done-Done, Done-nothing}
 use Rattle.qic_base.proofs.Writing.{TakesBoth}
 use Rattle.qic_base.specs.Terms.{reading}
 use Rattle.qic_base.specs.Cartridge.{Cartridge}
-use Rattle.qic_base.specs.Tape.{Rose}
 use Rattle.qic_base.specs.Step.{Step as TapeStep, effects}
-use Rattle.store_opening.specs.Opening.{HasOpened, OpenFails}
-use Rattle.store_opening.specs.declared.opening.OpenFault.{OpenFault}
 use Rattle.volume_copy.specs.Runs.{CopiesOne, CopyView, HasCopied, HaveCopied, IsCounted, IsRefused, IsUnprinted, MissingEnds, PrintsCount, SideFits, SideView, append_answer, append_status, next_number}
-use Rattle.volume_source.specs.Source.{IsOfPart, KeepsVolume, SourceView, new_source, source_means}
+use Rattle.volume_source.specs.Source.{IsOfPart, SourceView, new_source, source_means}
 use Rattle.volume_store.specs.Appending.{AppendEnds}
 use Rattle.volume_store.specs.Mounting.{StoreView}
 use Rattle.volume_store.specs.declared.appended.Appended.{Appended}
 use Rattle.volume_store.specs.declared.fault.StoreFault.{StoreFault}
 use Rattle.command_spec.specs.declared.copy_status.CopyStatus.TheVariants as status
 use Rattle.qic_base.specs.Sink as sinks
-use Rattle.qic_base.specs.Source as sources
 use Rattle.qic_base.specs.Tape as tapes
-use Rattle.store_opening.specs.declared.opening.OpenFault.TheVariants as open_fault
 use Rattle.volume_store.specs.declared.fault.StoreFault.TheVariants as fault
 
 -- ---- a tape

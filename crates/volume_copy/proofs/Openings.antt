@@ -1,5 +1,5 @@
 -- How the openings of a copy end, where a tape tells what its drive holds.
-use Rattle.std.proofs.Common.{◌≡◌, ◌≢◌, ◌⊎◌, ℕ, Bool, true, false, List, [], ◌∷◌, ◌++◌, Option, Some, None, IfSome, IsSomeAnd, refl, ap, sym, subst, ◌∙◌, inl, inr, append-nil}
+use Rattle.std.proofs.Common.{◌≡◌, ◌⊎◌, ℕ, Bool, true, List, [], ◌++◌, Option, Some, None, IfSome, IsSomeAnd, refl, ap, sym, subst, ◌∙◌, inl, inr, append-nil}
 use Rattle.std.specs.Option.{option_map}
 use Rattle.std.specs.Prelude.{if◌then◌else◌}
 use Rattle.cartridge_laws.proofs.MountOnce.{mounts_is_function}
@@ -11,10 +11,8 @@ use Rattle.cartridge_spec.specs.Says.{with_parity}
 use Rattle.cartridge_spec.specs.Settling.{block_writes, settling_places, settling_steps}
 use Rattle.cartridge_spec.specs.Table.{Entry}
 use Rattle.command_laws.proofs.CommandEnds.{over_at}
-use Rattle.command_laws.proofs.CommandOpened.{quiet}
-use Rattle.command_spec.specs.CopyPromises.{FromLeaves, MountingRefuses}
+use Rattle.command_spec.specs.CopyPromises.{MountingRefuses}
 use Rattle.command_spec.specs.Copying.{CopyOutcome, CopyYields, FromMounted, Side, ToDoes, ToMounted, copy_refused, side_of}
-use Rattle.command_spec.specs.Outcome.{settling_act}
 use Rattle.command_spec.specs.declared.copy_fault.CopyFault.{CopyFault}
 use Rattle.command_spec.specs.declared.copy_status.CopyStatus.{CopyStatus}
 use Rattle.drive_spec.specs.Terms.{is_protected}
@@ -23,21 +21,19 @@ use Rattle.qic_base.specs.Acts.{Act, next_steps}
 use Rattle.qic_base.specs.Cartridge.{Cartridge}
 use Rattle.qic_base.specs.Step.{Step as TapeStep, effects}
 use Rattle.store_opening.proofs.Opened.{IsKnown, known_before, opened_known}
-use Rattle.store_opening.specs.Opening.{HasOpened, IsOpened, OpenFails}
-use Rattle.store_opening.specs.declared.opening.OpenFault.{OpenFault}
-use Rattle.volume_copy.specs.Faults.{copy_fault, from_status, to_status}
-use Rattle.volume_store.specs.Mounting.{IsSettling, MountRefuses, Settles, StoreView}
+use Rattle.store_opening.specs.Opening.{HasOpened, IsOpened}
+use Rattle.volume_copy.specs.Faults.{copy_fault}
+use Rattle.volume_store.specs.Mounting.{IsSettling, MountRefuses, StoreView}
 use Rattle.volume_store.specs.declared.fault.StoreFault.{StoreFault}
 use Rattle.cartridge_spec.specs.Mounting as mounting
 use Rattle.command_spec.specs.declared.copy_fault.CopyFault.TheVariants as copy
 use Rattle.command_spec.specs.declared.copy_status.CopyStatus.TheVariants as status
 use Rattle.qic_base.specs.Tape as tapes
-use Rattle.store_opening.specs.declared.opening.OpenFault.TheVariants as open_fault
 use Rattle.volume_store.specs.declared.fault.StoreFault.TheVariants as fault
 
 -- ---- opened
 
--- the drive held this cartridge, which mounts as the store shows it; what the tape tells then is that cartridge, settled
+-- the drive held this cartridge, which mounts as the store shows it; the tape tells it then, settled
 pub record OpenedAt {T : Type 0} (m : tapes.Meaning T) (held : Option Cartridge) (unit : UnitView T) (store : StoreView) (steps : List TapeStep) : Type 0 where
   pub cartridge : Cartridge
   pub is : held ≡ Some cartridge

@@ -1,10 +1,8 @@
 -- What a copy promises, by how its calls ended.
-use Rattle.std.proofs.Common.{◌≡◌, ◌≢◌, ◌⊎◌, ◌↔◌, ℕ, Bool, true, false, List, [], ◌∷◌, length, map, arith, Option, Some, None, IfSome, refl, ap, sym, subst, ◌∙◌, inl, inr}
+use Rattle.std.proofs.Common.{◌≡◌, ◌≢◌, ◌⊎◌, ◌↔◌, ℕ, true, false, List, [], ◌∷◌, length, map, arith, Option, Some, None, IfSome, refl, ap, sym, subst, ◌∙◌, inl, inr}
 use Rattle.std.specs.Prelude.{◌==◌}
 use Rattle.std.proofs.lemmas.Bool.{eqb-true}
-use Rattle.cartridge_spec.specs.Volumes.{Plain, Stands}
-use Rattle.command_spec.specs.Copied.{BeginsLike, CanBeCopied, StandAlike}
-use Rattle.command_spec.specs.CopyPromises.{CopyEnds, CopyPromises, Decks, FromAnswers, HasKind, HasRisen, IsUnasked, OverBoth, PrintsCopies, TargetGrows, TargetLives, ToAnswers, ToLeaves}
+use Rattle.command_spec.specs.CopyPromises.{CopyEnds, CopyPromises, Decks, FromAnswers, HasKind, HasRisen, IsUnasked, PrintsCopies, TargetGrows, TargetLives, ToAnswers, ToLeaves}
 use Rattle.command_spec.specs.Headline.{EachLeft}
 use Rattle.command_spec.specs.declared.copy_status.CopyStatus.{CopyStatus}
 use Rattle.qic_base.specs.Cartridge.{Cartridge}

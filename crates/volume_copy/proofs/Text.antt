@@ -1,5 +1,5 @@
 -- The text of a copy is a front of the lines of the missing volumes and their count.
-use Rattle.std.proofs.Common.{◌⊎◌, ◌≡◌, ◌≢◌, ℕ, ◌+◌, ◌-◌, ◌≤◌, arith, List, [], ◌∷◌, ◌++◌, length, drop, take, All, Some, inl, inr, refl, sym, ap, ◌∙◌, subst, append-nil, append_assoc, length-append}
+use Rattle.std.proofs.Common.{◌≡◌, ◌≢◌, ℕ, ◌+◌, ◌-◌, ◌≤◌, arith, List, [], ◌∷◌, ◌++◌, length, drop, take, All, Some, inl, inr, refl, sym, ap, ◌∙◌, subst, append-nil, append_assoc, length-append}
 use Rattle.std.proofs.lemmas.List.{drop-map, length-drop, length-map, take_all}
 use Rattle.std.proofs.lemmas.List.Elements.{All-head, All-tail}
 use Rattle.cartridge_spec.specs.Mounting.{settled}
@@ -7,7 +7,7 @@ use Rattle.cartridge_spec.specs.Settling.{changed_by}
 use Rattle.cartridge_spec.specs.Table.{Entry}
 use Rattle.cartridge_spec.specs.Volumes.{Plain, Volume, entries_of, volume_length}
 use Rattle.command_laws.proofs.CopyGoing.{behind}
-use Rattle.command_laws.proofs.CopyLeaving.{CopiesTo, behind_are, opened, to_does, within}
+use Rattle.command_laws.proofs.CopyLeaving.{behind_are, opened, to_does, within}
 use Rattle.command_laws.proofs.CopyOnce.{begun_text}
 use Rattle.command_laws.proofs.ScriptActs.{full_acts}
 use Rattle.command_laws.proofs.CopyStanding.{done_text, entries_in, open_behind, side_behind, side_for, with_volume}

@@ -1,8 +1,7 @@
 -- A copy of one volume, where both tapes tell their cartridges: what the plain machine does with it.
-use Rattle.std.proofs.Common.{◌≡◌, ◌≢◌, ◌⊎◌, ℕ, ◌+◌, ◌≤◌, ◌<◌, Bool, true, false, List, [], ◌∷◌, ◌++◌, length, drop, take, Option, Some, None, IfSome, Result, Ok, Err, refl, ap, sym, subst, ◌∙◌, arith, inl, inr, append-nil, append_assoc}
+use Rattle.std.proofs.Common.{◌≡◌, ◌≢◌, ◌⊎◌, ℕ, ◌+◌, ◌≤◌, ◌<◌, Bool, true, false, List, [], ◌∷◌, ◌++◌, length, drop, Option, Some, None, IfSome, Result, Ok, Err, refl, ap, sym, subst, ◌∙◌, arith, inl, inr, append-nil, append_assoc}
 use Rattle.std.specs.Option.{option_map}
-use Rattle.std.specs.Prelude.{nat_lt}
-use Rattle.std.proofs.lemmas.Bool.{cases_Bool, lt-ltb, ltb-false, ltb-true}
+use Rattle.std.proofs.lemmas.Bool.{cases_Bool, ltb-false, ltb-true}
 use Rattle.std.proofs.lemmas.List.{length-take-le}
 use Rattle.cartridge_laws.proofs.TableSayings.{table_says_is_function}
 use Rattle.cartridge_spec.specs.Appending.{free_segments, new_entry, table_writes, taken_by}
@@ -19,19 +18,18 @@ use Rattle.command_laws.proofs.CopyOutcomes.{IsTarget}
 use Rattle.command_laws.proofs.MountedListed.{listed_reads}
 use Rattle.command_laws.proofs.MountedSaying.{restores_anyway}
 use Rattle.command_laws.proofs.ScriptActs.{full_acts}
-use Rattle.command_spec.specs.Append.{Fits, Kept, Taking, TooLong, TooShort, append_acts, entry_acts, has_promised_room, input_writes, room_in, taking}
-use Rattle.command_laws.specs.CommandTerms.{entry_for, kept_in, silently}
-use Rattle.command_spec.specs.Copying.{CopiesVolume, Side, behind_copy, copied_behind, copied_entry, copied_line, copy_acts, giving_status, has_room_for, kept_on, GivenBytes}
+use Rattle.command_spec.specs.Append.{Fits, Kept, TooLong, TooShort, append_acts, entry_acts, input_writes, room_in, taking}
+use Rattle.command_laws.specs.CommandTerms.{entry_for, kept_in}
+use Rattle.command_spec.specs.Copying.{CopiesVolume, Side, behind_copy, copied_behind, copied_line, copy_acts, has_room_for, GivenBytes}
 use Rattle.command_spec.specs.Restore.{GivingEnd, LostIn, MismatchIn, Restored, Restores, pieces}
 use Rattle.command_spec.specs.declared.copy_status.CopyStatus.{CopyStatus}
-use Rattle.qic_base.proofs.Joins.{text_of-append}
 use Rattle.qic_base.specs.Acts.{Act, Outside, SourceCut, SourceFails, TapeCut, TapeFails, steps_of, text_of}
 use Rattle.qic_base.specs.Terms.{no_sink, reading}
 use Rattle.qic_base.specs.Cartridge.{Cartridge}
 use Rattle.qic_base.specs.Tape.{Rose}
-use Rattle.volume_copy.proofs.Appended.{AddsOne, AppendIs, Ended, adds_one, adds_to_target, all_acts, append_is, kept, never_protected, replied_steps, side_over, size, tells_at, told_behind}
-use Rattle.volume_copy.proofs.Given.{bytes, given, left_before, long, needed, refused_so, taken_restored, unread_restored}
-use Rattle.volume_copy.proofs.Goes.{Early, Enough, NoRoom, fitting, too_long, too_short}
+use Rattle.volume_copy.proofs.Appended.{AddsOne, AppendIs, adds_one, adds_to_target, append_is, kept, never_protected, side_over, tells_at, told_behind}
+use Rattle.volume_copy.proofs.Given.{bytes, given, left_before, long, refused_so, taken_restored, unread_restored}
+use Rattle.volume_copy.proofs.Goes.{fitting, too_long, too_short}
 use Rattle.volume_copy.specs.Runs.{CopiesOne, SideFits, SideView, append_answer, append_status}
 use Rattle.volume_source.specs.Source.{IsOfPart, IsRefusal, SourceView, new_source, source_means}
 use Rattle.volume_store.specs.Appending.{AppendCut, AppendEnds, CutBeforeEntry, CutUnread, FaultsUnread, HasGivenAll, ListsLast, MayAsk, acts_before_entry, kept_by}

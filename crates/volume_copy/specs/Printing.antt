@@ -1,4 +1,4 @@
--- What a copy prints where both cartridges stand for plain ones, alike in the volumes that both have (this project's own).
+-- What a copy prints where both cartridges stand for plain ones, alike in what both have (this project's own).
 use Rattle.std.specs.Prelude.{◌≡◌, ℕ, List, [], ◌++◌, length, Some}
 use Rattle.cartridge_spec.specs.Volumes.{Plain}
 use Rattle.command_spec.specs.Copied.{StandAlike, StandsPrinted, lines_upto}
@@ -11,8 +11,8 @@ use Rattle.command_spec.specs.declared.copy_status.CopyStatus.TheVariants as sta
 use Rattle.qic_base.specs.Sink as sinks
 use Rattle.qic_base.specs.Tape as tapes
 
--- The sink took a front of the lines of the missing volumes with the count of all behind them, and all of that at Done; and the
--- target has at least the volumes whose lines were written whole.
+-- The sink took a front of the lines of the missing volumes with the count of all behind them, and all of that at Done;
+-- and the target has at least the volumes whose lines were written whole.
 pub record PrintsMissing {A B K : Type 0} (b : tapes.Meaning B) (k : sinks.Meaning K) (old new : Decks A B K) (answer : CopyStatus) (from to : Plain) : Type 0 where
   pub text : List ℕ
   pub rest : List ℕ
