@@ -1,3 +1,4 @@
 pub mod Mounted
 pub mod Opened
+pub mod Refusals
 pub mod Started

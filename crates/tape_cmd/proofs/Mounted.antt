@@ -1,21 +1,18 @@
 -- How the commands that mount a cartridge end.
-use Rattle.std.proofs.Common.{◌≡◌, ◌≢◌, ◌⊎◌, ℕ, ◌++◌, Bool, true, false, List, [], length, Option, Some, None, IfSome, IsSomeAnd, Result, Ok, Err, refl, sym, ap, ◌∙◌, subst, inl, inr, append-nil}
+use Rattle.std.proofs.Common.{◌≡◌, ◌≢◌, ◌⊎◌, ℕ, ◌++◌, Bool, true, false, List, [], length, Option, Some, None, IfSome, IsSomeAnd, Result, Err, refl, sym, ap, ◌∙◌, subst, inl, inr, append-nil}
 use Rattle.qic_base.specs.Cartridge.{Cartridge}
 use Rattle.qic_base.specs.declared.tape.TapeInfo.{TapeInfo}
-use Rattle.qic_base.specs.declared.foreign.ForeignField.{ForeignField}
 use Rattle.qic_base.specs.declared.sink.SinkFailed.{SinkFailed}
 use Rattle.qic_base.specs.Step.{Step as TapeStep}
-use Rattle.qic_base.proofs.Steps.{Done-Done, Done-Broke}
 use Rattle.cartridge_spec.specs.Header.{Header}
 use Rattle.cartridge_laws.specs.Terms.{fault_as}
 use Rattle.cartridge_spec.specs.Table.{Entry}
 use Rattle.cartridge_laws.proofs.MountOnce.{mounts_is_function}
 use Rattle.volume_store.specs.declared.fault.StoreFault.{StoreFault}
-use Rattle.volume_store.specs.Finding.{is_of_mounting, IsForeign, NamesCause}
 use Rattle.command_laws.proofs.StoreTaking.{both_true}
-use Rattle.std.proofs.lemmas.Bool.{lt-ltb, ne_eqb}
-use Rattle.std.specs.Prelude.{◌==◌, nat_lt, not, if◌then◌else◌}
-use Rattle.volume_store.specs.Mounting.{StoreView, StoreFits, IsSettling, MountRefuses, MountDoes}
+use Rattle.std.proofs.lemmas.Bool.{lt-ltb}
+use Rattle.std.specs.Prelude.{◌==◌, nat_lt, if◌then◌else◌}
+use Rattle.volume_store.specs.Mounting.{StoreView, IsSettling, MountRefuses}
 use Rattle.drive_states.specs.Unit.{UnitView}
 use Rattle.cartridge_spec.specs.Settling.{settling_steps, settling_places, block_writes}
 use Rattle.cartridge_spec.specs.Says.{with_parity}
@@ -23,10 +20,11 @@ use Rattle.cartridge_spec.specs.Mounting.{Mounting}
 use Rattle.command_spec.specs.declared.words.Words.{Words}
 use Rattle.command_spec.specs.declared.status.Status.{Status}
 use Rattle.command_spec.specs.Lines.{list_text, info_text}
-use Rattle.command_spec.specs.Outcome.{CommandOutcome, refused, acted, Going, Opened, OpenOutcome, WritableOutcome, Shows, is_refused}
+use Rattle.command_spec.specs.Outcome.{CommandOutcome, refused, acted, Going, Opened, OpenOutcome, WritableOutcome, Shows}
 use Rattle.tape_cmd.specs.Outcome.{first_steps}
 use Rattle.command_laws.specs.Terms.{Printing, telling, listing}
 use Rattle.tape_cmd.specs.Opening.{IsRefusal, RefusesOpening, store_status, open_status, is_opening, StartFails, OpeningRefused, OpeningEnds, IsUnlocked, WritableEnds}
+use Rattle.store_opening.proofs.Refusals.{foreign_is_refused}
 use Rattle.store_opening.specs.Opening.{IsOpened, HasOpened, IsTurnedDown, OpenFails, StartFails as FailsToStart}
 use Rattle.store_opening.specs.declared.opening.OpenFault.{OpenFault}
 use Rattle.command_laws.specs.CommandTerms.{CommandPrints, EndsBlind}
@@ -34,14 +32,12 @@ use Rattle.tape_cmd.specs.Writing.{printed_status}
 use Rattle.command_spec.specs.Machine.{may_come_from}
 use Rattle.tape_cmd.proofs.Endings.{IsBlind, printed, turned_down, cut_off, told_map}
 use Rattle.command_laws.proofs.CommandEndings.{Rules}
-use Rattle.store_opening.proofs.Started.{Present, Knows, told_known_beside, told_at_start}
-use Rattle.qic_base.specs.declared.foreign.ForeignField.TheVariants as foreign_field
+use Rattle.store_opening.proofs.Started.{Present, Knows}
 use Rattle.qic_base.specs.Sink as sinks
 use Rattle.qic_base.specs.SinkCalls as sink_calls
 use Rattle.qic_base.specs.Tape as tapes
 use Rattle.cartridge_spec.specs.Mounting as mounting
 use Rattle.volume_store.specs.declared.fault.StoreFault.TheVariants as fault
-use Rattle.volume_store.specs.Mounting as stores
 use Rattle.command_spec.specs.declared.words.Words.TheVariants as words
 use Rattle.command_spec.specs.declared.status.Status.TheVariants as status
 use Rattle.store_opening.specs.declared.opening.OpenFault.TheVariants as open_fault
@@ -153,20 +149,6 @@ turned t a b f refused sound = record {
   sound = sound;
   told = told_map (t.told a) _ _ refused.told (λ held refuses. refuses_mounting f held refuses);
 }
-
-foreign_is_refused : (n : ℕ) (field : ForeignField) (value : ℕ) → IsForeign n field value → is_refused field value ≡ true
-foreign_is_refused n foreign_field.FormatCode value is = ap not (ne_eqb value 2 is)
-foreign_is_refused n foreign_field.FirstHeader value is = ap not (ne_eqb value 0 is)
-foreign_is_refused n foreign_field.SecondHeader value is = ap not (ne_eqb value 1 is)
-foreign_is_refused n foreign_field.FirstData value is = ap not (ne_eqb value 2 is)
-foreign_is_refused n foreign_field.LastData value is = refl
-foreign_is_refused n foreign_field.SegmentsPerTrack value is = refl
-foreign_is_refused n foreign_field.Tracks value is = ap not (ne_eqb value 28 is)
-foreign_is_refused n foreign_field.TrackMaximum value is = ap not (ne_eqb value 149 is)
-foreign_is_refused n foreign_field.SectorMaximum value is = ap not (ne_eqb value 128 is)
-foreign_is_refused n foreign_field.Map value is = lt-ltb value 3 is
-foreign_is_refused n foreign_field.Slot value is = lt-ltb value 232 is
-foreign_is_refused n foreign_field.Range value is = lt-ltb value 232 is
 
 -- a cartridge can't be opened
 pub open_failed : {T : Type 0} (t : tapes.Meaning T) (a : T) (b : UnitView T) (why : OpenFault) → OpenFails t a b.tape why → OpeningEnds t a b (Err (open_status why))

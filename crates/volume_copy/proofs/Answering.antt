@@ -1,21 +1,20 @@
 -- What a copy's answer says, and what it prints, over any tapes and sink.
 use Rattle.std.proofs.Common.{◌≡◌, ◌≢◌, ◌⊎◌, ℕ, ◌+◌, ◌<◌, ◌≤◌, Bool, true, false, List, [], ◌∷◌, ◌++◌, length, Option, Some, None, Result, Ok, Err, refl, ap, sym, subst, ◌∙◌, arith, inl, inr, append_assoc, length-append}
-use Rattle.std.specs.Prelude.{if◌then◌else◌, ◌==◌, nat_lt, not}
-use Rattle.std.proofs.lemmas.Bool.{and_from, lt-ltb, ne_eqb}
+use Rattle.std.specs.Prelude.{if◌then◌else◌, ◌==◌, nat_lt}
+use Rattle.std.proofs.lemmas.Bool.{and_from, lt-ltb}
 use Rattle.cartridge_spec.specs.Table.{Entry}
 use Rattle.cartridge_spec.specs.Volumes.{volume_length}
 use Rattle.command_spec.specs.Copied.{copied_lines}
 use Rattle.command_spec.specs.CopyPromises.{CopiesJoin, Decks, HasKind, HasRisen, IsCopyText, PrintsCopies, is_before_copies}
 use Rattle.command_spec.specs.Copying.{copied_line, difference, is_alike}
 use Rattle.command_spec.specs.Lines.{count_line}
-use Rattle.command_spec.specs.Outcome.{is_refused}
 use Rattle.command_spec.specs.declared.copy_status.CopyStatus.{CopyStatus}
 use Rattle.drive_states.specs.Unit.{UnitView}
 use Rattle.qic_base.proofs.Steps.{Rose-after}
 use Rattle.qic_base.proofs.Writing.{TakesBoth, some_longer}
 use Rattle.qic_base.specs.Terms.{reading}
 use Rattle.qic_base.specs.Tape.{Rose}
-use Rattle.qic_base.specs.declared.foreign.ForeignField.{ForeignField}
+use Rattle.store_opening.proofs.Refusals.{foreign_is_refused}
 use Rattle.store_opening.specs.Opening.{OpenFails}
 use Rattle.store_opening.specs.declared.opening.OpenFault.{OpenFault}
 use Rattle.volume_copy.proofs.Ends.{decks_of}
@@ -24,32 +23,16 @@ use Rattle.volume_copy.specs.Faults.{from_status, to_status}
 use Rattle.volume_copy.specs.Runs.{BothRefused, CopiesOne, CopyView, HasRun, IsCounted, IsRefused, IsUnprinted, MissingEnds, PrintsCount, RunEnds, SideView, Units, append_answer, append_status, next_number}
 use Rattle.volume_source.specs.Source.{IsOfPart, new_source, source_means}
 use Rattle.volume_store.specs.Appending.{AppendEnds}
-use Rattle.volume_store.specs.Finding.{IsForeign}
 use Rattle.volume_store.specs.declared.appended.Appended.{Appended}
 use Rattle.volume_store.specs.declared.fault.StoreFault.{StoreFault}
 use Rattle.command_spec.specs.declared.copy_fault.CopyFault.TheVariants as copy
 use Rattle.command_spec.specs.declared.copy_status.CopyStatus.TheVariants as status
 use Rattle.qic_base.specs.Sink as sinks
 use Rattle.qic_base.specs.Tape as tapes
-use Rattle.qic_base.specs.declared.foreign.ForeignField.TheVariants as foreign_field
 use Rattle.store_opening.specs.declared.opening.OpenFault.TheVariants as open_fault
 use Rattle.volume_store.specs.declared.fault.StoreFault.TheVariants as fault
 
 -- ---- the kinds of refusals
-
-foreign_is_refused : (n : ℕ) (field : ForeignField) (value : ℕ) → IsForeign n field value → is_refused field value ≡ true
-foreign_is_refused n foreign_field.FormatCode value is = ap not (ne_eqb value 2 is)
-foreign_is_refused n foreign_field.FirstHeader value is = ap not (ne_eqb value 0 is)
-foreign_is_refused n foreign_field.SecondHeader value is = ap not (ne_eqb value 1 is)
-foreign_is_refused n foreign_field.FirstData value is = ap not (ne_eqb value 2 is)
-foreign_is_refused n foreign_field.LastData value is = refl
-foreign_is_refused n foreign_field.SegmentsPerTrack value is = refl
-foreign_is_refused n foreign_field.Tracks value is = ap not (ne_eqb value 28 is)
-foreign_is_refused n foreign_field.TrackMaximum value is = ap not (ne_eqb value 149 is)
-foreign_is_refused n foreign_field.SectorMaximum value is = ap not (ne_eqb value 128 is)
-foreign_is_refused n foreign_field.Map value is = lt-ltb value 3 is
-foreign_is_refused n foreign_field.Slot value is = lt-ltb value 232 is
-foreign_is_refused n foreign_field.Range value is = lt-ltb value 232 is
 
 from_kind : {T : Type 0} (t : tapes.Meaning T) (x y : T) (why : OpenFault) → OpenFails t x y why → HasKind (from_status why)
 from_kind t x y open_fault.NoCartridge fails = tt

@@ -55,6 +55,18 @@ pub record AtStart {A B K : Type 0} (a : tapes.Meaning A) (b : tapes.Meaning B) 
   pub from_now : tape_calls.IsLeftNow a old.from
   pub to_now : tape_calls.IsLeftNow b old.to
 
+pub at_start : {A B K : Type 0} {a : tapes.Meaning A} {b : tapes.Meaning B} {k : sinks.Meaning K} {old : Decks A B K} → ((z : K) → k.took z [] z) → TakesBoth k →
+    tape_calls.IsToldRight (a.told old.from) (a.size old.from) → tape_calls.IsToldRight (b.told old.to) (b.size old.to) →
+    tape_calls.IsLeftNow a old.from → tape_calls.IsLeftNow b old.to → AtStart a b k old
+at_start nothing both from_right to_right from_now to_now = record {
+  nothing = nothing;
+  both = both;
+  from_right = from_right;
+  to_right = to_right;
+  from_now = from_now;
+  to_now = to_now;
+}
+
 module _ {A B K : Type 0} (a : tapes.Meaning A) (b : tapes.Meaning B) (k : sinks.Meaning K) where
   -- ---- an outcome that was carried out
 
