@@ -8,15 +8,6 @@ syncs() {
     return $status
 }
 
-# advice WORD ..: the same run, and what it told the system of how it reads the image: the place, the length, the advice, the
-# answer.
-advice() {
-    local status=0
-    strace --quiet=all -o ../calls -e trace=fadvise64 tape "$@" || status=$?
-    sed -n 's|^fadvise64([0-9]*, \(.*\)) *= |\1 |p' ../calls
-    return $status
-}
-
 # faulty FAULTS WORD ..: the same run with faults of the calls for cart.img and its folder, each as strace's option inject has
 # it. The calls are not printed.
 faulty() {

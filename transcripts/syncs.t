@@ -65,29 +65,6 @@ The entry of a file is in the folder of what a link to it names.
   fsync cart.img 0
   fdatasync cart.img 0
 
-Reading ahead
--------------
-
-Before the first sync of bytes that a run wrote to places that are there, it tells the system, once, not to read ahead. A
-run that writes nothing doesn't.
-
-  $ advice cart.img info
-  tape: the cartridge is not formatted
-  [6]
-  $ cp cart.img other.img
-  $ advice other.img format L
-  formatted 84 0
-  0, 0, POSIX_FADV_RANDOM 0
-  $ advice other.img list
-  volumes 0
-
-It is advice, so where the system takes none nothing fails.
-
-  $ faulty fadvise64:error=EINVAL cart.img protect on
-  protected on
-  $ tape cart.img protect off
-  protected off
-
 A run that is killed
 --------------------
 

@@ -8,7 +8,6 @@ ghost use Rattle.tape_files.specs.Edge.{SyncKind, Whole, DataAlone};
 use std::fs::{File, OpenFile};
 use std::io;
 use std::io::ErrorKind;
-use std::os::fd::AsRawFd;
 use std::os::unix::fs::FileExt;
 
 /// An open file as a disk needs it. It may tell which of its syncs succeeded.
@@ -36,8 +35,6 @@ pub trait DiskFile: FileExt {
 pub struct ImageFile {
     file: File,
     reads_only: bool,
-    /// Whether the system was told not to read ahead.
-    as_asked: bool,
     ghost apart: { IsApart file },
 }
 
@@ -48,11 +45,7 @@ impl ImageFile {
         ensures file { result.file ≡ file }
         ensures reads_only { result.reads_only ≡ reads_only }
     {
-        ImageFile {
-            file,
-            reads_only,
-            as_asked: false,
-        }
+        ImageFile { file, reads_only }
     }
 
     /// The file itself.
@@ -67,15 +60,6 @@ impl ImageFile {
         ensures { result ≡ self.now.reads_only }
     {
         self.reads_only
-    }
-
-    /// Tells the system, once, that what lies behind a read is not what is read next. It is advice alone, so its answer
-    /// means nothing.
-    fn read_as_asked(&mut self) {
-        if !self.as_asked {
-            self.as_asked = true;
-            libc::posix_fadvise(self.file.as_raw_fd(), 0, 0, libc::POSIX_FADV_RANDOM);
-        }
     }
 }
 
@@ -115,10 +99,7 @@ impl DiskFile for ImageFile {
         as_synced(self.file.sync_all(), self.reads_only)
     }
 
-    // Such a sync stands behind writes to places that are there. Linux reads ahead in blocks of up to some megabytes, and
-    // each later write into such a block goes over all its pages.
     fn sync_data(&mut self) -> io::Result<()> {
-        self.read_as_asked();
         self.file.sync_data()
     }
 }
