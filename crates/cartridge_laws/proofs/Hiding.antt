@@ -39,12 +39,12 @@ says_by_none cells Mismatch = (
   λ says. (
     says.0,
     subst (λ (cs : List SectorView). HasNoBlock cs) (nothing_is_hidden cells)
-    (All-head (λ (set : ℕ). HasNoBlock (hidden_from set 0 cells)) 0 [] says.1),
+        (All-head (λ (set : ℕ). HasNoBlock (hidden_from set 0 cells)) 0 [] says.1),
   ),
   λ says. (
     says.0,
     All-cons (λ (set : ℕ). HasNoBlock (hidden_from set 0 cells)) 0 []
-    (subst (λ (cs : List SectorView). HasNoBlock cs) (sym (nothing_is_hidden cells)) says.1)
-    (All-nil (λ (set : ℕ). HasNoBlock (hidden_from set 0 cells))),
+        (subst (λ (cs : List SectorView). HasNoBlock cs) (sym (nothing_is_hidden cells)) says.1)
+        (All-nil (λ (set : ℕ). HasNoBlock (hidden_from set 0 cells))),
   ),
 )

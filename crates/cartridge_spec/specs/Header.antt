@@ -95,7 +95,7 @@ pub record SpellsHeader (h : Header) (words : List ℕ) (area : List (List ℕ))
   pub shows : Shows area h words
   pub rest : (k : ℕ) → k < 29696 →
       All (λ field. ¬ ((field.offset ≤ k) × (k < field.offset + field.width)))
-        (profile_fields h.segments_per_track ++ header_fields h) →
+      (profile_fields h.segments_per_track ++ header_fields h) →
       ¬ ((2048 ≤ k) × (k < 2048 + 4 * (28 * h.segments_per_track))) →
       slice_index (sector_at area (k / 1024)) (k % 1024) ≡ 0
 

@@ -129,13 +129,13 @@ abbrev pub sets_by : (used : Option ℕ) → (unreadable : List ℕ) → List �
 sets_by used [] = []
 sets_by used (m ∷ []) =
     if nat_lt m 29 then
-      set_of (m ∷ 31 ∷ []) ∷ set_of (m ∷ 29 ∷ []) ∷ with_used used (m ∷ []) ++ set_of (m ∷ 30 ∷ 31 ∷ []) ∷ []
+    set_of (m ∷ 31 ∷ []) ∷ set_of (m ∷ 29 ∷ []) ∷ with_used used (m ∷ []) ++ set_of (m ∷ 30 ∷ 31 ∷ []) ∷ []
     else []
 sets_by used (m ∷ other ∷ []) =
     if nat_lt m 29 then
-      if other == 29 then with_used used (m ∷ 29 ∷ [])
-      else if other == 30 then set_of (m ∷ 30 ∷ 31 ∷ []) ∷ []
-      else []
+    if other == 29 then with_used used (m ∷ 29 ∷ [])
+    else if other == 30 then set_of (m ∷ 30 ∷ 31 ∷ []) ∷ []
+    else []
     else []
 sets_by used (m ∷ other ∷ third ∷ more) = []
 

@@ -43,10 +43,10 @@ block_writes block places = writes_of 2 places (map (sector_at block) places)
 abbrev pub settling_places : Cartridge → (area : List (List ℕ)) → List ℕ
 settling_places c area =
     filter (λ i. if nat_lt i 29 then holds_other (view_at c 2 i) (sector_at (with_parity area) i) else false)
-      (range_with_len 0 32)
+    (range_with_len 0 32)
     ++ filter (λ i.
-        if nat_lt i 29 then is_unreadable (view_at c 2 i)
-        else not (holds (view_at c 2 i) (sector_at (with_parity area) i))) (range_with_len 0 32)
+    if nat_lt i 29 then is_unreadable (view_at c 2 i)
+    else not (holds (view_at c 2 i) (sector_at (with_parity area) i))) (range_with_len 0 32)
 
 -- the writes that settle the volume table, whose data are these: none on a protected cartridge
 abbrev pub settling_steps : (area : List (List ℕ)) → Cartridge → List Step

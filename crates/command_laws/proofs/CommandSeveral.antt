@@ -425,17 +425,19 @@ module _ (seed count : ℕ) (few : count ≤ 200) (c : Cartridge) (plain : Plain
           | inr so ↦ none_behind (subst (λ (o : CommandOutcome). Behind c o.acts text left) turned.is so)
         ]
         | inr run ↦
-            let acts_are : outcome.acts ≡ quiet (settling_steps plain.table_area c) ∷ run.acts = ap (λ (o : CommandOutcome). o.acts) run.is in
-            (run, elim which [
-              | inl (some, so) ↦
-                  elim (left_then c plain whole stood run.mounts run.acts text left (subst (λ (acts : List Act). IsLeftBy c acts text left) acts_are so)) [
-                    | inl (none, torn) ↦ absurd (some none)
-                    | inr at ↦ left_printed (settled plain.table_area c) run.acts text left some at
-                  ]
-              | inr so ↦
-                  behind_printed (settled plain.table_area c) run.acts text left
-                  (behind_then c plain whole stood run.mounts run.acts text left (subst (λ (acts : List Act). Behind c acts text left) acts_are so))
-            ])
+            let acts_are : outcome.acts ≡ quiet (settling_steps plain.table_area c) ∷ run.acts = ap (λ (o : CommandOutcome). o.acts) run.is in (
+              run,
+              elim which [
+                | inl (some, so) ↦
+                    elim (left_then c plain whole stood run.mounts run.acts text left (subst (λ (acts : List Act). IsLeftBy c acts text left) acts_are so)) [
+                      | inl (none, torn) ↦ absurd (some none)
+                      | inr at ↦ left_printed (settled plain.table_area c) run.acts text left some at
+                    ]
+                | inr so ↦
+                    behind_printed (settled plain.table_area c) run.acts text left
+                    (behind_then c plain whole stood run.mounts run.acts text left (subst (λ (acts : List Act). Behind c acts text left) acts_are so))
+              ],
+            )
       ]
     where
       none_behind : {P : Type 0} → Behind c [] text left → P

@@ -52,11 +52,11 @@ module _ {T S K : Type 0} (t : tapes.Meaning T) (s : sources.Meaning S) (k : sin
       let so : (held left : Option Cartridge) → WordsLeave None words held left → IfSome held IsCartridge →
       (input : List ℕ) × SomeScripted (Some input) words held left × StoppedComesBack (Some input) words held left =
       λ held left leaves whole.
-          let some = untold words held left leaves in (
-            some.0,
-            some_scripted (Some some.0) words held left whole some.1,
-            stopped_comes_back (Some some.0) words held left (λ command spells. has_values words command spells) whole some.1,
-          ) in
+      let some = untold words held left leaves in (
+        some.0,
+        some_scripted (Some some.0) words held left whole some.1,
+        stopped_comes_back (Some some.0) words held left (λ command spells. has_values words command spells) whole some.1,
+      ) in
       record {
         told = λ held told. told_weaker (t.told new.tape) (λ left. so held left) (each.told held told);
         since = λ held left telling told is. so held left (each.since held left telling told is);

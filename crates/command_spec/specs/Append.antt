@@ -92,8 +92,8 @@ abbrev pub input_writes : Kept → (promised : Option ℕ) → (input : List ℕ
 input_writes kept promised input =
     if has_promised_room (room_in kept) promised
     then
-      input_acts kept.words (free_segments kept.words kept.entries) (unwrap_or promised (room_in kept))
-      (is_some promised) input
+    input_acts kept.words (free_segments kept.words kept.entries) (unwrap_or promised (room_in kept))
+    (is_some promised) input
     else []
 
 -- the entry of a volume of these bytes behind the others

@@ -92,8 +92,18 @@ pub record Traits : Type 0 where
 -- one with none of them
 abbrev pub none_of_them : Traits
 none_of_them = record {
-  reads = false; lines = false; goes = false; memory = false; cartridge = false; writable = false;
-  sector = false; blank = false; formats = false; mounts = false; appends = false; restores = false;
+  reads = false;
+  lines = false;
+  goes = false;
+  memory = false;
+  cartridge = false;
+  writable = false;
+  sector = false;
+  blank = false;
+  formats = false;
+  mounts = false;
+  appends = false;
+  restores = false;
 }
 
 -- ---- what it may need of a cartridge

@@ -23,12 +23,12 @@ unfoldable pub date_text : ℕ → List ℕ
 date_text word =
     if nat_lt 0x01EA6DFF (low_part word) then codes "?"
     else date_form
-        (1970 + word / 2 ^ 25)
-        (low_part word / 60 / 60 / 24 / 31 + 1)
-        (low_part word / 60 / 60 / 24 % 31 + 1)
-        (low_part word / 60 / 60 % 24)
-        (low_part word / 60 % 60)
-        (low_part word % 60)
+    (1970 + word / 2 ^ 25)
+    (low_part word / 60 / 60 / 24 / 31 + 1)
+    (low_part word / 60 / 60 / 24 % 31 + 1)
+    (low_part word / 60 / 60 % 24)
+    (low_part word / 60 % 60)
+    (low_part word % 60)
 
 -- ---- names
 

@@ -122,8 +122,8 @@ abbrev pub Gives : (number : ℕ) → Going
 Gives number c header words table entries outcome =
     ((volume_at entries number ≡ None) × (outcome ≡ refused_behind (settling_steps table c) (status.NoVolume number (length entries))))
     ⊎ RestoresVolume (settled table c) words entries number
-      (λ entry acts ending.
-      outcome ≡ record { acts = settling_act table c ∷ acts; taken = 0; status = ending_status ending })
+    (λ entry acts ending.
+    outcome ≡ record { acts = settling_act table c ∷ acts; taken = 0; status = ending_status ending })
 
 abbrev pub RestoreOutcome : (number : ℕ) → Option Cartridge → CommandOutcome → Type 0
 RestoreOutcome number held outcome = OpenOutcome (Gives number) held outcome

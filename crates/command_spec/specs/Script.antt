@@ -112,7 +112,7 @@ LineDoes c words entries line.List bytes did = did ≡ record { acts = reply (li
 LineDoes c words entries (line.Restore number) bytes did =
     ((volume_at entries number ≡ None) × (did ≡ line_refused [] entries (why.NoVolume number (length entries))))
     ⊎ RestoresVolume c words entries number
-      (λ entry acts ending. did ≡ given_as words entries number entry (framed (pieces words entry) acts) ending)
+    (λ entry acts ending. did ≡ given_as words entries number entry (framed (pieces words entry) acts) ending)
 LineDoes c words entries line.Scrub bytes did =
     ((c.info.protected ≡ true) × (did ≡ line_refused [] entries why.Protected))
     ⊎ ((c.info.protected ≡ false) × ((acts : List Act) × Scrubs c words entries acts × (did ≡ record { acts = acts; entries = entries })))

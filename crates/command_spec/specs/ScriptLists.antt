@@ -41,7 +41,7 @@ ItemsSpare c plain [] dids = Unit {0}
 ItemsSpare c plain (item ∷ items) [] = Unit {0}
 ItemsSpare c plain (item ∷ items) (did ∷ dids) =
     ((segment sector : ℕ) → item.line ≡ line.Lose segment sector →
-      IsPlace c.info.segments_per_track segment sector → WearSpares c plain segment sector)
+    IsPlace c.info.segments_per_track segment sector → WearSpares c plain segment sector)
     × ItemsSpare (changed_by (steps_of did.acts) c) (with_all plain (item_added (entries_of plain) item did)) items dids
 
 -- the first ones do

@@ -28,10 +28,10 @@ by_refusal r command None = record r {
   deck = accepted command r.deck;
   line = nat_lt 0 (report_width command);
   under_way =
-    if nat_lt 0 (report_width command)
-    then Report (digits (report_width command) (report_word command r.deck) ++ true ∷ [])
-    else if nat_lt 0 (parameter_trains command) then Awaited record { command = command; taken = 0; value = 0 }
-    else Nothing;
+      if nat_lt 0 (report_width command)
+      then Report (digits (report_width command) (report_word command r.deck) ++ true ∷ [])
+      else if nat_lt 0 (parameter_trains command) then Awaited record { command = command; taken = 0; value = 0 }
+      else Nothing;
 }
 by_refusal r command (Some code) = latched r code (number_of command)
 

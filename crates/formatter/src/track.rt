@@ -11,7 +11,11 @@ use host_driver::{Host, HostFault};
 use qic_base::Tape;
 
 /// Has the tape stream at the first segment of a track, and gives how many segments a track has: one at least.
-pub(crate) fn go_to_track<T: Tape>(host: &mut Host, unit: &mut Unit<T>, track: u32) -> Result<u32, HostFault>
+pub(crate) fn go_to_track<T: Tape>(
+    host: &mut Host,
+    unit: &mut Unit<T>,
+    track: u32,
+) -> Result<u32, HostFault>
     requires ready { IsReady T.means host.old unit.old }
     requires referenced { is_referenced unit.old.drive.deck ≡ true }
     requires track { track < 28 }

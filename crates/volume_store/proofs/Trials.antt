@@ -139,8 +139,8 @@ pub says_mismatch : (cells : List SectorView) (lost : ℕ) (used : Option ℕ) (
 says_mismatch cells lost used old new is unsolved =
     let few : unreadable_count cells ≤ 3 = few_cells cells lost used old is in
     let none : HasNoBlocks (0 ∷ further lost used) cells = All-cons (λ (s : ℕ). HasNoBlock (hidden s cells)) 0 (further lost used)
-      (nothing_out cells (unsolved.each 0 lost refl cells is.count is.gathered few))
-      (none_of cells old (further lost used) is.count (all_good cells lost used old is) (λ i other at. unsolved.each (suc i) other at)) in (
+    (nothing_out cells (unsolved.each 0 lost refl cells is.count is.gathered few))
+    (none_of cells old (further lost used) is.count (all_good cells lost used old is) (λ i other at. unsolved.each (suc i) other at)) in (
       collected_loses cells lost old is.gathered is.loses,
       (few, subst (λ (sets : List ℕ). HasNoBlocks sets cells) (sym (sets_are cells lost used old is)) none),
     )
