@@ -106,18 +106,21 @@ impl State for LoadPoint {
 
 impl State for Primary {
     ghost use Rattle.std.specs.Prelude.{false};
+    ghost use Rattle.qic117_commands.specs.declared.view.Mode.TheVariants as mode;
 
     ghost state = { record { mode = mode.Primary; at_load_point = false; seeks = false } };
 }
 
 impl State for Format {
     ghost use Rattle.std.specs.Prelude.{false};
+    ghost use Rattle.qic117_commands.specs.declared.view.Mode.TheVariants as mode;
 
     ghost state = { record { mode = mode.Format; at_load_point = false; seeks = false } };
 }
 
 impl State for Verify {
     ghost use Rattle.std.specs.Prelude.{false};
+    ghost use Rattle.qic117_commands.specs.declared.view.Mode.TheVariants as mode;
 
     ghost state = { record { mode = mode.Verify; at_load_point = false; seeks = false } };
 }

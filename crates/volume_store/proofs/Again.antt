@@ -1,10 +1,11 @@
 -- The volume table read again: what it says of a list, and what a call did that read it.
 use Rattle.std.proofs.Common.{ℕ, List, subst, Err, ◌≡◌, ◌++◌, refl, [], ◌≢◌, sym, Result, ◌∙◌, ap, length, take, Ok, IsOkUnless, ◌∷◌, OnErr, inl}
+use Rattle.std.proofs.lemmas.List.Elements.{All-head}
 use Rattle.std.proofs.lemmas.List.{append-nil}
 use Rattle.cartridge_laws.proofs.Hiding.{nothing_is_hidden}
 use Rattle.cartridge_spec.specs.HeaderAndTable.{TableIs, table_cells}
 use Rattle.cartridge_laws.specs.Terms.{HasList}
-use Rattle.cartridge_spec.specs.Says.{HasNoBlock, ByCode, LostSectors, TableSays}
+use Rattle.cartridge_spec.specs.Says.{HasNoBlock, ByCode, LostSectors, TableSays, hidden_from}
 use Rattle.cartridge_spec.specs.Settling.{settling_steps}
 use Rattle.cartridge_spec.specs.Table.{Entry, Shows, table_with}
 use Rattle.command_laws.proofs.StoreAgain.{list_shown, table_one}
@@ -38,7 +39,8 @@ list_missing c area entries none table = λ has. none (list_shown c area entries
 pub finds_fault : (c : Cartridge) (sectors : List (List ℕ)) (entries : List Entry) (f : SegFault) → FindsTable {A = Unread} c sectors (Err f) → FindsList c sectors entries (Err (refusal_of f))
 finds_fault c sectors entries (seg.Lost segment lost) found = found.1
 finds_fault c sectors entries (seg.Mismatch segment) found =
-    let none : HasNoBlock (table_cells c) = subst (λ (cells : List SectorView). HasNoBlock cells) (nothing_is_hidden (table_cells c)) found.1.1.1.0 in
+    let none : HasNoBlock (table_cells c) = subst (λ (cells : List SectorView). HasNoBlock cells) (nothing_is_hidden (table_cells c))
+    (All-head (λ (set : ℕ). HasNoBlock (hidden_from set 0 (table_cells c))) 0 _ found.1.1.1) in
     λ has. none has.block has.code has.agrees
 finds_fault c sectors entries seg.Tape found = found
 

@@ -1,6 +1,7 @@
 -- What is known of the mounting of a cartridge whose header and volume table were read.
 use Rattle.std.proofs.Common.{◌≡◌, ℕ, ◌-◌, ◌*◌, List, Err, sym, ap, subst, inr}
 use Rattle.qic_base.specs.Cartridge.{Cartridge}
+use Rattle.cartridge_laws.specs.Terms.{fault_as}
 use Rattle.cartridge_spec.specs.Table.{Entry, IsFirstFault}
 use Rattle.cartridge_spec.specs.Mounting.{IsSoundlyFormatted}
 use Rattle.cartridge_spec.specs.HeaderAndTable.{last_segment}

@@ -1,5 +1,5 @@
 -- What a restore gave, by its answer, and the fit of a store behind a call that keeps its list.
-use Rattle.std.proofs.Common.{◌≡◌, ℕ, zero, suc, ◌-◌, ◌*◌, ◌<◌, ◌×◌, ◌++◌, Bool, true, false, List, [], ◌∷◌, length, Option, Some, None, IfSome, Result, Ok, Err, refl, sym, ap, ◌∙◌, subst, arith, slice_get, append_assoc}
+use Rattle.std.proofs.Common.{◌≡◌, ℕ, zero, suc, ◌-◌, ◌*◌, ◌<◌, ◌++◌, Bool, true, false, List, [], ◌∷◌, length, Option, Some, None, IfSome, Result, Ok, Err, refl, sym, ap, ◌∙◌, subst, arith, slice_get, append_assoc}
 use Rattle.std.proofs.lemmas.Option.{slice_get_past}
 use Rattle.cartridge_laws.specs.Terms.{HasList}
 use Rattle.qic_base.specs.Cartridge.{Cartridge}
