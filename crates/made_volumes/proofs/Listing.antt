@@ -33,7 +33,7 @@ module _ {T : Type 0} (t : tapes.Meaning T) (seed count n : ℕ) (few : n < coun
       (some_held kept, λ other. absurd (other may.1.0))
   listed_refused (fault.Mismatch segment) e run kept =
       let may = may_done seed before.words es (AppendMade (1 + n)) (text_of run.acts) (Mismatch segment) run.may in
-      absurd may.1
+      absurd may
   listed_refused fault.Sink e cut kept = absurd (let rose = cut.cut.broke.cause in omega arith)
   listed_refused fault.Tape e cut kept = tt
 

@@ -40,7 +40,7 @@ module _ {T : Type 0} (t : tapes.Meaning T) (seed : ℕ) (words : List ℕ) (ent
     acts = worn;
     went = record { did = done; wrote = record { took = refl; later = omega arith }; source_later = omega arith };
     told = tells_always t a (λ c. Runs seed c words entries (WearSector segment sector ∷ []) worn Done)
-        (λ c. run_of seed c words entries (WearSector segment sector) worn Done (record { does = refl; answered = refl }));
+        (λ c. run_of seed c words entries (WearSector segment sector) worn Done (refl, refl));
     may = may_of seed words entries (WearSector segment sector) [] Done (refl, refl);
   }
 
@@ -92,7 +92,7 @@ module _ {T K : Type 0} (t : tapes.Meaning T) (k : sinks.Meaning K) (seed : ℕ)
         told = tells_two t a (λ c. c.info.protected ≡ false)
             (λ c. (scrubs : Scrubs c words entries ends.acts) × (reported report ≡ counts_of c (looked_at words entries) scrubs.sayings))
             (λ c. Runs seed c words entries (ScrubAll ∷ []) ends.acts Done)
-            (λ c unlocked known. run_of seed c words entries ScrubAll ends.acts Done (inr (unlocked, record { does = known.0; answered = refl })))
+            (λ c unlocked known. run_of seed c words entries ScrubAll ends.acts Done (inr (unlocked, (known.0, refl))))
             (told_mark t before u fits false free) ends.told;
         may = may_of seed words entries ScrubAll (text_of ends.acts) Done (reported report, ends.text);
       }

@@ -95,11 +95,10 @@ module _ {T K : Type 0} (t : tapes.Meaning T) (k : sinks.Meaning K) (seed : ℕ)
   summed_so e ending gave c numbered restores = record {
     entry = e;
     numbered = numbered;
-    given = gave.acts;
+    acts = gave.acts;
     ending = ending;
     restores = restores;
-    does = refl;
-    answered = refl;
+    is = (refl, refl);
   }
 
   -- ---- the line
