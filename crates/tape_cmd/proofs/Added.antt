@@ -3,12 +3,12 @@ use Rattle.std.proofs.Common.{ℕ, ◌<◌, List, All, Option, Some, None, ◌�
 use Rattle.std.specs.Prelude.{IfNone, if◌then◌else◌, ◌≤◌, ◌↔◌, is_some, ◌==◌, nat_lt}
 use Rattle.std.proofs.lemmas.List.Elements.{All-nil}
 use Rattle.std.specs.Option.{option_map}
-use Rattle.std.proofs.Math.Nat.{min-le_right}
-use Rattle.std.proofs.lemmas.Bool.{le-leb, lt-ltb}
+use Rattle.std.proofs.Math.Nat.{min-eq_left, min-le_right}
+use Rattle.std.proofs.lemmas.Bool.{le-leb, leb-true, lt-ltb}
 use Rattle.cartridge_laws.proofs.MountOnce.{one_table}
 use Rattle.cartridge_laws.proofs.MountSettled.{settled_keeps_table}
 use Rattle.cartridge_laws.proofs.TableSayings.{table_says_is_function}
-use Rattle.cartridge_spec.specs.Appending.{table_writes}
+use Rattle.cartridge_spec.specs.Appending.{room, table_writes}
 use Rattle.cartridge_spec.specs.HeaderAndTable.{TableIs, table_cells}
 use Rattle.cartridge_spec.specs.Mounting.{settled}
 use Rattle.cartridge_spec.specs.Says.{Data, LostSectors, AsRead, ByCode, TableSays}
@@ -22,7 +22,7 @@ use Rattle.command_laws.proofs.CommandOpened.{quiet}
 use Rattle.command_laws.proofs.CommandTable.{plain_is_function}
 use Rattle.command_laws.proofs.CommandTold.{input_of, input_told}
 use Rattle.command_laws.proofs.StoreTaking.{both_true}
-use Rattle.command_spec.specs.Append.{Kept, Taking, Fits, TooLong, TooShort, entry_acts, taking, room_in, input_writes, append_acts, AppendOutcome, kept_over}
+use Rattle.command_spec.specs.Append.{Kept, Taking, Fits, TooLong, TooShort, entry_acts, taking, room_in, input_writes, append_acts, appended, AppendOutcome, kept_over}
 use Rattle.command_laws.specs.CommandTerms.{entry_for, silently, append_status, Appends, bytes_taken, CommandPrints, FrontPrints}
 use Rattle.command_spec.specs.Lines.{reply_behind, appended_line}
 use Rattle.command_spec.specs.Outcome.{CommandOutcome, refused, refused_behind}
@@ -110,6 +110,21 @@ silent_text kept name date reply input need have took =
 
 status_full : (have : ℕ) (input : List ℕ) (need most : ℕ) → taking have None input ≡ TooLong need most → append_status have input ≡ status.Full need most
 status_full have input need most took = (status_by (nat_le 1 have && nat_le (length input) have) have input (taking have None input) refl).1 need most took
+
+-- what is taken: all that has room, and else one byte more than has
+taken_is : (have : ℕ) (input : List ℕ) → bytes_taken None (taking have None input) ≡ min (length input) (have + 1)
+taken_is have input = by_flag (nat_le 1 have && nat_le (length input) have) refl
+  where
+    second : (a b : Bool) → (a && b) ≡ true → b ≡ true
+    second true b is = is
+    second false b is = cc
+
+    by_flag : (flag : Bool) → (nat_le 1 have && nat_le (length input) have) ≡ flag →
+        bytes_taken None (if flag then Fits input else TooLong (min (length input) (have + 1)) have) ≡ min (length input) (have + 1)
+    by_flag true is =
+        let fits : length input ≤ have = leb-true (length input) have (second (nat_le 1 have) (nat_le (length input) have) is) in
+        sym (min-eq_left (omega (arith, fits)))
+    by_flag false is = refl
 
 -- one byte more than has room is asked for at most
 full_small : (have : ℕ) (input : List ℕ) (need most : ℕ) → taking have None input ≡ TooLong need most → nat_le need (most + 1) ≡ true
@@ -254,6 +269,15 @@ module _ {T S K : Type 0} (t : tapes.Meaning T) (s : sources.Meaning S) (k : sin
         tells_two t b.tape (λ d. IsKnown d store false) (λ d. TableIs d table × (settling ≡ settling_steps table d)) (Found table settling)
         (λ d known is. record { known = known; reads = is.0; settles = is.1 }) (opened_known t a b store opening false free) told
 
+    -- the bytes that are taken, said in two ways
+    taken_so : (c : Cartridge) (table : List (List ℕ)) (words : List ℕ) (entries : List Entry) (input : List ℕ) →
+        going_by (quiet (settling_steps table c)) (kept_over (settled table c) words entries table) name date input ≡ appended name date input c words table entries
+    taken_so c table words entries input =
+        ap (λ (taken : ℕ). with_acts
+        (quiet (settling_steps table c) ∷ append_acts (kept_over (settled table c) words entries table) name date None (reply_behind (length entries)) input)
+        taken (append_status (room words entries) input))
+        (taken_is (room words entries) input)
+
     -- it is the machine's over what is told
     is_plain : (table : List (List ℕ)) (settling : List TapeStep) (input : List ℕ) (c : Cartridge) → (is : IsOpened c store opening.steps) → Found table settling (settled is.table c) →
         AppendOutcome name date (Some c) input (going_by (quiet opening.steps) (kept_by store table settling) name date input)
@@ -264,7 +288,8 @@ module _ {T S K : Type 0} (t : tapes.Meaning T) (s : sources.Meaning S) (k : sin
             mounting.Mounted store.header store.words is.table store.entries,
             is.mounts,
             ap (λ (kept : Kept). going_by (quiet opening.steps) kept name date input) (same_kept c store opening.steps is table settling f.reads f.settles)
-                ∙ ap (λ (ss : List TapeStep). going_by (quiet ss) (kept_over (settled is.table c) store.words store.entries is.table) name date input) is.settles,
+                ∙ ap (λ (ss : List TapeStep). going_by (quiet ss) (kept_over (settled is.table c) store.words store.entries is.table) name date input) is.settles
+                ∙ taken_so c is.table store.words store.entries input,
           ),
         )
 
