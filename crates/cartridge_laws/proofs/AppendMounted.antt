@@ -15,8 +15,8 @@ use Rattle.cartridge_laws.specs.AppendSettled.{DoneMounts, MayAppendTo, DoneIsCl
 use Rattle.cartridge_laws.specs.AppendSteps.{append_steps, volume_writes, list_writes, IsNamed}
 use Rattle.cartridge_laws.specs.AppendWrites.{KeepsTo, AreWrites, IsFree, IsOfSector}
 use Rattle.cartridge_spec.specs.Appending.{appended_volume, with_bytes}
-use Rattle.cartridge_laws.specs.Terms.{new_segments, last_end, table_places, slot_sector}
-use Rattle.cartridge_spec.specs.Formatting.{IsCleanCopy, StandsCleanly}
+use Rattle.cartridge_laws.specs.Terms.{new_segments, last_end, table_places, slot_sector, IsCleanCopy}
+use Rattle.cartridge_spec.specs.Formatting.{StandsCleanly}
 use Rattle.cartridge_spec.specs.HeaderAndTable.{last_segment, copy_cells}
 use Rattle.cartridge_spec.specs.Mounting.{Mounts, mounted_as}
 use Rattle.cartridge_spec.specs.Says.{whole_mask, Written, Zero}
@@ -80,8 +80,10 @@ clean_kept : (c d : Cartridge) (plain new : Plain) → new.header_area ≡ plain
     Stands d new → StandsCleanly d new
 clean_kept c d plain new same clean kept stands = record {
   stands = stands;
-  first = subst (IsCleanCopy d 0) (sym same) (clean_copy c d 0 plain.header_area (omega arith) kept clean.first);
-  second = subst (IsCleanCopy d 1) (sym same) (clean_copy c d 1 plain.header_area (omega arith) kept clean.second);
+  copies = record {
+    first = subst (IsCleanCopy d 0) (sym same) (clean_copy c d 0 plain.header_area (omega arith) kept clean.copies.first);
+    second = subst (IsCleanCopy d 1) (sym same) (clean_copy c d 1 plain.header_area (omega arith) kept clean.copies.second);
+  };
 }
 
 pub done_is_clean : DoneIsClean
@@ -149,8 +151,10 @@ free_clean c d plain clean stands kept =
     let second : copy_cells d 1 ≡ copy_cells c 1 = same_cells c d 1 whole_mask (λ i h. kept.sectors 1 i (omega arith) h) in
     record {
       stands = stands;
-      first = subst (λ (cells : List SectorView). Written cells plain.header_area ⊎ Zero cells) (sym first) clean.first;
-      second = subst (λ (cells : List SectorView). Written cells plain.header_area ⊎ Zero cells) (sym second) clean.second;
+      copies = record {
+        first = subst (λ (cells : List SectorView). Written cells plain.header_area ⊎ Zero cells) (sym first) clean.copies.first;
+        second = subst (λ (cells : List SectorView). Written cells plain.header_area ⊎ Zero cells) (sym second) clean.copies.second;
+      };
     }
 
 pub free_writes_are_clean : FreeWritesAreClean

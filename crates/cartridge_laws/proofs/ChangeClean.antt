@@ -3,8 +3,8 @@ use Rattle.std.proofs.Common.{ℕ, inl, inr, List, ◌≤◌, arith, refl}
 use Rattle.cartridge_laws.proofs.ChangeStanding.{written_less, zero_less, count_grows, worn_stands, spoiled_stands, marks_read_no_more, protected_stands, referenced_stands}
 use Rattle.cartridge_laws.proofs.ChangeViews.{ReadsNoMore, worn_reads_no_more, spoiled_alike}
 use Rattle.cartridge_laws.specs.ChangeLaws.{WornIsClean, WornIsBare, SpoiledIsClean, SpoiledIsBare, ProtectedIsClean, ProtectedIsBare, ReferencedIsClean, ReferencedIsBare}
-use Rattle.cartridge_spec.specs.Formatting.{IsCleanCopy, StandsCleanly, HasNoHeader}
-use Rattle.cartridge_laws.specs.Terms.{IsBareCopy}
+use Rattle.cartridge_spec.specs.Formatting.{StandsCleanly, HasNoHeader}
+use Rattle.cartridge_laws.specs.Terms.{IsBareCopy, IsCleanCopy}
 use Rattle.cartridge_spec.specs.HeaderAndTable.{copy_cells}
 use Rattle.cartridge_spec.specs.Says.{whole_mask, unreadable_count}
 use Rattle.cartridge_spec.specs.Volumes.{Plain, Stands, worn}
@@ -24,8 +24,10 @@ bare_less c d copy less (inr lost) =
 cleanly_less : (c d : Cartridge) (plain : Plain) → ReadsNoMore c d → StandsCleanly c plain → Stands d plain → StandsCleanly d plain
 cleanly_less c d plain less clean stands = record {
   stands = stands;
-  first = clean_less c d 0 plain.header_area less clean.first;
-  second = clean_less c d 1 plain.header_area less clean.second;
+  copies = record {
+    first = clean_less c d 0 plain.header_area less clean.copies.first;
+    second = clean_less c d 1 plain.header_area less clean.copies.second;
+  };
 }
 
 pub no_header_less : (c d : Cartridge) → ReadsNoMore c d → HasNoHeader c → HasNoHeader d

@@ -148,8 +148,10 @@ formatted_stands old new label date words area whole for formatted =
     let second = formatted_copy old new 1 area formatted (omega arith) in
     record {
       stands = copy_stands old new label date words area whole for formatted.info first (formatted_table old new area whole formatted);
-      first = inl (copy_is_written new 0 area long first);
-      second = inl (copy_is_written new 1 area long second);
+      copies = record {
+        first = inl (copy_is_written new 0 area long first);
+        second = inl (copy_is_written new 1 area long second);
+      };
     }
 
 -- its table's segment takes writes

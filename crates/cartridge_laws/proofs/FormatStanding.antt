@@ -8,8 +8,8 @@ use Rattle.std.specs.List.{range_with_len}
 use Rattle.cartridge_laws.proofs.FormatCopies.{zero_from_views, zero_shrank, written_shrank, written_reads, lost_does_not_read}
 use Rattle.cartridge_laws.proofs.FormatHalfway.{IsKeptCopy, IsKept}
 use Rattle.cartridge_laws.proofs.Segments.{zero_does_not_read}
-use Rattle.cartridge_spec.specs.Formatting.{HasNoHeader, IsCleanCopy, StandsCleanly}
-use Rattle.cartridge_laws.specs.Terms.{IsBareCopy, IsInForce, overlaps_before, PartStands, CopiesAre, ForeignSlot, BadRange}
+use Rattle.cartridge_spec.specs.Formatting.{HasNoHeader, StandsCleanly}
+use Rattle.cartridge_laws.specs.Terms.{IsBareCopy, IsInForce, overlaps_before, PartStands, CopiesAre, ForeignSlot, BadRange, IsCleanCopy}
 use Rattle.cartridge_spec.specs.Header.{has_signature, header_fault}
 use Rattle.cartridge_spec.specs.HeaderAndTable.{CopyDoesNotRead, IsArea, CopyReads, copy_cells, last_segment}
 use Rattle.cartridge_spec.specs.Says.{cells_of, Written, unreadable_count, ReadsAll, whole_mask}
@@ -217,10 +217,10 @@ kept_stands c d plain stood kept =
     let area : List (List ℕ) = plain.header_area in
     let is_area : IsArea area = stood.stands.whole.header_area in
     let signature : has_signature area ≡ true = signature_in_force c area stood.stands.header.in_force in
-    let first : IsCleanCopy d 0 area = clean_kept 0 area stood.first kept.first in
-    let second : IsCleanCopy d 1 area = clean_kept 1 area stood.second kept.second in
+    let first : IsCleanCopy d 0 area = clean_kept 0 area stood.copies.first kept.first in
+    let second : IsCleanCopy d 1 area = clean_kept 1 area stood.copies.second kept.second in
     elim (header_decided d area is_area signature first second) [
-      | inl header ↦ inl (record { stands = still_stands c d plain stood.stands kept header; first = first; second = second })
+      | inl header ↦ inl (record { stands = still_stands c d plain stood.stands kept header; copies = record { first = first; second = second } })
       | inr none ↦ inr (record {
         first = clean_is_bare d 0 area is_area signature first none.0;
         second = clean_is_bare d 1 area is_area signature second none.1;

@@ -135,8 +135,10 @@ pub clean_kept : (c d : Cartridge) (plain : Plain) (area : List (List ℕ)) → 
     ReadsPlainly d area → StandsCleanly d plain
 clean_kept c d plain area clean table kept reads = record {
   stands = data_kept c d plain area clean.stands table kept reads;
-  first = clean_copy (copy_cells c 0) (copy_cells d 0) plain.header_area (same_copy 0 kept (omega arith)) clean.first;
-  second = clean_copy (copy_cells c 1) (copy_cells d 1) plain.header_area (same_copy 1 kept (omega arith)) clean.second;
+  copies = record {
+    first = clean_copy (copy_cells c 0) (copy_cells d 0) plain.header_area (same_copy 0 kept (omega arith)) clean.copies.first;
+    second = clean_copy (copy_cells c 1) (copy_cells d 1) plain.header_area (same_copy 1 kept (omega arith)) clean.copies.second;
+  };
 }
 
 pub stopped_is_clean : StoppedIsClean

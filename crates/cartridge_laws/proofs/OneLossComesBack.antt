@@ -126,8 +126,10 @@ table_alone_is_clean c d plain clean alone reads is =
     let all : ChangesTableAlone c e = alone_then c d e alone (settled_alone d plain.table_area reads) in
     record {
       stands = settled_stands c d plain alone clean.stands reads is;
-      first = clean_copy (copy_cells c 0) (copy_cells e 0) plain.header_area (same_copy 0 all (omega arith)) clean.first;
-      second = clean_copy (copy_cells c 1) (copy_cells e 1) plain.header_area (same_copy 1 all (omega arith)) clean.second;
+      copies = record {
+        first = clean_copy (copy_cells c 0) (copy_cells e 0) plain.header_area (same_copy 0 all (omega arith)) clean.copies.first;
+        second = clean_copy (copy_cells c 1) (copy_cells e 1) plain.header_area (same_copy 1 all (omega arith)) clean.copies.second;
+      };
     }
 
 -- ---- an append

@@ -91,6 +91,10 @@ map_fault area =
 abbrev pub IsInForce : Cartridge → List (List ℕ) → Type 0
 IsInForce c area = CopyReads c 0 area ⊎ (CopyDoesNotRead c 0 × CopyReads c 1 area)
 
+-- a header copy was written with these data, or holds zero bytes
+abbrev pub IsCleanCopy : Cartridge → (copy : ℕ) → (area : List (List ℕ)) → Type 0
+IsCleanCopy c copy area = Written (copy_cells c copy) area ⊎ Zero (copy_cells c copy)
+
 -- a header copy holds nothing but zero bytes, as one of a new cartridge, or has lost more sectors than the code finds
 -- again
 abbrev pub IsBareCopy : Cartridge → (copy : ℕ) → Type 0

@@ -19,8 +19,7 @@ free_segments words entries = carrying words (end_behind 2 entries + 1) (length 
 
 -- the bytes that a new volume may have: those that these segments carry, and none where the table is full
 abbrev pub room : (words : List ℕ) → List Entry → ℕ
-room words entries =
-    if nat_lt (length entries) 232 then capacity_between words (end_behind 2 entries + 1) (length words - 1) else 0
+room words entries = if nat_lt (length entries) 232 then capacity_between words (end_behind 2 entries + 1) (length words - 1) else 0
 
 -- those of some carrying segments that a volume of so many bytes takes, in their order: it ends with the one that takes
 -- its last byte, and takes one for no byte
@@ -38,16 +37,9 @@ in_sectors (suc count) bytes =
 -- what a slot says of a volume that was appended: its first and its last segment, its name of 44 bytes, its date word,
 -- and how many bytes it has
 abbrev pub new_entry : (segments : List ℕ) → (name : List ℕ) → (date bytes : ℕ) → Entry
-new_entry segments name date bytes = record {
-  start = slice_index segments 0;
-  end = slice_index segments (length segments - 1);
-  name = name;
-  date = date;
-  flags = 1;
-  sequence = 1;
-  directory = 0;
-  size = bytes;
-}
+new_entry segments name date bytes =
+    let last : ℕ = slice_index segments (length segments - 1) in
+    record { start = slice_index segments 0; end = last; name = name; date = date; flags = 1; sequence = 1; directory = 0; size = bytes }
 
 -- the bytes of some sectors, one after the other
 abbrev pub bytes_in : List (List ℕ) → List ℕ
@@ -64,32 +56,28 @@ table_writes changed new = block_writes (with_parity new) (changed ∷ 29 ∷ 30
 
 -- all usable sectors of a segment, ascending: its part of an area, and the parity of it
 abbrev pub part_writes : (words : List ℕ) → Part → List Step
-part_writes words part =
-    writes_of part.segment (usable_places (mask_at words part.segment)) (with_parity part.sectors)
+part_writes words part = writes_of part.segment (usable_places (mask_at words part.segment)) (with_parity part.sectors)
 
 -- ---- the plain cartridge with volumes more
 
 -- it has room for a volume of so many bytes
 abbrev pub has_room : Plain → (bytes : ℕ) → Bool
-has_room plain bytes =
-    let have : ℕ = room plain.words (entries_of plain) in nat_le 1 have && nat_le bytes have
+has_room plain bytes = let have : ℕ = room plain.words (entries_of plain) in nat_le 1 have && nat_le bytes have
 
 -- the new volume: of a name of 44 bytes, a date word, and bytes
 abbrev pub appended_volume : Plain → (name : List ℕ) → (date : ℕ) → (bytes : List ℕ) → Volume
 appended_volume plain name date bytes =
     let free : List ℕ = free_segments plain.words (entries_of plain) in
-    let segments : List ℕ = taken_by plain.words (length bytes) free in record {
-      entry = new_entry segments name date (length bytes);
-      area = in_sectors (sum_by (λ s. data_count (mask_at plain.words s)) segments) bytes;
-    }
+    let segments : List ℕ = taken_by plain.words (length bytes) free in
+    let count : ℕ = sum_by (λ s. data_count (mask_at plain.words s)) segments in
+    record { entry = new_entry segments name date (length bytes); area = in_sectors count bytes }
 
 -- the plain cartridge with it behind the others, and with its entry in the table
 abbrev pub with_bytes : Plain → (name : List ℕ) → (date : ℕ) → (bytes : List ℕ) → Plain
 with_bytes plain name date bytes =
-    let volume : Volume = appended_volume plain name date bytes in record plain {
-      table_area = table_with plain.table_area (length plain.volumes) volume.entry;
-      volumes = plain.volumes ++ volume ∷ [];
-    }
+    let volume : Volume = appended_volume plain name date bytes in
+    let table : List (List ℕ) = table_with plain.table_area (length plain.volumes) volume.entry in
+    record plain { table_area = table; volumes = plain.volumes ++ volume ∷ [] }
 
 -- what is appended: the bytes of a volume, with its name and its date word
 pub record Content : Type 0 where

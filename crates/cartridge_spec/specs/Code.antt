@@ -60,8 +60,7 @@ added xs ys = []
 -- (x + q) / (p + q) times (x + r) / (p + r): the polynomial that is 1 at p, and 0 at q and at r; 1 / a is a to the
 -- power 254, since a to the power 255 is 1
 unfoldable pub lagrange : ℕ → ℕ → ℕ → List ℕ
-lagrange p q r =
-    map (product (product (power (bit_xor p q) 254) (power (bit_xor p r) 254))) (1 ∷ bit_xor q r ∷ product q r ∷ [])
+lagrange p q r = map (product (product (power (bit_xor p q) 254) (power (bit_xor p r) 254))) (1 ∷ bit_xor q r ∷ product q r ∷ [])
 
 -- the three parity bytes of a column's data (QIC-80-MC): the coefficients of the polynomial of degree below 3 that has,
 -- at r^-1, 1 and r, the values of the data with three zero bytes behind them, in Lagrange's form
@@ -74,5 +73,4 @@ parity ds =
 
 -- the three parity sectors of data sectors (QIC-80-MC): byte j of sector k is the parity byte k of column j
 unfoldable pub parity_sectors : List (List ℕ) → List (List ℕ)
-parity_sectors sectors =
-    map (λ k. map (λ j. slice_index (parity (column j sectors)) k) (range_with_len 0 1024)) (0 ∷ 1 ∷ 2 ∷ [])
+parity_sectors sectors = map (λ k. map (λ j. slice_index (parity (column j sectors)) k) (range_with_len 0 1024)) (0 ∷ 1 ∷ 2 ∷ [])

@@ -10,13 +10,11 @@ use Rattle.cartridge_spec.specs.Volumes.{Plain, Stands}
 use Rattle.qic_base.specs.Cartridge.{Cartridge, view_at, zero_sector}
 use Rattle.qic_base.specs.Step.{Step, FormatSegment, SetReferenced}
 use Rattle.qic_base.specs.declared.tape.SectorView.{SectorView}
-use Rattle.qic_base.specs.declared.tape.SectorView.TheVariants.{Blank, Defect, Lost, Holds}
+use Rattle.qic_base.specs.declared.tape.SectorView.TheVariants.{Defect}
 
 abbrev pub IsDefect : SectorView → Type 0
-IsDefect Blank = ⊥
 IsDefect Defect = Unit {0}
-IsDefect Lost = ⊥
-IsDefect (Holds bytes) = ⊥
+IsDefect view = ⊥
 
 -- the words mark exactly the defects: they have their bits
 pub record MarksDefects (c : Cartridge) (words : List ℕ) : Type 0 where
@@ -24,21 +22,16 @@ pub record MarksDefects (c : Cartridge) (words : List ℕ) : Type 0 where
   pub each : (segment sector : ℕ) → segment < 28 * c.info.segments_per_track → sector < 32 →
       slice_index words segment / 2 ^ sector % 2 ≡ 1 ↔ IsDefect (view_at c segment sector)
 
--- a header copy was written with these data, or holds zero bytes; so does each one of a new cartridge, and of one that
--- was formatted to the end
-abbrev pub IsCleanCopy : Cartridge → (copy : ℕ) → (area : List (List ℕ)) → Type 0
-IsCleanCopy c copy area = Written (copy_cells c copy) area ⊎ Zero (copy_cells c copy)
-
--- so is each of both
+-- each header copy was written with these data, or holds zero bytes: so does each one of a new cartridge, and of one
+-- that was formatted to the end
 pub record HasCleanCopies (c : Cartridge) (area : List (List ℕ)) : Type 0 where
-  pub first : IsCleanCopy c 0 area
-  pub second : IsCleanCopy c 1 area
+  pub first : Written (copy_cells c 0) area ⊎ Zero (copy_cells c 0)
+  pub second : Written (copy_cells c 1) area ⊎ Zero (copy_cells c 1)
 
 -- the cartridge stands for a plain one, and each of its header copies is clean
 pub record StandsCleanly (c : Cartridge) (plain : Plain) : Type 0 where
   pub stands : Stands c plain
-  pub first : IsCleanCopy c 0 plain.header_area
-  pub second : IsCleanCopy c 1 plain.header_area
+  pub copies : HasCleanCopies c plain.header_area
 
 -- each header copy holds nothing but zero bytes, as one of a new cartridge, or has lost more sectors than the code
 -- finds again
@@ -53,13 +46,8 @@ pub record IsLabel (label : List ℕ) : Type 0 where
 
 -- the header of a cartridge that is formatted with this label, 44 bytes, and this date word
 abbrev pub fresh_header : (n : ℕ) → (label : List ℕ) → (date : ℕ) → Header
-fresh_header n label date = record {
-  format_date = date;
-  write_date = date;
-  segments_per_track = n;
-  label = label;
-  label_date = date;
-}
+fresh_header n label date =
+    record { format_date = date; write_date = date; segments_per_track = n; label = label; label_date = date }
 
 -- header data for it, whose map marks the cartridge's defects
 pub record IsFreshWith (c : Cartridge) (label : List ℕ) (date : ℕ) (words : List ℕ) (area : List (List ℕ)) : Type 0 where
@@ -69,8 +57,7 @@ pub record IsFreshWith (c : Cartridge) (label : List ℕ) (date : ℕ) (words : 
 
 -- the segments of the header copies and of the volume table have none
 abbrev pub HasNoDefectInFront : Cartridge → Type 0
-HasNoDefectInFront c =
-    (segment : ℕ) → segment < 3 → (index : ℕ) → index < 32 → ¬ (IsDefect (view_at c segment index))
+HasNoDefectInFront c = (segment : ℕ) → segment < 3 → (index : ℕ) → index < 32 → ¬ (IsDefect (view_at c segment index))
 
 -- and none of them lies in front
 pub record IsFreshFor (c : Cartridge) (label : List ℕ) (date : ℕ) (words : List ℕ) (area : List (List ℕ)) : Type 0 where
@@ -79,13 +66,9 @@ pub record IsFreshFor (c : Cartridge) (label : List ℕ) (date : ℕ) (words : L
 
 -- the plain cartridge that it stands for then: without a volume, and the table's data are zero bytes
 abbrev pub fresh_plain : Cartridge → (label : List ℕ) → (date : ℕ) → (words : List ℕ) → (area : List (List ℕ)) → Plain
-fresh_plain c label date words area = record {
-  header_area = area;
-  header = fresh_header c.info.segments_per_track label date;
-  words = words;
-  table_area = replicate 29 zero_sector;
-  volumes = [];
-}
+fresh_plain c label date words area =
+    let header : Header = fresh_header c.info.segments_per_track label date in
+    record { header_area = area; header = header; words = words; table_area = replicate 29 zero_sector; volumes = [] }
 
 -- ---- the steps
 

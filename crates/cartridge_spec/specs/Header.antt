@@ -16,13 +16,12 @@ number_in area offset width = number_at (sector_at area (offset / 1024)) (offset
 abbrev pub word_in : List (List ℕ) → ℕ → ℕ
 word_in area segment = number_in area (2048 + 4 * segment) 4
 
--- what a header tells
+-- what a header tells: the date words of formatting and of writing, the segments per track, and the label of 44 bytes with
+-- its date word
 pub record Header : Type 0 where
-  -- date words
   pub format_date : ℕ
   pub write_date : ℕ
   pub segments_per_track : ℕ
-  -- 44 bytes
   pub label : List ℕ
   pub label_date : ℕ
 
@@ -31,12 +30,12 @@ pub data Value : Type 0 where
   Number : ℕ → Value
   Text : List ℕ → Value
 
+-- a field: its offset, its width in bytes, its value, and the name under which another value is refused; None where the
+-- field passes unread
 pub record Field : Type 0 where
   pub offset : ℕ
-  -- in bytes
   pub width : ℕ
   pub value : Value
-  -- the name under which another value is refused; None where the field passes unread
   pub test : Option ForeignField
 
 abbrev pub number : (offset width value : ℕ) → Field
@@ -96,8 +95,7 @@ pub record SpellsHeader (h : Header) (words : List ℕ) (area : List (List ℕ))
   pub rest : (k : ℕ) → k < 29696 →
       All (λ field. ¬ ((field.offset ≤ k) × (k < field.offset + field.width)))
       (profile_fields h.segments_per_track ++ header_fields h) →
-      ¬ ((2048 ≤ k) × (k < 2048 + 4 * (28 * h.segments_per_track))) →
-      slice_index (sector_at area (k / 1024)) (k % 1024) ≡ 0
+      ¬ ((2048 ≤ k) × (k < 2048 + 4 * (28 * h.segments_per_track))) → slice_index (sector_at area (k / 1024)) (k % 1024) ≡ 0
 
 -- ---- what is refused
 
@@ -129,5 +127,4 @@ abbrev pub header_fault : List (List ℕ) → ℕ → Option HeaderFault
 header_fault area n = option_or (first_fault area (profile_fields n)) (
     if not (word_in area 0 == 0) then Some (record { field = Map; value = 0 })
     else if not (word_in area 1 == 0) then Some (record { field = Map; value = 1 })
-    else if not (word_in area 2 == 0) then Some (record { field = Map; value = 2 })
-    else None)
+    else if not (word_in area 2 == 0) then Some (record { field = Map; value = 2 }) else None)

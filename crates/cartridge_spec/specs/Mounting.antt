@@ -58,9 +58,7 @@ Mounts c (Mounted header words table entries) = IsMounted c header words table e
 -- the cartridge as its mounting leaves it, where its table's data are these: on one that is not protected each live
 -- sector of segment 2 holds its sector of the data and their parity
 abbrev pub settled : List (List ℕ) → Cartridge → Cartridge
-settled area c =
-    if c.info.protected then c
-    else changed_by (writes_of 2 (usable_places whole_mask) (with_parity area)) c
+settled area c = if c.info.protected then c else changed_by (writes_of 2 (usable_places whole_mask) (with_parity area)) c
 
 -- ---- a cartridge that stands for a plain one
 

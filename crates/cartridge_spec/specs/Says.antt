@@ -6,7 +6,7 @@ use Rattle.cartridge_spec.specs.Shape.{usable_places, is_unreadable}
 use Rattle.cartridge_spec.specs.Table.{slot, is_used}
 use Rattle.qic_base.specs.Cartridge.{Cartridge, view_at, zero_sector}
 use Rattle.qic_base.specs.declared.tape.SectorView.{SectorView}
-use Rattle.qic_base.specs.declared.tape.SectorView.TheVariants.{Blank, Defect, Lost, Holds}
+use Rattle.qic_base.specs.declared.tape.SectorView.TheVariants.{Lost, Holds}
 
 -- a segment without a bad sector
 abbrev pub whole_mask : ℕ
@@ -71,22 +71,19 @@ pub record ReadsAll (cells : List SectorView) (sectors : List (List ℕ)) : Type
 -- the cells, the first of which is at this place, with those at the places of a set seen as lost
 unfoldable pub hidden_from : (set place : ℕ) → List SectorView → List SectorView
 hidden_from set place [] = []
-hidden_from set place (cell ∷ cells) =
-    (if set / 2 ^ place % 2 == 1 then Lost else cell) ∷ hidden_from set (suc place) cells
+hidden_from set place (cell ∷ cells) = (if set / 2 ^ place % 2 == 1 then Lost else cell) ∷ hidden_from set (suc place) cells
 
 -- the data of the code block that agrees with the cells outside the first of these sets for which there is one
 abbrev pub HasFirstBlock : List ℕ → List SectorView → List (List ℕ) → Type 0
 HasFirstBlock [] cells sectors = ⊥
 HasFirstBlock (set ∷ sets) cells sectors =
-    HasBlock (hidden_from set 0 cells) sectors
-    ⊎ (HasNoBlock (hidden_from set 0 cells) × HasFirstBlock sets cells sectors)
+    HasBlock (hidden_from set 0 cells) sectors ⊎ (HasNoBlock (hidden_from set 0 cells) × HasFirstBlock sets cells sectors)
 
 -- what a segment says where these sets are tried, in their order
 abbrev pub SaysBy : List ℕ → List SectorView → Saying → Type 0
 SaysBy sets cells (Data sectors) = (unreadable_count cells ≤ 3) × HasFirstBlock sets cells sectors
 SaysBy sets cells (LostSectors n) = (unreadable_count cells ≡ n) × (3 < n)
-SaysBy sets cells Mismatch =
-    (unreadable_count cells ≤ 3) × All (λ set. HasNoBlock (hidden_from set 0 cells)) sets
+SaysBy sets cells Mismatch = (unreadable_count cells ≤ 3) × All (λ set. HasNoBlock (hidden_from set 0 cells)) sets
 
 -- ---- what the table's segment says: the sets of sectors that its reading leaves out, one after the other
 
@@ -97,16 +94,13 @@ some_used_below bytes (suc j) = is_used (slot (bytes ∷ []) j) || some_used_bel
 
 -- the cell can be read, and some of its eight slots is used
 abbrev pub shows_used_slot : SectorView → Bool
-shows_used_slot Blank = false
-shows_used_slot Defect = false
-shows_used_slot Lost = false
 shows_used_slot (Holds bytes) = some_used_below bytes 8
+shows_used_slot view = false
 
 -- the last of the first cells that does
 unfoldable pub last_used_below : List SectorView → ℕ → Option ℕ
 last_used_below cells zero = None
-last_used_below cells (suc i) =
-    if shows_used_slot (unwrap_or (slice_get cells i) Lost) then Some i else last_used_below cells i
+last_used_below cells (suc i) = if shows_used_slot (unwrap_or (slice_get cells i) Lost) then Some i else last_used_below cells i
 
 -- the places of the unreadable cells, ascending, where the first cell is at this place
 unfoldable pub unreadable_from : ℕ → List SectorView → List ℕ
@@ -126,18 +120,13 @@ with_used (Some k) places = set_of (k ∷ places) ∷ []
 
 -- the sets behind the empty one, by the unreadable places: one of data, alone or with another one behind it
 abbrev pub sets_by : (used : Option ℕ) → (unreadable : List ℕ) → List ℕ
-sets_by used [] = []
 sets_by used (m ∷ []) =
-    if nat_lt m 29 then
-    set_of (m ∷ 31 ∷ []) ∷ set_of (m ∷ 29 ∷ []) ∷ with_used used (m ∷ []) ++ set_of (m ∷ 30 ∷ 31 ∷ []) ∷ []
-    else []
+    if nat_lt m 29
+    then set_of (m ∷ 31 ∷ []) ∷ set_of (m ∷ 29 ∷ []) ∷ with_used used (m ∷ []) ++ set_of (m ∷ 30 ∷ 31 ∷ []) ∷ [] else []
 sets_by used (m ∷ other ∷ []) =
-    if nat_lt m 29 then
-    if other == 29 then with_used used (m ∷ 29 ∷ [])
-    else if other == 30 then set_of (m ∷ 30 ∷ 31 ∷ []) ∷ []
-    else []
-    else []
-sets_by used (m ∷ other ∷ third ∷ more) = []
+    if nat_lt m 29
+    then (if other == 29 then with_used used (m ∷ 29 ∷ []) else if other == 30 then set_of (m ∷ 30 ∷ 31 ∷ []) ∷ [] else []) else []
+sets_by used unreadable = []
 
 -- its data as they are, where all of them can be read, and else what the code says: without leaving a sector out, and
 -- then by the sets of its unreadable sectors, of its last data sector with a used slot and of the parity sectors
@@ -148,5 +137,4 @@ pub data TableSaying : Type 0 where
 abbrev pub TableSays : List SectorView → TableSaying → Type 0
 TableSays cells (AsRead sectors) = ReadsAll cells sectors
 TableSays cells (ByCode saying) =
-    (0 < unreadable_count (take 29 cells))
-    × SaysBy (0 ∷ sets_by (last_used_below cells 29) (unreadable_from 0 cells)) cells saying
+    (0 < unreadable_count (take 29 cells)) × SaysBy (0 ∷ sets_by (last_used_below cells 29) (unreadable_from 0 cells)) cells saying

@@ -3,7 +3,7 @@
 use Rattle.std.specs.Prelude.{ℕ, List, ◌-◌, ◌^◌, slice_index, length, ◌*◌, nat_le, if◌then◌else◌, sum_by, Bool, true, false, [], slice_get, unwrap_or}
 use Rattle.qic_base.specs.Cartridge.{lost_places}
 use Rattle.qic_base.specs.declared.tape.SectorView.{SectorView}
-use Rattle.qic_base.specs.declared.tape.SectorView.TheVariants.{Blank, Defect, Lost, Holds}
+use Rattle.qic_base.specs.declared.tape.SectorView.TheVariants.{Blank, Defect, Holds}
 
 -- the mask of a segment, by the words of the bad sector map
 abbrev pub mask_at : List ℕ → ℕ → ℕ
@@ -30,17 +30,14 @@ marked_sectors words = sum_by (λ word. length (lost_places word 32)) words
 
 -- every sector that does not hold bytes is unreadable
 abbrev pub is_unreadable : SectorView → Bool
-is_unreadable Blank = true
-is_unreadable Defect = true
-is_unreadable Lost = true
 is_unreadable (Holds bytes) = false
+is_unreadable view = true
 
 -- a sector that takes what is written to it: it was formatted, and is no defect
 abbrev pub IsLive : SectorView → Type 0
 IsLive Blank = ⊥
 IsLive Defect = ⊥
-IsLive Lost = Unit {0}
-IsLive (Holds bytes) = Unit {0}
+IsLive view = Unit {0}
 
 -- the bytes of a sector in a list of sectors
 abbrev pub sector_at : List (List ℕ) → ℕ → List ℕ

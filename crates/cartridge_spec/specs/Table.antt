@@ -5,33 +5,23 @@ use Rattle.cartridge_spec.specs.Shape.{sector_at}
 use Rattle.qic_base.specs.Field.{little_endian_bytes, overwritten, number_at, little_endian}
 use Rattle.qic_base.specs.declared.foreign.ForeignField.TheVariants.{Slot, Range}
 
--- what a used slot says of a volume
+-- what a used slot says of a volume: its first and its last segment, its name of 44 bytes and the date word, flags and
+-- sequence number, and the bytes of the directory and of the data
 pub record Entry : Type 0 where
-  -- its first and its last segment
   pub start : ℕ
   pub end : ℕ
-  -- 44 bytes
   pub name : List ℕ
-  -- the date word
   pub date : ℕ
   pub flags : ℕ
   pub sequence : ℕ
-  -- bytes of the directory, and of the data
   pub directory : ℕ
   pub size : ℕ
 
 -- its 128 bytes: the bytes of the vendor's extension, of the password and behind the data size are zero
 abbrev pub slot_bytes : Entry → List ℕ
 slot_bytes e =
-    codes "VTBL"
-    ++ little_endian_bytes 2 e.start
-    ++ little_endian_bytes 2 e.end
-    ++ e.name
-    ++ little_endian_bytes 4 e.date
-    ++ (e.flags ∷ e.sequence ∷ [])
-    ++ replicate 34 0
-    ++ little_endian_bytes 4 e.directory
-    ++ little_endian_bytes 8 e.size
+    codes "VTBL" ++ little_endian_bytes 2 e.start ++ little_endian_bytes 2 e.end ++ e.name ++ little_endian_bytes 4 e.date
+    ++ (e.flags ∷ e.sequence ∷ []) ++ replicate 34 0 ++ little_endian_bytes 4 e.directory ++ little_endian_bytes 8 e.size
     ++ replicate 24 0
 
 -- the data of a table of so many entries, with one more in the slot behind the last one; every other byte is as it was
@@ -78,18 +68,16 @@ some_free_below area (suc i) = is_free (slot area i) || some_free_below area i
 -- a volume does not lie behind the table, forwards, on the cartridge and behind the volume before it
 abbrev pub has_bad_range : List (List ℕ) → (last i : ℕ) → Bool
 has_bad_range area last i =
-    nat_lt (entry_in (slot area i)).start 3
-    || nat_lt (entry_in (slot area i)).end (entry_in (slot area i)).start
-    || nat_lt last (entry_in (slot area i)).end
-    || (nat_lt 0 i && nat_le (entry_in (slot area i)).start (entry_in (slot area (i - 1))).end)
+    let e : Entry = entry_in (slot area i) in
+    nat_lt e.start 3 || nat_lt e.end e.start || nat_lt last e.end
+    || (nat_lt 0 i && nat_le e.start (entry_in (slot area (i - 1))).end)
 
 -- the fault of slot i, on a cartridge whose last segment is this: no slot of a volume behind the others, or a bad range
 unfoldable pub slot_fault : List (List ℕ) → (last i : ℕ) → Option HeaderFault
 slot_fault area last i =
     if is_free (slot area i) then None
     else if not (is_used (slot area i)) || some_free_below area i then Some (record { field = Slot; value = i })
-    else if has_bad_range area last i then Some (record { field = Range; value = i })
-    else None
+    else if has_bad_range area last i then Some (record { field = Range; value = i }) else None
 
 -- the first slot at fault
 pub record IsFirstFault (area : List (List ℕ)) (last : ℕ) (fault : HeaderFault) : Type 0 where

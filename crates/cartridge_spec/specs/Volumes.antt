@@ -77,8 +77,7 @@ pub record Stands (c : Cartridge) (plain : Plain) : Type 0 where
   pub whole : IsPlain plain
   pub header : HasHeader c plain.header_area
   pub sound_header : header_fault plain.header_area c.info.segments_per_track ≡ None
-  pub copies : Written (copy_cells c 0) plain.header_area
-      ⊎ (Zero (copy_cells c 0) × Written (copy_cells c 1) plain.header_area)
+  pub copies : Written (copy_cells c 0) plain.header_area ⊎ (Zero (copy_cells c 0) × Written (copy_cells c 1) plain.header_area)
   pub sound_table : HasNoFault plain.table_area (last_segment c)
   pub shown : tables.Shows plain.table_area (entries_of plain)
   pub volumes : All (VolumeStands c plain.words) plain.volumes

@@ -17,9 +17,9 @@ use Rattle.cartridge_laws.proofs.MountPlaces.{AreSmall, rest_small}
 use Rattle.cartridge_laws.proofs.MountSettles.{settling_settles}
 use Rattle.cartridge_laws.proofs.MountSettling.{settling_small}
 use Rattle.cartridge_laws.specs.Table.{IsSoundList}
-use Rattle.cartridge_laws.specs.Terms.{last_end, slot_sector}
+use Rattle.cartridge_laws.specs.Terms.{last_end, slot_sector, IsCleanCopy}
 use Rattle.cartridge_spec.specs.Appending.{room, table_writes}
-use Rattle.cartridge_spec.specs.Formatting.{HasCleanCopies, HasNoHeader, IsCleanCopy}
+use Rattle.cartridge_spec.specs.Formatting.{HasCleanCopies, HasNoHeader}
 use Rattle.cartridge_spec.specs.Header.{Header}
 use Rattle.cartridge_spec.specs.HeaderAndTable.{IsArea, last_segment}
 use Rattle.cartridge_spec.specs.Mounting.{Mounts, settled}
@@ -44,7 +44,7 @@ use Rattle.command_laws.specs.MountedListed.{listed_behind}
 use Rattle.command_laws.specs.CommandTerms.{Appends, free_in, most_written, silently, made_acts, entry_for}
 use Rattle.command_spec.specs.Append.{Kept, Taking, Fits, TooLong, TooShort, append_acts, entry_acts, has_promised_room, input_acts, input_writes, kept_over, room_in, taking}
 use Rattle.command_spec.specs.Single.{DefectOutcome, FormatOutcome, LoseOutcome}
-use Rattle.command_spec.specs.Make.{made_bytes, made_length, Making, MakeStep, AppendMade, WearSector, ScrubAll, SumVolume, StepDoes, Runs, Answer, after_item, made_answer, made_name, making}
+use Rattle.command_spec.specs.Make.{made_bytes, made_length, Making, MakeStep, AppendMade, WearSector, ScrubAll, SumVolume, StepDoes, Runs, after_item, made_answer, made_name, making}
 use Rattle.command_spec.specs.Input.{Item, Ending, AtEnd, AtStop, AtFault}
 use Rattle.command_spec.specs.Lines.{reply_behind}
 use Rattle.command_spec.specs.Outcome.{CommandOutcome, Going, OpenOutcome, WritableOutcome, Shows, settling_act}
@@ -52,7 +52,7 @@ use Rattle.command_laws.specs.Terms.{Printing, Mends}
 use Rattle.command_spec.specs.Pulses.{SentOutcome}
 use Rattle.command_spec.specs.Restore.{Gives, pieces, framed}
 use Rattle.command_spec.specs.Script.{reply, refusal_line, Scripting, Did, Meeting, Refuses, Finds, acts_on, append_did, taken_as, LineDoes, acts_of, ItemsDo, EndDoes, cartridge_behind, entries_behind, place_behind}
-use Rattle.command_spec.specs.Scrub.{Scrubs, Looked, looked_at}
+use Rattle.command_spec.specs.Scrub.{Looked, looked_at, ScrubsAs}
 use Rattle.command_spec.specs.declared.line.Line.{Line}
 use Rattle.qic_base.proofs.Joins.{steps_of-append}
 use Rattle.qic_base.proofs.Steps.{Torn-all, Torn-append}
@@ -60,10 +60,13 @@ use Rattle.qic_base.specs.Acts.{Act, steps_of, text_of}
 use Rattle.qic_base.specs.Cartridge.{Cartridge}
 use Rattle.qic_base.specs.Step.{Step, SetReferenced, Spoil, Wear, changed, effects, Torn}
 use Rattle.qic_base.specs.declared.tape.SectorView.{SectorView}
+use Rattle.command_spec.specs.declared.status.Status.{Status}
+use Rattle.command_laws.proofs.ScrubPlain.{as_plain}
+use Rattle.command_spec.specs.declared.depth.Depth.TheVariants.{Shallow}
 use Rattle.cartridge_spec.specs.Mounting as mounting
 use Rattle.command_spec.specs.declared.refusal.Refusal.TheVariants as why
-use Rattle.command_spec.specs.Make as made
 use Rattle.command_spec.specs.declared.line.Line.TheVariants as line
+use Rattle.command_spec.specs.declared.status.Status.TheVariants as status
 
 -- ---- what a stop leaves
 
@@ -279,7 +282,7 @@ line_order c ws entries (line.Lose segment sector) bytes did order (inr is) = di
 line_order c ws entries line.End bytes did order none = absurd none
 
 -- .. and behind a step of a generated run that was carried out
-made_room : (seed : ℕ) (ws : List ℕ) (entries : List Entry) (volume : ℕ) → made_answer seed ws entries volume ≡ made.Done →
+made_room : (seed : ℕ) (ws : List ℕ) (entries : List Entry) (volume : ℕ) → made_answer seed ws entries volume ≡ status.Done →
     (1 ≤ room ws entries) × (made_length seed volume ≤ room ws entries)
 made_room seed ws entries volume done = by_room (has_promised_room have (Some n)) refl done
   where
@@ -289,21 +292,21 @@ made_room seed ws entries volume done = by_room (has_promised_room have (Some n)
     n : ℕ
     n = made_length seed volume
 
-    by_room : (b : Bool) → has_promised_room have (Some n) ≡ b → cond b made.Done (made.Full n have) ≡ made.Done → (1 ≤ have) × (n ≤ have)
+    by_room : (b : Bool) → has_promised_room have (Some n) ≡ b → cond b status.Done (status.Full n have) ≡ status.Done → (1 ≤ have) × (n ≤ have)
     by_room true enough is =
         let parts = and_parts (nat_le 1 have) (nat_le n have) enough in
         (leb-true 1 have parts.0, leb-true n have parts.1)
     by_room false short is = absurd (cc)
 
 step_order : (seed : ℕ) (c : Cartridge) (ws : List ℕ) (entries : List Entry) (item : MakeStep) (acts : List Act) → IsSoundList (length ws - 1) entries →
-    StepDoes seed c ws entries item acts made.Done → IsSoundList (length ws - 1) (after_item seed ws entries item)
-step_order seed c ws entries (AppendMade volume) acts order (inl refused) = let same = refused.answered in absurd (cc)
+    StepDoes seed c ws entries item acts status.Done → IsSoundList (length ws - 1) (after_item seed ws entries item)
+step_order seed c ws entries (AppendMade volume) acts order (inl refused) = let same = refused.2 in absurd (cc)
 step_order seed c ws entries (AppendMade volume) acts order (inr (free, inl appended)) =
     let fit = made_room seed ws entries volume (sym appended.answered) in
     let long : length (made_bytes seed volume) ≡ made_length seed volume = length-made_bytes seed volume in
     let enough : made_length seed volume ≤ room ws entries = fit.1 in
     list_more ws entries (made_name volume) 0 (length (made_bytes seed volume)) order fit.0 (omega arith)
-step_order seed c ws entries (AppendMade volume) acts order (inr (free, inr lost)) = let same = lost.answered in absurd (cc)
+step_order seed c ws entries (AppendMade volume) acts order (inr (free, inr lost)) = let same = lost.3 in absurd (cc)
 step_order seed c ws entries (WearSector segment sector) acts order does = order
 step_order seed c ws entries ScrubAll acts order does = order
 step_order seed c ws entries (SumVolume number) acts order does = order
@@ -333,7 +336,7 @@ module _ (area : List (List ℕ)) (is_area : IsArea area) where
   worn_leaves segment sector c clean =
       wear_leaves Clean segment sector c clean (clean_from_less c (changed (Wear segment sector) c) (worn_reads_no_more c segment sector) clean)
 
-  scrub_leaves : (c : Cartridge) (ws : List ℕ) (entries : List Entry) (last : ℕ) (acts : List Act) → IsSoundList last entries → Scrubs c ws entries acts → Clean c →
+  scrub_leaves : (c : Cartridge) (ws : List ℕ) (entries : List Entry) (last : ℕ) (acts : List Act) → IsSoundList last entries → ScrubsAs Shallow c ws entries acts → Clean c →
       Leaves Clean c (steps_of acts)
   scrub_leaves c ws entries last acts order scrubs clean left torn =
       let looked : List Looked = looked_at ws entries in
@@ -344,7 +347,7 @@ module _ (area : List (List ℕ)) (is_area : IsArea area) where
         first = clean_copy looked c d 0 area (omega arith) rise front.first way is_area clean.first;
         second = clean_copy looked c d 1 area (omega arith) rise front.second way is_area clean.second;
       })
-      (stopped_scrub c ws entries last acts left order scrubs torn)
+      (stopped_scrub c ws entries last acts left order (as_plain c ws entries acts scrubs) torn)
 
   -- ---- over a mounted cartridge
 
@@ -470,29 +473,29 @@ module _ (area : List (List ℕ)) (is_area : IsArea area) where
 
   -- ---- a generated run
 
-  step_leaves : (seed : ℕ) (c : Cartridge) (ws : List ℕ) (entries : List Entry) (item : MakeStep) (acts : List Act) (answer : Answer) → IsSoundList (length ws - 1) entries →
+  step_leaves : (seed : ℕ) (c : Cartridge) (ws : List ℕ) (entries : List Entry) (item : MakeStep) (acts : List Act) (answer : Status) → IsSoundList (length ws - 1) entries →
       StepDoes seed c ws entries item acts answer → Clean c → Leaves Clean c (steps_of acts)
-  step_leaves seed c ws entries (AppendMade volume) acts answer order (inl refused) clean = none_leaves Clean c (steps_of acts) clean (ap steps_of refused.does)
+  step_leaves seed c ws entries (AppendMade volume) acts answer order (inl refused) clean = none_leaves Clean c (steps_of acts) clean (ap steps_of refused.1)
   step_leaves seed c ws entries (AppendMade volume) acts answer order (inr (free, inl appended)) clean =
       leaves_by Clean c (steps_of acts) (steps_of (made_acts seed c ws entries appended.table volume)) (ap steps_of appended.does)
       (behind_leaves c (steps_of (made_acts seed c ws entries appended.table volume))
       (append_behind (kept_over c ws entries appended.table) (made_name volume) 0 (Some (made_length seed volume)) silently (made_bytes seed volume) order
       (settling_behind appended.table c)) clean)
-  step_leaves seed c ws entries (AppendMade volume) acts answer order (inr (free, inr lost)) clean = none_leaves Clean c (steps_of acts) clean (ap steps_of lost.does)
+  step_leaves seed c ws entries (AppendMade volume) acts answer order (inr (free, inr lost)) clean = none_leaves Clean c (steps_of acts) clean (ap steps_of lost.2)
   step_leaves seed c ws entries (WearSector segment sector) acts answer order worn clean =
       leaves_by Clean c (steps_of acts) (Wear segment sector ∷ []) (ap steps_of worn.0) (worn_leaves segment sector c clean)
-  step_leaves seed c ws entries ScrubAll acts answer order (inl refused) clean = none_leaves Clean c (steps_of acts) clean (ap steps_of refused.does)
+  step_leaves seed c ws entries ScrubAll acts answer order (inl refused) clean = none_leaves Clean c (steps_of acts) clean (ap steps_of refused.1)
   step_leaves seed c ws entries ScrubAll acts answer order (inr (free, scrubbed)) clean = scrub_leaves c ws entries (length ws - 1) acts order scrubbed.0 clean
   step_leaves seed c ws entries (SumVolume number) acts answer order summed clean =
       none_leaves Clean c (steps_of acts) clean
       (ap steps_of summed.is.0 ∙ sum_in_no_step number (volume_length ws summed.entry) (text_of summed.acts) summed.ending)
 
-  runs_leave : (seed : ℕ) (c : Cartridge) (ws : List ℕ) (entries : List Entry) (items : List MakeStep) (acts : List Act) (answer : Answer) → IsSoundList (length ws - 1) entries →
+  runs_leave : (seed : ℕ) (c : Cartridge) (ws : List ℕ) (entries : List Entry) (items : List MakeStep) (acts : List Act) (answer : Status) → IsSoundList (length ws - 1) entries →
       Runs seed c ws entries items acts answer → Clean c → Leaves Clean c (steps_of acts)
   runs_leave seed c ws entries [] acts answer order is clean = none_leaves Clean c (steps_of acts) clean (ap steps_of is.0)
   runs_leave seed c ws entries (item ∷ items) acts answer order (inl (other, does)) clean = step_leaves seed c ws entries item acts answer order does clean
   runs_leave seed c ws entries (item ∷ items) acts answer order (inr (first, rest, parts, does, runs)) clean =
-      let now : Leaves Clean c (steps_of first) = step_leaves seed c ws entries item first made.Done order does clean in
+      let now : Leaves Clean c (steps_of first) = step_leaves seed c ws entries item first status.Done order does clean in
       leaves_by Clean c (steps_of acts) (steps_of (first ++ rest)) (ap steps_of (sym parts))
       (acts_leave Clean c first rest now
       (runs_leave seed (changed_by (steps_of first) c) ws (after_item seed ws entries item) items rest answer (step_order seed c ws entries item first order does) runs

@@ -14,19 +14,19 @@ use Rattle.command_laws.proofs.ScriptReached.{first_prints}
 use Rattle.command_laws.proofs.ScriptSpeaking.{as_many, script_speaks}
 use Rattle.command_laws.specs.ActStops.{Behind, IsLeftBy}
 use Rattle.command_laws.specs.Intact.{IsIntact}
-use Rattle.command_spec.specs.Several.{IsHeard, Scripted}
-use Rattle.command_spec.specs.Make.{Answer, Done, Full, Lost, MakeOutcome, Mismatch, Protected, TableMismatch, make_status}
-use Rattle.command_laws.specs.CommandTerms.{Makes}
+use Rattle.command_spec.specs.Several.{IsHeard, Scripted, FirstLinesSpare}
+use Rattle.command_laws.specs.CommandTerms.{Makes, ScriptOutcome, MakeOutcome}
 use Rattle.command_spec.specs.OneLoss.{SomeComeBack, LeftComesBack, with_items, with_made}
 use Rattle.command_spec.specs.Outcome.{CommandOutcome}
-use Rattle.command_spec.specs.Script.{ScriptOutcome, Did, ScriptDoes}
-use Rattle.command_spec.specs.ScriptLists.{CameFurther, ItemsWearBehind, GoesNoFurther, printed_by}
+use Rattle.command_spec.specs.Script.{Did, ScriptDoes}
+use Rattle.command_spec.specs.ScriptLists.{CameFurther, GoesNoFurther, printed_by, ItemsSpare, ItemsSpareTable}
 use Rattle.qic_base.proofs.Steps.{Torn-append}
 use Rattle.qic_base.specs.Acts.{Act, steps_of}
 use Rattle.qic_base.specs.Cartridge.{Cartridge}
 use Rattle.qic_base.specs.Terms.{IsCartridge}
 use Rattle.qic_base.specs.Step.{effects, Torn}
 use Rattle.command_spec.specs.Input.{Item}
+use Rattle.command_spec.specs.declared.status.Status.{Status}
 use Rattle.command_spec.specs.declared.status.Status.TheVariants as status
 
 -- ---- the settling comes first
@@ -60,15 +60,6 @@ turned_torn c plain outcome left turned torn =
 
 -- ---- a generated run
 
--- it was carried out
-answer_done : (answer : Answer) → make_status answer ≡ status.Done → answer ≡ Done
-answer_done Done is = cc
-answer_done Protected is = absurd (cc)
-answer_done TableMismatch is = absurd (cc)
-answer_done (Full need have) is = absurd (cc)
-answer_done (Lost segment lost) is = absurd (cc)
-answer_done (Mismatch segment) is = absurd (cc)
-
 module _ (seed count : ℕ) (few : count ≤ 200) (c : Cartridge) (plain : Plain) (whole : IsCartridge c) (stood : Stands c plain) (live : IsTableLive c) where
   ran_intact : (outcome : CommandOutcome) → MakeRan seed count few c plain whole stood outcome → IsIntact (settled plain.table_area c) plain
   ran_intact outcome run = settled_intact c plain whole stood run.mounts live run.free
@@ -100,10 +91,10 @@ module _ (seed count : ℕ) (few : count ≤ 200) (c : Cartridge) (plain : Plain
         | inl turned ↦ absurd (turned.unheard (inl (sym (ap (λ (o : CommandOutcome). o.status) turned.is) ∙ is_done)))
         | inr run ↦
             let still : Cartridge = settled plain.table_area c in
-            let all : run.answer ≡ Done = answer_done run.answer (sym (ap (λ (o : CommandOutcome). o.status) run.is) ∙ is_done) in
+            let all : run.answer ≡ status.Done = sym (ap (λ (o : CommandOutcome). o.status) run.is) ∙ is_done in
             let made : IsIntact (changed_by (steps_of run.acts) still) (with_made plain seed count) =
             done_make_is_intact seed count still plain run.acts few (ran_intact outcome run)
-            (subst (λ (a : Answer). Makes seed count still plain.words (entries_of plain) run.acts a) all run.makes) in
+            (subst (λ (a : Status). Makes seed count still plain.words (entries_of plain) run.acts a) all run.makes) in
             one_comes (with_made plain seed) count (effects (steps_of outcome.acts) (Some c))
             (intact_is_one (changed_by (steps_of run.acts) still) (with_made plain seed count) (with_made plain seed count) (effects (steps_of outcome.acts) (Some c)) made
             (ap (λ (o : CommandOutcome). effects (steps_of o.acts) (Some c)) run.is ∙ behind_front c plain whole stood run.mounts run.acts))
@@ -122,8 +113,8 @@ none_answered c plain input outcome does (suc n) text known written none =
     let nothing = ap (λ (t : List ℕ). length t) none in
     absurd (omega arith)
 
-module _ (told : Option (List ℕ)) (words : List (List ℕ)) (c : Cartridge) (plain : Plain) (whole : IsCartridge c) (script : Scripted told words c plain) (live : IsTableLive c) (free : c.info.protected ≡ false)
-    (input : List ℕ) (outcome : CommandOutcome) (same : input ≡ script.input) (does : ScriptOutcome (Some c) input outcome) where
+module _ (input : List ℕ) (words : List (List ℕ)) (c : Cartridge) (plain : Plain) (whole : IsCartridge c) (script : Scripted input words c plain) (live : IsTableLive c) (free : c.info.protected ≡ false)
+    (outcome : CommandOutcome) (does : ScriptOutcome (Some c) input outcome) where
   abbrev items : List Item
   items = script.does.items
 
@@ -134,21 +125,21 @@ module _ (told : Option (List ℕ)) (words : List (List ℕ)) (c : Cartridge) (p
   standing = with_items plain items dids
 
   no_line : (answered : ℕ) (text : List ℕ) → answered ≤ length items → printed_by dids answered ≤ length text → text ≡ [] → answered ≡ 0
-  no_line answered text known written none = none_answered (settled plain.table_area c) plain script.input script.outcome script.does answered text known written none
+  no_line answered text known written none = none_answered (settled plain.table_area c) plain input script.outcome script.does answered text known written none
 
-  script_intact : ScriptRan told words c plain whole script outcome → IsIntact (settled plain.table_area c) plain
+  script_intact : ScriptRan input words c plain whole script outcome → IsIntact (settled plain.table_area c) plain
   script_intact run = settled_intact c plain whole script.stands run.mounts live free
 
-  pub script_comes_back : (left : Option Cartridge) (count : ℕ) → count ≤ length items → ItemsWearBehind (take count items) → Torn (steps_of outcome.acts) (Some c) left →
+  pub script_comes_back : (left : Option Cartridge) (count : ℕ) → FirstLinesSpare script count → ItemsSpareTable (take count items) → Torn (steps_of outcome.acts) (Some c) left →
       CameFurther (settled plain.table_area c) items dids script.does.last count left ⊎ LeftComesBack c standing 0 count left
-  script_comes_back left count some behind torn =
-      elim (script_course told words c plain whole script input outcome same does) [
+  script_comes_back left count spares table torn =
+      elim (script_course input words c plain whole script outcome does) [
         | inl turned ↦ inr (inl (refl, turned_torn c plain outcome left turned torn))
         | inr run ↦
             elim (settled_first c plain whole script.stands run.mounts script.outcome.acts left (subst (λ (acts : List Act). Torn (steps_of acts) (Some c) left) run.acts torn)) [
               | inl settling ↦ inr (inl (refl, settling))
               | inr rest ↦
-                  elim (stopped_script_comes_back (settled plain.table_area c) plain script.input script.outcome left (script_intact run) script.does script.bytes count some behind rest) [
+                  elim (stopped_script_comes_back (settled plain.table_area c) plain input script.outcome left (script_intact run) script.does script.bytes count spares.0 spares.1 table rest) [
                     | inl further ↦ inl further
                     | inr comes ↦ inr (inr comes)
                   ]
@@ -157,28 +148,28 @@ module _ (told : Option (List ℕ)) (words : List (List ℕ)) (c : Cartridge) (p
 
   -- by what was printed
   pub script_comes_answered : (text : List ℕ) (left : Option Cartridge) (answered count : ℕ) → answered ≤ length items → printed_by dids answered ≤ length text →
-      count ≤ length items → GoesNoFurther items dids count (length text) → ItemsWearBehind (take count items) → IsLeftBy c outcome.acts text left →
+      GoesNoFurther items dids count (length text) → FirstLinesSpare script count → ItemsSpareTable (take count items) → IsLeftBy c outcome.acts text left →
       LeftComesBack c standing answered count left
-  script_comes_answered text left answered count known written some further behind so =
-      elim (script_course told words c plain whole script input outcome same does) [
+  script_comes_answered text left answered count known written further spares table so =
+      elim (script_course input words c plain whole script outcome does) [
         | inl turned ↦
             let was = turned_left c outcome text left turned so in
             inl (no_line answered text known written was.0, nothing_torn c (settling_steps plain.table_area c) left was.1)
         | inr run ↦
             elim (left_then c plain whole script.stands run.mounts script.outcome.acts text left (subst (λ (acts : List Act). IsLeftBy c acts text left) run.acts so)) [
               | inl (none, torn) ↦ inl (no_line answered text known written none, torn)
-              | inr at ↦ inr (answered_script_comes_back (settled plain.table_area c) plain script.input script.outcome text left (script_intact run) script.does script.bytes
-                  answered count known written some further behind at)
+              | inr at ↦ inr (answered_script_comes_back (settled plain.table_area c) plain input script.outcome text left (script_intact run) script.does script.bytes
+                  answered count known written spares.0 further spares.1 table at)
             ]
       ]
 
   -- once its input was carried out
-  pub script_comes_heard : IsHeard outcome.status → ItemsWearBehind items → SomeComeBack standing (length items) (length items) (effects (steps_of outcome.acts) (Some c))
-  script_comes_heard heard behind =
-      elim (script_course told words c plain whole script input outcome same does) [
+  pub script_comes_heard : IsHeard outcome.status → ItemsSpare (settled plain.table_area c) plain items dids → ItemsSpareTable items → SomeComeBack standing (length items) (length items) (effects (steps_of outcome.acts) (Some c))
+  script_comes_heard heard spares table =
+      elim (script_course input words c plain whole script outcome does) [
         | inl turned ↦ absurd (turned.unheard (subst (λ (o : CommandOutcome). IsHeard o.status) turned.is heard))
         | inr run ↦
             subst (λ (left : Option Cartridge). SomeComeBack standing (length items) (length items) left)
             (sym (ap (λ (acts : List Act). effects (steps_of acts) (Some c)) run.acts ∙ behind_front c plain whole script.stands run.mounts script.outcome.acts))
-            (done_script_comes_back (settled plain.table_area c) plain script.input script.outcome (script_intact run) script.does script.bytes behind)
+            (done_script_comes_back (settled plain.table_area c) plain input script.outcome (script_intact run) script.does script.bytes spares table)
       ]

@@ -13,13 +13,12 @@ use Rattle.command_spec.specs.Append.{room_in, AppendOutcome}
 use Rattle.command_laws.specs.Terms.{CanTake, Printing, IsOfTrains, IsOfLines, Mends, ScrubOutcome, CanGive}
 use Rattle.command_spec.specs.Command.{ReadsAs, IsUnprotected}
 use Rattle.command_spec.specs.Single.{DefectOutcome, FormatOutcome, LoseOutcome}
-use Rattle.command_laws.specs.CommandTerms.{kept_in, Appends}
+use Rattle.command_laws.specs.CommandTerms.{kept_in, Appends, ScriptOutcome, RestoreOutcome, MakeOutcome}
 use Rattle.command_spec.specs.Input.{Ending, AtEnd, AtStop, IsPulse, IsPulses, Item, IsItem, IsScript, input_status}
-use Rattle.command_spec.specs.Make.{Making, MakeOutcome, make_status, CanMake}
+use Rattle.command_spec.specs.Make.{Making, CanMake}
 use Rattle.command_spec.specs.Outcome.{Going, CommandOutcome, Opened, OpenOutcome, WritableOutcome, HasPlace, Shows}
 use Rattle.command_spec.specs.Pulses.{SentOutcome}
-use Rattle.command_spec.specs.Restore.{RestoreOutcome}
-use Rattle.command_spec.specs.Script.{Scripting, ScriptOutcome}
+use Rattle.command_spec.specs.Script.{Scripting}
 use Rattle.command_spec.specs.declared.status.Status.{Status}
 use Rattle.qic_base.specs.Cartridge.{Cartridge, view_at}
 use Rattle.qic_base.specs.Terms.{IsCartridge}
@@ -100,8 +99,8 @@ make_goes seed count c outcome small whole free can does =
     let on = goes_on (Making seed count) c plain outcome can.mounts (is_opened (Making seed count) c outcome free does) in
     let did = on.did in
     let there : ReadsAs c plain = can.mounts in
-    ap status_of did.is ∙ ap make_status (made_where_there_is_room seed count (settled plain.table_area c) plain did.acts did.answer small
-    (mounted_open c plain whole there.stands on.mounts free) can.room can.few did.makes)
+    ap status_of did.is ∙ made_where_there_is_room seed count (settled plain.table_area c) plain did.acts did.answer small
+    (mounted_open c plain whole there.stands on.mounts free) can.room can.few did.makes
 
 -- ---- commands that read lines
 

@@ -5,7 +5,7 @@ use Rattle.std.specs.Prelude.{is_some}
 use Rattle.command_laws.proofs.CommandEndings.{refused_front, shorter_front, text_front}
 use Rattle.command_laws.proofs.CommandTable.{plain_answers}
 use Rattle.command_spec.specs.Commands.{traits_of}
-use Rattle.command_spec.specs.Headline.{EachLeft, StopsGoOn, Stepped, NoneRose, IsCut, WordsLeave, Joins}
+use Rattle.command_spec.specs.Headline.{EachLeft, Stepped, NoneRose, IsCut, WordsLeave, Joins}
 use Rattle.command_laws.specs.Terms.{Answers}
 use Rattle.command_spec.specs.Machine.{HasValues, Spells, fault_of, may_come_from, is_fault, is_outcome, InputLeft, Finished, CommandEnds, IsCutOff}
 use Rattle.command_laws.specs.CommandTerms.{Yields, FrontPrints}
@@ -128,9 +128,6 @@ each_left t a b P before by = record {
   since = λ held left telling told is. let l = by held told in l.leaves left (Stops-left held left before telling told l.stops is);
 }
 
-pub stops_go_on : {T : Type 0} (t : tapes.Meaning T) (a b : T) (steps : List TapeStep) → tapes.Stops t a b steps → StopsGoOn t a b
-stops_go_on t a b steps stops = record { telling = stops.telling; clock = stops.clock; kept = stops.kept; parted = stops.parted }
-
 -- ---- runs
 
 module _ {T S K : Type 0} (t : tapes.Meaning T) (s : sources.Meaning S) (k : sinks.Meaning K) (words : List (List ℕ)) (command : Words) (old new : Outside T S K) (answer : Status) where
@@ -162,15 +159,10 @@ module _ {T S K : Type 0} (t : tapes.Meaning T) (s : sources.Meaning S) (k : sin
   ends_asked (inl finished) is = let no = ap (λ (a : Status). may_come_from a command) is in let sound = finished.sound in absurd (cc)
   ends_asked (inr (failing, was, stopped)) is = stopped.reads (same_failing failing SourceFails (sym was ∙ is))
 
-  none_rose : (failing : Failing) → NoneRose t s k old new → FailingRose t s k old new failing → ⊥
-  none_rose TapeFails none rose = none.tape rose
-  none_rose SourceFails none rose = none.source rose
-  none_rose SinkFails none rose = none.sink rose
-
   pub ends_answers : Laws t s k old new → Spells words command → CommandEnds t s k command old new answer → NoneRose t s k old new → Answers t s k words old new answer
   ends_answers laws spelled (inl finished) none = finished_answers laws spelled finished
   ends_answers laws spelled (inr (failing, is, stopped)) none =
-      absurd (none_rose failing none (cut_rose t s k old new stopped.acts failing stopped.cut))
+      absurd (none failing (cut_rose t s k old new stopped.acts failing stopped.cut))
 
   pub ends_carried : Laws t s k old new → Spells words command → CommandEnds t s k command old new answer → is_fault answer ≡ false → Answers t s k words old new answer
   ends_carried laws spelled (inl finished) sound = finished_answers laws spelled finished
@@ -242,7 +234,7 @@ module _ {T S K : Type 0} (t : tapes.Meaning T) (s : sources.Meaning S) (k : sin
     tape = ap is_some finished.went.did.told ∙ is_some-map (effects (steps_of finished.outcome.acts)) (t.told old.tape);
     source = input_tells answer finished.outcome.taken (s.left old.source) (s.left new.source) finished.left;
     sink = sink_tells laws (output_of finished.outcome) finished.went.wrote.took;
-    stops = stops_go_on t old.tape new.tape (steps_of finished.outcome.acts) finished.went.did.stops;
+    stops = (steps_of finished.outcome.acts, finished.went.did.stops);
   }
   ends_joins laws (inr (failing, is, stopped)) =
       let took = cut_took_front t s k old new stopped.acts failing stopped.cut in record {
@@ -250,7 +242,7 @@ module _ {T S K : Type 0} (t : tapes.Meaning T) (s : sources.Meaning S) (k : sin
         tape = tape_tells stopped.acts failing stopped.cut;
         source = stopped.source_tells;
         sink = sink_tells laws took.front took.took;
-        stops = stops_go_on t old.tape new.tape (steps_of stopped.acts) (cut_stops t s k old new stopped.acts failing stopped.cut);
+        stops = (steps_of stopped.acts, cut_stops t s k old new stopped.acts failing stopped.cut);
       }
 
   -- ---- over any tape, source and sink

@@ -7,9 +7,9 @@ use Rattle.command_laws.proofs.TextWords.{one_command}
 use Rattle.command_laws.specs.Terms.{Answers}
 use Rattle.command_spec.specs.Headline.{Stepped, IsCut}
 use Rattle.command_spec.specs.Machine.{Spells, Step, IsCutOff, is_fault, fault_of}
-use Rattle.command_laws.specs.CommandTerms.{Yields}
+use Rattle.command_laws.specs.CommandTerms.{Yields, RestoreOutcome}
 use Rattle.command_spec.specs.Outcome.{CommandOutcome, output_of}
-use Rattle.command_spec.specs.Restore.{RestoreOutcome, HasNumber}
+use Rattle.command_spec.specs.Restore.{HasNumber}
 use Rattle.command_spec.specs.Volumes.{GivesBack}
 use Rattle.command_spec.specs.declared.status.Status.{Status}
 use Rattle.command_spec.specs.declared.words.Words.{Words}

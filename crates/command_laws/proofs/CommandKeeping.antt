@@ -13,8 +13,10 @@ use Rattle.cartridge_spec.specs.Table.{Entry}
 use Rattle.cartridge_spec.specs.Volumes.{Plain, Stands, entries_of}
 use Rattle.command_laws.proofs.CommandPlainLaws.{SectorLeaves, OpeningLeaves, ScrubbingLeaves, FormatLeaves}
 use Rattle.command_laws.proofs.ScrubMounted.{stopped_scrub_stands, stopped_scrub_mounts}
+use Rattle.command_laws.proofs.ScrubPlain.{as_plain}
 use Rattle.command_spec.specs.Outcome.{HasPlace}
-use Rattle.command_spec.specs.Scrub.{Scrubs}
+use Rattle.command_spec.specs.Scrub.{ScrubsAs}
+use Rattle.command_spec.specs.declared.depth.Depth.TheVariants.{Shallow}
 use Rattle.qic_base.specs.Cartridge.{Cartridge}
 use Rattle.qic_base.specs.Step.{Step as TapeStep, effect, changed, SetReferenced}
 
@@ -44,7 +46,8 @@ scrub_stands c plain left stood (inr (header, (words, (table, (entries, (acts, m
     let map : words ≡ plain.words = cc in
     let list : entries ≡ entries_of plain = cc in
     stopped_scrub_stands (settled table c) plain acts left (settled_stands c plain table stood mounts.reads)
-    (subst (λ (es : List Entry). Scrubs (settled table c) plain.words es acts) list (subst (λ (ws : List ℕ). Scrubs (settled table c) ws entries acts) map scrubs)) torn
+    (as_plain (settled table c) plain.words (entries_of plain) acts
+    (subst (λ (es : List Entry). ScrubsAs Shallow (settled table c) plain.words es acts) list (subst (λ (ws : List ℕ). ScrubsAs Shallow (settled table c) ws entries acts) map scrubs))) torn
 
 pub format_stands : (label : List ℕ) (date : ℕ) (c : Cartridge) (plain : Plain) (left : Option Cartridge) → Stands c plain → c.info.protected ≡ true →
     FormatLeaves label date (Some c) left → IsSomeAnd left (λ d. Stands d plain)
@@ -72,7 +75,7 @@ scrub_mounts c m left mounts (inr (header, (words, (table, (entries, (acts, agai
 scrub_mounts c m left mounts (inr (header, (words, (table, (entries, (acts, again, scrubs, inr torn)))))) =
     let same : Mounted header words table entries ≡ m = mounts_is_function c (Mounted header words table entries) m again mounts in
     subst (λ (n : Mounting). IsSomeAnd left (λ d. Mounts d n)) same
-    (stopped_scrub_mounts (settled table c) header words table entries acts left (settled_mounts c header words table entries again) scrubs torn)
+    (stopped_scrub_mounts (settled table c) header words table entries acts left (settled_mounts c header words table entries again) (as_plain (settled table c) words entries acts scrubs) torn)
 
 module _ (c : Cartridge) (header : Header) (words : List ℕ) (table : List (List ℕ)) (entries : List Entry) (left : Option Cartridge) (mounts : Mounts c (Mounted header words table entries)) where
   abbrev StillSo : Cartridge → Type 0

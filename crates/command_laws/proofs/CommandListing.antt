@@ -29,14 +29,14 @@ use Rattle.command_laws.proofs.TextWords.{one_command}
 use Rattle.command_laws.specs.MountedListed.{IsListed, listed_behind}
 use Rattle.command_laws.specs.MountedListing.{AddsNone}
 use Rattle.command_spec.specs.Append.{Kept, Taking, Fits, TooLong, append_acts, room_in, taking, AppendOutcome, appended, kept_over}
-use Rattle.command_laws.specs.CommandTerms.{entry_for, kept_in, Appends, append_status, Makes, AppendedFrom, Yields}
+use Rattle.command_laws.specs.CommandTerms.{entry_for, kept_in, Appends, append_status, Makes, AppendedFrom, Yields, ScriptOutcome, MakeOutcome}
 use Rattle.command_spec.specs.Headline.{ToldNow}
 use Rattle.command_spec.specs.Lines.{reply_behind}
 use Rattle.command_spec.specs.Several.{IsHeard, NowLists, ListsAppends}
 use Rattle.command_spec.specs.Machine.{HasValues, Spells, CommandEnds, IsCutOff, fault_of, is_fault}
-use Rattle.command_spec.specs.Make.{AppendedBy, made_list, Making, MakeOutcome}
+use Rattle.command_spec.specs.Make.{AppendedBy, made_list, Making}
 use Rattle.command_spec.specs.Outcome.{Going, Opened, OpenOutcome, CommandOutcome}
-use Rattle.command_spec.specs.Script.{ScriptDoes, entries_behind, Scripting, ScriptOutcome}
+use Rattle.command_spec.specs.Script.{ScriptDoes, entries_behind, Scripting}
 use Rattle.command_spec.specs.ScriptLists.{ItemsWearBehind, ListsAnswered, ListsBroken}
 use Rattle.command_spec.specs.Volumes.{IsCarriedOut, IsInput}
 use Rattle.command_laws.specs.Terms.{WasNotDone}
@@ -55,8 +55,6 @@ use Rattle.qic_base.specs.Source as sources
 use Rattle.qic_base.specs.Tape as tapes
 use Rattle.qic_base.specs.TapeCalls as tape_calls
 use Rattle.command_spec.specs.declared.words.Words.TheVariants as commands
-use Rattle.command_spec.specs.Script as scripts
-use Rattle.command_spec.specs.Make as made
 
 -- ---- a cartridge as it was mounted
 
@@ -418,15 +416,15 @@ module _ (seed count : ℕ) (few : count ≤ 200) (c : Cartridge) (header : Head
   before_any d left lists is = (0, omega arith, some_and (λ e. Lists e header words entries) d left lists is)
 
   -- a front of the acts behind the settling
-  behind_some : (acts : List Act) (answer : made.Answer) (more rest : List Act) → Makes seed count (settled table c) words entries acts answer → more ++ rest ≡ acts →
+  behind_some : (acts : List Act) (answer : Status) (more rest : List Act) → Makes seed count (settled table c) words entries acts answer → more ++ rest ≡ acts →
       HasSome (effects (steps_of (quiet (settling_steps table c) ∷ more)) (Some c))
   behind_some acts answer more rest makes parts =
       let l = make_lists seed count (settled table c) header words entries acts more rest answer (effects (steps_of (quiet (settling_steps table c) ∷ more)) (Some c)) few
       (lists_still c header words table entries whole mounts) (listed c header words table entries whole mounts) makes parts (behind_acts c header words table entries whole mounts more) in
       (l.appended, l.within, l.lists)
 
-  behind_all : (acts : List Act) (answer : made.Answer) (more rest : List Act) → Makes seed count (settled table c) words entries acts answer → more ++ rest ≡ acts →
-      ((rest ≡ []) × (answer ≡ made.Done)) ⊎ (text_of more ≢ []) → HasMade count (effects (steps_of (quiet (settling_steps table c) ∷ more)) (Some c))
+  behind_all : (acts : List Act) (answer : Status) (more rest : List Act) → Makes seed count (settled table c) words entries acts answer → more ++ rest ≡ acts →
+      ((rest ≡ []) × (answer ≡ status.Done)) ⊎ (text_of more ≢ []) → HasMade count (effects (steps_of (quiet (settling_steps table c) ∷ more)) (Some c))
   behind_all acts answer more rest makes parts which =
       made_are_listed seed count (settled table c) header words entries acts more rest answer (effects (steps_of (quiet (settling_steps table c) ∷ more)) (Some c)) few
       (lists_still c header words table entries whole mounts) (listed c header words table entries whole mounts) makes parts (behind_acts c header words table entries whole mounts more) which

@@ -3,9 +3,8 @@ use Rattle.std.proofs.Common.{◌≡◌, ℕ, List, Option, sym, ap, ◌∙◌, 
 use Rattle.command_laws.proofs.CommandTable.{plain_is_function, plain_answers, has_values}
 use Rattle.command_laws.specs.CommandLaws.{IsSameOutcome, MachineIsFunction, MachineAnswers}
 use Rattle.command_laws.specs.TextWords.{OneCommand, IsNoCommand, EachWords}
-use Rattle.command_spec.specs.Commands.{IsCommand}
 use Rattle.command_laws.specs.CommandTerms.{Yields}
-use Rattle.command_spec.specs.Machine.{Step, SpellsNone}
+use Rattle.command_spec.specs.Machine.{Step, SpellsNone, Spells}
 use Rattle.command_spec.specs.Outcome.{CommandOutcome, output_of}
 use Rattle.command_spec.specs.declared.status.Status.{Status}
 use Rattle.command_spec.specs.declared.words.Words.{Words}
@@ -63,7 +62,7 @@ no_step : (words : List (List ℕ)) (held : Option Cartridge) (input : List ℕ)
 unfolding AnyStep
 no_step words held input none = (held, ([], (0, (status.Usage, inl (none, refl, refl, refl, refl)))))
 
-command_step : (words : List (List ℕ)) (held : Option Cartridge) (input : List ℕ) (command : Words) → IsCommand words command → IfSome held IsCartridge → AnyStep words held input
+command_step : (words : List (List ℕ)) (held : Option Cartridge) (input : List ℕ) (command : Words) → Spells words command → IfSome held IsCartridge → AnyStep words held input
 unfolding AnyStep
 command_step words held input command spelled whole =
     let some = plain_answers command held input (has_values words command spelled) whole in
@@ -73,6 +72,6 @@ pub machine_answers_where : OneCommand → EachWords → MachineAnswers
 unfolding AnyStep
 machine_answers_where unique each words held input whole = by_words (each words)
   where
-    by_words : ((command : Words) × IsCommand words command) ⊎ IsNoCommand words → AnyStep words held input
+    by_words : ((command : Words) × Spells words command) ⊎ IsNoCommand words → AnyStep words held input
     by_words (inl (command, spelled)) = command_step words held input command spelled whole
     by_words (inr none) = no_step words held input none

@@ -16,23 +16,24 @@ use Rattle.command_laws.proofs.PulseStopping.{stops_leave as trains_leave}
 use Rattle.command_laws.proofs.RestoreCounts.{restores_in_no_step}
 use Rattle.command_laws.proofs.RestoreEndings.{restores_is_function}
 use Rattle.command_laws.proofs.ScriptMachineLaws.{one_outcome as one_script}
-use Rattle.command_laws.proofs.ScrubTurns.{scrubs_is_function}
 use Rattle.command_spec.specs.Single.{DefectOutcome, FormatOutcome, LoseOutcome}
 use Rattle.command_laws.specs.Terms.{cleared, formatted, Printing, Mends, ScrubOutcome}
-use Rattle.command_laws.specs.CommandTerms.{Appends}
-use Rattle.command_spec.specs.Make.{Answer, Making, make_status}
+use Rattle.command_laws.specs.CommandTerms.{Appends, RestoreOutcome}
+use Rattle.command_spec.specs.Make.{Making}
 use Rattle.command_spec.specs.Outcome.{refused, CommandOutcome, Going, Opened, OpenOutcome, WritableOutcome, Shows, settling_act, HasPlace}
 use Rattle.command_laws.specs.PulseRuns.{sent, info_of}
 use Rattle.command_spec.specs.Pulses.{SentOutcome, train_acts}
-use Rattle.command_spec.specs.Restore.{GivingEnd, Restores, pieces, Gives, ending_status, RestoreOutcome}
+use Rattle.command_spec.specs.Restore.{GivingEnd, Restores, pieces, Gives, ending_status}
 use Rattle.command_spec.specs.Script.{Scripting}
-use Rattle.command_spec.specs.Scrub.{Scrubs}
+use Rattle.command_spec.specs.Scrub.{ScrubsAs}
 use Rattle.command_spec.specs.declared.status.Status.{Status}
 use Rattle.drive_spec.specs.Record.{power_on}
 use Rattle.qic_base.proofs.Steps.{Torn-append}
 use Rattle.qic_base.specs.Acts.{Act, steps_of}
 use Rattle.qic_base.specs.Cartridge.{Cartridge}
 use Rattle.qic_base.specs.Step.{Step as TapeStep, changed, SetReferenced, Wear, Spoil, effect, effects, Torn, Halfway}
+use Rattle.command_laws.proofs.ScrubOneWrong.{form_is_function}
+use Rattle.command_spec.specs.declared.depth.Depth.TheVariants.{Shallow}
 use Rattle.cartridge_spec.specs.Mounting as mounting
 use Rattle.command_spec.specs.declared.status.Status.TheVariants as status
 
@@ -76,7 +77,7 @@ ScrubbingLeaves None left = left ≡ None
 ScrubbingLeaves (Some c) left =
     (left ≡ Some c)
     ⊎ ((header : Header) × ((words : List ℕ) × ((table : List (List ℕ)) × ((entries : List Entry) × ((acts : List Act) ×
-    Mounts c (mounting.Mounted header words table entries) × Scrubs (settled table c) words entries acts
+    Mounts c (mounting.Mounted header words table entries) × ScrubsAs Shallow (settled table c) words entries acts
     × (Torn (settling_steps table c) (Some c) left ⊎ Torn (steps_of acts) (Some (settled table c)) left))))))
 
 -- ---- the machine is a function
@@ -278,7 +279,7 @@ gives_one number c header ws table entries a b (inr is) (inr was) =
 pub mends_one : IsOne Mends
 mends_one c header ws table entries a b is was =
     is.is ∙ ap (λ (xs : List Act). given table c xs status.Done)
-    (scrubs_is_function (settled table c) ws entries is.acts was.acts is.scrubs was.scrubs) ∙ sym was.is
+    (form_is_function Shallow (settled table c) ws entries is.acts was.acts is.scrubs was.scrubs) ∙ sym was.is
 
 abbrev scripted_on : (table : List (List ℕ)) (c : Cartridge) → CommandOutcome → CommandOutcome
 scripted_on table c came = record came { acts = settling_act table c ∷ came.acts }
@@ -290,8 +291,8 @@ scripting_one input c header ws table entries a b is was =
 pub making_one : (seed count : ℕ) → IsOne (Making seed count)
 making_one seed count c header ws table entries a b is was =
     let both = makes_one_thing seed count (settled table c) ws entries is.acts was.acts is.answer was.answer is.makes was.makes in
-    is.is ∙ ap (λ (xs : List Act). given table c xs (make_status is.answer)) both.0
-    ∙ ap (λ (answer : Answer). given table c was.acts (make_status answer)) both.1 ∙ sym was.is
+    is.is ∙ ap (λ (xs : List Act). given table c xs is.answer) both.0
+    ∙ ap (λ (answer : Status). given table c was.acts answer) both.1 ∙ sym was.is
 
 -- ---- formatting is a function
 

@@ -3,7 +3,7 @@ use Rattle.std.proofs.Common.{[], ◌≡◌, ℕ, List, Option, Some, None, IfSo
 use Rattle.cartridge_spec.specs.Table.{Entry}
 use Rattle.command_laws.proofs.CommandCompleting.{completes}
 use Rattle.command_laws.proofs.CommandEndings.{appends_none, any_input, nothing_front, none_printed}
-use Rattle.command_laws.proofs.CommandEnds.{Laws, ends_asked, ends_cause, ends_answers, ends_carried, ends_cut, ends_stops, ends_joins, ends_otherwise, ends_named, ends_finished, ends_begun, ends_silent, is_a_fault, each_left, stops_go_on}
+use Rattle.command_laws.proofs.CommandEnds.{Laws, ends_asked, ends_cause, ends_answers, ends_carried, ends_cut, ends_stops, ends_joins, ends_otherwise, ends_named, ends_finished, ends_begun, ends_silent, is_a_fault, each_left}
 use Rattle.command_laws.proofs.CommandGivenBack.{gives_back}
 use Rattle.command_laws.proofs.CommandListing.{lists_appends, none_listed}
 use Rattle.command_laws.proofs.CommandMachineLaws.{machine_is_function_where, machine_answers_where}
@@ -285,7 +285,7 @@ module _ {T S K : Type 0} (t : tapes.Meaning T) (s : sources.Meaning S) (k : sin
           tape = refl;
           source = refl;
           sink = refl;
-          stops = stops_go_on t old.tape old.tape [] (Stops-nothing t old.tape);
+          stops = ([], Stops-nothing t old.tape);
         };
         usage = usage;
         memory = memory;

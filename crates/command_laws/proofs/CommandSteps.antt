@@ -19,7 +19,7 @@ use Rattle.command_laws.proofs.ScrubAtOnce.{scrub_steps}
 use Rattle.command_laws.specs.CommandTerms.{Appends, free_in, most_written, silently, made_acts, restored_line, entry_for}
 use Rattle.command_spec.specs.Append.{segment_act, volume_acts, filled_acts, input_acts, Taking, Fits, TooLong, TooShort, Kept, input_writes, entry_acts, append_acts, room_in, has_promised_room, taking, kept_over}
 use Rattle.command_spec.specs.Single.{DefectOutcome, FormatOutcome, LoseOutcome}
-use Rattle.command_spec.specs.Make.{made_bytes, made_length, Making, MakeStep, AppendMade, WearSector, ScrubAll, SumVolume, StepDoes, Runs, Answer, after_item, made_name, making}
+use Rattle.command_spec.specs.Make.{made_bytes, made_length, Making, MakeStep, AppendMade, WearSector, ScrubAll, SumVolume, StepDoes, Runs, after_item, made_name, making}
 use Rattle.command_spec.specs.Input.{Item, Ending, AtEnd, AtStop, AtFault}
 use Rattle.command_spec.specs.Lines.{reply_behind}
 use Rattle.command_spec.specs.Outcome.{CommandOutcome, Going, Opened, OpenOutcome, WritableOutcome, Shows, settling_act}
@@ -28,7 +28,7 @@ use Rattle.command_spec.specs.Pulses.{SentOutcome, train_acts, train_changes, pu
 use Rattle.command_laws.specs.PulseRuns.{info_of}
 use Rattle.command_spec.specs.Restore.{Gives, pieces, framed, GivingEnd, Restored, LostIn, MismatchIn}
 use Rattle.command_spec.specs.Script.{reply, refusal_line, Scripting, Did, Meeting, Refuses, Finds, acts_on, append_did, taken_as, given_as, LineDoes, acts_of, ItemsDo, EndDoes, cartridge_behind, entries_behind, place_behind}
-use Rattle.command_spec.specs.Scrub.{Scrubs, Looked, looked_at, reads, steps_in, mending_writes, looking_acts}
+use Rattle.command_spec.specs.Scrub.{Looked, looked_at, reads, steps_in, mending_writes, ScrubsAs}
 use Rattle.command_spec.specs.declared.line.Line.{Line}
 use Rattle.drive_spec.specs.Effects.{ticked}
 use Rattle.drive_spec.specs.Record.{Record, power_on}
@@ -41,10 +41,14 @@ use Rattle.qic_base.proofs.Joins.{steps_of-append}
 use Rattle.qic_base.specs.Acts.{Act, steps_of, text_of}
 use Rattle.qic_base.specs.Cartridge.{Cartridge, view_at}
 use Rattle.qic_base.specs.Step.{Step, WriteSector, FormatSegment, Wear}
+use Rattle.command_spec.specs.declared.status.Status.{Status}
+use Rattle.command_laws.proofs.ScrubPlain.{as_plain}
+use Rattle.command_laws.specs.ScrubPlain.{looking_acts}
+use Rattle.command_spec.specs.declared.depth.Depth.TheVariants.{Shallow}
 use Rattle.cartridge_spec.specs.Mounting as mounting
 use Rattle.command_spec.specs.declared.refusal.Refusal.TheVariants as why
-use Rattle.command_spec.specs.Make as made
 use Rattle.command_spec.specs.declared.line.Line.TheVariants as line
+use Rattle.command_spec.specs.declared.status.Status.TheVariants as status
 
 -- ---- lists of steps
 
@@ -194,11 +198,12 @@ looks_none c (l ∷ ls) [] = tt
 looks_none c (l ∷ ls) (s ∷ ss) =
     none_both (steps_in c l s) (steps_of (looking_acts (changed_by (steps_in c l s) c) ls ss)) (none_in_look c l s) (looks_none (changed_by (steps_in c l s) c) ls ss)
 
-scrub_none : (c : Cartridge) (ws : List ℕ) (entries : List Entry) (acts : List Act) → Scrubs c ws entries acts → AreNoRenew acts
+scrub_none : (c : Cartridge) (ws : List ℕ) (entries : List Entry) (acts : List Act) → ScrubsAs Shallow c ws entries acts → AreNoRenew acts
 scrub_none c ws entries acts scrubs =
     let looked : List Looked = looked_at ws entries in
-    acts_by acts (looking_acts c looked scrubs.sayings) (ap (λ (all : List Act). steps_of all) scrubs.are ∙ scrub_steps c looked scrubs.sayings)
-    (looks_none c looked scrubs.sayings)
+    let plain = as_plain c ws entries acts scrubs in
+    acts_by acts (looking_acts c looked plain.sayings) (ap (λ (all : List Act). steps_of all) plain.are ∙ scrub_steps c looked plain.sayings)
+    (looks_none c looked plain.sayings)
 
 pub mends_none : GoesWithNone Mends
 mends_none c header ws table entries outcome found =
@@ -351,28 +356,28 @@ scripting_none input c header ws table entries outcome found =
 
 -- ---- a generated run
 
-step_none : (seed : ℕ) (c : Cartridge) (ws : List ℕ) (entries : List Entry) (item : MakeStep) (acts : List Act) (answer : Answer) →
+step_none : (seed : ℕ) (c : Cartridge) (ws : List ℕ) (entries : List Entry) (item : MakeStep) (acts : List Act) (answer : Status) →
     StepDoes seed c ws entries item acts answer → AreNoRenew acts
-step_none seed c ws entries (AppendMade volume) acts answer (inl refused) = acts_of_none acts (ap steps_of refused.does)
+step_none seed c ws entries (AppendMade volume) acts answer (inl refused) = acts_of_none acts (ap steps_of refused.1)
 step_none seed c ws entries (AppendMade volume) acts answer (inr (free, inl appended)) =
     acts_by acts (made_acts seed c ws entries appended.table volume) (ap steps_of appended.does)
     (append_none (kept_over c ws entries appended.table) (made_name volume) 0 (Some (made_length seed volume)) silently (made_bytes seed volume)
     (none_in_settling appended.table c))
-step_none seed c ws entries (AppendMade volume) acts answer (inr (free, inr lost)) = acts_of_none acts (ap steps_of lost.does)
+step_none seed c ws entries (AppendMade volume) acts answer (inr (free, inr lost)) = acts_of_none acts (ap steps_of lost.2)
 step_none seed c ws entries (WearSector segment sector) acts answer worn =
     acts_by acts (record { steps = Wear segment sector ∷ []; text = [] } ∷ []) (ap steps_of worn.0) (tt, tt)
-step_none seed c ws entries ScrubAll acts answer (inl refused) = acts_of_none acts (ap steps_of refused.does)
+step_none seed c ws entries ScrubAll acts answer (inl refused) = acts_of_none acts (ap steps_of refused.1)
 step_none seed c ws entries ScrubAll acts answer (inr (free, scrubbed)) = scrub_none c ws entries acts scrubbed.0
 step_none seed c ws entries (SumVolume number) acts answer summed =
     acts_of_none acts (ap steps_of summed.is.0 ∙ sum_in_no_step number (volume_length ws summed.entry) (text_of summed.acts) summed.ending)
 
-runs_none : (seed : ℕ) (c : Cartridge) (ws : List ℕ) (entries : List Entry) (items : List MakeStep) (acts : List Act) (answer : Answer) →
+runs_none : (seed : ℕ) (c : Cartridge) (ws : List ℕ) (entries : List Entry) (items : List MakeStep) (acts : List Act) (answer : Status) →
     Runs seed c ws entries items acts answer → AreNoRenew acts
 runs_none seed c ws entries [] acts answer is = acts_of_none acts (ap steps_of is.0)
 runs_none seed c ws entries (item ∷ items) acts answer (inl (other, does)) = step_none seed c ws entries item acts answer does
 runs_none seed c ws entries (item ∷ items) acts answer (inr (first, rest, parts, does, runs)) =
     acts_by acts (first ++ rest) (ap steps_of (sym parts))
-    (acts_both first rest (step_none seed c ws entries item first made.Done does)
+    (acts_both first rest (step_none seed c ws entries item first status.Done does)
     (runs_none seed (changed_by (steps_of first) c) ws (after_item seed ws entries item) items rest answer runs))
 
 pub making_none : (seed count : ℕ) → GoesWithNone (Making seed count)

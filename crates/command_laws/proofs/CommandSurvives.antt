@@ -1,5 +1,5 @@
 -- What words that append leave comes back where one sector more of the table's segment is lost.
-use Rattle.std.proofs.Common.{◌≤◌, ◌≡◌, ℕ, List, Option, Some, IfSome, refl, ◌∙◌, subst, inl, inr, IsSomeAnd, sym, ap, [], arith, length}
+use Rattle.std.proofs.Common.{◌≤◌, ◌≡◌, ℕ, List, Option, Some, IfSome, refl, ◌∙◌, subst, inl, inr, IsSomeAnd, sym, ap, [], arith, length, ◌⊎◌, take, false}
 use Rattle.cartridge_laws.proofs.FormatWriting.{some_weaker}
 use Rattle.cartridge_spec.specs.Appending.{with_bytes}
 use Rattle.cartridge_spec.specs.Mounting.{IsTableLive, settled, ComesBackAs, LosesOneAlone}
@@ -8,16 +8,16 @@ use Rattle.cartridge_spec.specs.Volumes.{Plain, Stands}
 use Rattle.command_laws.proofs.CommandComesBack.{make_comes_back, make_comes_done, make_comes_printed, none_answered, script_comes_answered, script_comes_back, script_comes_heard}
 use Rattle.command_laws.proofs.CommandEnds.{Laws, told_whole}
 use Rattle.command_laws.proofs.CommandOneLoss.{append_comes_back, nothing_torn, done_comes_back}
-use Rattle.command_laws.proofs.CommandSeveral.{ends_ran, same_input, untouched_now}
+use Rattle.command_laws.proofs.CommandSeveral.{ends_ran, untouched_now, over_any, over_stop}
 use Rattle.command_laws.proofs.CommandTold.{input_of, input_told}
 use Rattle.command_laws.proofs.CommandVolumes.{whole_of, of_bytes, each_weaker, done_now, now_weaker, Did, carried_out_did}
 use Rattle.command_laws.proofs.IntactKeeping.{one_comes}
 use Rattle.command_laws.proofs.TextWords.{one_command}
-use Rattle.command_spec.specs.Headline.{StopLeaves, WordsLeave, EachLeft}
-use Rattle.command_spec.specs.Several.{IsHeard}
+use Rattle.command_spec.specs.Headline.{StopLeaves, WordsLeave, EachLeft, ToldNow}
+use Rattle.command_spec.specs.Several.{IsHeard, FirstLinesSpare, OverInput, Scripted}
 use Rattle.command_laws.specs.CommandTerms.{Yields}
-use Rattle.command_spec.specs.Machine.{HasValues, Spells, CommandEnds, is_fault}
-use Rattle.command_spec.specs.OneLoss.{StoppedComesBack, SurvivesOneLoss, AppendingLeaves, AppendingLeft, LeftComesBack, SomeComeBack, with_items, with_made, with_one}
+use Rattle.command_spec.specs.Machine.{HasValues, Spells, CommandEnds, is_fault, IsOfBytes}
+use Rattle.command_spec.specs.OneLoss.{SurvivesOneLoss, AppendingLeaves, AppendingLeft, LeftComesBack, SomeComeBack, with_items, with_made, with_one, StoppedComesBack}
 use Rattle.command_spec.specs.Volumes.{IsCarriedOut}
 use Rattle.command_spec.specs.declared.status.Status.{Status}
 use Rattle.command_spec.specs.declared.words.Words.{Words}
@@ -25,6 +25,7 @@ use Rattle.qic_base.specs.Acts.{steps_of, Outside}
 use Rattle.qic_base.specs.Cartridge.{Cartridge}
 use Rattle.qic_base.specs.Terms.{IsCartridge}
 use Rattle.qic_base.specs.Step.{effects, Torn}
+use Rattle.command_spec.specs.ScriptLists.{CameFurther, GoesNoFurther, ItemsSpare, ItemsSpareTable, printed_by}
 use Rattle.command_spec.specs.declared.words.Words.TheVariants as commands
 use Rattle.qic_base.specs.Tape as tapes
 use Rattle.qic_base.specs.TapeCalls as tape_calls
@@ -34,6 +35,13 @@ use Rattle.command_spec.specs.declared.status.Status.TheVariants as status
 
 -- ---- what is left
 
+-- by words of a script over an input
+abbrev ScriptComes : List ℕ → List (List ℕ) → Cartridge → Plain → Option Cartridge → Type 0
+ScriptComes input words c plain left =
+    (script : Scripted input words c plain) → c.info.protected ≡ false → (count : ℕ) → FirstLinesSpare script count → ItemsSpareTable (take count script.does.items) →
+    CameFurther (settled plain.table_area c) script.does.items script.does.dids script.does.last count left
+    ⊎ LeftComesBack c (with_items plain script.does.items script.does.dids) 0 count left
+
 -- what stood
 untouched : (told : Option (List ℕ)) (words : List (List ℕ)) (c : Cartridge) (plain : Plain) (left : Option Cartridge) → left ≡ Some c → AppendingLeaves told words c plain left
 untouched told words c plain left is =
@@ -41,7 +49,7 @@ untouched told words c plain left is =
     record {
       append = λ name date spells bytes. (input_of told, input_told told, inl (refl, here));
       make = λ seed count spells. inl (refl, here);
-      script = λ script free count some behind. inr (inl (refl, here));
+      script = over_any told (λ input. ScriptComes input words c plain left) (λ script free count spares table. inr (inl (refl, here)));
     }
 
 -- what a stop in a command leaves
@@ -63,9 +71,9 @@ left_by told words command c plain left values whole spelled leaves stood live =
       let other : Words = commands.Make seed count in
       let l : StopLeaves told other (Some c) left = as_other other spells in
       make_comes_back seed count (values other spells) c plain whole stood live l.outcome left l.plain l.torn;
-  script = λ script free count some behind.
-      let l : StopLeaves told commands.Script (Some c) left = as_other commands.Script script.spelled in
-      script_comes_back told words c plain whole script live free l.input l.outcome (same_input told script.input l.input script.is_told l.is_told) l.plain left count some behind l.torn;
+  script = over_stop told words command (Some c) left (λ input. ScriptComes input words c plain left) spelled leaves
+      (λ l script free count spares table. script_comes_back l.input words c plain whole script live free l.outcome l.plain left count spares table l.torn)
+      (λ other script. absurd (other script.spelled));
 } where
   as_other : (other : Words) → Spells words other → StopLeaves told other (Some c) left
   as_other other spells = subst (λ (w : Words). StopLeaves told w (Some c) left) (one_command words command other spelled spells) leaves
@@ -82,9 +90,36 @@ all_come_back t told words a b right values leaves = each_weaker t a b right (λ
 
 -- ---- when a run is over
 
+-- by words of a script over an input, and what was printed; and once it was carried out
+abbrev AnswersScript : {T K : Type 0} (t : tapes.Meaning T) (k : sinks.Meaning K) (words : List (List ℕ)) (new : T) (text : List ℕ) → Cartridge → Plain → List ℕ → Type 0
+AnswersScript t k words new text c plain input =
+    (script : Scripted input words c plain) → c.info.protected ≡ false → (answered count : ℕ) → answered ≤ length script.does.items →
+    printed_by script.does.dids answered ≤ length text → GoesNoFurther script.does.items script.does.dids count (length text) →
+    FirstLinesSpare script count → ItemsSpareTable (take count script.does.items) →
+    ToldNow t new (LeftComesBack c (with_items plain script.does.items script.does.dids) answered count)
+
+abbrev HeardScript : {T : Type 0} (t : tapes.Meaning T) (words : List (List ℕ)) (new : T) → Status → Cartridge → Plain → List ℕ → Type 0
+HeardScript t words new answer c plain input =
+    (script : Scripted input words c plain) → c.info.protected ≡ false → IsHeard answer →
+    ItemsSpare (settled plain.table_area c) plain script.does.items script.does.dids → ItemsSpareTable script.does.items →
+    ToldNow t new (SomeComeBack (with_items plain script.does.items script.does.dids) (length script.does.items) (length script.does.items))
+
+-- the input of a script; of other words nothing is asked
+over_command : (told : Option (List ℕ)) (words : List (List ℕ)) (command : Words) (input : List ℕ) (P : List ℕ → Type 0) → Spells words command → IfSome told (λ bytes. input ≡ bytes) →
+    IsOfBytes command told input → P input → ((Spells words commands.Script → ⊥) → P (input_of told)) → OverInput told P
+over_command told words commands.Script input P spelled is_told bytes asked other = (input, is_told, bytes refl, asked)
+over_command told words command input P spelled is_told bytes asked other =
+    over_any told P (other (λ script. let same : command ≡ commands.Script = one_command words command commands.Script spelled script in cc))
+
 module _ {T S K : Type 0} (t : tapes.Meaning T) (s : sources.Meaning S) (k : sinks.Meaning K) (words : List (List ℕ)) (command : Words) (old new : Outside T S K) (answer : Status)
     (laws : Laws t s k old new) (spelled : Spells words command) (values : HasValues command) (all : (other : Words) → Spells words other → HasValues other)
     (ends : CommandEnds t s k command old new answer) where
+  abbrev ScriptAnswers : (text : List ℕ) → Cartridge → Plain → List ℕ → Type 0
+  ScriptAnswers text c plain input = AnswersScript t k words new.tape text c plain input
+
+  abbrev ScriptHeard : Cartridge → Plain → List ℕ → Type 0
+  ScriptHeard c plain input = HeardScript t words new.tape answer c plain input
+
   appending_left : (c : Cartridge) (plain : Plain) → t.told old.tape ≡ Some (Some c) → Stands c plain → IsTableLive c →
       AppendingLeft t k (s.left old.source) words c plain new.tape old.sink new.sink answer
   appending_left c plain told stood live =
@@ -130,18 +165,20 @@ module _ {T S K : Type 0} (t : tapes.Meaning T) (s : sources.Meaning S) (k : sin
                   now_weaker t old.tape new.tape
                   (λ left is. make_comes_printed seed count few c plain whole stood live ran.outcome broken.text left does (inr is)) broken.each
             ];
-        script = λ script free answered count known written some further behind.
+        script = over_command (s.left old.source) words command ran.input (ScriptAnswers ran.was.text c plain) spelled ran.is_told ran.bytes
+            (λ script free answered count known written further spares table.
             now_weaker t old.tape new.tape
-            (λ left is. script_comes_answered (s.left old.source) words c plain whole script live free ran.input ran.outcome
-            (same_input (s.left old.source) script.input ran.input script.is_told ran.is_told) (as_other commands.Script script.spelled) ran.was.text left
-            answered count known written some further behind is) ran.was.each;
-        heard = λ script free which behind.
+            (λ left is. script_comes_answered ran.input words c plain whole script live free ran.outcome (as_other commands.Script script.spelled) ran.was.text left
+            answered count known written further spares table is) ran.was.each)
+            (λ other script. absurd (other script.spelled));
+        heard = over_command (s.left old.source) words command ran.input (ScriptHeard c plain) spelled ran.is_told ran.bytes
+            (λ script free which spares table.
             let went = ran.heard which in
             now_weaker t old.tape new.tape
             (λ left is. subst (SomeComeBack (with_items plain script.does.items script.does.dids) (length script.does.items) (length script.does.items)) (sym is)
-            (script_comes_heard (s.left old.source) words c plain whole script live free ran.input ran.outcome
-            (same_input (s.left old.source) script.input ran.input script.is_told ran.is_told) (as_other commands.Script script.spelled) (subst IsHeard (sym went.0) which) behind))
-            (done_now t old.tape new.tape (steps_of ran.outcome.acts) (Some c) went.1 told);
+            (script_comes_heard ran.input words c plain whole script live free ran.outcome (as_other commands.Script script.spelled) (subst IsHeard (sym went.0) which) spares table))
+            (done_now t old.tape new.tape (steps_of ran.outcome.acts) (Some c) went.1 told))
+            (λ other script. absurd (other script.spelled));
       }
 
   pub survives_one_loss : EachLeft t old.tape new.tape (WordsLeave (s.left old.source) words) →
@@ -162,12 +199,13 @@ none_survives t k told words a x answer right nothing never unheard values leave
     took = nothing;
     append = λ name date spells bytes which. absurd (never which);
     make = λ seed count spells which. elim which [ inl some ↦ absurd (some refl) | inr carried ↦ absurd (never carried) ];
-    script = λ script free answered count known written some further behind.
+    script = over_any told (AnswersScript t k words a [] c plain)
+        (λ script free answered count known written further spares table.
         untouched_now t a c (LeftComesBack c (with_items plain script.does.items script.does.dids) answered count) is
         (inl (
-          none_answered (settled plain.table_area c) plain script.input script.outcome script.does answered [] known written refl,
+          none_answered (settled plain.table_area c) plain (input_of told) script.outcome script.does answered [] known written refl,
           nothing_torn c (settling_steps plain.table_area c) (Some c) refl,
-        ));
-    heard = λ script free which behind. absurd (unheard which);
+        )));
+    heard = over_any told (HeardScript t words a answer c plain) (λ script free which spares table. absurd (unheard which));
   };
 }

@@ -34,8 +34,8 @@ use Rattle.command_laws.proofs.TextCommands.{IsRead, Reading}
 use Rattle.command_laws.proofs.CommandTable.UpgradeCommand.{upgrade_laws, upgrade_read, upgrade_reading}
 use Rattle.command_laws.specs.CommandLaws.{DoneWhereAllIsThere, OneOutcome, OnlyNewRenews, CopiesStayClean, CopiesStayBare}
 use Rattle.command_laws.specs.CommandRecord.{CommandLaws}
-use Rattle.command_spec.specs.Commands.{command_of, IsCommand}
-use Rattle.command_spec.specs.Machine.{HasValues}
+use Rattle.command_spec.specs.Commands.{command_of}
+use Rattle.command_spec.specs.Machine.{HasValues, Spells}
 use Rattle.command_laws.specs.CommandTerms.{Yields}
 use Rattle.command_spec.specs.Outcome.{CommandOutcome}
 use Rattle.command_spec.specs.declared.words.Words.{Words}
@@ -60,13 +60,13 @@ guess (first ∷ behind) = read_among readings first behind
 
 -- no reading before it begins with its word
 read_by : (reading : Reading) {command : Words} → ((behind : List (List ℕ)) → guess (reading.name ∷ behind) ≡ reading.reads behind) →
-    ((ws : List (List ℕ)) → IsCommand ws command → IsRead reading ws command) → (ws : List (List ℕ)) → IsCommand ws command → guess ws ≡ command
+    ((ws : List (List ℕ)) → Spells ws command → IsRead reading ws command) → (ws : List (List ℕ)) → Spells ws command → guess ws ≡ command
 read_by reading found read ws spelled = let r = read ws spelled in ap guess r.are ∙ found r.behind ∙ r.is
 
 -- a command's laws, and the reading of its words
 record Described (command : Words) : Type 0 where
   laws : CommandLaws (command_of command)
-  read : (ws : List (List ℕ)) → IsCommand ws command → guess ws ≡ command
+  read : (ws : List (List ℕ)) → Spells ws command → guess ws ≡ command
 
 described : (command : Words) → Described command
 unfolding guess
@@ -89,14 +89,14 @@ described words.Upgrade = record { laws = upgrade_laws; read = read_by upgrade_r
 pub laws_of : (command : Words) → CommandLaws (command_of command)
 laws_of command = (described command).laws
 
-pub guess_is : (words : List (List ℕ)) (command : Words) → IsCommand words command → guess words ≡ command
+pub guess_is : (words : List (List ℕ)) (command : Words) → Spells words command → guess words ≡ command
 guess_is words command spelled = (described command).read words spelled
 
-pub few_words : (words : List (List ℕ)) (command : Words) → IsCommand words command → (1 ≤ length words) × (length words ≤ 3)
+pub few_words : (words : List (List ℕ)) (command : Words) → Spells words command → (1 ≤ length words) × (length words ≤ 3)
 few_words words command spelled = (laws_of command).few_words words spelled
 
 -- the words of a command give it its values
-pub has_values : (words : List (List ℕ)) (command : Words) → IsCommand words command → HasValues command
+pub has_values : (words : List (List ℕ)) (command : Words) → Spells words command → HasValues command
 has_values words command spelled = (laws_of command).values words spelled
 
 -- each has an outcome over what a drive can hold, and one alone

@@ -1,5 +1,6 @@
 -- An input that is told, or none where none is told.
-use Rattle.std.proofs.Common.{ℕ, List, [], Option, Some, None, ◌≡◌, IfSome, refl}
+use Rattle.std.proofs.Common.{ℕ, ◌<◌, List, [], All, Option, Some, None, ◌≡◌, IfSome, IfNone, refl}
+use Rattle.std.proofs.lemmas.List.Elements.{All-nil}
 
 abbrev pub input_of : Option (List ℕ) → List ℕ
 input_of None = []
@@ -8,3 +9,8 @@ input_of (Some bytes) = bytes
 pub input_told : (told : Option (List ℕ)) → IfSome told (λ bytes. input_of told ≡ bytes)
 input_told None = tt
 input_told (Some bytes) = refl
+
+-- one of bytes, where none is told
+pub input_bytes : (told : Option (List ℕ)) → IfNone told (All (λ b. b < 256) (input_of told))
+input_bytes None = All-nil (λ b. b < 256)
+input_bytes (Some bytes) = tt

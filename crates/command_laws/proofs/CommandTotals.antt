@@ -15,7 +15,7 @@ use Rattle.command_laws.proofs.PulseMachineLaws.{each_outcome, sends_of}
 use Rattle.command_laws.proofs.RestoreEndings.{restores_always}
 use Rattle.command_laws.proofs.ScriptOutcomes.{each_outcome as each_script}
 use Rattle.command_laws.proofs.ScriptPlaces.{place_or_not}
-use Rattle.command_laws.proofs.ScrubTurns.{scrubs_always}
+use Rattle.command_laws.proofs.ScrubOneWrong.{form_always}
 use Rattle.command_spec.specs.Single.{DefectOutcome, FormatOutcome, LoseOutcome}
 use Rattle.command_laws.specs.CommandTerms.{Appends}
 use Rattle.command_spec.specs.Make.{Making}
@@ -25,6 +25,7 @@ use Rattle.command_laws.specs.PulseRuns.{sent, info_of}
 use Rattle.command_spec.specs.Pulses.{SentOutcome}
 use Rattle.command_spec.specs.Restore.{Gives, volume_at, pieces}
 use Rattle.command_spec.specs.Script.{Scripting}
+use Rattle.command_spec.specs.declared.depth.Depth.TheVariants.{Shallow}
 use Rattle.qic_base.specs.Cartridge.{Cartridge, view_at}
 use Rattle.qic_base.specs.Terms.{IsCartridge}
 use Rattle.qic_base.specs.Tape.{spoil_answer}
@@ -95,7 +96,7 @@ gives_answers number c header ws table entries whole mounts = by_volume (volume_
 
 pub mends_answers : Answers Mends
 mends_answers c header ws table entries whole mounts =
-    let some = scrubs_always (settled table c) ws entries (settled_is_cartridge c table whole mounts.reads) in
+    let some = form_always Shallow (settled table c) ws entries (settled_is_cartridge c table whole mounts.reads) in
     (_, record { acts = some.0; scrubs = some.1; is = refl })
 
 pub scripting_answers : (input : List ℕ) → Answers (Scripting input)

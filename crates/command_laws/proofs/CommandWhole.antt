@@ -1,5 +1,5 @@
 -- Each command leaves a whole cartridge where it began with one, done or stopped.
-use Rattle.std.proofs.Common.{◌≡◌, ℕ, ◌+◌, ◌<◌, ◌≤◌, ◌^◌, List, [], ◌∷◌, ◌++◌, All, false, Option, Some, None, IsSomeAnd, IfSome, inl, inr, refl, sym, ap, ◌∙◌, subst, arith, append_assoc, append-nil, drop, length}
+use Rattle.std.proofs.Common.{◌≡◌, ℕ, ◌<◌, ◌≤◌, ◌^◌, List, [], ◌∷◌, ◌++◌, All, false, Option, Some, None, IsSomeAnd, IfSome, inl, inr, refl, sym, ap, ◌∙◌, subst, arith, append_assoc, append-nil, drop, length}
 use Rattle.std.proofs.lemmas.List.Elements.{All-drop}
 use Rattle.cartridge_laws.proofs.FormatWriting.{some_and}
 use Rattle.cartridge_laws.proofs.MountSettled.{settled_keeps_table}
@@ -17,14 +17,13 @@ use Rattle.command_laws.proofs.RestoreCounts.{framed_in_no_step, restores_in_no_
 use Rattle.command_laws.proofs.ScriptOutcomes.{given_listed, listed_by, replied, taken_listed}
 use Rattle.command_laws.proofs.ScriptStanding.{items_have_bytes}
 use Rattle.command_laws.proofs.ScriptValues.{append_values}
-use Rattle.command_laws.proofs.ScrubMending.{stopped_scrub_is_cartridge}
 use Rattle.command_laws.proofs.WholeSteps.{append_leaves, behind_leave, clearing_leaves, format_steps_leave, new_whole, worn_whole}
 use Rattle.command_laws.specs.MountedListed.{IsListed, listed_behind}
 use Rattle.command_laws.specs.ScriptStanding.{HaveBytes, LineHasBytes}
 use Rattle.command_spec.specs.Append.{AppendOutcome, Fits, Kept, Taking, TooLong, TooShort, append_acts, kept_over, room_in, taking}
 use Rattle.command_spec.specs.Single.{FormatOutcome}
 use Rattle.command_laws.specs.CommandTerms.{Appends, silently, made_acts}
-use Rattle.command_spec.specs.Make.{made_bytes, made_length, Answer, AppendMade, Making, MakeStep, Runs, ScrubAll, StepDoes, SumVolume, WearSector, after_item, made_name, making}
+use Rattle.command_spec.specs.Make.{made_bytes, made_length, AppendMade, Making, MakeStep, Runs, ScrubAll, StepDoes, SumVolume, WearSector, after_item, made_name, making}
 use Rattle.command_spec.specs.Input.{AtEnd, AtFault, AtStop, Ending, Item}
 use Rattle.command_spec.specs.Lines.{reply_behind}
 use Rattle.command_laws.specs.Terms.{NewOutcome, Printing, Mends}
@@ -38,10 +37,13 @@ use Rattle.qic_base.specs.Cartridge.{Cartridge, IsLength, new_cartridge}
 use Rattle.qic_base.specs.Terms.{IsCartridge}
 use Rattle.qic_base.specs.Step.{Renew, Step, Wear, changed, Halfway, Torn}
 use Rattle.qic_base.specs.declared.tape.TapeInfo.{TapeInfo}
+use Rattle.command_spec.specs.declared.status.Status.{Status}
+use Rattle.command_laws.proofs.ScrubForms.{stopped_form_is_cartridge}
+use Rattle.command_spec.specs.declared.depth.Depth.TheVariants.{Shallow}
 use Rattle.cartridge_spec.specs.Mounting as mounting
 use Rattle.command_spec.specs.declared.line.Line.TheVariants as line
 use Rattle.command_spec.specs.declared.refusal.Refusal.TheVariants as why
-use Rattle.command_spec.specs.Make as made
+use Rattle.command_spec.specs.declared.status.Status.TheVariants as status
 
 abbrev Whole : Cartridge → List Step → Type 0
 Whole c steps = Leaves IsCartridge c steps
@@ -85,7 +87,7 @@ pub mends_whole : GoesLeaving IsCartridge Mends
 mends_whole c header ws table entries outcome mounts found whole =
     whole_outcome c outcome _ found.is
     (behind_leave c table (steps_of found.acts) whole mounts.reads (λ still left torn.
-    stopped_scrub_is_cartridge (settled table c) ws entries found.acts left still found.scrubs torn))
+    stopped_form_is_cartridge Shallow (settled table c) ws entries found.acts left still found.scrubs torn))
 
 listed_still : (c : Cartridge) (header : Header) (ws : List ℕ) (table : List (List ℕ)) (entries : List Entry) → IsCartridge c → Mounts c (mounting.Mounted header ws table entries) →
     IsListed (settled table c) ws entries
@@ -156,7 +158,7 @@ line_leaves c ws entries (line.Restore number) bytes did whole listed has (inr f
 line_leaves c ws entries line.Scrub bytes did whole listed has (inl is) = line_by c ws did _ is.1 (line_still c ws entries _ whole listed refl)
 line_leaves c ws entries line.Scrub bytes did whole listed has (inr (free, (acts, scrubs, is))) =
     line_by c ws did _ is (record {
-      leaves = λ left torn. stopped_scrub_is_cartridge c ws entries acts left whole scrubs torn;
+      leaves = λ left torn. stopped_form_is_cartridge Shallow c ws entries acts left whole scrubs torn;
       listed = scrub_listed c ws entries acts listed free scrubs;
     })
 line_leaves c ws entries (line.Lose segment sector) bytes did whole listed has (inl is) = line_by c ws did _ is.1 (line_still c ws entries _ whole listed refl)
@@ -222,44 +224,44 @@ append_whole name date input label word content c outcome (inr (free, (m, mounts
 
 -- ---- a generated run
 
-step_leaves : (seed : ℕ) (c : Cartridge) (ws : List ℕ) (entries : List Entry) (item : MakeStep) (acts : List Act) (answer : Answer) → IsCartridge c → IsListed c ws entries → CanDo entries item →
+step_leaves : (seed : ℕ) (c : Cartridge) (ws : List ℕ) (entries : List Entry) (item : MakeStep) (acts : List Act) (answer : Status) → IsCartridge c → IsListed c ws entries → CanDo entries item →
     StepDoes seed c ws entries item acts answer → Whole c (steps_of acts)
-step_leaves seed c ws entries (AppendMade volume) acts answer whole listed can (inl refused) = still_whole c (steps_of acts) whole (ap steps_of refused.does)
+step_leaves seed c ws entries (AppendMade volume) acts answer whole listed can (inl refused) = still_whole c (steps_of acts) whole (ap steps_of refused.1)
 step_leaves seed c ws entries (AppendMade volume) acts answer whole listed can (inr (free, inl appended)) =
     leaves_by IsCartridge c (steps_of acts) (steps_of (made_acts seed c ws entries appended.table volume)) (ap steps_of appended.does)
     (append_leaves c ws entries appended.table listed free appended.reads whole (made_name volume) 0 (Some (made_length seed volume)) silently (made_bytes seed volume)
     (made_label volume can) (omega arith) (made_content seed volume))
-step_leaves seed c ws entries (AppendMade volume) acts answer whole listed can (inr (free, inr lost)) = still_whole c (steps_of acts) whole (ap steps_of lost.does)
+step_leaves seed c ws entries (AppendMade volume) acts answer whole listed can (inr (free, inr lost)) = still_whole c (steps_of acts) whole (ap steps_of lost.2)
 step_leaves seed c ws entries (WearSector segment sector) acts answer whole listed can worn =
     leaves_by IsCartridge c (steps_of acts) (Wear segment sector ∷ []) (ap steps_of worn.0) (wear_leaves IsCartridge segment sector c whole (worn_whole c segment sector whole))
-step_leaves seed c ws entries ScrubAll acts answer whole listed can (inl refused) = still_whole c (steps_of acts) whole (ap steps_of refused.does)
-step_leaves seed c ws entries ScrubAll acts answer whole listed can (inr (free, scrubbed)) = λ left torn. stopped_scrub_is_cartridge c ws entries acts left whole scrubbed.0 torn
+step_leaves seed c ws entries ScrubAll acts answer whole listed can (inl refused) = still_whole c (steps_of acts) whole (ap steps_of refused.1)
+step_leaves seed c ws entries ScrubAll acts answer whole listed can (inr (free, scrubbed)) = λ left torn. stopped_form_is_cartridge Shallow c ws entries acts left whole scrubbed.0 torn
 step_leaves seed c ws entries (SumVolume number) acts answer whole listed can summed =
     still_whole c (steps_of acts) whole (ap steps_of summed.is.0 ∙ sum_in_no_step number (volume_length ws summed.entry) (text_of summed.acts) summed.ending)
 
 step_listed : (seed : ℕ) (c : Cartridge) (ws : List ℕ) (entries : List Entry) (item : MakeStep) (acts : List Act) → IsListed c ws entries → CanDo entries item →
-    StepDoes seed c ws entries item acts made.Done → IsListed (changed_by (steps_of acts) c) ws (after_item seed ws entries item)
-step_listed seed c ws entries (AppendMade volume) acts listed can (inl refused) = absurd (let same = refused.answered in cc)
+    StepDoes seed c ws entries item acts status.Done → IsListed (changed_by (steps_of acts) c) ws (after_item seed ws entries item)
+step_listed seed c ws entries (AppendMade volume) acts listed can (inl refused) = absurd (let same = refused.2 in cc)
 step_listed seed c ws entries (AppendMade volume) acts listed can (inr (free, inl appended)) =
     let table : List (List ℕ) = appended.table in
     subst (λ (es : List Entry). IsListed (changed_by (steps_of acts) c) ws es) (made_behind seed c ws entries listed table volume (sym appended.answered))
     (listed_by c ws (listed_behind (kept_over c ws entries table) (made_name volume) 0 (taking (room_in (kept_over c ws entries table)) (Some (made_length seed volume)) (made_bytes seed volume)))
     (steps_of acts) (steps_of (made_acts seed c ws entries table volume)) (ap steps_of appended.does)
     (append_listed c ws entries table (made_name volume) 0 (Some (made_length seed volume)) silently (made_bytes seed volume) listed free appended.reads (made_label volume can) (omega arith)))
-step_listed seed c ws entries (AppendMade volume) acts listed can (inr (free, inr lost)) = absurd (let same = lost.answered in cc)
+step_listed seed c ws entries (AppendMade volume) acts listed can (inr (free, inr lost)) = absurd (let same = lost.3 in cc)
 step_listed seed c ws entries (WearSector segment sector) acts listed can worn =
     listed_by c ws entries (steps_of acts) (Wear segment sector ∷ []) (ap steps_of worn.0) (wear_listed c ws entries segment sector listed)
-step_listed seed c ws entries ScrubAll acts listed can (inl refused) = absurd (let same = refused.answered in cc)
+step_listed seed c ws entries ScrubAll acts listed can (inl refused) = absurd (let same = refused.2 in cc)
 step_listed seed c ws entries ScrubAll acts listed can (inr (free, scrubbed)) = scrub_listed c ws entries acts listed free scrubbed.0
 step_listed seed c ws entries (SumVolume number) acts listed can summed =
     listed_by c ws entries (steps_of acts) [] (ap steps_of summed.is.0 ∙ sum_in_no_step number (volume_length ws summed.entry) (text_of summed.acts) summed.ending) listed
 
-runs_leave : (seed : ℕ) (c : Cartridge) (ws : List ℕ) (entries : List Entry) (items : List MakeStep) (acts : List Act) (answer : Answer) → IsCartridge c → IsListed c ws entries →
+runs_leave : (seed : ℕ) (c : Cartridge) (ws : List ℕ) (entries : List Entry) (items : List MakeStep) (acts : List Act) (answer : Status) → IsCartridge c → IsListed c ws entries →
     CanRun seed ws entries items → Runs seed c ws entries items acts answer → Whole c (steps_of acts)
 runs_leave seed c ws entries [] acts answer whole listed can is = still_whole c (steps_of acts) whole (ap steps_of is.0)
 runs_leave seed c ws entries (item ∷ items) acts answer whole listed can (inl (other, does)) = step_leaves seed c ws entries item acts answer whole listed can.0 does
 runs_leave seed c ws entries (item ∷ items) acts answer whole listed can (inr (first, rest, parts, does, runs)) =
-    let now : Whole c (steps_of first) = step_leaves seed c ws entries item first made.Done whole listed can.0 does in
+    let now : Whole c (steps_of first) = step_leaves seed c ws entries item first status.Done whole listed can.0 does in
     leaves_by IsCartridge c (steps_of acts) (steps_of (first ++ rest)) (ap steps_of (sym parts))
     (acts_leave IsCartridge c first rest now
     (runs_leave seed (changed_by (steps_of first) c) ws (after_item seed ws entries item) items rest answer (leaves_done IsCartridge c (steps_of first) now)

@@ -49,7 +49,7 @@ module _ (c : Cartridge) (one : Plain) (reads : ReadsAs c one) where
 
   given_all : (place : ℕ) (volume : Volume) → slice_get one.volumes place ≡ Some volume → All (LosesFew c one.words) (pieces_in one volume) → GivesWhole (settled one.table_area c) one volume
   given_all place volume at few read ending restores =
-      let has : HasNumber c one (suc place) volume = record { stands = reads.stands; reads = reads.reads; place = place; numbered = refl; is = at } in
+      let has : HasNumber c one (suc place) volume = record { stands = reads.stands; reads = reads.reads; is = at } in
       restored_is_done ending
       (given_whole (suc place) c one volume (record { acts = settling_act one.table_area c ∷ read; taken = 0; status = ending_status ending }) has
       (record { table = mounts_so.reads; acts = read; ending = ending; restores = restores; is = refl }) few).0

@@ -149,7 +149,7 @@ line_long number bytes =
     omega arith
 
 -- a volume that was refused prints none
-refused_text : (from : Side) (e : Entry) (to : Side) (acts : List Act) (answer : CopyStatus) → answer ≢ status.Done → CopiesVolume from e to acts answer → text_of acts ≡ []
+pub refused_text : (from : Side) (e : Entry) (to : Side) (acts : List Act) (answer : CopyStatus) → answer ≢ status.Done → CopiesVolume from e to acts answer → text_of acts ≡ []
 refused_text from e to acts answer other (inl lost) = ap text_of lost.does
 refused_text from e to acts answer other (inr (table, reads, inl full)) =
     ap text_of (full.does ∙ full_acts (kept_on to table) e.name e.date (length_on from e) full.none (copied_behind (length to.entries)) [])

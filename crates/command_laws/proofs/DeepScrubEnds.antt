@@ -26,8 +26,8 @@ use Rattle.command_spec.specs.Headline.{Stepped, ToldNow}
 use Rattle.command_spec.specs.Machine.{Spells, is_fault}
 use Rattle.command_laws.specs.CommandTerms.{Yields}
 use Rattle.command_spec.specs.Outcome.{CommandOutcome, Opened}
-use Rattle.command_laws.specs.Terms.{MendsDeep, ScrubsDeepOn}
-use Rattle.command_spec.specs.Scrub.{ScrubsAs}
+use Rattle.command_laws.specs.Terms.{MendsDeep}
+use Rattle.command_spec.specs.Scrub.{ScrubsAs, ScrubsBy}
 use Rattle.command_spec.specs.declared.depth.Depth.TheVariants.{Deep}
 use Rattle.command_spec.specs.declared.status.Status.{Status}
 use Rattle.command_spec.specs.declared.words.Words.{Words}
@@ -62,7 +62,7 @@ deep_scrub_mends k c plain input outcome stood known silent free (inl is) = let 
 deep_scrub_mends k c plain input outcome stood known silent free (inr (unlocked, (m, mounts, opened))) =
     let as_plain : Mounts c (mounted_as plain) = silent_sectors_are_mounted k c plain stood (stood_mounts k plain stood known) silent in
     let same : m ≡ mounted_as plain = mounts_is_function c m (mounted_as plain) mounts as_plain in
-    let on : ScrubsDeepOn c plain.words plain.table_area (entries_of plain) outcome = subst (λ (a : Mounting). Opened MendsDeep c a outcome) same opened in
+    let on : ScrubsBy Deep c plain.header plain.words plain.table_area (entries_of plain) outcome = subst (λ (a : Mounting). Opened MendsDeep c a outcome) same opened in
     (ap (λ (o : CommandOutcome). o.status) on.is, silent_sectors_end k c plain outcome stood known free silent on)
 
 -- ---- stopped

@@ -9,10 +9,10 @@ use Rattle.cartridge_laws.proofs.MountSettles.{settling_settles}
 use Rattle.cartridge_laws.proofs.MountStanding.{standing_mounts_only_so}
 use Rattle.cartridge_laws.proofs.Sayings.{says_is_function}
 use Rattle.cartridge_laws.specs.Table.{IsSoundList}
-use Rattle.cartridge_spec.specs.Formatting.{HasCleanCopies, IsCleanCopy}
+use Rattle.cartridge_spec.specs.Formatting.{HasCleanCopies}
 use Rattle.cartridge_spec.specs.Header.{Header, header_fault}
 use Rattle.cartridge_spec.specs.HeaderAndTable.{CopyDoesNotRead, CopyReads, IsArea, TableIs, copy_cells, last_segment}
-use Rattle.cartridge_laws.specs.Terms.{IsInForce}
+use Rattle.cartridge_laws.specs.Terms.{IsInForce, IsCleanCopy}
 use Rattle.cartridge_spec.specs.Mounting.{IsMounted, Mounted, Mounting, Mounts, TableLost, mounted_as, settled}
 use Rattle.cartridge_spec.specs.Says.{Data, Mismatch, Says, Written, Zero, whole_mask}
 use Rattle.cartridge_spec.specs.Settling.{settling_steps}
@@ -29,9 +29,9 @@ use Rattle.command_laws.proofs.ScrubSeen.{IsSeen, SameIn, same_back, wrong_same}
 use Rattle.command_laws.proofs.ScrubStanding.{copy_reads, in_force, looks_in_front, table_kept}
 use Rattle.command_laws.specs.ScrubFound.{without_all}
 use Rattle.command_laws.specs.ScrubSayings.{Rise}
-use Rattle.command_laws.specs.Terms.{IsFirstCopyRight, DeepScrubOutcome, MendsDeep, ScrubsDeepOn}
+use Rattle.command_laws.specs.Terms.{IsFirstCopyRight, DeepScrubOutcome, MendsDeep}
 use Rattle.command_spec.specs.Outcome.{CommandOutcome, Opened}
-use Rattle.command_spec.specs.Scrub.{Looked, looked_at, whole_segment, Finding, IsWrong, ScrubsAs}
+use Rattle.command_spec.specs.Scrub.{Looked, looked_at, whole_segment, Finding, IsWrong, ScrubsAs, ScrubsBy}
 use Rattle.command_spec.specs.declared.depth.Depth.{Depth}
 use Rattle.command_spec.specs.declared.depth.Depth.TheVariants.{Deep}
 use Rattle.qic_base.specs.Acts.{Act, steps_of}
@@ -169,7 +169,7 @@ form_mounts depth c header ws table entries acts none mounted scrubs left torn =
 
 -- the settling, and the scrubbing behind it
 module _ (P : Cartridge → Type 0) (c : Cartridge) (header : Header) (ws : List ℕ) (table : List (List ℕ)) (entries : List Entry) (outcome : CommandOutcome) where
-  both_parts : Mounts c (Mounted header ws table entries) → (on : ScrubsDeepOn c ws table entries outcome) → Leaves P c (settling_steps table c) →
+  both_parts : Mounts c (Mounted header ws table entries) → (on : ScrubsBy Deep c header ws table entries outcome) → Leaves P c (settling_steps table c) →
       Leaves P (settled table c) (steps_of on.acts) → Leaves P c (steps_of outcome.acts)
   both_parts mounts on first next =
       leaves_by P c (steps_of outcome.acts) (settling_steps table c ++ steps_of on.acts) (ap (λ (o : CommandOutcome). steps_of o.acts) on.is)

@@ -1,5 +1,5 @@
 -- What leaves a whole table whole: appends, sectors that are worn behind it, and scrubs.
-use Rattle.std.proofs.Common.{if◌then◌else◌, ◌≡◌, ◌∙◌, ◌++◌, ◌≤◌, ℕ, List, [], Bool, false, Option, Some, IsSomeAnd, inl, inr, ap, sym, subst, arith, ◌+◌, suc}
+use Rattle.std.proofs.Common.{if◌then◌else◌, ◌≡◌, ◌∙◌, ◌++◌, ◌≤◌, ℕ, List, [], Bool, false, Option, Some, IsSomeAnd, inl, inr, ap, sym, subst, arith, suc}
 use Rattle.std.proofs.lemmas.Bool.{cases_Bool, cases_lt}
 use Rattle.cartridge_laws.proofs.AppendVolume.{old_order}
 use Rattle.cartridge_laws.proofs.ChangeViews.{view_of_other}
@@ -18,12 +18,13 @@ use Rattle.cartridge_laws.specs.Terms.{places_where, is_left_out, is_unsettled}
 use Rattle.cartridge_spec.specs.Shape.{sector_at}
 use Rattle.cartridge_spec.specs.Volumes.{Plain, entries_of}
 use Rattle.command_laws.proofs.MountedHeld.{settled_live}
-use Rattle.command_laws.proofs.MountedKeeping.{scrubbed_kept, worn_kept}
+use Rattle.command_laws.proofs.MountedKeeping.{scrubbed_kept, spared_kept}
 use Rattle.command_laws.proofs.MountedStanding.{kept_appended, whole_appended}
 use Rattle.command_laws.proofs.MountedSurviving.{appends_survive}
 use Rattle.command_laws.proofs.ScrubApart.{looked_rise}
 use Rattle.command_laws.proofs.ScrubDone.{done_being_mended}
 use Rattle.command_laws.proofs.ScrubMending.{readable_stays, stopped_scrub}
+use Rattle.command_laws.proofs.ScrubPlain.{as_plain}
 use Rattle.command_laws.proofs.ScrubStanding.{mending_stands}
 use Rattle.command_laws.specs.Intact.{AppendsLeaveIntact, IntactComesBack, IsIntact, ScrubsLeaveIntact, SettledIsIntact, WearsLeaveIntact}
 use Rattle.command_laws.specs.ScrubMended.{IsBeingMended}
@@ -123,15 +124,16 @@ appends_leave_intact c plain name date bytes intact may enough = record {
 }
 
 pub wears_leave_intact : WearsLeaveIntact
-wears_leave_intact c plain segment sector intact behind small = record {
-  kept = worn_kept c plain segment sector intact.kept behind small;
+wears_leave_intact c plain segment sector intact spares other small = record {
+  kept = spared_kept c plain segment sector intact.kept spares other small;
   table = λ i h.
-      view_of_other c segment sector 2 i (worn_view (view_at c segment sector)) small h (λ is. let low : segment ≡ 2 = sym is in omega arith)
+      view_of_other c segment sector 2 i (worn_view (view_at c segment sector)) small h (λ is. other (sym is))
       ∙ intact.table i h;
 }
 
 pub scrubs_leave_intact : ScrubsLeaveIntact
 scrubs_leave_intact c plain acts intact scrubs =
+    let plainly = as_plain c plain.words (entries_of plain) acts scrubs in
     let order = old_order c plain intact.kept.stands in
     let looked = looked_at plain.words (entries_of plain) in
     let whole : (d : Cartridge) → IsBeingMended looked c d → IsWhole d plain.table_area =
@@ -139,11 +141,11 @@ scrubs_leave_intact c plain acts intact scrubs =
     record {
       done = record {
         kept = scrubbed_kept c plain acts intact.kept scrubs;
-        table = whole (changed_by (steps_of acts) c) (done_being_mended c plain.words (entries_of plain) (last_segment c) acts order scrubs);
+        table = whole (changed_by (steps_of acts) c) (done_being_mended c plain.words (entries_of plain) (last_segment c) acts order plainly);
       };
       stopped = λ left torn.
           some_weaker left
           (λ d way f lost loses. inl (whole_comes_back d plain
           (mending_stands c d plain (looked_rise plain.words (last_segment c) (entries_of plain) order) intact.kept.stands way) (whole d way) intact.kept.stands.whole.table_area f lost loses))
-          (stopped_scrub c plain.words (entries_of plain) (last_segment c) acts left order scrubs torn);
+          (stopped_scrub c plain.words (entries_of plain) (last_segment c) acts left order plainly torn);
     }

@@ -9,14 +9,16 @@ use Rattle.command_laws.proofs.IntactKeeping.{appends_leave_intact, intact_is_on
 use Rattle.command_laws.proofs.MadeAnswered.{append_prints_nothing, quiet_front, torn_behind, two_fronts}
 use Rattle.command_laws.proofs.MadeMachineLaws.{never_unlocked}
 use Rattle.command_laws.proofs.MadeStops.{AreStill, IsStill, StillBehind, append_is, behind_is_still, behind_next, done_append, entries_more, made_named, only_settled, still_after, steps_are, sum_in_no_step}
-use Rattle.command_laws.proofs.MountedKeeping.{acts_stopped, changed_by_acts, kept_open}
+use Rattle.command_laws.proofs.MountedKeeping.{acts_stopped, changed_by_acts, kept_open, lies_apart}
 use Rattle.command_laws.specs.Intact.{AppendLeavesIntact, DoneMakeIsIntact, IsIntact, StoppedMakeComesBack, PrintedMakeComesBack}
-use Rattle.command_spec.specs.Make.{made_bytes, Answer, AppendMade, Done, MakeStep, Runs, ScrubAll, StepDoes, SumVolume, WearSector, appending, made_list, made_name, summing, wearing_volumes, made_contents}
+use Rattle.command_spec.specs.Make.{made_bytes, AppendMade, MakeStep, Runs, ScrubAll, StepDoes, SumVolume, WearSector, appending, made_list, made_name, summing, wearing_volumes, made_contents}
 use Rattle.command_spec.specs.OneLoss.{ComesBackAsOneOf, SomeComeBack}
 use Rattle.qic_base.proofs.Joins.{text_of-append}
 use Rattle.qic_base.specs.Acts.{Act, steps_of, text_of, next_steps}
 use Rattle.qic_base.specs.Cartridge.{Cartridge}
 use Rattle.qic_base.specs.Step.{Step, Wear, Torn}
+use Rattle.command_spec.specs.declared.status.Status.{Status}
+use Rattle.command_spec.specs.declared.status.Status.TheVariants as status
 
 -- ---- an append
 
@@ -27,13 +29,13 @@ module _ (seed : ℕ) (c : Cartridge) (plain : Plain) (intact : IsIntact c plain
   leaves : has_room plain (length (made_bytes seed volume)) ≡ true → AppendLeavesIntact c plain (made_name volume) 0 (made_bytes seed volume)
   leaves enough = appends_leave_intact c plain (made_name volume) 0 (made_bytes seed volume) intact (made_named seed volume small) enough
 
-  done_append_intact : (acts : List Act) → StepDoes seed c plain.words (entries_of plain) (AppendMade volume) acts Done → IsIntact (changed_by (steps_of acts) c) more
+  done_append_intact : (acts : List Act) → StepDoes seed c plain.words (entries_of plain) (AppendMade volume) acts status.Done → IsIntact (changed_by (steps_of acts) c) more
   done_append_intact acts does =
       let did = done_append seed c plain (kept_open c plain intact.kept) volume acts does in
       let now = leaves did.0 in
       subst (λ (steps : List Step). IsIntact (changed_by steps c) more) (sym did.1) now.done
 
-  stopped_append_comes : (acts : List Act) (answer : Answer) (left : Option Cartridge) → StepDoes seed c plain.words (entries_of plain) (AppendMade volume) acts answer →
+  stopped_append_comes : (acts : List Act) (answer : Status) (left : Option Cartridge) → StepDoes seed c plain.words (entries_of plain) (AppendMade volume) acts answer →
       Torn (steps_of acts) (Some c) left → IsSomeAnd left (ComesBackAsOneOf plain more)
   stopped_append_comes acts answer left does torn =
       let here = kept_open c plain intact.kept in
@@ -51,17 +53,17 @@ module _ (seed : ℕ) (c : Cartridge) (plain : Plain) (intact : IsIntact c plain
 -- ---- the other steps
 
 still_done : (seed : ℕ) (c : Cartridge) (plain : Plain) (item : MakeStep) (acts : List Act) → IsStill item → IsIntact c plain →
-    StepDoes seed c plain.words (entries_of plain) item acts Done → IsIntact (changed_by (steps_of acts) c) plain
+    StepDoes seed c plain.words (entries_of plain) item acts status.Done → IsIntact (changed_by (steps_of acts) c) plain
 still_done seed c plain (AppendMade volume) acts still intact does = absurd still
 still_done seed c plain (WearSector segment sector) acts still intact does =
-    subst (λ (zs : List Act). IsIntact (changed_by (steps_of zs) c) plain) (sym does.0) (wears_leave_intact c plain segment sector intact still.0 still.1)
-still_done seed c plain ScrubAll acts still intact (inl refused) = absurd (never_unlocked c refused.mark intact.kept.unprotected)
+    subst (λ (zs : List Act). IsIntact (changed_by (steps_of zs) c) plain) (sym does.0) (wears_leave_intact c plain segment sector intact (inl still.0) (lies_apart segment still.0) still.1)
+still_done seed c plain ScrubAll acts still intact (inl refused) = absurd (never_unlocked c refused.0 intact.kept.unprotected)
 still_done seed c plain ScrubAll acts still intact (inr (free, done)) = let now = scrubs_leave_intact c plain acts intact done.0 in now.done
 still_done seed c plain (SumVolume number) acts still intact does =
     subst (λ (steps : List Step). IsIntact (changed_by steps c) plain)
     (sym (ap steps_of does.is.0 ∙ sum_in_no_step number (volume_length plain.words does.entry) (text_of does.acts) does.ending)) intact
 
-still_stopped : (seed : ℕ) (c : Cartridge) (plain : Plain) (item : MakeStep) (acts : List Act) (answer : Answer) (left : Option Cartridge) → IsStill item → IsIntact c plain →
+still_stopped : (seed : ℕ) (c : Cartridge) (plain : Plain) (item : MakeStep) (acts : List Act) (answer : Status) (left : Option Cartridge) → IsStill item → IsIntact c plain →
     StepDoes seed c plain.words (entries_of plain) item acts answer → Torn (steps_of acts) (Some c) left → IsSomeAnd left (ComesBackAsOneOf plain plain)
 still_stopped seed c plain (AppendMade volume) acts answer left still intact does torn = absurd still
 still_stopped seed c plain (WearSector segment sector) acts answer left still intact does torn =
@@ -70,8 +72,8 @@ still_stopped seed c plain (WearSector segment sector) acts answer left still in
     by_torn : Torn (Wear segment sector ∷ []) (Some c) left → IsSomeAnd left (ComesBackAsOneOf plain plain)
     by_torn (inl is) = intact_is_one c plain plain left intact is
     by_torn (inr (inl half)) = absurd half
-    by_torn (inr (inr is)) = intact_is_one (worn segment sector c) plain plain left (wears_leave_intact c plain segment sector intact still.0 still.1) is
-still_stopped seed c plain ScrubAll acts answer left still intact (inl refused) torn = absurd (never_unlocked c refused.mark intact.kept.unprotected)
+    by_torn (inr (inr is)) = intact_is_one (worn segment sector c) plain plain left (wears_leave_intact c plain segment sector intact (inl still.0) (lies_apart segment still.0) still.1) is
+still_stopped seed c plain ScrubAll acts answer left still intact (inl refused) torn = absurd (never_unlocked c refused.0 intact.kept.unprotected)
 still_stopped seed c plain ScrubAll acts answer left still intact (inr (free, done)) torn =
     let now = scrubs_leave_intact c plain acts intact done.0 in now.stopped left torn
 still_stopped seed c plain (SumVolume number) acts answer left still intact does torn =
@@ -79,7 +81,7 @@ still_stopped seed c plain (SumVolume number) acts answer left still intact does
     (subst (λ (steps : List Step). Torn steps (Some c) left)
     (ap steps_of does.is.0 ∙ sum_in_no_step number (volume_length plain.words does.entry) (text_of does.acts) does.ending) torn)
 
-stills_stopped : (seed : ℕ) (items : List MakeStep) (c : Cartridge) (plain : Plain) (acts : List Act) (answer : Answer) (left : Option Cartridge) → AreStill items → IsIntact c plain →
+stills_stopped : (seed : ℕ) (items : List MakeStep) (c : Cartridge) (plain : Plain) (acts : List Act) (answer : Status) (left : Option Cartridge) → AreStill items → IsIntact c plain →
     Runs seed c plain.words (entries_of plain) items acts answer → Torn (steps_of acts) (Some c) left → IsSomeAnd left (ComesBackAsOneOf plain plain)
 stills_stopped seed [] c plain acts answer left still intact (none, done) torn =
     intact_is_one c plain plain left intact (subst (λ (zs : List Act). Torn (steps_of zs) (Some c) left) none torn)
@@ -87,20 +89,20 @@ stills_stopped seed (item ∷ items) c plain acts answer left still intact (inl 
     still_stopped seed c plain item acts answer left still.0 intact does torn
 stills_stopped seed (item ∷ items) c plain acts answer left still intact (inr (first, rest, parts, does, more)) torn =
     elim (acts_stopped first rest acts c left parts torn) [
-      | inl here ↦ still_stopped seed c plain item first Done left still.0 intact does here
+      | inl here ↦ still_stopped seed c plain item first status.Done left still.0 intact does here
       | inr behind ↦ stills_stopped seed items (changed_by (steps_of first) c) plain rest answer left still.1 (still_done seed c plain item first still.0 intact does)
           (subst (λ (es : List Entry). Runs seed (changed_by (steps_of first) c) plain.words es items rest answer)
           (still_after seed plain.words (entries_of plain) item still.0) more) behind
     ]
 
 stills_done : (seed : ℕ) (items : List MakeStep) (c : Cartridge) (plain : Plain) (acts : List Act) → AreStill items → IsIntact c plain →
-    Runs seed c plain.words (entries_of plain) items acts Done → IsIntact (changed_by (steps_of acts) c) plain
+    Runs seed c plain.words (entries_of plain) items acts status.Done → IsIntact (changed_by (steps_of acts) c) plain
 stills_done seed [] c plain acts still intact (none, done) = subst (λ (steps : List Step). IsIntact (changed_by steps c) plain) (sym (ap steps_of none)) intact
 stills_done seed (item ∷ items) c plain acts still intact (inl (other, does)) = absurd (other refl)
 stills_done seed (item ∷ items) c plain acts still intact (inr (first, rest, parts, does, more)) =
     let d : Cartridge = changed_by (steps_of first) c in
     let now : IsIntact (changed_by (steps_of rest) d) plain = stills_done seed items d plain rest still.1 (still_done seed c plain item first still.0 intact does)
-    (subst (λ (es : List Entry). Runs seed d plain.words es items rest Done) (still_after seed plain.words (entries_of plain) item still.0) more) in
+    (subst (λ (es : List Entry). Runs seed d plain.words es items rest status.Done) (still_after seed plain.words (entries_of plain) item still.0) more) in
     subst (λ (e : Cartridge). IsIntact e plain) (sym (ap (λ (zs : List Act). changed_by (steps_of zs) c) (sym parts) ∙ changed_by_acts first rest c)) now
 
 -- ---- the appends, and what comes behind them
@@ -118,12 +120,12 @@ module _ (seed : ℕ) (rest : List MakeStep) where
   comes_next plain volume least n left back = next_comes (standing plain volume) least n left back
 
   -- behind all of them
-  still_comes : (c : Cartridge) (plain : Plain) (volume : ℕ) (acts : List Act) (answer : Answer) (left : Option Cartridge) → IsIntact c plain → StillBehind seed plain.words (entries_of plain) volume 0 rest →
+  still_comes : (c : Cartridge) (plain : Plain) (volume : ℕ) (acts : List Act) (answer : Status) (left : Option Cartridge) → IsIntact c plain → StillBehind seed plain.words (entries_of plain) volume 0 rest →
       Runs seed c plain.words (entries_of plain) rest acts answer → Torn (steps_of acts) (Some c) left → SomeComeBack (standing plain volume) 0 0 left
   still_comes c plain volume acts answer left intact still runs torn =
       one_comes (standing plain volume) 0 left (stills_stopped seed rest c plain acts answer left (still c plain intact.kept.stands refl refl) intact runs torn)
 
-  appends_come_back : (n : ℕ) (c : Cartridge) (plain : Plain) (volume : ℕ) (acts : List Act) (answer : Answer) (left : Option Cartridge) → volume + n ≤ 201 → IsIntact c plain →
+  appends_come_back : (n : ℕ) (c : Cartridge) (plain : Plain) (volume : ℕ) (acts : List Act) (answer : Status) (left : Option Cartridge) → volume + n ≤ 201 → IsIntact c plain →
       StillBehind seed plain.words (entries_of plain) volume n rest →
       Runs seed c plain.words (entries_of plain) (appending volume n ++ rest) acts answer → Torn (steps_of acts) (Some c) left → SomeComeBack (standing plain volume) 0 n left
   appends_come_back zero c plain volume acts answer left few intact still runs torn = still_comes c plain volume acts answer left intact still runs torn
@@ -133,7 +135,7 @@ module _ (seed : ℕ) (rest : List MakeStep) where
       let next : Plain = with_bytes plain (made_name volume) 0 (made_bytes seed volume) in
       let small : volume ≤ 200 = omega arith in
       elim (acts_stopped first rear acts c left parts torn) [
-        | inl here ↦ in_append plain volume n left (stopped_append_comes seed c plain intact volume small first Done left does here)
+        | inl here ↦ in_append plain volume n left (stopped_append_comes seed c plain intact volume small first status.Done left does here)
         | inr behind ↦
             less_comes (standing plain volume) 0 1 (suc n) left (omega arith)
             (comes_next plain volume 0 n left (appends_come_back n (changed_by (steps_of first) c) next (volume + 1) rear answer left (omega arith)
@@ -143,7 +145,7 @@ module _ (seed : ℕ) (rest : List MakeStep) where
       ]
 
   -- nothing is printed before they are all done
-  appends_printed : (n : ℕ) (c : Cartridge) (plain : Plain) (volume : ℕ) (acts front rear : List Act) (answer : Answer) (left : Option Cartridge) → volume + n ≤ 201 → IsIntact c plain →
+  appends_printed : (n : ℕ) (c : Cartridge) (plain : Plain) (volume : ℕ) (acts front rear : List Act) (answer : Status) (left : Option Cartridge) → volume + n ≤ 201 → IsIntact c plain →
       StillBehind seed plain.words (entries_of plain) volume n rest →
       Runs seed c plain.words (entries_of plain) (appending volume n ++ rest) acts answer → front ++ rear ≡ acts → text_of front ≢ [] →
       Torn (next_steps rear) (Some (changed_by (steps_of front) c)) left → SomeComeBack (standing plain volume) n n left
@@ -153,7 +155,7 @@ module _ (seed : ℕ) (rest : List MakeStep) where
       absurd (printed (quiet_front front rear acts parts (append_prints_nothing seed c plain.words (entries_of plain) volume acts answer does)))
   appends_printed (suc n) c plain volume acts front rear answer left few intact still (inr (first, behind, joined, does, more)) parts printed torn =
       let next : Plain = with_bytes plain (made_name volume) 0 (made_bytes seed volume) in
-      let quiet : text_of first ≡ [] = append_prints_nothing seed c plain.words (entries_of plain) volume first Done does in
+      let quiet : text_of first ≡ [] = append_prints_nothing seed c plain.words (entries_of plain) volume first status.Done does in
       elim (two_fronts front rear first behind (parts ∙ sym joined)) [
         | inl (some, is) ↦ absurd (printed (quiet_front front some first is quiet))
         | inr (later, is, parted) ↦
@@ -169,7 +171,7 @@ module _ (seed : ℕ) (rest : List MakeStep) where
 
   appends_intact : (n : ℕ) (c : Cartridge) (plain : Plain) (volume : ℕ) (acts : List Act) → volume + n ≤ 201 → IsIntact c plain →
       StillBehind seed plain.words (entries_of plain) volume n rest →
-      Runs seed c plain.words (entries_of plain) (appending volume n ++ rest) acts Done → IsIntact (changed_by (steps_of acts) c) (standing plain volume n)
+      Runs seed c plain.words (entries_of plain) (appending volume n ++ rest) acts status.Done → IsIntact (changed_by (steps_of acts) c) (standing plain volume n)
   appends_intact zero c plain volume acts few intact still runs = stills_done seed rest c plain acts (still c plain intact.kept.stands refl refl) intact runs
   appends_intact (suc n) c plain volume acts few intact still (inl (other, does)) = absurd (other refl)
   appends_intact (suc n) c plain volume acts few intact still (inr (first, rear, parts, does, more)) =
@@ -177,7 +179,7 @@ module _ (seed : ℕ) (rest : List MakeStep) where
       let d : Cartridge = changed_by (steps_of first) c in
       let now : IsIntact (changed_by (steps_of rear) d) (standing next (volume + 1) n) =
       appends_intact n d next (volume + 1) rear (omega arith) (done_append_intact seed c plain intact volume (omega arith) first does) (behind_next seed rest plain volume n still)
-      (subst (λ (es : List Entry). Runs seed d plain.words es (appending (volume + 1) n ++ rest) rear Done) (sym (entries_more seed plain volume)) more) in
+      (subst (λ (es : List Entry). Runs seed d plain.words es (appending (volume + 1) n ++ rest) rear status.Done) (sym (entries_more seed plain volume)) more) in
       subst (λ (e : Cartridge). IsIntact e (standing next (volume + 1) n))
       (sym (ap (λ (zs : List Act). changed_by (steps_of zs) c) (sym parts) ∙ changed_by_acts first rear c)) now
 

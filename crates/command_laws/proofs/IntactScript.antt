@@ -10,7 +10,7 @@ use Rattle.cartridge_laws.specs.Terms.{last_end}
 use Rattle.cartridge_spec.specs.Settling.{changed_by, settling_steps}
 use Rattle.cartridge_spec.specs.Table.{Entry}
 use Rattle.cartridge_spec.specs.Volumes.{Plain, entries_of}
-use Rattle.command_laws.proofs.ScriptActs.{wears_behind}
+use Rattle.command_laws.proofs.ScriptActs.{line_spares, spares_table}
 use Rattle.command_laws.proofs.CommandOneLoss.{kept_whole}
 use Rattle.command_laws.proofs.IntactKeeping.{intact_is_one, whole_needs_no_steps, less_comes, next_comes, one_comes}
 use Rattle.command_laws.proofs.MountedFronts.{ends_in}
@@ -29,30 +29,27 @@ use Rattle.command_spec.specs.Input.{AtEnd, AtFault, AtStop, Ending, Item}
 use Rattle.command_spec.specs.Lines.{reply_behind}
 use Rattle.command_spec.specs.OneLoss.{ComesBackAsOneOf, SomeComeBack, with_items}
 use Rattle.command_spec.specs.Script.{Did, EndDoes, Finds, ItemsDo, Meeting, Meets, Refuses, ScriptDoes, acts_of, acts_on, cartridge_behind, entries_behind, place_behind}
-use Rattle.command_laws.specs.CommandTerms.{FaultDoes, LineSpares, WearsBehind}
+use Rattle.command_laws.specs.CommandTerms.{FaultDoes}
 use Rattle.command_spec.specs.Outcome.{CommandOutcome}
-use Rattle.command_spec.specs.ScriptLists.{ItemsWearBehind, CameFurther, GoesNoFurther, printed_by}
-use Rattle.command_spec.specs.declared.line.Line.{Line}
+use Rattle.command_spec.specs.ScriptLists.{ItemsSpare, ItemsSpareTable, CameFurther, GoesNoFurther, printed_by}
 use Rattle.qic_base.proofs.Joins.{steps_of-append, text_of-append}
 use Rattle.qic_base.proofs.Steps.{Torn-all, Torn-nothing}
 use Rattle.qic_base.specs.Acts.{Act, steps_of, next_steps, text_of}
 use Rattle.qic_base.specs.Cartridge.{Cartridge}
 use Rattle.qic_base.specs.Step.{Step, Torn}
-use Rattle.command_spec.specs.declared.line.Line.TheVariants as line
 
 -- ---- the first items
 
 is_held : (c : Cartridge) (plain : Plain) → IsIntact c plain → IsHeld c plain
 is_held c plain intact = record { cartridge = intact.kept.cartridge; stands = intact.kept.stands }
 
--- a sector that is worn behind the table's segment spares header and table
-behind_spares : (c : Cartridge) (plain : Plain) (asked : Line) → WearsBehind asked → LineSpares c plain asked
-behind_spares c plain (line.Lose segment sector) behind = λ place. inl (behind place.in_segment)
-behind_spares c plain asked behind = tt
+-- they spare the header, and wear no sector of the table's segment
+abbrev Apart : Cartridge → Plain → List Item → List Did → Type 0
+Apart c plain items dids = ItemsSpare c plain items dids × ItemsSpareTable items
 
 leaves : (c : Cartridge) (plain : Plain) (item : Item) (items : List Item) (did : Did) (dids : List Did) → IsIntact c plain → HaveBytes (item ∷ items) →
-    ItemsDo c plain.words (entries_of plain) (item ∷ items) (did ∷ dids) → WearsBehind item.line → ItemLeaves c plain item did
-leaves c plain item items did dids intact has ran behind = item_leaves c plain item did (is_held c plain intact) has.0 (behind_spares c plain item.line behind) ran.0
+    ItemsDo c plain.words (entries_of plain) (item ∷ items) (did ∷ dids) → Apart c plain (item ∷ items) (did ∷ dids) → ItemLeaves c plain item did
+leaves c plain item items did dids intact has ran behind = item_leaves c plain item did (is_held c plain intact) has.0 (line_spares c plain item.line behind.0.0) ran.0
 
 -- behind so many items it is whole, with the list and the map that the items go by
 record IsIntactBehind (c : Cartridge) (plain : Plain) (items : List Item) (dids : List Did) : Type 0 where
@@ -61,16 +58,16 @@ record IsIntactBehind (c : Cartridge) (plain : Plain) (items : List Item) (dids 
   words : (plain_behind plain items dids).words ≡ plain.words
 
 all_intact : (items : List Item) (dids : List Did) (c : Cartridge) (plain : Plain) → IsIntact c plain → HaveBytes items → ItemsDo c plain.words (entries_of plain) items dids →
-    ItemsWearBehind items → IsIntactBehind c plain items dids
+    Apart c plain items dids → IsIntactBehind c plain items dids
 all_intact [] [] c plain intact has ran behind = record { intact = intact; entries = refl; words = refl }
 all_intact [] (did ∷ dids) c plain intact has ran behind = absurd ran
 all_intact (item ∷ items) [] c plain intact has ran behind = absurd ran
 all_intact (item ∷ items) (did ∷ dids) c plain intact has ran behind =
-    let one : ItemLeaves c plain item did = leaves c plain item items did dids intact has ran (wears_behind item.line behind.0) in
-    let now = one.intact (wears_behind item.line behind.0) intact in
+    let one : ItemLeaves c plain item did = leaves c plain item items did dids intact has ran behind in
+    let now = one.intact (spares_table item.line behind.1.0) intact in
     let d : Cartridge = changed_by (steps_of did.acts) c in
     let next : Plain = plain_after plain item did in
-    let rest = all_intact items dids d next now.done has.1 (next_do d plain next items did.entries dids one.entries one.words ran.1) behind.1 in
+    let rest = all_intact items dids d next now.done has.1 (next_do d plain next items did.entries dids one.entries one.words ran.1) (behind.0.1, behind.1.1) in
     let same = next_is plain item did items dids one.entries in
     record {
       intact = subst (λ (p : Plain). IsIntact (cartridge_behind d dids) p) same rest.intact;
@@ -84,15 +81,15 @@ EndComes d p last = (left : Option Cartridge) → Torn (steps_of last) (Some d) 
 
 -- so many items, and acts behind them, leave what comes back behind some of the items, by how much was printed
 items_come : (n : ℕ) (items : List Item) (dids : List Did) (c : Cartridge) (plain : Plain) (last : List Act) → n ≤ length items → IsIntact c plain → HaveBytes items →
-    ItemsDo c plain.words (entries_of plain) items dids → ItemsWearBehind (take n items) → EndComes (cartridge_behind c (take n dids)) (with_items plain items dids n) last →
+    ItemsDo c plain.words (entries_of plain) items dids → Apart c plain (take n items) (take n dids) → EndComes (cartridge_behind c (take n dids)) (with_items plain items dids n) last →
     AllLeave Tears (λ m. SomeComeBack (with_items plain items dids) m n) c (take n dids) last
 items_come zero items dids c plain last some intact has ran behind ends =
     λ front rest left parts torn. one_comes (with_items plain items dids) 0 left (ends left (torn_there front rest last c left parts torn))
 items_come (suc n) [] dids c plain last some intact has ran behind ends = absurd (omega arith)
 items_come (suc n) (item ∷ items) [] c plain last some intact has ran behind ends = absurd ran
 items_come (suc n) (item ∷ items) (did ∷ dids) c plain last some intact has ran behind ends =
-    let one : ItemLeaves c plain item did = leaves c plain item items did dids intact has ran (wears_behind item.line behind.0) in
-    let now = one.intact (wears_behind item.line behind.0) intact in
+    let one : ItemLeaves c plain item did = item_leaves c plain item did (is_held c plain intact) has.0 (line_spares c plain item.line behind.0.0) ran.0 in
+    let now = one.intact (spares_table item.line behind.1.0) intact in
     let d : Cartridge = changed_by (steps_of did.acts) c in
     let next : Plain = plain_after plain item did in
     let all : ℕ → Plain = with_items plain (item ∷ items) (did ∷ dids) in
@@ -127,7 +124,7 @@ items_come (suc n) (item ∷ items) (did ∷ dids) c plain last some intact has 
         });
       },
       leave_weaker Tears (λ m. SomeComeBack (with_items next items dids) m n) (λ m. SomeComeBack all (suc m) (suc n)) shift d (take n dids) last
-          (items_come n items dids d next last (omega arith) now.done has.1 (next_do d plain next items did.entries dids one.entries one.words ran.1) behind.1
+          (items_come n items dids d next last (omega arith) now.done has.1 (next_do d plain next items did.entries dids one.entries one.words ran.1) (behind.0.1, behind.1.1)
           (subst (λ (p : Plain). EndComes (cartridge_behind d (take n dids)) p last) (sym (same n)) ends)),
     )
 
@@ -196,19 +193,20 @@ module _ (c : Cartridge) (plain : Plain) (input : List ℕ) (outcome : CommandOu
   parted : (n : ℕ) → outcome.acts ≡ acts_of (take n dids) ++ rear n
   parted n = acts_are c plain input outcome held intact.kept.live does content n
 
-  none_behind : (n : ℕ) → n ≤ length items → ItemsWearBehind (take n items) → EndComes (cartridge_behind c (take n dids)) (standing n) []
+  none_behind : (n : ℕ) → n ≤ length items → Apart c plain (take n items) (take n dids) → EndComes (cartridge_behind c (take n dids)) (standing n) []
   none_behind n some behind left is =
       let known = all_intact (take n items) (take n dids) c plain intact (first_have n items has) (first_do n items dids c plain.words (entries_of plain) does.did) behind in
       intact_is_one (cartridge_behind c (take n dids)) (standing n) (standing n) left known.intact is
 
   -- behind all items
-  all_behind : (n : ℕ) → n ≡ length items → ItemsWearBehind (take n items) → EndComes (cartridge_behind c (take n dids)) (standing n) (rear n)
+  all_behind : (n : ℕ) → n ≡ length items → Apart c plain (take n items) (take n dids) → EndComes (cartridge_behind c (take n dids)) (standing n) (rear n)
   all_behind n all behind left torn =
       let every : take n items ≡ items = take_all n items (omega arith) in
       let did : take n dids ≡ dids = take_all n dids (let many = as_long in omega arith) in
       let none : drop n dids ≡ [] = drop_all n dids (let many = as_long in omega arith) in
       let p : Plain = plain_behind plain items dids in
-      let known = all_intact items dids c plain intact has does.did (subst ItemsWearBehind every behind) in
+      let known = all_intact items dids c plain intact has does.did
+      (subst (λ (ds : List Did). Apart c plain items ds) did (subst (λ (xs : List Item). Apart c plain xs (take n dids)) every behind)) in
       let rest : List ℕ = drop (place_behind 1 0 input items does.ending does.read) input in
       let ends : EndDoes (cartridge_behind c dids) p.words (entries_of p) rest does.ending does.last =
       subst (λ (ws : List ℕ). EndDoes (cartridge_behind c dids) ws (entries_of p) rest does.ending does.last) (sym known.words)
@@ -222,7 +220,7 @@ module _ (c : Cartridge) (plain : Plain) (input : List ℕ) (outcome : CommandOu
       subst (λ (q : Plain). IsSomeAnd left (ComesBackAsOneOf q q)) same comes
 
   -- a stop among the acts of the first items
-  first_come_back : (n : ℕ) (left : Option Cartridge) → n ≤ length items → ItemsWearBehind (take n items) → Torn (steps_of (acts_of (take n dids))) (Some c) left → SomeComeBack standing 0 n left
+  first_come_back : (n : ℕ) (left : Option Cartridge) → n ≤ length items → Apart c plain (take n items) (take n dids) → Torn (steps_of (acts_of (take n dids))) (Some c) left → SomeComeBack standing 0 n left
   first_come_back n left some behind torn =
       let s : StopsBehind (acts_of (take n dids)) c left = stops_behind (acts_of (take n dids)) c left torn in
       let r = reached_between Tears (λ m. SomeComeBack standing m n) (take n dids) c [] s.front s.rest left
@@ -230,7 +228,7 @@ module _ (c : Cartridge) (plain : Plain) (input : List ℕ) (outcome : CommandOu
       (items_come n items dids c plain [] some intact has does.did behind (none_behind n some behind)) (s.parts ∙ sym (append-nil (acts_of (take n dids)))) s.torn in
       less_comes standing 0 r.count n left (omega arith) r.holds
 
-  stopped_comes : (n : ℕ) (left : Option Cartridge) → n ≤ length items → ItemsWearBehind (take n items) → Torn (steps_of outcome.acts) (Some c) left →
+  stopped_comes : (n : ℕ) (left : Option Cartridge) → n ≤ length items → Apart c plain (take n items) (take n dids) → Torn (steps_of outcome.acts) (Some c) left →
       CameFurther c items dids does.last n left ⊎ SomeComeBack standing 0 n left
   stopped_comes n left some behind torn =
       elim (parted_stop c plain input outcome held intact.kept.live does content n left torn) [
@@ -243,7 +241,7 @@ module _ (c : Cartridge) (plain : Plain) (input : List ℕ) (outcome : CommandOu
 
   -- ---- by what was printed
 
-  module _ (answered n : ℕ) (known : answered ≤ length items) (some : n ≤ length items) (behind : ItemsWearBehind (take n items)) where
+  module _ (answered n : ℕ) (known : answered ≤ length items) (some : n ≤ length items) (behind : Apart c plain (take n items) (take n dids)) where
     spoken : AllSpeak (take n dids)
     spoken = first_speak n dids (speak c plain input outcome held intact.kept.live does content)
 
@@ -319,18 +317,19 @@ module _ (c : Cartridge) (plain : Plain) (input : List ℕ) (outcome : CommandOu
         ])
 
 pub stopped_script_comes_back : StoppedScriptComesBack
-stopped_script_comes_back c plain input outcome left intact does content n some behind torn = stopped_comes c plain input outcome intact does content n left some behind torn
+stopped_script_comes_back c plain input outcome left intact does content n some spares table torn = stopped_comes c plain input outcome intact does content n left some (spares, table) torn
 
 pub answered_script_comes_back : AnsweredScriptComesBack
-answered_script_comes_back c plain input outcome text left intact does content answered n known written some further behind (inl at) =
-    between_comes c plain input outcome intact does content answered n known some behind text left written further at
-answered_script_comes_back c plain input outcome text left intact does content answered n known written some further behind (inr at) =
-    behind_comes c plain input outcome intact does content answered n known some behind text left written further at
+answered_script_comes_back c plain input outcome text left intact does content answered n known written some further spares table (inl at) =
+    between_comes c plain input outcome intact does content answered n known some (spares, table) text left written further at
+answered_script_comes_back c plain input outcome text left intact does content answered n known written some further spares table (inr at) =
+    behind_comes c plain input outcome intact does content answered n known some (spares, table) text left written further at
 
 pub done_script_comes_back : DoneScriptComesBack
-done_script_comes_back c plain input outcome intact does content behind =
+done_script_comes_back c plain input outcome intact does content spares table =
     let n : ℕ = length does.items in
     let first : take n does.items ≡ does.items = take_all n does.items (omega arith) in
+    let all : take n does.dids ≡ does.dids = take_all n does.dids (let many = as_long c plain input outcome intact does content in omega arith) in
     let left : Option Cartridge = Some (changed_by (steps_of outcome.acts) c) in
     let there : cartridge_behind c (take n does.dids) ≡ changed_by (steps_of (acts_of (take n does.dids))) c = cartridge_is c (take n does.dids) in
     let rest : List Act = rear c plain input outcome intact does content n in
@@ -338,7 +337,8 @@ done_script_comes_back c plain input outcome intact does content behind =
     ap (λ (acts : List Act). changed_by (steps_of acts) c) (parted c plain input outcome intact does content n)
     ∙ changed_by_acts (acts_of (take n does.dids)) rest c ∙ ap (λ (d : Cartridge). changed_by (steps_of rest) d) (sym there) in
     one_comes (with_items plain does.items does.dids) n left
-    (all_behind c plain input outcome intact does content n refl (subst ItemsWearBehind (sym first) behind) left
+    (all_behind c plain input outcome intact does content n refl
+    (subst (λ (ds : List Did). Apart c plain (take n does.items) ds) (sym all) (subst (λ (xs : List Item). Apart c plain xs does.dids) (sym first) (spares, table))) left
     (subst (λ (o : Option Cartridge). Torn (steps_of rest) (Some (cartridge_behind c (take n does.dids))) o)
     (effects-some (steps_of rest) (cartridge_behind c (take n does.dids)) ∙ ap (λ (d : Cartridge). Some d) (sym whole))
     (Torn-all (steps_of rest) (Some (cartridge_behind c (take n does.dids))))))

@@ -73,6 +73,7 @@ pub mod PromiseFollowing
 pub mod PulseMachineLaws
 pub mod PulseStopping
 pub mod PulseTrains
+pub mod ReadableProtected
 pub mod ReadableRuns
 pub mod RestoreAppended
 pub mod RestoreCounts
@@ -112,6 +113,7 @@ pub mod ScrubMending
 pub mod ScrubMounted
 pub mod ScrubNamed
 pub mod ScrubOneWrong
+pub mod ScrubPlain
 pub mod ScrubSeen
 pub mod ScrubSettled
 pub mod ScrubStanding

@@ -113,7 +113,7 @@ module _ (label : List ℕ) (date : ℕ) (c : Cartridge) (input : List ℕ) (beg
       whole = whole_left;
       stands = fresh.stands.stands;
       live = fresh.live;
-      clean = λ is. record { first = fresh.stands.first; second = fresh.stands.second };
+      clean = λ is. fresh.stands.copies;
     },
   )
 
@@ -180,7 +180,7 @@ standing_stops printed label date c input plain left ready outcome yields torn w
       | inl same ↦ stopped_as_it_was label date c input false (Some plain) ready.whole ready outcome yields printed left same
       | inr referenced ↦ by_left left whole_left referenced live
           (format_standing label date c plain left ready.whole
-          (record { stands = ready.stands; first = (ready.clean refl).first; second = (ready.clean refl).second })
+          (record { stands = ready.stands; copies = ready.clean refl })
           (format_leaves label date (Some c) left outcome yields torn))
     ]
   where

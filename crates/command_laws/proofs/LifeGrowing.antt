@@ -54,7 +54,7 @@ fresh_begins label date c None whole fresh = absurd fresh
 fresh_begins label date c (Some d) whole fresh = (
   Some (fresh_plain c label date fresh.words fresh.area),
   record { words = fresh.words; area = fresh.area; fresh = fresh.fresh; is = refl },
-  record { whole = whole; stands = fresh.stands.stands; live = fresh.live; clean = λ is. record { first = fresh.stands.first; second = fresh.stands.second } },
+  record { whole = whole; stands = fresh.stands.stands; live = fresh.live; clean = λ is. fresh.stands.copies },
 )
 
 pub format_begins : FormatBegins
@@ -174,7 +174,7 @@ gives_bytes : (c : Cartridge) (plain later : Plain) (place : ℕ) (volume : Volu
 gives_bytes c plain later place volume stood grown at input outcome reads few yields =
     let there : slice_get later.volumes place ≡ Some volume =
     ap (λ (vs : List Volume). slice_get vs place) grown.volumes ∙ front_get plain.volumes grown.more place volume at in
-    let has : HasNumber c later (suc place) volume = record { stands = stood; reads = reads; place = place; numbered = refl; is = there } in
+    let has : HasNumber c later (suc place) volume = record { stands = stood; reads = reads; is = there } in
     let whole = given_whole (suc place) c later volume outcome has (given (suc place) c later volume outcome has yields) few in
     (whole.0, whole.1 ∙ ap (λ (ws : List ℕ). volume_bytes ws volume) grown.words)
 

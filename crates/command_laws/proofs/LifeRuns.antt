@@ -26,10 +26,10 @@ use Rattle.command_spec.specs.Commands.{command_of}
 use Rattle.command_spec.specs.Input.{Item}
 use Rattle.command_spec.specs.Several.{IsHeard}
 use Rattle.command_spec.specs.Machine.{HasValues}
-use Rattle.command_laws.specs.CommandTerms.{Yields}
+use Rattle.command_laws.specs.CommandTerms.{Yields, ScriptOutcome}
 use Rattle.command_spec.specs.Make.{made_contents}
 use Rattle.command_spec.specs.Outcome.{CommandOutcome, output_of}
-use Rattle.command_spec.specs.Script.{Did, ScriptDoes, Scripting, ScriptOutcome}
+use Rattle.command_spec.specs.Script.{Did, ScriptDoes, Scripting}
 use Rattle.command_spec.specs.ScriptLists.{all_added}
 use Rattle.command_laws.specs.Terms.{KeepsCopies, KeepsLive, KeepsVolumes}
 use Rattle.command_spec.specs.declared.status.Status.{Status}
@@ -38,7 +38,6 @@ use Rattle.qic_base.specs.Acts.{Act, steps_of, text_of}
 use Rattle.qic_base.specs.Cartridge.{Cartridge}
 use Rattle.qic_base.specs.Terms.{IsCartridge}
 use Rattle.qic_base.specs.Step.{Step, Renew, WriteSector, effect, effects, Halfway, Torn}
-use Rattle.command_spec.specs.Script as scripts
 use Rattle.command_spec.specs.Several as several
 use Rattle.command_spec.specs.declared.status.Status.TheVariants as status
 use Rattle.command_spec.specs.declared.words.Words.TheVariants as words
@@ -281,11 +280,9 @@ module _ (c : Cartridge) (input : List ℕ) (begun : Bool) (plain : Plain) (left
       ∙ ap (λ (ds : List Did). with_all plain (all_added (entries_of plain) items ds)) (take_all (length items) dids (omega arith))
 
   -- the lines, as words of a script ask for them
-  abbrev as_scripted : (was : WasMounted (Scripting input) c plain outcome) → several.Scripted (Some input) (codes "script" ∷ []) c plain
+  abbrev as_scripted : (was : WasMounted (Scripting input) c plain outcome) → several.Scripted input (codes "script" ∷ []) c plain
   as_scripted was = record {
     spelled = inl (refl, tt);
-    input = input;
-    is_told = refl;
     bytes = bytes;
     stands = ready.stands;
     outcome = was.did.came;
@@ -307,13 +304,13 @@ module _ (c : Cartridge) (input : List ℕ) (begun : Bool) (plain : Plain) (left
       (all ∙ ap (λ (o : CommandOutcome). effects (steps_of o.acts) (Some c)) was.did.is ∙ behind_front c plain ready.whole ready.stands was.mounts came.acts))
   lines_make (Stopped (Some text)) spares was so =
       let carried = spares plain was.did.came ready.stands was.did.does in
-      let answered = script_answered (Some input) (codes "script" ∷ []) c plain ready.whole (as_scripted was) input outcome text left ready.live refl yields
+      let answered = script_answered input (codes "script" ∷ []) c plain ready.whole (as_scripted was) outcome text left ready.live yields
       (carried.0, carried.1, carried.2, carried.3) so in
       some_lines (Stopped (Some text)) was.did.came was.did.does answered.count answered.within (answered.answered, answered.most)
       (torn_by (Stopped (Some text)) outcome (Some c) left so) answered.stands
   lines_make (Stopped None) spares was torn =
       let carried = spares plain was.did.came ready.stands was.did.does in
-      elim (script_stopped (Some input) (codes "script" ∷ []) c plain ready.whole (as_scripted was) input outcome left ready.live refl yields carried.0 (carried.1, carried.3) torn) [
+      elim (script_stopped input (codes "script" ∷ []) c plain ready.whole (as_scripted was) outcome left ready.live yields carried.0 (carried.1, carried.3) torn) [
         | inl further ↦ absurd (carried.2 further)
         | inr some ↦ some_lines (Stopped None) was.did.came was.did.does some.0 (let less = some.1 in let most = carried.1 in omega arith) tt torn some.2
       ]

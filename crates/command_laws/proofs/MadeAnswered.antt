@@ -13,12 +13,14 @@ use Rattle.command_laws.specs.MadeLaws.{MadeAreAnswered}
 use Rattle.command_laws.specs.MountedKept.{IsKept}
 use Rattle.command_spec.specs.Append.{input_acts, Kept, has_promised_room, input_writes, room_in, Taking, Fits, TooLong, TooShort, entry_acts, append_acts, taking, kept_over}
 use Rattle.command_laws.specs.CommandTerms.{free_in, most_written, silently}
-use Rattle.command_spec.specs.Make.{made_length, made_bytes, made_contents, AppendMade, made_name, Answer, StepDoes, MakeStep, appending, Done, Runs, ScrubAll, wearing_volumes, summing, made_list}
+use Rattle.command_spec.specs.Make.{made_length, made_bytes, made_contents, AppendMade, made_name, StepDoes, MakeStep, appending, Runs, ScrubAll, wearing_volumes, summing, made_list}
 use Rattle.qic_base.proofs.Joins.{text_of-append, steps_of-append}
 use Rattle.qic_base.proofs.Steps.{Torn-front, Torn-behind}
 use Rattle.qic_base.specs.Acts.{Act, text_of, steps_of, next_steps}
 use Rattle.qic_base.specs.Cartridge.{Cartridge}
 use Rattle.qic_base.specs.Step.{Step, Torn}
+use Rattle.command_spec.specs.declared.status.Status.{Status}
+use Rattle.command_spec.specs.declared.status.Status.TheVariants as status
 
 -- ---- what is printed
 
@@ -49,12 +51,12 @@ quiet_acts kept name date promised input =
     ∙ ap (λ (text : List ℕ). text ++ text_of last) (input_texts kept promised input)
     ∙ entry_texts kept name date (taking (room_in kept) promised input)
 
-pub append_prints_nothing : (seed : ℕ) (c : Cartridge) (words : List ℕ) (es : List Entry) (volume : ℕ) (acts : List Act) (answer : Answer) →
+pub append_prints_nothing : (seed : ℕ) (c : Cartridge) (words : List ℕ) (es : List Entry) (volume : ℕ) (acts : List Act) (answer : Status) →
     StepDoes seed c words es (AppendMade volume) acts answer → text_of acts ≡ []
-append_prints_nothing seed c words es volume acts answer (inl refused) = ap text_of refused.does
+append_prints_nothing seed c words es volume acts answer (inl refused) = ap text_of refused.1
 append_prints_nothing seed c words es volume acts answer (inr (free, inl appended)) =
     ap text_of appended.does ∙ quiet_acts (kept_over c words es appended.table) (made_name volume) 0 (Some (made_length seed volume)) (made_bytes seed volume)
-append_prints_nothing seed c words es volume acts answer (inr (free, inr lost)) = ap text_of lost.does
+append_prints_nothing seed c words es volume acts answer (inr (free, inr lost)) = ap text_of lost.2
 
 -- ---- a stop behind a front of acts
 
@@ -86,7 +88,7 @@ two_fronts (x ∷ xs) ys (u ∷ us) vs same =
 -- ---- the appends, and what comes behind them
 
 module _ (seed : ℕ) (rest : List MakeStep) where
-  appends_answered : (n : ℕ) (c : Cartridge) (plain : Plain) (volume : ℕ) (acts front rear : List Act) (answer : Answer) (left : Option Cartridge) → volume + n ≤ 201 → IsKept c plain →
+  appends_answered : (n : ℕ) (c : Cartridge) (plain : Plain) (volume : ℕ) (acts front rear : List Act) (answer : Status) (left : Option Cartridge) → volume + n ≤ 201 → IsKept c plain →
       StillBehind seed plain.words (entries_of plain) volume n rest →
       Runs seed c plain.words (entries_of plain) (appending volume n ++ rest) acts answer → front ++ rear ≡ acts → text_of front ≢ [] →
       Torn (next_steps rear) (Some (changed_by (steps_of front) c)) left → IsSomeAnd left (λ d. Stands d (with_all plain (made_contents seed volume n)))
@@ -96,7 +98,7 @@ module _ (seed : ℕ) (rest : List MakeStep) where
       absurd (printed (quiet_front front rear acts parts (append_prints_nothing seed c plain.words (entries_of plain) volume acts answer does)))
   appends_answered (suc n) c plain volume acts front rear answer left few held still (inr (first, behind, joined, does, more)) parts printed torn =
       let next : Plain = with_bytes plain (made_name volume) 0 (made_bytes seed volume) in
-      let quiet : text_of first ≡ [] = append_prints_nothing seed c plain.words (entries_of plain) volume first Done does in
+      let quiet : text_of first ≡ [] = append_prints_nothing seed c plain.words (entries_of plain) volume first status.Done does in
       elim (two_fronts front rear first behind (parts ∙ sym joined)) [
         | inl (some, is) ↦ absurd (printed (quiet_front front some first is quiet))
         | inr (later, is, parted) ↦

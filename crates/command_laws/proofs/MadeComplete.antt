@@ -13,12 +13,14 @@ use Rattle.command_laws.proofs.RestoreStanding.{restores_byte_for_byte}
 use Rattle.command_laws.specs.MadeLaws.{MadeWhereThereIsRoom}
 use Rattle.command_laws.specs.MountedKept.{IsOpen}
 use Rattle.command_laws.specs.RestoreLaws.{HasVolume}
-use Rattle.command_spec.specs.Make.{made_bytes, made_contents, MakeStep, AppendMade, WearSector, ScrubAll, SumVolume, wearing, wearing_in, wearing_volumes, after_items, Answer, Done, StepDoes, Runs, made_answer, appending, ending_answer, summing, made_list, making, made_name}
-use Rattle.command_laws.specs.CommandTerms.{before_sums, first_two, IsSummed}
-use Rattle.command_spec.specs.Restore.{volume_at, LosesFew, pieces, Restores}
+use Rattle.command_spec.specs.Make.{made_bytes, made_contents, MakeStep, AppendMade, WearSector, ScrubAll, SumVolume, wearing_in, wearing_volumes, StepDoes, Runs, made_answer, appending, summing, made_list, making, made_name}
+use Rattle.command_laws.specs.CommandTerms.{before_sums, first_two, IsSummed, after_items, wearing}
+use Rattle.command_spec.specs.Restore.{volume_at, LosesFew, pieces, Restores, ending_status}
 use Rattle.qic_base.specs.Acts.{Act, steps_of, text_of}
 use Rattle.qic_base.specs.Cartridge.{Cartridge}
 use Rattle.qic_base.specs.Step.{Step}
+use Rattle.command_spec.specs.declared.status.Status.{Status}
+use Rattle.command_spec.specs.declared.status.Status.TheVariants as status
 
 -- ---- worn sectors, and a scrub
 
@@ -63,16 +65,16 @@ mending_after seed words es (WearSector segment sector ∷ items) mends = mendin
 mending_after seed words es (ScrubAll ∷ items) mends = mending_after seed words es items mends.1
 mending_after seed words es (SumVolume number ∷ items) mends = absurd mends.0
 
-mending_goes : (seed : ℕ) (c : Cartridge) (plain : Plain) (item : MakeStep) (acts : List Act) (answer : Answer) → IsMending item → IsOpen c plain →
-    StepDoes seed c plain.words (entries_of plain) item acts answer → answer ≡ Done
+mending_goes : (seed : ℕ) (c : Cartridge) (plain : Plain) (item : MakeStep) (acts : List Act) (answer : Status) → IsMending item → IsOpen c plain →
+    StepDoes seed c plain.words (entries_of plain) item acts answer → answer ≡ status.Done
 mending_goes seed c plain (AppendMade volume) acts answer mends held does = absurd mends
 mending_goes seed c plain (WearSector segment sector) acts answer mends held does = does.1
-mending_goes seed c plain ScrubAll acts answer mends held (inl refused) = absurd (never_unlocked c refused.mark held.unprotected)
+mending_goes seed c plain ScrubAll acts answer mends held (inl refused) = absurd (never_unlocked c refused.0 held.unprotected)
 mending_goes seed c plain ScrubAll acts answer mends held (inr (free, done)) = done.1
 mending_goes seed c plain (SumVolume number) acts answer mends held does = absurd mends
 
-all_mending_go : (seed : ℕ) (items : List MakeStep) (c : Cartridge) (plain : Plain) (acts : List Act) (answer : Answer) → AreStill items → AreMending items → IsOpen c plain →
-    Runs seed c plain.words (entries_of plain) items acts answer → answer ≡ Done
+all_mending_go : (seed : ℕ) (items : List MakeStep) (c : Cartridge) (plain : Plain) (acts : List Act) (answer : Status) → AreStill items → AreMending items → IsOpen c plain →
+    Runs seed c plain.words (entries_of plain) items acts answer → answer ≡ status.Done
 all_mending_go seed [] c plain acts answer still mends held (none, done) = done
 all_mending_go seed (item ∷ items) c plain acts answer still mends held (inl (other, does)) =
     absurd (other (mending_goes seed c plain item acts answer mends.0 held does))
@@ -83,17 +85,17 @@ all_mending_go seed (item ∷ items) c plain acts answer still mends held (inr (
 
 -- ---- the appends, and these steps behind them
 
-append_goes : (seed : ℕ) (c : Cartridge) (plain : Plain) (volume : ℕ) (acts : List Act) (answer : Answer) → IsOpen c plain →
-    made_answer seed plain.words (entries_of plain) volume ≡ Done → StepDoes seed c plain.words (entries_of plain) (AppendMade volume) acts answer → answer ≡ Done
-append_goes seed c plain volume acts answer held room (inl refused) = absurd (never_unlocked c refused.mark held.unprotected)
+append_goes : (seed : ℕ) (c : Cartridge) (plain : Plain) (volume : ℕ) (acts : List Act) (answer : Status) → IsOpen c plain →
+    made_answer seed plain.words (entries_of plain) volume ≡ status.Done → StepDoes seed c plain.words (entries_of plain) (AppendMade volume) acts answer → answer ≡ status.Done
+append_goes seed c plain volume acts answer held room (inl refused) = absurd (never_unlocked c refused.0 held.unprotected)
 append_goes seed c plain volume acts answer held room (inr (free, inl appended)) = appended.answered ∙ room
-append_goes seed c plain volume acts answer held room (inr (free, inr lost)) = absurd (never_lost c plain.table_area lost.lost held.table lost.says)
+append_goes seed c plain volume acts answer held room (inr (free, inr lost)) = absurd (never_lost c plain.table_area lost.0 held.table lost.1)
 
 -- so many volumes, from this one on, have room when their turn comes
 abbrev HaveRoomFrom : (seed : ℕ) → (words : List ℕ) → List Entry → (volume n : ℕ) → Type 0
-HaveRoomFrom seed words es volume n = (k : ℕ) → k < n → made_answer seed words (after_items seed words es (appending volume k)) (volume + k) ≡ Done
+HaveRoomFrom seed words es volume n = (k : ℕ) → k < n → made_answer seed words (after_items seed words es (appending volume k)) (volume + k) ≡ status.Done
 
-room_here : (seed : ℕ) (words : List ℕ) (es : List Entry) (volume n : ℕ) → HaveRoomFrom seed words es volume (suc n) → made_answer seed words es volume ≡ Done
+room_here : (seed : ℕ) (words : List ℕ) (es : List Entry) (volume n : ℕ) → HaveRoomFrom seed words es volume (suc n) → made_answer seed words es volume ≡ status.Done
 room_here seed words es volume n room =
     let same : volume ≡ volume + 0 = omega arith in
     ap (λ (v : ℕ). made_answer seed words es v) same ∙ room 0 (omega arith)
@@ -106,9 +108,9 @@ room_next seed plain volume n room k small =
     ∙ ap (λ (v : ℕ). made_answer seed plain.words (after_items seed plain.words (entries_of plain) (appending volume (suc k))) v) same
     ∙ room (suc k) (omega arith)
 
-front_goes : (seed : ℕ) (rest : List MakeStep) (n : ℕ) (c : Cartridge) (plain : Plain) (volume : ℕ) (acts : List Act) (answer : Answer) → volume + n ≤ 201 → IsOpen c plain →
+front_goes : (seed : ℕ) (rest : List MakeStep) (n : ℕ) (c : Cartridge) (plain : Plain) (volume : ℕ) (acts : List Act) (answer : Status) → volume + n ≤ 201 → IsOpen c plain →
     HaveRoomFrom seed plain.words (entries_of plain) volume n → StillBehind seed plain.words (entries_of plain) volume n rest → AreMending rest →
-    Runs seed c plain.words (entries_of plain) (appending volume n ++ rest) acts answer → answer ≡ Done
+    Runs seed c plain.words (entries_of plain) (appending volume n ++ rest) acts answer → answer ≡ status.Done
 front_goes seed rest zero c plain volume acts answer few held room still mends runs =
     all_mending_go seed rest c plain acts answer (still c plain held.stands refl refl) mends held runs
 front_goes seed rest (suc n) c plain volume acts answer few held room still mends (inl (other, does)) =
@@ -144,17 +146,17 @@ has_entry plain (suc n) e at =
 abbrev LoseFewFrom : Cartridge → Plain → (number : ℕ) → Type 0
 LoseFewFrom d plain number = (m : ℕ) (e : Entry) → number ≤ m → volume_at (entries_of plain) m ≡ Some e → All (LosesFew d plain.words) (pieces plain.words e)
 
-sum_goes : (d : Cartridge) (plain : Plain) (number : ℕ) (acts : List Act) (answer : Answer) → Stands d plain → LoseFewFrom d plain number →
-    IsSummed d plain.words (entries_of plain) number acts answer → answer ≡ Done
+sum_goes : (d : Cartridge) (plain : Plain) (number : ℕ) (acts : List Act) (answer : Status) → Stands d plain → LoseFewFrom d plain number →
+    IsSummed d plain.words (entries_of plain) number acts answer → answer ≡ status.Done
 sum_goes d plain number acts answer stands few sum =
     let has : HasEntry plain sum.entry = has_entry plain number sum.entry sum.numbered in
     let there : HasVolume d plain has.volume = record { stands = stands; among = has.among } in
-    sum.is.1 ∙ ap ending_answer (restores_byte_for_byte d plain has.volume sum.acts sum.ending there
+    sum.is.1 ∙ ap ending_status (restores_byte_for_byte d plain has.volume sum.acts sum.ending there
     (subst (λ (e : Entry). All (LosesFew d plain.words) (pieces plain.words e)) (sym has.is) (few number sum.entry (omega arith) sum.numbered))
     (subst (λ (e : Entry). Restores d plain.words (pieces plain.words e) sum.acts sum.ending) (sym has.is) sum.restores)).0
 
-sums_go : (seed n : ℕ) (d : Cartridge) (plain : Plain) (number : ℕ) (acts : List Act) (answer : Answer) → Stands d plain → LoseFewFrom d plain number →
-    Runs seed d plain.words (entries_of plain) (summing number n) acts answer → answer ≡ Done
+sums_go : (seed n : ℕ) (d : Cartridge) (plain : Plain) (number : ℕ) (acts : List Act) (answer : Status) → Stands d plain → LoseFewFrom d plain number →
+    Runs seed d plain.words (entries_of plain) (summing number n) acts answer → answer ≡ status.Done
 sums_go seed zero d plain number acts answer stands few (none, done) = done
 sums_go seed (suc n) d plain number acts answer stands few (inl (other, does)) = absurd (other (sum_goes d plain number acts answer stands few does))
 sums_go seed (suc n) d plain number acts answer stands few (inr (first, rest, parts, does, more)) =
@@ -195,8 +197,8 @@ made_where_there_is_room seed count c plain acts answer small held room few make
     let mends : AreMending rest = mending_append worn (ScrubAll ∷ []) (mending_volumes words (drop (length es) (made_list seed count words es))) (tt, tt) in
     let here : Runs seed c words es (front ++ sums) acts answer = subst (λ (items : List MakeStep). Runs seed c words es items acts answer) (sym all) makes in
     let begun : RunsFront seed c words es front acts answer = runs_front seed c words es front sums acts answer here in
-    let done : begun.answer ≡ Done = front_goes seed rest count c plain 1 begun.acts begun.answer (omega arith) held room still mends begun.runs in
-    let ran : Runs seed c words es front begun.acts Done = subst (λ (a : Answer). Runs seed c words es front begun.acts a) done begun.runs in
+    let done : begun.answer ≡ status.Done = front_goes seed rest count c plain 1 begun.acts begun.answer (omega arith) held room still mends begun.runs in
+    let ran : Runs seed c words es front begun.acts status.Done = subst (λ (a : Status). Runs seed c words es front begun.acts a) done begun.runs in
     let behind : RunsBehind seed c words es front sums begun.acts acts answer = runs_behind seed c words es front sums begun.acts acts answer ran here in
     let d : Cartridge = changed_by (steps_of begun.acts) c in
     let more : Plain = with_all plain (made_contents seed 1 count) in

@@ -14,12 +14,14 @@ use Rattle.command_laws.proofs.MountedSaying.{restores_anyway, scrubs_anyway}
 use Rattle.command_laws.specs.MadeLaws.{MakesSomething}
 use Rattle.command_laws.specs.MountedListed.{IsListed, listed_behind}
 use Rattle.command_spec.specs.Append.{Kept, Taking, Fits, TooLong, TooShort, has_promised_room, room_in, taking, kept_over}
-use Rattle.command_laws.specs.CommandTerms.{silently, made_entry, made_acts, first_two}
-use Rattle.command_spec.specs.Make.{made_length, made_bytes, MakeStep, AppendMade, WearSector, ScrubAll, SumVolume, after_item, Answer, Done, StepDoes, made_name, Protected, Full, Lost, made_answer, sum_acts, ending_answer, Runs, after_items, appending, wearing, wearing_in, wearing_volumes, summing, made_list, making}
-use Rattle.command_spec.specs.Restore.{volume_at, pieces}
+use Rattle.command_laws.specs.CommandTerms.{silently, made_entry, made_acts, first_two, after_items, wearing}
+use Rattle.command_spec.specs.Make.{made_length, made_bytes, MakeStep, AppendMade, WearSector, ScrubAll, SumVolume, after_item, StepDoes, made_name, made_answer, sum_acts, Runs, appending, wearing_in, wearing_volumes, summing, made_list, making}
+use Rattle.command_spec.specs.Restore.{volume_at, pieces, ending_status}
 use Rattle.qic_base.specs.Acts.{Act, steps_of, text_of}
 use Rattle.qic_base.specs.Cartridge.{Cartridge}
 use Rattle.qic_base.specs.Step.{Step, Wear}
+use Rattle.command_spec.specs.declared.status.Status.{Status}
+use Rattle.command_spec.specs.declared.status.Status.TheVariants as status
 
 -- ---- one step
 
@@ -33,9 +35,9 @@ CanDo entries (SumVolume number) = (e : Entry) × (volume_at entries number ≡ 
 -- it does something, and where it was carried out its list stands
 record DoesSomething (seed : ℕ) (c : Cartridge) (words : List ℕ) (entries : List Entry) (item : MakeStep) : Type 0 where
   acts : List Act
-  answer : Answer
+  answer : Status
   does : StepDoes seed c words entries item acts answer
-  next : answer ≡ Done → IsListed (changed_by (steps_of acts) c) words (after_item seed words entries item)
+  next : answer ≡ status.Done → IsListed (changed_by (steps_of acts) c) words (after_item seed words entries item)
 
 no_less : (x y : ℕ) → x ≡ y → nat_lt x y ≡ false
 no_less x y same = le-ltb x y (omega arith)
@@ -45,7 +47,7 @@ all_taken n xs long = take_all n xs (omega arith)
 
 module _ (seed : ℕ) (c : Cartridge) (words : List ℕ) (entries : List Entry) (listed : IsListed c words entries) where
   -- the list behind a made volume that had room
-  pub made_behind : (table : List (List ℕ)) (volume : ℕ) → made_answer seed words entries volume ≡ Done →
+  pub made_behind : (table : List (List ℕ)) (volume : ℕ) → made_answer seed words entries volume ≡ status.Done →
       listed_behind (kept_over c words entries table) (made_name volume) 0
       (taking (room_in (kept_over c words entries table)) (Some (made_length seed volume)) (made_bytes seed volume))
       ≡ entries ++ made_entry seed words entries volume ∷ []
@@ -69,7 +71,7 @@ module _ (seed : ℕ) (c : Cartridge) (words : List ℕ) (entries : List Entry) 
       long : length bytes ≡ n
       long = length-made_bytes seed volume
 
-      by_room : (b : Bool) → has_promised_room have (Some n) ≡ b → cond b Done (Full n have) ≡ Done →
+      by_room : (b : Bool) → has_promised_room have (Some n) ≡ b → cond b status.Done (status.Full n have) ≡ status.Done →
           behind (taking have (Some n) bytes) ≡ entries ++ made_entry seed words entries volume ∷ []
       by_room true enough is =
           ap (λ (b : Bool). behind (cond b (cond (nat_lt (length bytes) n) (TooShort n (length bytes)) (Fits (take n bytes))) (TooLong n have))) enough
@@ -82,8 +84,8 @@ module _ (seed : ℕ) (c : Cartridge) (words : List ℕ) (entries : List Entry) 
       elim (cases_Bool c.info.protected) [
         | inl mark ↦ record {
           acts = [];
-          answer = Protected;
-          does = inl (record { mark = mark; does = refl; answered = refl });
+          answer = status.Protected;
+          does = inl (mark, refl, refl);
           next = λ is. absurd (cc);
         }
         | inr free ↦ elim (listed_reads c words entries listed free) [
@@ -98,8 +100,8 @@ module _ (seed : ℕ) (c : Cartridge) (words : List ℕ) (entries : List Entry) 
           }
           | inr (lost, says) ↦ record {
             acts = [];
-            answer = Lost 2 lost;
-            does = inr (free, inr (record { lost = lost; says = says; does = refl; answered = refl }));
+            answer = status.Lost 2 lost;
+            does = inr (free, inr (lost, says, refl, refl));
             next = λ is. absurd (cc);
           }
         ]
@@ -108,7 +110,7 @@ module _ (seed : ℕ) (c : Cartridge) (words : List ℕ) (entries : List Entry) 
   wear_does : (segment sector : ℕ) → DoesSomething seed c words entries (WearSector segment sector)
   wear_does segment sector = record {
     acts = record { steps = Wear segment sector ∷ []; text = [] } ∷ [];
-    answer = Done;
+    answer = status.Done;
     does = (refl, refl);
     next = λ is. wear_listed c words entries segment sector listed;
   }
@@ -118,15 +120,15 @@ module _ (seed : ℕ) (c : Cartridge) (words : List ℕ) (entries : List Entry) 
       elim (cases_Bool c.info.protected) [
         | inl mark ↦ record {
           acts = [];
-          answer = Protected;
-          does = inl (record { mark = mark; does = refl; answered = refl });
+          answer = status.Protected;
+          does = inl (mark, refl, refl);
           next = λ is. absurd (cc);
         }
         | inr free ↦
             let scrub = scrubs_anyway c words entries in
             record {
               acts = scrub.0;
-              answer = Done;
+              answer = status.Done;
               does = inr (free, (scrub.1, refl));
               next = λ is. scrub_listed c words entries scrub.0 listed free scrub.1;
             }
@@ -137,7 +139,7 @@ module _ (seed : ℕ) (c : Cartridge) (words : List ℕ) (entries : List Entry) 
       let gives = restores_anyway c words (pieces words e) in
       record {
         acts = sum_acts number (volume_length words e) (text_of gives.0) gives.1;
-        answer = ending_answer gives.1;
+        answer = ending_status gives.1;
         does = record { entry = e; numbered = there; acts = gives.0; ending = gives.1; restores = gives.2; is = (refl, refl) };
         next = λ is.
             subst (λ (steps : List Step). IsListed (changed_by steps c) words entries)
@@ -157,8 +159,8 @@ CanRun seed words entries [] = Unit {0}
 CanRun seed words entries (item ∷ items) = CanDo entries item × CanRun seed words (after_item seed words entries item) items
 
 runs_somehow : (seed : ℕ) (words : List ℕ) (items : List MakeStep) (c : Cartridge) (entries : List Entry) → IsListed c words entries → CanRun seed words entries items →
-    (acts : List Act) × (answer : Answer) × Runs seed c words entries items acts answer
-runs_somehow seed words [] c entries listed can = ([], Done, (refl, refl))
+    (acts : List Act) × (answer : Status) × Runs seed c words entries items acts answer
+runs_somehow seed words [] c entries listed can = ([], status.Done, (refl, refl))
 runs_somehow seed words (item ∷ items) c entries listed can =
     let some : DoesSomething seed c words entries item = does_something seed c words entries listed item can.0 in
     elim (done_or_not some.answer) [

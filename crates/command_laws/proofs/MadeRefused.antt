@@ -1,5 +1,5 @@
 -- What a run of `make` leaves of a cartridge that stands for a plain one, however it was answered.
-use Rattle.std.proofs.Common.{◌≡◌, ◌≢◌, ℕ, zero, suc, ◌+◌, ◌≤◌, List, ◌∷◌, ◌++◌, Bool, true, false, cond, Option, Some, inl, inr, refl, sym, ap, ◌∙◌, subst, arith, drop, length}
+use Rattle.std.proofs.Common.{◌≡◌, ◌≢◌, ℕ, zero, suc, ◌+◌, ◌≤◌, List, ◌∷◌, ◌++◌, Bool, false, cond, Option, Some, inl, inr, refl, sym, ap, ◌∙◌, subst, arith, drop, length}
 use Rattle.std.proofs.lemmas.Bool.{cases_Bool}
 use Rattle.cartridge_laws.proofs.FormatWriting.{effects-some}
 use Rattle.cartridge_laws.proofs.MountKeeping.{stopped_stands}
@@ -14,11 +14,13 @@ use Rattle.command_laws.specs.MadeLaws.{AnsweredMakeStands}
 use Rattle.command_laws.specs.MountedKept.{IsOpen}
 use Rattle.command_spec.specs.Append.{has_promised_room, room_in}
 use Rattle.command_laws.specs.CommandTerms.{kept_in, AppendedFrom}
-use Rattle.command_spec.specs.Make.{made_bytes, made_length, made_contents, Answer, AppendMade, Done, Full, MakeStep, Runs, ScrubAll, StepDoes, appending, made_list, made_name, make_status, summing, wearing_volumes}
+use Rattle.command_spec.specs.Make.{made_bytes, made_length, made_contents, AppendMade, MakeStep, Runs, ScrubAll, StepDoes, appending, made_list, made_name, summing, wearing_volumes}
 use Rattle.qic_base.proofs.Steps.{Torn-all}
 use Rattle.qic_base.specs.Acts.{Act, steps_of}
 use Rattle.qic_base.specs.Cartridge.{Cartridge}
 use Rattle.qic_base.specs.Step.{Step, Torn}
+use Rattle.command_spec.specs.declared.status.Status.{Status}
+use Rattle.command_spec.specs.declared.status.Status.TheVariants as status
 
 -- all steps done are a stop behind the last
 all_done : (steps : List Step) (c : Cartridge) → Torn steps (Some c) (Some (changed_by steps c))
@@ -31,16 +33,16 @@ module _ (seed : ℕ) (c : Cartridge) (plain : Plain) (held : IsOpen c plain) (v
   room = has_promised_room (room_in (kept_in plain.words (entries_of plain))) (Some (made_length seed volume))
 
   -- it had no room
-  no_room : (answer : Answer) → answer ≢ Done → answer ≡ cond room Done (Full (made_length seed volume) (room_in (kept_in plain.words (entries_of plain)))) →
+  no_room : (answer : Status) → answer ≢ status.Done → answer ≡ cond room status.Done (status.Full (made_length seed volume) (room_in (kept_in plain.words (entries_of plain)))) →
       has_room plain (length (made_bytes seed volume)) ≡ false
   no_room answer other is =
       elim (cases_Bool (has_room plain (length (made_bytes seed volume)))) [
-        | inl enough ↦ absurd (other (is ∙ ap (λ (b : Bool). cond b Done (Full (made_length seed volume) (room_in (kept_in plain.words (entries_of plain)))))
+        | inl enough ↦ absurd (other (is ∙ ap (λ (b : Bool). cond b status.Done (status.Full (made_length seed volume) (room_in (kept_in plain.words (entries_of plain)))))
             (same_room seed c plain held volume ∙ enough)))
         | inr short ↦ short
       ]
 
-  refused_append_stands : (acts : List Act) (answer : Answer) → answer ≢ Done → StepDoes seed c plain.words (entries_of plain) (AppendMade volume) acts answer →
+  refused_append_stands : (acts : List Act) (answer : Status) → answer ≢ status.Done → StepDoes seed c plain.words (entries_of plain) (AppendMade volume) acts answer →
       Stands (changed_by (steps_of acts) c) plain
   refused_append_stands acts answer other does =
       let is = append_is seed c plain held volume acts answer does in
@@ -51,14 +53,14 @@ module _ (seed : ℕ) (c : Cartridge) (plain : Plain) (held : IsOpen c plain) (v
 -- ---- the appends, and what comes behind them
 
 -- how many stand
-record StandsAppended (seed : ℕ) (plain : Plain) (volume n : ℕ) (answer : Answer) (d : Cartridge) : Type 0 where
+record StandsAppended (seed : ℕ) (plain : Plain) (volume n : ℕ) (answer : Status) (d : Cartridge) : Type 0 where
   appended : ℕ
   within : appended ≤ n
-  counts : AppendedFrom seed volume n plain.words (entries_of plain) (make_status answer) appended
+  counts : AppendedFrom seed volume n plain.words (entries_of plain) answer appended
   stands : Stands d (with_all plain (made_contents seed volume appended))
 
 module _ (seed : ℕ) (rest : List MakeStep) where
-  appends_answered : (n : ℕ) (c : Cartridge) (plain : Plain) (volume : ℕ) (acts : List Act) (answer : Answer) → volume + n ≤ 201 → IsOpen c plain →
+  appends_answered : (n : ℕ) (c : Cartridge) (plain : Plain) (volume : ℕ) (acts : List Act) (answer : Status) → volume + n ≤ 201 → IsOpen c plain →
       StillBehind seed plain.words (entries_of plain) volume n rest → Runs seed c plain.words (entries_of plain) (appending volume n ++ rest) acts answer →
       StandsAppended seed plain volume n answer (changed_by (steps_of acts) c)
   appends_answered zero c plain volume acts answer few held still runs = record {
@@ -83,7 +85,7 @@ module _ (seed : ℕ) (rest : List MakeStep) where
         appended = suc r.appended;
         within = (let few = r.within in omega arith);
         counts = counts_more seed volume n r.appended plain.words (entries_of plain) answer
-            (subst (λ (es : List Entry). AppendedFrom seed (volume + 1) n plain.words es (make_status answer) r.appended) (entries_more seed plain volume) r.counts);
+            (subst (λ (es : List Entry). AppendedFrom seed (volume + 1) n plain.words es answer r.appended) (entries_more seed plain volume) r.counts);
         stands = subst (λ (e : Cartridge). Stands e (with_all next (made_contents seed (volume + 1) r.appended)))
             (sym (ap (λ (zs : List Act). changed_by (steps_of zs) c) (sym parts) ∙ changed_by_acts first rear c)) r.stands;
       }

@@ -27,14 +27,17 @@ use Rattle.command_laws.proofs.ScrubMounted.{stopped_scrub_stands}
 use Rattle.command_laws.specs.MadeLaws.{StoppedMakeStands, DoneMakeStands, StopsInStep, StopsAreInSteps, MakesOneThing}
 use Rattle.command_laws.specs.MountedKept.{IsAppendable, IsOpen, settle_and_append, IsKept}
 use Rattle.command_spec.specs.Append.{Kept, append_acts, room_in, has_promised_room, kept_over}
-use Rattle.command_laws.specs.CommandTerms.{kept_in, silently, made_byte, made_acts, first_two, made_entry}
-use Rattle.command_spec.specs.Make.{made_length, made_bytes, made_contents, made_name, AppendMade, Answer, Done, Full, StepDoes, IsAppended, made_answer, MakeStep, WearSector, ScrubAll, SumVolume, after_item, sum_acts, Runs, wearing, wearing_in, wearing_volumes, summing, after_items, appending, made_list, making}
+use Rattle.command_laws.specs.CommandTerms.{kept_in, silently, made_byte, made_acts, first_two, made_entry, after_items, wearing}
+use Rattle.command_spec.specs.Make.{made_length, made_bytes, made_contents, made_name, AppendMade, StepDoes, IsAppended, made_answer, MakeStep, WearSector, ScrubAll, SumVolume, after_item, sum_acts, Runs, wearing_in, wearing_volumes, summing, appending, made_list, making}
 use Rattle.command_spec.specs.Restore.{GivingEnd, Restored, LostIn, MismatchIn}
 use Rattle.qic_base.proofs.Steps.{Torn-all}
 use Rattle.qic_base.specs.Acts.{Act, steps_of, text_of}
 use Rattle.qic_base.specs.Cartridge.{Cartridge}
 use Rattle.qic_base.specs.Field.{filled}
 use Rattle.qic_base.specs.Step.{Step, Wear, Torn}
+use Rattle.command_spec.specs.declared.status.Status.{Status}
+use Rattle.command_laws.proofs.ScrubPlain.{as_plain}
+use Rattle.command_spec.specs.declared.status.Status.TheVariants as status
 
 -- a fact of two or of one, of what a stop left
 some_split : (P Q : Cartridge → Type 0) (left : Option Cartridge) → IsSomeAnd left (λ d. P d ⊎ Q d) → IsSomeAnd left P ⊎ IsSomeAnd left Q
@@ -132,31 +135,31 @@ module _ (seed : ℕ) (c : Cartridge) (plain : Plain) (held : IsOpen c plain) (v
       ∙ append-nil settling
 
   -- what the step is: the table reads, and there is room or not
-  pub append_is : (acts : List Act) (answer : Answer) → StepDoes seed c plain.words (entries_of plain) (AppendMade volume) acts answer →
+  pub append_is : (acts : List Act) (answer : Status) → StepDoes seed c plain.words (entries_of plain) (AppendMade volume) acts answer →
       IsAppended seed c plain.words (entries_of plain) volume acts answer
-  append_is acts answer (inl refused) = absurd (never_unlocked c refused.mark held.unprotected)
+  append_is acts answer (inl refused) = absurd (never_unlocked c refused.0 held.unprotected)
   append_is acts answer (inr (free, inl appended)) = appended
-  append_is acts answer (inr (free, inr lost)) = absurd (never_lost c plain.table_area lost.lost held.table lost.says)
+  append_is acts answer (inr (free, inr lost)) = absurd (never_lost c plain.table_area lost.0 held.table lost.1)
 
   -- where it was carried out there was room, and all its steps were done
-  pub done_append : (acts : List Act) → StepDoes seed c plain.words (entries_of plain) (AppendMade volume) acts Done →
+  pub done_append : (acts : List Act) → StepDoes seed c plain.words (entries_of plain) (AppendMade volume) acts status.Done →
       (has_room plain (length bytes) ≡ true) × (steps_of acts ≡ all_steps)
   done_append acts does =
-      let is = append_is acts Done does in
+      let is = append_is acts status.Done does in
       let enough : has_room plain (length bytes) ≡ true = by_answer (has_room plain (length bytes)) same_room is.answered in
       (enough, ap steps_of is.does ∙ steps_are is.table is.reads enough)
     where
       by_answer : (b : Bool) → has_promised_room (room_in (kept_in plain.words (entries_of plain))) (Some (made_length seed volume)) ≡ b →
-          Done ≡ made_answer seed plain.words (entries_of plain) volume → b ≡ true
+          status.Done ≡ made_answer seed plain.words (entries_of plain) volume → b ≡ true
       by_answer true is answered = refl
       by_answer false is answered =
-          let full : Done ≡ Full (made_length seed volume) (room_in (kept_in plain.words (entries_of plain))) =
-          answered ∙ ap (λ (b : Bool). cond b Done (Full (made_length seed volume) (room_in (kept_in plain.words (entries_of plain))))) is in
+          let full : status.Done ≡ status.Full (made_length seed volume) (room_in (kept_in plain.words (entries_of plain))) =
+          answered ∙ ap (λ (b : Bool). cond b status.Done (status.Full (made_length seed volume) (room_in (kept_in plain.words (entries_of plain))))) is in
           absurd (cc)
 
 -- what it leaves, done
 pub done_append_open : (seed : ℕ) (c : Cartridge) (plain : Plain) → IsOpen c plain → (volume : ℕ) → volume ≤ 200 → (acts : List Act) →
-    StepDoes seed c plain.words (entries_of plain) (AppendMade volume) acts Done → IsOpen (changed_by (steps_of acts) c) (with_bytes plain (made_name volume) 0 (made_bytes seed volume))
+    StepDoes seed c plain.words (entries_of plain) (AppendMade volume) acts status.Done → IsOpen (changed_by (steps_of acts) c) (with_bytes plain (made_name volume) 0 (made_bytes seed volume))
 done_append_open seed c plain held volume small acts does =
     let did = done_append seed c plain held volume acts does in
     subst (λ (steps : List Step). IsOpen (changed_by steps c) (with_bytes plain (made_name volume) 0 (made_bytes seed volume))) (sym did.1)
@@ -170,13 +173,13 @@ module _ (seed : ℕ) (c : Cartridge) (plain : Plain) (held : IsKept c plain) (v
   named : IsAppendable (made_name volume) 0 (made_bytes seed volume)
   named = made_named seed volume small
 
-  pub done_append_kept : (acts : List Act) → StepDoes seed c plain.words (entries_of plain) (AppendMade volume) acts Done → IsKept (changed_by (steps_of acts) c) more
+  pub done_append_kept : (acts : List Act) → StepDoes seed c plain.words (entries_of plain) (AppendMade volume) acts status.Done → IsKept (changed_by (steps_of acts) c) more
   done_append_kept acts does =
       let did = done_append seed c plain (kept_open c plain held) volume acts does in
       subst (λ (steps : List Step). IsKept (changed_by steps c) more) (sym did.1)
       (kept_appended (made_name volume) 0 (made_bytes seed volume) named.label named.word named.content c plain held did.0)
 
-  pub stopped_append_stands : (acts : List Act) (answer : Answer) (left : Option Cartridge) → StepDoes seed c plain.words (entries_of plain) (AppendMade volume) acts answer →
+  pub stopped_append_stands : (acts : List Act) (answer : Status) (left : Option Cartridge) → StepDoes seed c plain.words (entries_of plain) (AppendMade volume) acts answer →
       Torn (steps_of acts) (Some c) left → IsSomeAnd left (λ d. Stands d plain ⊎ Stands d more)
   stopped_append_stands acts answer left does torn =
       let here : IsOpen c plain = kept_open c plain held in
@@ -218,11 +221,11 @@ nothing_changed : (c : Cartridge) (plain : Plain) (acts : List Act) → steps_of
 nothing_changed c plain acts none held = subst (λ (steps : List Step). IsOpen (changed_by steps c) plain) (sym none) held
 
 pub still_done : (seed : ℕ) (c : Cartridge) (plain : Plain) (item : MakeStep) (acts : List Act) → IsStill item → IsOpen c plain →
-    StepDoes seed c plain.words (entries_of plain) item acts Done → IsOpen (changed_by (steps_of acts) c) plain
+    StepDoes seed c plain.words (entries_of plain) item acts status.Done → IsOpen (changed_by (steps_of acts) c) plain
 still_done seed c plain (AppendMade volume) acts still held does = absurd still
 still_done seed c plain (WearSector segment sector) acts still held does =
     subst (λ (zs : List Act). IsOpen (changed_by (steps_of zs) c) plain) (sym does.0) (worn_open c plain segment sector held still.0 still.1)
-still_done seed c plain ScrubAll acts still held (inl refused) = absurd (never_unlocked c refused.mark held.unprotected)
+still_done seed c plain ScrubAll acts still held (inl refused) = absurd (never_unlocked c refused.0 held.unprotected)
 still_done seed c plain ScrubAll acts still held (inr (free, done)) = scrubbed_open c plain acts held done.0
 still_done seed c plain (SumVolume number) acts still held does =
     nothing_changed c plain acts (ap steps_of does.is.0 ∙ sum_in_no_step number (volume_length plain.words does.entry) (text_of does.acts) does.ending) held
@@ -230,7 +233,7 @@ still_done seed c plain (SumVolume number) acts still held does =
 stands_there : (c : Cartridge) (plain : Plain) (left : Option Cartridge) → IsOpen c plain → left ≡ Some c → IsSomeAnd left (λ d. Stands d plain)
 stands_there c plain left held is = some_and (λ d. Stands d plain) c left held.stands is
 
-still_stopped : (seed : ℕ) (c : Cartridge) (plain : Plain) (item : MakeStep) (acts : List Act) (answer : Answer) (left : Option Cartridge) → IsStill item → IsOpen c plain →
+still_stopped : (seed : ℕ) (c : Cartridge) (plain : Plain) (item : MakeStep) (acts : List Act) (answer : Status) (left : Option Cartridge) → IsStill item → IsOpen c plain →
     StepDoes seed c plain.words (entries_of plain) item acts answer → Torn (steps_of acts) (Some c) left → IsSomeAnd left (λ d. Stands d plain)
 still_stopped seed c plain (AppendMade volume) acts answer left still held does torn = absurd still
 still_stopped seed c plain (WearSector segment sector) acts answer left still held does torn =
@@ -240,8 +243,8 @@ still_stopped seed c plain (WearSector segment sector) acts answer left still he
     by_torn (inl is) = stands_there c plain left held is
     by_torn (inr (inl half)) = absurd half
     by_torn (inr (inr is)) = stands_there (worn segment sector c) plain left (worn_open c plain segment sector held still.0 still.1) is
-still_stopped seed c plain ScrubAll acts answer left still held (inl refused) torn = absurd (never_unlocked c refused.mark held.unprotected)
-still_stopped seed c plain ScrubAll acts answer left still held (inr (free, done)) torn = stopped_scrub_stands c plain acts left held.stands done.0 torn
+still_stopped seed c plain ScrubAll acts answer left still held (inl refused) torn = absurd (never_unlocked c refused.0 held.unprotected)
+still_stopped seed c plain ScrubAll acts answer left still held (inr (free, done)) torn = stopped_scrub_stands c plain acts left held.stands (as_plain c plain.words (entries_of plain) acts done.0) torn
 still_stopped seed c plain (SumVolume number) acts answer left still held does torn =
     stands_there c plain left held
     (subst (λ (steps : List Step). Torn steps (Some c) left)
@@ -249,7 +252,7 @@ still_stopped seed c plain (SumVolume number) acts answer left still held does t
 
 -- ---- several steps
 
-pub stills_stopped : (seed : ℕ) (items : List MakeStep) (c : Cartridge) (plain : Plain) (acts : List Act) (answer : Answer) (left : Option Cartridge) → AreStill items → IsOpen c plain →
+pub stills_stopped : (seed : ℕ) (items : List MakeStep) (c : Cartridge) (plain : Plain) (acts : List Act) (answer : Status) (left : Option Cartridge) → AreStill items → IsOpen c plain →
     Runs seed c plain.words (entries_of plain) items acts answer → Torn (steps_of acts) (Some c) left → IsSomeAnd left (λ d. Stands d plain)
 stills_stopped seed [] c plain acts answer left still held (none, done) torn =
     stands_there c plain left held (subst (λ (zs : List Act). Torn (steps_of zs) (Some c) left) none torn)
@@ -257,20 +260,20 @@ stills_stopped seed (item ∷ items) c plain acts answer left still held (inl (o
     still_stopped seed c plain item acts answer left still.0 held does torn
 stills_stopped seed (item ∷ items) c plain acts answer left still held (inr (first, rest, parts, does, more)) torn =
     elim (acts_stopped first rest acts c left parts torn) [
-      | inl here ↦ still_stopped seed c plain item first Done left still.0 held does here
+      | inl here ↦ still_stopped seed c plain item first status.Done left still.0 held does here
       | inr behind ↦ stills_stopped seed items (changed_by (steps_of first) c) plain rest answer left still.1 (still_done seed c plain item first still.0 held does)
           (subst (λ (es : List Entry). Runs seed (changed_by (steps_of first) c) plain.words es items rest answer)
           (still_after seed plain.words (entries_of plain) item still.0) more) behind
     ]
 
 stills_done : (seed : ℕ) (items : List MakeStep) (c : Cartridge) (plain : Plain) (acts : List Act) → AreStill items → IsOpen c plain →
-    Runs seed c plain.words (entries_of plain) items acts Done → IsOpen (changed_by (steps_of acts) c) plain
+    Runs seed c plain.words (entries_of plain) items acts status.Done → IsOpen (changed_by (steps_of acts) c) plain
 stills_done seed [] c plain acts still held (none, done) = nothing_changed c plain acts (ap steps_of none) held
 stills_done seed (item ∷ items) c plain acts still held (inl (other, does)) = absurd (other refl)
 stills_done seed (item ∷ items) c plain acts still held (inr (first, rest, parts, does, more)) =
     let d : Cartridge = changed_by (steps_of first) c in
     let now : IsOpen (changed_by (steps_of rest) d) plain = stills_done seed items d plain rest still.1 (still_done seed c plain item first still.0 held does)
-    (subst (λ (es : List Entry). Runs seed d plain.words es items rest Done) (still_after seed plain.words (entries_of plain) item still.0) more) in
+    (subst (λ (es : List Entry). Runs seed d plain.words es items rest status.Done) (still_after seed plain.words (entries_of plain) item still.0) more) in
     subst (λ (e : Cartridge). IsOpen e plain) (sym (ap (λ (zs : List Act). changed_by (steps_of zs) c) (sym parts) ∙ changed_by_acts first rest c)) now
 
 -- ---- which steps are still
@@ -353,7 +356,7 @@ module _ (seed : ℕ) (rest : List MakeStep) where
     stands = from.stands;
   }
 
-  pub appends_stopped : (n : ℕ) (c : Cartridge) (plain : Plain) (volume : ℕ) (acts : List Act) (answer : Answer) (left : Option Cartridge) → volume + n ≤ 201 → IsKept c plain →
+  pub appends_stopped : (n : ℕ) (c : Cartridge) (plain : Plain) (volume : ℕ) (acts : List Act) (answer : Status) (left : Option Cartridge) → volume + n ≤ 201 → IsKept c plain →
       StillBehind seed plain.words (entries_of plain) volume n rest →
       Runs seed c plain.words (entries_of plain) (appending volume n ++ rest) acts answer → Torn (steps_of acts) (Some c) left → StandsFrom plain volume n left
   appends_stopped zero c plain volume acts answer left few held still runs torn = record {
@@ -371,7 +374,7 @@ module _ (seed : ℕ) (rest : List MakeStep) where
       let next : Plain = with_bytes plain (made_name volume) 0 (made_bytes seed volume) in
       let small : volume ≤ 200 = omega arith in
       elim (acts_stopped first rear acts c left parts torn) [
-        | inl here ↦ by_stop (some_split (λ d. Stands d plain) (λ d. Stands d (with_bytes plain (made_name volume) 0 (made_bytes seed volume))) left (stopped_append_stands seed c plain held volume small first Done left does here))
+        | inl here ↦ by_stop (some_split (λ d. Stands d plain) (λ d. Stands d (with_bytes plain (made_name volume) 0 (made_bytes seed volume))) left (stopped_append_stands seed c plain held volume small first status.Done left does here))
         | inr behind ↦ from_next plain volume n left (appends_stopped n (changed_by (steps_of first) c) next (volume + 1) rear answer left (omega arith)
             (done_append_kept seed c plain held volume small first does) (behind_next plain volume n still)
             (subst (λ (es : List Entry). Runs seed (changed_by (steps_of first) c) plain.words es (appending (volume + 1) n ++ rest) rear answer)
@@ -384,7 +387,7 @@ module _ (seed : ℕ) (rest : List MakeStep) where
 
   pub appends_done : (n : ℕ) (c : Cartridge) (plain : Plain) (volume : ℕ) (acts : List Act) → volume + n ≤ 201 → IsOpen c plain →
       StillBehind seed plain.words (entries_of plain) volume n rest →
-      Runs seed c plain.words (entries_of plain) (appending volume n ++ rest) acts Done → IsOpen (changed_by (steps_of acts) c) (with_all plain (made_contents seed volume n))
+      Runs seed c plain.words (entries_of plain) (appending volume n ++ rest) acts status.Done → IsOpen (changed_by (steps_of acts) c) (with_all plain (made_contents seed volume n))
   appends_done zero c plain volume acts few held still runs = stills_done seed rest c plain acts (still c plain held.stands refl refl) held runs
   appends_done (suc n) c plain volume acts few held still (inl (other, does)) = absurd (other refl)
   appends_done (suc n) c plain volume acts few held still (inr (first, rear, parts, does, more)) =
@@ -392,7 +395,7 @@ module _ (seed : ℕ) (rest : List MakeStep) where
       let d : Cartridge = changed_by (steps_of first) c in
       let now : IsOpen (changed_by (steps_of rear) d) (with_all next (made_contents seed (volume + 1) n)) =
       appends_done n d next (volume + 1) rear (omega arith) (done_append_open seed c plain held volume (omega arith) first does) (behind_next plain volume n still)
-      (subst (λ (es : List Entry). Runs seed d plain.words es (appending (volume + 1) n ++ rest) rear Done) (sym (entries_more seed plain volume)) more) in
+      (subst (λ (es : List Entry). Runs seed d plain.words es (appending (volume + 1) n ++ rest) rear status.Done) (sym (entries_more seed plain volume)) more) in
       subst (λ (e : Cartridge). IsOpen e (with_all next (made_contents seed (volume + 1) n)))
       (sym (ap (λ (zs : List Act). changed_by (steps_of zs) c) (sym parts) ∙ changed_by_acts first rear c)) now
 
@@ -421,7 +424,7 @@ done_make_stands seed count c plain acts few held makes =
 -- ---- a stop is in one step
 
 stops_behind : (seed : ℕ) (c : Cartridge) (words : List ℕ) (es : List Entry) (item : MakeStep) (items : List MakeStep) (first : List Act) (left : Option Cartridge) →
-    StepDoes seed c words es item first Done → StopsInStep seed (changed_by (steps_of first) c) words (after_item seed words es item) items left →
+    StepDoes seed c words es item first status.Done → StopsInStep seed (changed_by (steps_of first) c) words (after_item seed words es item) items left →
     StopsInStep seed c words es (item ∷ items) left
 stops_behind seed c words es item items first left does stops =
     let d : Cartridge = changed_by (steps_of first) c in
@@ -439,7 +442,7 @@ stops_behind seed c words es item items first left does stops =
       torn = subst (λ (e : Cartridge). Torn (steps_of stops.acts) (Some e) left) (sym same) stops.torn;
     }
 
-stops_here : (seed : ℕ) (c : Cartridge) (words : List ℕ) (es : List Entry) (item : MakeStep) (items : List MakeStep) (acts : List Act) (answer : Answer) (left : Option Cartridge) →
+stops_here : (seed : ℕ) (c : Cartridge) (words : List ℕ) (es : List Entry) (item : MakeStep) (items : List MakeStep) (acts : List Act) (answer : Status) (left : Option Cartridge) →
     StepDoes seed c words es item acts answer → Torn (steps_of acts) (Some c) left → StopsInStep seed c words es (item ∷ items) left
 stops_here seed c words es item items acts answer left does torn = record {
   front = [];
@@ -461,9 +464,9 @@ stops_are_in_steps seed c words es (item ∷ items) acts answer left (inl (other
     inr (stops_here seed c words es item items acts answer left does torn)
 stops_are_in_steps seed c words es (item ∷ items) acts answer left (inr (first, rest, parts, does, more)) torn =
     elim (acts_stopped first rest acts c left parts torn) [
-      | inl here ↦ inr (stops_here seed c words es item items first Done left does here)
+      | inl here ↦ inr (stops_here seed c words es item items first status.Done left does here)
       | inr behind ↦ elim (stops_are_in_steps seed (changed_by (steps_of first) c) words (after_item seed words es item) items rest answer left more behind) [
-        | inl (none, is) ↦ inr (stops_here seed c words es item items first Done left does
+        | inl (none, is) ↦ inr (stops_here seed c words es item items first status.Done left does
             (subst (λ (o : Option Cartridge). Torn (steps_of first) (Some c) o) (effects-some (steps_of first) c ∙ sym is) (Torn-all (steps_of first) (Some c))))
         | inr stops ↦ inr (stops_behind seed c words es item items first left does stops)
       ]

@@ -24,9 +24,11 @@ use Rattle.command_laws.proofs.MountedKeeping.{mended_live}
 use Rattle.command_laws.proofs.ScrubDone.{done_being_mended}
 use Rattle.command_laws.proofs.ScrubMending.{done_scrub_is_cartridge}
 use Rattle.command_laws.proofs.ScrubMounted.{done_scrub_stands}
+use Rattle.command_laws.proofs.ScrubPlain.{as_plain}
 use Rattle.command_laws.specs.MountedHeld.{IsHeld}
 use Rattle.command_laws.specs.MountedKept.{IsOpen}
-use Rattle.command_spec.specs.Scrub.{Scrubs}
+use Rattle.command_spec.specs.Scrub.{ScrubsAs}
+use Rattle.command_spec.specs.declared.depth.Depth.TheVariants.{Shallow}
 use Rattle.qic_base.specs.Acts.{Act, steps_of}
 use Rattle.qic_base.specs.Cartridge.{Cartridge, view_at}
 use Rattle.qic_base.specs.Terms.{IsCartridge, place_of}
@@ -123,16 +125,18 @@ worn_is_live c segment sector live i h = live_still c segment sector 2 i (live i
 
 -- ---- a scrub
 
-pub scrubbed_held : (c : Cartridge) (plain : Plain) (acts : List Act) → IsHeld c plain → Scrubs c plain.words (entries_of plain) acts → IsHeld (changed_by (steps_of acts) c) plain
+pub scrubbed_held : (c : Cartridge) (plain : Plain) (acts : List Act) → IsHeld c plain → ScrubsAs Shallow c plain.words (entries_of plain) acts → IsHeld (changed_by (steps_of acts) c) plain
 scrubbed_held c plain acts held scrubs =
+    let plainly = as_plain c plain.words (entries_of plain) acts scrubs in
     let order : IsSoundList (last_segment c) (entries_of plain) = old_order c plain held.stands in
-    let mended = done_being_mended c plain.words (entries_of plain) (last_segment c) acts order scrubs in
+    let mended = done_being_mended c plain.words (entries_of plain) (last_segment c) acts order plainly in
     record {
-      cartridge = done_scrub_is_cartridge c plain.words (entries_of plain) acts held.cartridge scrubs;
-      stands = done_scrub_stands c plain acts held.stands scrubs;
+      cartridge = done_scrub_is_cartridge c plain.words (entries_of plain) acts held.cartridge plainly;
+      stands = done_scrub_stands c plain acts held.stands plainly;
     }
 
-pub scrubbed_live : (c : Cartridge) (plain : Plain) (acts : List Act) → IsHeld c plain → Scrubs c plain.words (entries_of plain) acts → IsTableLive c → IsTableLive (changed_by (steps_of acts) c)
+pub scrubbed_live : (c : Cartridge) (plain : Plain) (acts : List Act) → IsHeld c plain → ScrubsAs Shallow c plain.words (entries_of plain) acts → IsTableLive c → IsTableLive (changed_by (steps_of acts) c)
 scrubbed_live c plain acts held scrubs =
     mended_live c (changed_by (steps_of acts) c) plain
-    (done_being_mended c plain.words (entries_of plain) (last_segment c) acts (old_order c plain held.stands) scrubs)
+    (done_being_mended c plain.words (entries_of plain) (last_segment c) acts (old_order c plain held.stands)
+    (as_plain c plain.words (entries_of plain) acts scrubs))

@@ -38,6 +38,7 @@ use Rattle.cartridge_spec.specs.Volumes.{capacity_between}
 use Rattle.command_laws.proofs.MountedKeeping.{changed_by_acts}
 use Rattle.command_laws.proofs.ScrubApart.{looked_rise}
 use Rattle.command_laws.proofs.ScrubDone.{done_being_mended}
+use Rattle.command_laws.proofs.ScrubPlain.{as_plain}
 use Rattle.command_laws.proofs.ScrubStanding.{looks_in_front, written_kept}
 use Rattle.command_laws.proofs.StoreAgain.{list_shown, table_one}
 use Rattle.command_laws.proofs.StoreBehind.{AreBehind, input_behind, settled_behind}
@@ -300,7 +301,8 @@ wear_listed c words entries segment sector listed = record {
 pub scrub_listed : ScrubListed
 scrub_listed c words entries acts listed mark scrubs =
     let d : Cartridge = changed_by (steps_of acts) c in
-    let mended : IsBeingMended (looked_at words entries) c d = done_being_mended c words entries (last_segment c) acts listed.order scrubs in
+    let mended : IsBeingMended (looked_at words entries) c d = done_being_mended c words entries (last_segment c) acts listed.order
+    (as_plain c words entries acts scrubs) in
     let rise = looked_rise words (last_segment c) entries listed.order in
     let has : HasList c entries = listed.list mark in
     let written : Written (table_cells d) (data_of has.block) =

@@ -16,6 +16,7 @@ use Rattle.cartridge_spec.specs.Table.{Entry}
 use Rattle.command_laws.proofs.MountedFronts.{front_within}
 use Rattle.command_laws.proofs.MountedListed.{LeavesTable, append_leaves, behind_leaves, ins_behind}
 use Rattle.command_laws.proofs.ScrubMounted.{stopped_scrub_mounts}
+use Rattle.command_laws.proofs.ScrubPlain.{as_plain}
 use Rattle.command_laws.proofs.StoreBehind.{AreBehind, front_behind}
 use Rattle.command_laws.specs.MountedListed.{listed_behind, IsListed}
 use Rattle.command_laws.specs.MountedListing.{SettledLists, AppendLists, AppendFrontLists, WearLists, ScrubLists}
@@ -122,4 +123,4 @@ front_torn c front rest acts parts =
 
 pub scrub_lists : ScrubLists
 scrub_lists c header words entries acts front rest (table, mounted) scrubs parts =
-    (table, stopped_scrub_mounts c header words table entries acts (Some (changed_by (steps_of front) c)) mounted scrubs (front_torn c front rest acts parts))
+    (table, stopped_scrub_mounts c header words table entries acts (Some (changed_by (steps_of front) c)) mounted (as_plain c words entries acts scrubs) (front_torn c front rest acts parts))

@@ -8,10 +8,13 @@ use Rattle.cartridge_spec.specs.Code.{IsCodeBlock}
 use Rattle.cartridge_spec.specs.Says.{Agrees, Saying, LostSectors, Mismatch, Says, unreadable_count}
 use Rattle.cartridge_spec.specs.Settling.{changed_by}
 use Rattle.command_laws.proofs.RestoreEndings.{by_saying}
+use Rattle.command_laws.proofs.ScrubPlain.{shallow_is_scrub}
 use Rattle.command_laws.specs.MountedListed.{RestoresAnyway, ScrubsAnyway}
+use Rattle.command_laws.specs.ScrubPlain.{SayInTurn}
 use Rattle.command_spec.specs.Restore.{Restored, piece_cells}
-use Rattle.command_spec.specs.Scrub.{Looked, cells_at, steps_in, SayInTurn, looked_at}
+use Rattle.command_spec.specs.Scrub.{Looked, cells_at, steps_in, looked_at}
 use Rattle.command_laws.specs.Terms.{scrub_acts}
+use Rattle.qic_base.specs.Acts.{Act}
 use Rattle.qic_base.specs.Cartridge.{IsSector, Cartridge}
 use Rattle.qic_base.specs.Terms.{IsView}
 use Rattle.qic_base.specs.declared.tape.SectorView.{SectorView}
@@ -105,4 +108,5 @@ some_turn (l ∷ ls) c =
 pub scrubs_anyway : ScrubsAnyway
 scrubs_anyway c words entries =
     let all = some_turn (looked_at words entries) c in
-    (scrub_acts c (looked_at words entries) all.0, record { sayings = all.0; said = all.1; are = refl })
+    let acts : List Act = scrub_acts c (looked_at words entries) all.0 in
+    (acts, (shallow_is_scrub c words entries acts).1 (record { sayings = all.0; said = all.1; are = refl }))

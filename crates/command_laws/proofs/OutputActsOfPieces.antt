@@ -8,8 +8,8 @@ use Rattle.command_laws.proofs.OutputJoining.{EndsAt-more}
 use Rattle.command_laws.proofs.RestoreCounts.{FitsIn, read_count, pieces_fit}
 use Rattle.command_laws.specs.OutputLaws.{RestoredAreOf, PrintedInNoStep, TextOfFirst}
 use Rattle.command_laws.specs.OutputText.{AreOf}
-use Rattle.command_spec.specs.Restore.{Piece, GivingEnd, Restores, Restored, LostIn, MismatchIn, PieceEnds, framed, bytes_held}
-use Rattle.command_laws.specs.CommandTerms.{EndsAt}
+use Rattle.command_spec.specs.Restore.{Piece, GivingEnd, Restores, Restored, LostIn, MismatchIn, PieceEnds, framed}
+use Rattle.command_laws.specs.CommandTerms.{EndsAt, bytes_held}
 use Rattle.qic_base.specs.Acts.{Act, steps_of, text_of}
 use Rattle.qic_base.specs.Cartridge.{Cartridge}
 use Rattle.qic_base.specs.Step.{Step}

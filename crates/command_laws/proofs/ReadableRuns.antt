@@ -1,5 +1,5 @@
 -- That a volume table can be read goes on from run to run.
-use Rattle.std.proofs.Common.{◌≡◌, ◌⊎◌, ◌∙◌, ◌≤◌, ℕ, List, Option, Some, None, IfSome, IsSomeAnd, inl, inr, ap, sym, subst, arith, length, append-nil, ◌<◌, ◌++◌}
+use Rattle.std.proofs.Common.{◌≡◌, ◌⊎◌, ◌∙◌, ◌≤◌, ℕ, List, Option, Some, None, IfSome, IsSomeAnd, inl, inr, ap, sym, subst, arith, length, append-nil, ◌<◌, ◌++◌, true}
 use Rattle.std.proofs.lemmas.List.{take_all}
 use Rattle.cartridge_laws.proofs.Cells.{count_of_readable, readable_from_count}
 use Rattle.cartridge_laws.proofs.ChangeStanding.{count_grows}
@@ -29,9 +29,9 @@ use Rattle.command_spec.specs.Single.{FormatOutcome}
 use Rattle.command_spec.specs.Headline.{EachLeft, Stepped, ToldNow, StopLeaves, WordsLeave}
 use Rattle.command_laws.specs.CommandTerms.{Yields}
 use Rattle.command_spec.specs.Machine.{Spells, is_fault}
-use Rattle.command_spec.specs.OneLoss.{ComesBackAsOneOf, StoppedComesBack, with_items, with_made, with_one}
+use Rattle.command_spec.specs.OneLoss.{ComesBackAsOneOf, with_items, with_made, with_one, StoppedComesBack}
 use Rattle.command_spec.specs.Outcome.{CommandOutcome}
-use Rattle.command_spec.specs.ScriptLists.{ItemsWearBehind}
+use Rattle.command_spec.specs.ScriptLists.{ItemsSpareTable}
 use Rattle.command_laws.specs.Terms.{KeepsLive}
 use Rattle.command_spec.specs.Volumes.{StillHolds}
 use Rattle.command_spec.specs.declared.status.Status.{Status}
@@ -43,6 +43,10 @@ use Rattle.qic_base.specs.Terms.{IsCartridge}
 use Rattle.qic_base.specs.Step.{Step, effects, Torn}
 use Rattle.qic_base.specs.declared.tape.SectorView.{SectorView}
 use Rattle.qic_base.specs.declared.tape.SectorView.TheVariants.{Holds}
+use Rattle.std.proofs.lemmas.Bool.{cases_Bool}
+use Rattle.command_laws.proofs.CommandSeveral.{over_any, over_stop}
+use Rattle.command_laws.proofs.ReadableProtected.{protected_script_reads}
+use Rattle.command_spec.specs.Several.{OverInput, Scripted}
 use Rattle.qic_base.specs.Tape as tapes
 use Rattle.qic_base.specs.Sink as sinks
 use Rattle.qic_base.specs.Source as sources
@@ -111,6 +115,11 @@ module _ (told : Option (List ℕ)) (words : List (List ℕ)) where
     live : StillHolds words (λ command c. command.keeps_live) IsTableLive held left
     comes : StoppedComesBack told words held left
 
+  -- and that on stops
+  record IsLeftBy (held left : Option Cartridge) : Type 0 where
+    stops : WordsLeave told words held left
+    so : IsLeftSo held left
+
   only : (command : Words) → Spells words command → KeepsLive command → (other : Words) → Spells words other → KeepsLive other
   only command spells keeps other spelled = subst KeepsLive (one_command words command other spells spelled) keeps
 
@@ -119,23 +128,43 @@ module _ (told : Option (List ℕ)) (words : List (List ℕ)) where
   StillLists plain held left =
       StillHolds words (λ command c. command.keeps_list c) (λ c. Mounts c (Mounted plain.header plain.words plain.table_area (entries_of plain))) held left
 
-  still_readable : (held left : Option Cartridge) → ((plain : Plain) → StillLists plain held left) → IsLeftSo held left → StillReadable told words held left
+  -- over the input of a script on a protected cartridge
+  abbrev ReadsBehind : Cartridge → Plain → Option Cartridge → List ℕ → Type 0
+  ReadsBehind c plain left input = (script : Scripted input words c plain) → ItemsSpareTable script.does.items → IsSomeAnd left CanBeRead
+
+  protected_reads : (left : Option Cartridge) (c : Cartridge) (plain : Plain) → CanBeRead c → c.info.protected ≡ true → WordsLeave told words (Some c) left →
+      OverInput told (ReadsBehind c plain left)
+  protected_reads left c plain reads mark (inl same) = over_any told (ReadsBehind c plain left) (λ script spares. some_and CanBeRead c left reads same)
+  protected_reads left c plain reads mark (inr (command, spelled, leaves)) =
+      over_stop told words command (Some c) left (ReadsBehind c plain left) spelled leaves
+      (λ l script spares. protected_script_reads l.input words c plain l.outcome left script mark spares reads l.plain l.torn)
+      (λ other script spares. absurd (other script.spelled))
+
+  still_readable : (held left : Option Cartridge) → ((plain : Plain) → StillLists plain held left) → IsLeftBy held left → StillReadable told words held left
   still_readable held left mounts so c plain is reads live (inl keeps) =
       some_weaker left (λ d mounted. can_be_read d plain.table_area mounted.reads)
       (mounts plain c is (standing_mounts c plain reads.stands reads.reads) keeps)
   still_readable held left mounts so c plain is reads live (inr (inl (name, date, spells, bytes))) =
-      let (input, is_told, comes) = (so.comes c plain is reads.stands live).append name date spells bytes in
-      left_can_be_read c (with_one plain name date input) 0 1 left reads (so.live c is live (only (commands.Append name date) spells tt)) comes
+      let (input, is_told, comes) = (so.so.comes c plain is reads.stands live).append name date spells bytes in
+      left_can_be_read c (with_one plain name date input) 0 1 left reads (so.so.live c is live (only (commands.Append name date) spells tt)) comes
   still_readable held left mounts so c plain is reads live (inr (inr (inl (seed, count, spells)))) =
-      left_can_be_read c (with_made plain seed) 0 count left reads (so.live c is live (only (commands.Make seed count) spells tt))
-      ((so.comes c plain is reads.stands live).make seed count spells)
-  still_readable held left mounts so c plain is reads live (inr (inr (inr (script, free, behind)))) =
-      let count : ℕ = length script.does.items in
-      elim ((so.comes c plain is reads.stands live).script script free count (omega arith)
-      (subst ItemsWearBehind (sym (take_all count script.does.items (omega arith))) behind)) [
-        | inl further ↦ absurd (let more = further.more in omega arith)
-        | inr comes ↦ left_can_be_read c (with_items plain script.does.items script.does.dids) 0 count left reads
-            (so.live c is live (only commands.Script script.spelled tt)) comes
+      left_can_be_read c (with_made plain seed) 0 count left reads (so.so.live c is live (only (commands.Make seed count) spells tt))
+      ((so.so.comes c plain is reads.stands live).make seed count spells)
+  still_readable held left mounts so c plain is reads live (inr (inr (inr scripted))) =
+      elim (cases_Bool c.info.protected) [
+        | inl mark ↦
+            let over = protected_reads left c plain reads.reads mark (subst (λ (h : Option Cartridge). WordsLeave told words h left) is so.stops) in
+            let (script, spares, table) = scripted over.0 over.1 over.2 in
+            over.3 script table
+        | inr free ↦
+            let over = (so.so.comes c plain is reads.stands live).script in
+            let (script, spares, table) = scripted over.0 over.1 over.2 in
+            let count : ℕ = length script.does.items in
+            elim (over.3 script free count spares (subst ItemsSpareTable (sym (take_all count script.does.items (omega arith))) table)) [
+              | inl further ↦ absurd (let more = further.more in omega arith)
+              | inr comes ↦ left_can_be_read c (with_items plain script.does.items script.does.dids) 0 count left reads
+                  (so.so.live c is live (only commands.Script script.spelled tt)) comes
+            ]
       ]
 
 -- ---- a formatted one
@@ -229,9 +258,11 @@ format_reads label date c outcome whole (inr (inr (free, none, (words, (area, fr
 module _ {T S K : Type 0} (t : tapes.Meaning T) (s : sources.Meaning S) (k : sinks.Meaning K) where
   pub runs_keep_readable : RunsKeepReadable t s k
   runs_keep_readable words old new answer promises =
+      let both : EachLeft t old.tape new.tape (IsLeftSo (s.left old.source) words) =
+      each_both t old.tape new.tape (λ held left live comes. record { live = live; comes = comes }) promises.live promises.survives.stopped in
       each_all t old.tape new.tape (λ held left mounts so. still_readable (s.left old.source) words held left mounts so)
       (λ (plain : Plain). promises.lists plain.header plain.words plain.table_area (entries_of plain))
-      (each_both t old.tape new.tape (λ held left live comes. record { live = live; comes = comes }) promises.live promises.survives.stopped)
+      (each_both t old.tape new.tape (λ held left stops so. record { stops = stops; so = so }) promises.stops both)
 
   by_step : (words : List (List ℕ)) (input : List ℕ) (old new : Outside T S K) (answer : Status) (label : List ℕ) (date : ℕ) (c : Cartridge) → Spells words (commands.Format label date) →
       answer ≡ status.Done → IsCartridge c → (answer ≡ status.NoMemory) ⊎ Stepped t s k words (Some c) input old new answer → ToldNow t new.tape (λ left. IsSomeAnd left CanBeRead)

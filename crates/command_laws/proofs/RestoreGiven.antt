@@ -10,9 +10,9 @@ use Rattle.cartridge_spec.specs.Volumes.{carrying_segments, volume_length}
 use Rattle.command_laws.proofs.MountedSaying.{says_anyway}
 use Rattle.command_laws.proofs.RestoreCounts.{FitsIn, pieces_fit, read_count, pieces_hold_all}
 use Rattle.command_laws.specs.RestoreLaws.{GivenIsFunction, GivenAlways, GivenBeginsRestored, GivenIsLong}
-use Rattle.command_spec.specs.Restore.{Piece, IsRead, PieceEnds, bytes_held, piece_cells, pieces}
+use Rattle.command_spec.specs.Restore.{Piece, IsRead, PieceEnds, piece_cells, pieces}
 use Rattle.command_spec.specs.Copying.{GivenBytes, bytes_said}
-use Rattle.command_laws.specs.CommandTerms.{act_of}
+use Rattle.command_laws.specs.CommandTerms.{act_of, bytes_held}
 use Rattle.qic_base.specs.Acts.{Act, text_of}
 use Rattle.qic_base.specs.Cartridge.{Cartridge}
 

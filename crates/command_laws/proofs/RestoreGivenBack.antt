@@ -21,10 +21,11 @@ use Rattle.cartridge_spec.specs.Volumes.{Plain, Volume, entries_of, carrying_seg
 use Rattle.command_laws.proofs.RestoreStanding.{restores_byte_for_byte, restores_front, few_or_first_lost}
 use Rattle.command_laws.specs.RestoreLaws.{HasVolume, GivesFront}
 use Rattle.command_spec.specs.Outcome.{settling_act, CommandOutcome, Opened, output_of}
-use Rattle.command_spec.specs.Restore.{Piece, pieces_of, piece_cells, pieces_in, LosesFew, GivingEnd, Restores, ending_status, pieces, volume_at, Gives, RestoreOutcome, FirstLost, bytes_held, HasNumber}
+use Rattle.command_spec.specs.Restore.{Piece, pieces_of, piece_cells, pieces_in, LosesFew, GivingEnd, Restores, ending_status, pieces, volume_at, Gives, FirstLost, HasNumber}
 use Rattle.qic_base.specs.Acts.{Act}
 use Rattle.qic_base.specs.Cartridge.{Cartridge}
 use Rattle.qic_base.specs.declared.tape.SectorView.{SectorView}
+use Rattle.command_laws.specs.CommandTerms.{RestoreOutcome, bytes_held}
 use Rattle.command_spec.specs.declared.status.Status.TheVariants as status
 
 -- ---- the segments of a volume lie behind that of the table
@@ -47,16 +48,27 @@ pieces_where P words (s ∷ ss) (suc left) each =
 abbrev IsAlike : (c d : Cartridge) (words : List ℕ) → Piece → Type 0
 IsAlike c d words piece = piece_cells d words piece ≡ piece_cells c words piece
 
-entry_at : (number : ℕ) (c : Cartridge) (plain : Plain) (volume : Volume) → (has : HasNumber c plain number volume) → slice_get (entries_of plain) has.place ≡ Some volume.entry
-entry_at number c plain volume has = slice_get-map (λ (v : Volume). v.entry) plain.volumes has.place ∙ ap (option_map (λ (v : Volume). v.entry)) has.is
+-- the place of a volume in the list, counted from 0
+record IsAt (plain : Plain) (number : ℕ) (volume : Volume) : Type 0 where
+  place : ℕ
+  numbered : number ≡ suc place
+  is : slice_get plain.volumes place ≡ Some volume
+
+is_at : (number : ℕ) (c : Cartridge) (plain : Plain) (volume : Volume) → HasNumber c plain number volume → IsAt plain number volume
+is_at zero c plain volume has = absurd (none-some volume has.is)
+is_at (suc n) c plain volume has = record { place = n; numbered = refl; is = has.is }
+
+entry_at : (plain : Plain) (number : ℕ) (volume : Volume) → (at : IsAt plain number volume) → slice_get (entries_of plain) at.place ≡ Some volume.entry
+entry_at plain number volume at = slice_get-map (λ (v : Volume). v.entry) plain.volumes at.place ∙ ap (option_map (λ (v : Volume). v.entry)) at.is
 
 pieces_alike : (number : ℕ) (c : Cartridge) (plain : Plain) (volume : Volume) → HasNumber c plain number volume → TableIs c plain.table_area →
     All (IsAlike c (settled plain.table_area c) plain.words) (pieces_in plain volume)
 pieces_alike number c plain volume has table =
     let d : Cartridge = settled plain.table_area c in
+    let at = is_at number c plain volume has in
     let first : 2 < volume.entry.start =
-    starts_behind (entries_of plain) 2 (last_segment c) has.place volume.entry
-    (faultless_is_sound plain.table_area (last_segment c) (entries_of plain) has.stands.sound_table has.stands.shown) (entry_at number c plain volume has) in
+    starts_behind (entries_of plain) 2 (last_segment c) at.place volume.entry
+    (faultless_is_sound plain.table_area (last_segment c) (entries_of plain) has.stands.sound_table has.stands.shown) (entry_at plain number volume at) in
     All-weaker (λ (piece : Piece). volume.entry.start ≤ piece.segment) (IsAlike c d plain.words)
     (λ piece behind. same_cells c d piece.segment (mask_at plain.words piece.segment)
     (λ i small. (settled_keeps_table c plain.table_area table).others piece.segment i small (λ two. omega (arith, first, behind, two))))
@@ -120,7 +132,8 @@ given number c plain volume outcome has (m, mounts, opened) =
     by_gives mounted.reads (subst (λ (a : Mounting). Opened (Gives number) c a outcome) same opened)
   where
     at : volume_at (entries_of plain) number ≡ Some volume.entry
-    at = ap (volume_at (entries_of plain)) has.numbered ∙ entry_at number c plain volume has
+    at =
+        let is = is_at number c plain volume has in ap (volume_at (entries_of plain)) is.numbered ∙ entry_at plain number volume is
 
     by_gives : TableIs c plain.table_area → Gives number c plain.header plain.words plain.table_area (entries_of plain) outcome → IsGiven number c plain volume outcome
     by_gives table (inl none) = absurd (none-some volume.entry (sym none.0 ∙ at))
@@ -137,8 +150,10 @@ given number c plain volume outcome has (m, mounts, opened) =
 has_volume : (number : ℕ) (c : Cartridge) (plain : Plain) (volume : Volume) → HasNumber c plain number volume → TableIs c plain.table_area → HasVolume (settled plain.table_area c) plain volume
 has_volume number c plain volume has table = record {
   stands = settled_stands c plain plain.table_area has.stands table;
-  among = subst (Contains plain.volumes) (get_or_from_slice_get plain.volumes has.place volume volume has.is)
-      (Contains-get_or plain.volumes has.place volume (slice_get_within plain.volumes has.place volume has.is));
+  among =
+      let at = is_at number c plain volume has in
+      subst (Contains plain.volumes) (get_or_from_slice_get plain.volumes at.place volume volume at.is)
+      (Contains-get_or plain.volumes at.place volume (slice_get_within plain.volumes at.place volume at.is));
 }
 
 -- just its bytes

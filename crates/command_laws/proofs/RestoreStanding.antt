@@ -19,8 +19,8 @@ use Rattle.cartridge_spec.specs.Volumes.{parts_of, Part, Plain, Volume, VolumeSt
 use Rattle.command_laws.proofs.RestoreCounts.{length-bytes_in, length_within}
 use Rattle.command_laws.proofs.RestoreEndings.{restores_is_function}
 use Rattle.command_laws.specs.RestoreLaws.{HasVolume, VolumeIsLong, RestoresByteForByte, FewOrFirstLost, RestoresFront, NeverMismatch, StandingRestores}
-use Rattle.command_spec.specs.Restore.{Piece, Restored, Restores, LosesFew, pieces_of, LostIn, bytes_held, piece_cells, pieces_in, FirstLost, MismatchIn}
-use Rattle.command_laws.specs.CommandTerms.{act_of}
+use Rattle.command_spec.specs.Restore.{Piece, Restored, Restores, LosesFew, pieces_of, LostIn, piece_cells, pieces_in, FirstLost, MismatchIn}
+use Rattle.command_laws.specs.CommandTerms.{act_of, bytes_held}
 use Rattle.qic_base.specs.Acts.{Act, text_of}
 use Rattle.qic_base.specs.Cartridge.{Cartridge, IsSector}
 

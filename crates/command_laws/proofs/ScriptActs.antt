@@ -1,12 +1,12 @@
 -- The acts of an append of promised bytes, whatever stands behind them in the input, and with or without the reply.
-use Rattle.std.proofs.Common.{List, [], ◌≡◌, ℕ, Bool, true, false, cond, refl, ◌≤◌, nat_lt, ltb-false, length, take, Some, sym, ◌∷◌, ◌++◌, ap, ◌∙◌, Option, append-nil, inl, inr, ltb-true, arith, ◌<◌}
+use Rattle.std.proofs.Common.{List, [], ◌≡◌, ◌≢◌, ℕ, Bool, true, false, cond, refl, ◌≤◌, nat_lt, ltb-false, length, take, Some, sym, ◌∷◌, ◌++◌, ap, ◌∙◌, Option, append-nil, inl, inr, ltb-true, arith, ◌<◌}
 use Rattle.std.specs.Prelude.{is_some, if◌then◌else◌}
 use Rattle.std.proofs.lemmas.Bool.{cases_Bool}
 use Rattle.std.proofs.lemmas.List.{take_all, length-take-le}
 use Rattle.cartridge_spec.specs.Table.{Entry}
 use Rattle.command_laws.proofs.InputActLaws.{input_prints_nothing}
 use Rattle.command_spec.specs.Append.{Fits, TooLong, TooShort, taking, has_promised_room, input_acts, Kept, Taking, room_in, entry_acts, append_acts, input_writes, volume_acts, filled_acts}
-use Rattle.command_laws.specs.CommandTerms.{entry_for, WearsBehind, LineSpares, free_in, most_written, silently}
+use Rattle.command_laws.specs.CommandTerms.{entry_for, WearsBehind, LineSpares, LineSparesTable, free_in, most_written, silently}
 use Rattle.qic_base.proofs.Joins.{steps_of-append, text_of-append}
 use Rattle.qic_base.specs.Acts.{Act, text_of, steps_of}
 use Rattle.cartridge_spec.specs.Volumes.{Plain, WearSpares}
@@ -20,6 +20,10 @@ use Rattle.command_spec.specs.declared.line.Line.TheVariants as line
 pub wears_behind : (asked : Line) → ((segment sector : ℕ) → asked ≡ line.Lose segment sector → sector < 32 → 3 ≤ segment) → WearsBehind asked
 wears_behind (line.Lose segment sector) behind = behind segment sector refl
 wears_behind asked behind = tt
+
+pub spares_table : (asked : Line) → ((segment sector : ℕ) → asked ≡ line.Lose segment sector → sector < 32 → segment ≢ 2) → LineSparesTable asked
+spares_table (line.Lose segment sector) other = other segment sector refl
+spares_table asked other = tt
 
 pub line_spares : (c : Cartridge) (plain : Plain) (asked : Line) →
     ((segment sector : ℕ) → asked ≡ line.Lose segment sector → IsPlace c.info.segments_per_track segment sector → WearSpares c plain segment sector) → LineSpares c plain asked

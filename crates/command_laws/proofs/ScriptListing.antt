@@ -28,7 +28,8 @@ use Rattle.command_spec.specs.Restore.{framed, pieces}
 use Rattle.command_spec.specs.Script.{Did, refusal_line, EndDoes, Finds, LineDoes, Meeting, Meets, Refuses, acts_on, append_did, line_refused, reply, taken_as, entries_behind, ItemsDo, cartridge_behind, ScriptDoes, place_behind, acts_of}
 use Rattle.command_spec.specs.Outcome.{CommandOutcome}
 use Rattle.command_spec.specs.ScriptLists.{ItemsWearBehind, ListsBehind, ListsAnswered}
-use Rattle.command_spec.specs.Scrub.{Scrubs}
+use Rattle.command_spec.specs.Scrub.{ScrubsAs}
+use Rattle.command_spec.specs.declared.depth.Depth.TheVariants.{Shallow}
 use Rattle.command_spec.specs.declared.line.Line.{Line}
 use Rattle.qic_base.proofs.Joins.{text_of-append}
 use Rattle.qic_base.specs.Acts.{Act, text_of, steps_of}
@@ -208,7 +209,7 @@ module _ (c : Cartridge) (header : Header) (words : List ℕ) (entries : List En
       ∙ given_steps words entries number gives.entry parts gives.ending (framed_in_no_step c words (pieces words gives.entry) gives.acts gives.ending gives.restores).0)
       (ap (λ (d : Did). d.entries) gives.is ∙ given_entries words entries number gives.entry parts gives.ending)
 
-  scrubs_lists : (acts : List Act) → c.info.protected ≡ false → Scrubs c words entries acts →
+  scrubs_lists : (acts : List Act) → c.info.protected ≡ false → ScrubsAs Shallow c words entries acts →
       ItemLists c header words entries Before (Unit {0}) (record { acts = acts; entries = entries })
   scrubs_lists acts mark scrubs = record {
     done = λ before behind. scrub_lists c header words entries acts acts [] (lists before) scrubs (append-nil acts);

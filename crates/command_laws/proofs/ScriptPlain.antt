@@ -5,11 +5,12 @@ use Rattle.cartridge_spec.specs.HeaderAndTable.{table_cells, TableIs}
 use Rattle.cartridge_spec.specs.Says.{AsRead, ByCode, Data, LostSectors, TableSays}
 use Rattle.cartridge_spec.specs.Table.{Entry}
 use Rattle.command_laws.proofs.RestoreEndings.{restores_is_function}
-use Rattle.command_laws.proofs.ScrubTurns.{scrubs_is_function}
+use Rattle.command_laws.proofs.ScrubOneWrong.{form_is_function}
 use Rattle.command_laws.proofs.StoreAgain.{table_one}
 use Rattle.command_spec.specs.Restore.{framed, pieces, Restores}
 use Rattle.command_spec.specs.Script.{Meeting, Refuses, Finds, Meets, Did, given_as, LineDoes, append_did}
 use Rattle.command_laws.specs.CommandTerms.{RestoreDoes}
+use Rattle.command_spec.specs.declared.depth.Depth.TheVariants.{Shallow}
 use Rattle.command_spec.specs.declared.line.Line.{Line}
 use Rattle.qic_base.specs.Acts.{Act}
 use Rattle.qic_base.specs.Cartridge.{Cartridge}
@@ -102,7 +103,7 @@ line_one c words entries line.Scrub bytes a b (inl (mark, is)) (inl (again, too)
 line_one c words entries line.Scrub bytes a b (inl (mark, is)) (inr (free, scrubs)) = absurd (cc)
 line_one c words entries line.Scrub bytes a b (inr (free, scrubs)) (inl (mark, is)) = absurd (cc)
 line_one c words entries line.Scrub bytes a b (inr (free, (xs, scrubs, is))) (inr (again, (ys, others, too))) =
-    too ∙ ap (λ (zs : List Act). record { acts = zs; entries = entries }) (scrubs_is_function c words entries ys xs others scrubs) ∙ sym is
+    too ∙ ap (λ (zs : List Act). record { acts = zs; entries = entries }) (form_is_function Shallow c words entries ys xs others scrubs) ∙ sym is
 line_one c words entries (line.Lose segment sector) bytes a b (inl (none, is)) (inl (again, too)) = too ∙ sym is
 line_one c words entries (line.Lose segment sector) bytes a b (inl (none, is)) (inr (place, too)) = absurd (none place)
 line_one c words entries (line.Lose segment sector) bytes a b (inr (place, is)) (inl (none, too)) = absurd (none place)

@@ -14,8 +14,8 @@ use Rattle.command_spec.specs.Lines.{number_line, place_line, appended_line, lis
 use Rattle.command_spec.specs.Restore.{Restored, LostIn, MismatchIn}
 use Rattle.command_spec.specs.Script.{no_volume_line, refusal_line, line_refused, reply, given_as, taken_as, Did, LineDoes, Meeting, Finds, Refuses, append_did, ItemsDo, ScriptDoes}
 use Rattle.command_spec.specs.Outcome.{CommandOutcome}
-use Rattle.command_spec.specs.Scrub.{Counts, counts_line, looked_at, looking_acts}
-use Rattle.command_laws.specs.Terms.{counts_of, last_act}
+use Rattle.command_spec.specs.Scrub.{Counts, counts_line, looked_at, finding_acts}
+use Rattle.command_laws.specs.Terms.{counts_for, last_act}
 use Rattle.command_spec.specs.declared.line.Line.{Line}
 use Rattle.command_spec.specs.declared.refusal.Refusal.{Refusal}
 use Rattle.qic_base.proofs.Joins.{text_of-append}
@@ -165,8 +165,8 @@ speaks_line c words entries line.Scrub bytes did long (inl (mark, is)) =
     subst (λ (d : Did). Speaks d.acts) (sym is) (refused_speaks [] entries why.Protected)
 speaks_line c words entries line.Scrub bytes did long (inr (free, (acts, scrubs, is))) =
     subst (λ (d : Did). Speaks d.acts) (sym is) (subst Speaks (sym scrubs.are)
-    (speaks_so (looking_acts c (looked_at words entries) scrubs.sayings) (last_act (counts_of c (looked_at words entries) scrubs.sayings))
-    (counts_some (counts_of c (looked_at words entries) scrubs.sayings))))
+    (speaks_so (finding_acts c (looked_at words entries) scrubs.findings) (last_act (counts_for c (looked_at words entries) scrubs.findings))
+    (counts_some (counts_for c (looked_at words entries) scrubs.findings))))
 speaks_line c words entries (line.Lose segment sector) bytes did long (inl (none, is)) =
     subst (λ (d : Did). Speaks d.acts) (sym is) (refused_speaks [] entries (why.Place segment sector))
 speaks_line c words entries (line.Lose segment sector) bytes did long (inr (place, is)) =

@@ -1,5 +1,5 @@
 -- What the items of a script leave of a cartridge that stands for a plain one, done or stopped.
-use Rattle.std.proofs.Common.{◌≡◌, ℕ, ◌<◌, List, length, All, ◌+◌, [], ◌∷◌, ◌++◌, subst, ◌⊎◌, Option, Some, IsSomeAnd, ◌-◌, Bool, cond, ap, inl, sym, ◌∙◌, false, nat_lt, arith, inr, ◌==◌, true, take, append-nil, refl, ◌≤◌}
+use Rattle.std.proofs.Common.{◌≡◌, ℕ, ◌<◌, List, length, All, ◌+◌, [], ◌∷◌, ◌++◌, subst, ◌⊎◌, Option, Some, IsSomeAnd, ◌-◌, Bool, cond, ap, inl, sym, ◌∙◌, false, nat_lt, arith, inr, ◌==◌, true, take, append-nil, refl, ◌≤◌, ◌≢◌}
 use Rattle.std.proofs.lemmas.Bool.{eq-eqb, le-ltb, cases_Bool, eqb-true, lt-ltb}
 use Rattle.std.proofs.lemmas.List.{length-append, map-append, take_all}
 use Rattle.std.proofs.lemmas.List.Elements.{All-weaker}
@@ -26,19 +26,21 @@ use Rattle.command_laws.proofs.RestoreCounts.{framed_in_no_step}
 use Rattle.command_laws.proofs.ScriptActs.{full_acts, full_taking, replied_steps, line_spares}
 use Rattle.command_laws.proofs.ScriptValues.{append_values}
 use Rattle.command_laws.proofs.ScrubMounted.{stopped_scrub_stands}
+use Rattle.command_laws.proofs.ScrubPlain.{as_plain}
 use Rattle.command_laws.specs.Intact.{IsIntact}
 use Rattle.command_laws.specs.MountedHeld.{IsHeld}
 use Rattle.command_laws.specs.MountedKept.{IsAppendable, IsKept, IsOpen}
 use Rattle.command_laws.specs.ScriptStanding.{LineHasBytes, HaveBytes, ItemsHaveBytes, HasBytes, StoppedItemStands, ItemsStand, FaultStands, plain_after, plain_behind}
 use Rattle.command_spec.specs.Append.{Kept, Taking, Fits, TooLong, TooShort, append_acts, room_in, taking, entry_acts, has_promised_room, input_acts, input_writes, kept_over}
-use Rattle.command_laws.specs.CommandTerms.{entry_for, free_in, IsLine, ItemDoes, RestoreDoes, LineSpares, WearsBehind}
+use Rattle.command_laws.specs.CommandTerms.{entry_for, free_in, IsLine, ItemDoes, RestoreDoes, LineSpares, LineSparesTable}
 use Rattle.command_spec.specs.Input.{IsLined, promised, Item, IsItem, Ending, HasItems}
 use Rattle.command_spec.specs.Lines.{reply_behind, lost_line}
 use Rattle.command_spec.specs.Restore.{Restored, LostIn, MismatchIn, framed, pieces}
 use Rattle.command_spec.specs.Script.{Did, Meeting, Finds, Meets, Refuses, append_did, line_refused, taken_as, given_as, LineDoes, ItemsDo, entries_behind, acts_on, cartridge_behind}
 use Rattle.command_spec.specs.ScriptLists.{item_added, all_added, line_contents}
 use Rattle.command_spec.specs.OneLoss.{ComesBackAsOneOf}
-use Rattle.command_spec.specs.Scrub.{Scrubs}
+use Rattle.command_spec.specs.Scrub.{ScrubsAs}
+use Rattle.command_spec.specs.declared.depth.Depth.TheVariants.{Shallow}
 use Rattle.command_spec.specs.declared.line.Line.{Line}
 use Rattle.gf256_qic.proofs.Parities.{all_left, all_right}
 use Rattle.qic_base.proofs.Joins.{steps_of-append}
@@ -89,9 +91,9 @@ pub record ItemLeaves (c : Cartridge) (plain : Plain) (item : Item) (did : Did) 
   pub entries : entries_of (plain_after plain item did) ≡ did.entries
   pub words : (plain_after plain item did).words ≡ plain.words
   pub stopped : IsTableLive c → (left : Option Cartridge) → Torn (steps_of did.acts) (Some c) left → IsSomeAnd left (λ d. Stands d plain ⊎ Stands d (plain_after plain item did))
-  pub intact : WearsBehind item.line → IsIntact c plain → LeavesIntact c plain (plain_after plain item did) did
+  pub intact : LineSparesTable item.line → IsIntact c plain → LeavesIntact c plain (plain_after plain item did) did
 
--- one that adds no volume, and wears a sector behind the table's segment if any
+-- one that adds no volume, and wears no sector of the table's segment
 record Stills (behind : Type 0) (c : Cartridge) (plain : Plain) (did : Did) : Type 0 where
   done : IsHeld (changed_by (steps_of did.acts) c) plain
   live : IsTableLive c → IsTableLive (changed_by (steps_of did.acts) c)
@@ -104,7 +106,7 @@ same_after plain item did same =
     ap (λ (b : Bool). with_all plain (cond b [] (line_contents item.line item.bytes)))
     (eq-eqb (length did.entries) (length (entries_of plain)) (ap (λ (es : List Entry). length es) same))
 
-leaves_still : (c : Cartridge) (plain : Plain) (item : Item) (did : Did) → Stills (WearsBehind item.line) c plain did → ItemLeaves c plain item did
+leaves_still : (c : Cartridge) (plain : Plain) (item : Item) (did : Did) → Stills (LineSparesTable item.line) c plain did → ItemLeaves c plain item did
 leaves_still c plain item did still =
     let same : plain_after plain item did ≡ plain = same_after plain item did still.entries in
     record {
@@ -281,7 +283,7 @@ gives_stills c plain number did held gives =
     (framed_in_no_step c plain.words (pieces plain.words gives.entry) gives.acts gives.ending gives.restores).0)
     (ap (λ (d : Did). d.entries) gives.is ∙ given_entries plain.words (entries_of plain) number gives.entry parts gives.ending)
 
-scrub_stills : (c : Cartridge) (plain : Plain) (acts : List Act) (did : Did) → IsHeld c plain → Scrubs c plain.words (entries_of plain) acts →
+scrub_stills : (c : Cartridge) (plain : Plain) (acts : List Act) (did : Did) → IsHeld c plain → ScrubsAs Shallow c plain.words (entries_of plain) acts →
     did ≡ record { acts = acts; entries = entries_of plain } → Stills (Unit {0}) c plain did
 scrub_stills c plain acts did held scrubs is =
     let steps : steps_of did.acts ≡ steps_of acts = ap (λ (d : Did). steps_of d.acts) is in
@@ -289,7 +291,7 @@ scrub_stills c plain acts did held scrubs is =
       done = subst (λ (ss : List Step). IsHeld (changed_by ss c) plain) (sym steps) (scrubbed_held c plain acts held scrubs);
       live = λ live. subst (λ (ss : List Step). IsTableLive (changed_by ss c)) (sym steps) (scrubbed_live c plain acts held scrubs live);
       entries = ap (λ (d : Did). d.entries) is;
-      stopped = λ left torn. stopped_scrub_stands c plain acts left held.stands scrubs (subst (λ (ss : List Step). Torn ss (Some c) left) steps torn);
+      stopped = λ left torn. stopped_scrub_stands c plain acts left held.stands (as_plain c plain.words (entries_of plain) acts scrubs) (subst (λ (ss : List Step). Torn ss (Some c) left) steps torn);
       intact = λ behind intact.
           let now = scrubs_leave_intact c plain acts intact scrubs in
           record {
@@ -299,7 +301,7 @@ scrub_stills c plain acts did held scrubs is =
     }
 
 lose_stills : (c : Cartridge) (plain : Plain) (segment sector : ℕ) (did : Did) → IsHeld c plain → sector < 32 → WearSpares c plain segment sector →
-    did ≡ record { acts = record { steps = Wear segment sector ∷ []; text = lost_line segment sector } ∷ []; entries = entries_of plain } → Stills (sector < 32 → 3 ≤ segment) c plain did
+    did ≡ record { acts = record { steps = Wear segment sector ∷ []; text = lost_line segment sector } ∷ []; entries = entries_of plain } → Stills (sector < 32 → segment ≢ 2) c plain did
 lose_stills c plain segment sector did held small spares is =
     let steps : steps_of did.acts ≡ Wear segment sector ∷ [] = ap (λ (d : Did). steps_of d.acts) is in
     let worn_is : IsHeld (worn segment sector c) plain = worn_held c plain segment sector held small spares in
@@ -309,7 +311,7 @@ lose_stills c plain segment sector did held small spares is =
       entries = ap (λ (d : Did). d.entries) is;
       stopped = λ left torn. by_torn left worn_is (subst (λ (ss : List Step). Torn ss (Some c) left) steps torn);
       intact = λ behind intact.
-          let worn_so : IsIntact (worn segment sector c) plain = wears_leave_intact c plain segment sector intact (behind small) small in
+          let worn_so : IsIntact (worn segment sector c) plain = wears_leave_intact c plain segment sector intact spares (behind small) small in
           record {
             done = subst (λ (ss : List Step). IsIntact (changed_by ss c) plain) (sym steps) worn_so;
             stopped = λ left torn. comes_by left intact worn_so (subst (λ (ss : List Step). Torn ss (Some c) left) steps torn);

@@ -1,10 +1,11 @@
 -- The values that the words of an append's line give.
 use Rattle.std.proofs.Common.{ℕ, ◌<◌, List, All, arith, ◌≡◌, ◌+◌, ◌-◌, ◌++◌, length, replicate, sym, ap, ◌∙◌, subst, ◌^◌, [], ◌∷◌, codes, inl, inr}
+use Rattle.std.specs.List.{AllZip}
 use Rattle.std.proofs.lemmas.List.{length-append, length-replicate}
 use Rattle.std.proofs.lemmas.List.Elements.{All-append, All-replicate}
 use Rattle.cartridge_spec.specs.Formatting.{IsLabel}
 use Rattle.command_laws.proofs.TextCommands.{dated_cases, three_words}
-use Rattle.command_spec.specs.Command.{IsDateWord, Date, Name, SpellsAll, Word, AnyNumber}
+use Rattle.command_spec.specs.Command.{IsDateWord, Date, Name, Word, AnyNumber, SpellsPart}
 use Rattle.command_laws.specs.CommandTerms.{words_of}
 use Rattle.command_spec.specs.Input.{IsLineText}
 use Rattle.qic_base.specs.Terms.{IsPrintable}
@@ -36,7 +37,7 @@ date_is_word word date is =
     omega arith
 
 -- the four words of a line with a date
-dated_values : (words : List (List ℕ)) (name : List ℕ) (count date : ℕ) → SpellsAll words (Word (codes "append") ∷ Name name ∷ AnyNumber count ∷ Date date ∷ []) →
+dated_values : (words : List (List ℕ)) (name : List ℕ) (count date : ℕ) → AllZip SpellsPart words (Word (codes "append") ∷ Name name ∷ AnyNumber count ∷ Date date ∷ []) →
     IsLabel name × (date < 2 ^ 32)
 dated_values [] name count date spelled = absurd spelled
 dated_values (a ∷ []) name count date spelled = absurd spelled.1

@@ -12,7 +12,8 @@ use Rattle.cartridge_spec.specs.Table.{Entry}
 use Rattle.cartridge_spec.specs.Volumes.{carrying, carrying_segments}
 use Rattle.command_laws.specs.ScrubLaws.{LookedCarry}
 use Rattle.command_laws.specs.ScrubSayings.{Rise}
-use Rattle.command_spec.specs.Scrub.{Looked, looked_segments, looked_volumes, whole_segment, looked_at}
+use Rattle.command_spec.specs.Scrub.{Looked, looked_volumes, whole_segment, looked_at}
+use Rattle.command_laws.specs.CommandTerms.{looked_segments}
 
 -- ---- lists
 

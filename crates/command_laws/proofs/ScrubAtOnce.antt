@@ -11,8 +11,9 @@ use Rattle.cartridge_spec.specs.Settling.{changed_by}
 use Rattle.cartridge_spec.specs.Shape.{is_unreadable, usable_places}
 use Rattle.command_laws.proofs.ScrubApart.{looked_rise}
 use Rattle.command_laws.specs.ScrubLaws.{ScrubsAtOnce}
+use Rattle.command_laws.specs.ScrubPlain.{looking_acts, SayInTurn}
 use Rattle.command_laws.specs.ScrubSayings.{SayAtOnce, acts_at_once, Rise}
-use Rattle.command_spec.specs.Scrub.{mending_writes, Looked, reads, steps_in, looking_acts, line_in, SayInTurn, looked_at}
+use Rattle.command_spec.specs.Scrub.{mending_writes, Looked, reads, steps_in, line_in, looked_at}
 use Rattle.command_laws.specs.Terms.{last_act, counts_of, look_act, scrub_acts}
 use Rattle.qic_base.proofs.Joins.{steps_of-append}
 use Rattle.qic_base.specs.Acts.{Act, steps_of}

@@ -24,7 +24,8 @@ use Rattle.cartridge_spec.specs.Volumes.{Part, parts_of, Volume, VolumeStands, c
 use Rattle.command_laws.proofs.ScrubApart.{contains_cases}
 use Rattle.command_laws.proofs.ScrubSeen.{SameIn, IsFoundWrong}
 use Rattle.command_laws.proofs.ScrubStanding.{cell_at}
-use Rattle.command_spec.specs.Scrub.{Looked, cells_at, looked_at, looked_segments, looked_volumes, whole_segment, IsSearched, IsWrong}
+use Rattle.command_spec.specs.Scrub.{Looked, cells_at, looked_at, looked_volumes, whole_segment, IsSearched, IsWrong}
+use Rattle.command_laws.specs.CommandTerms.{looked_segments}
 use Rattle.command_spec.specs.declared.depth.Depth.{Depth}
 use Rattle.command_spec.specs.declared.depth.Depth.TheVariants.{Shallow, Deep}
 use Rattle.gf256_qic.proofs.Parities.{block_count, length-parity_sectors}

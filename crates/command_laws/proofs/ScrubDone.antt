@@ -20,8 +20,9 @@ use Rattle.command_laws.proofs.ScrubAtOnce.{mending_are, steps_stay, at_once_sta
 use Rattle.command_laws.proofs.ScrubMending.{stopped_scrub, stopped_at_once, scrub_is_at_once}
 use Rattle.command_laws.specs.ScrubLaws.{DoneScrub}
 use Rattle.command_laws.specs.ScrubMended.{IsMended, IsBeingMended, IsScrubbed}
+use Rattle.command_laws.specs.ScrubPlain.{Scrubs}
 use Rattle.command_laws.specs.ScrubSayings.{Rise, SayAtOnce, acts_at_once}
-use Rattle.command_spec.specs.Scrub.{mending_writes, Looked, cells_at, reads, steps_in, looked_at, Scrubs}
+use Rattle.command_spec.specs.Scrub.{mending_writes, Looked, cells_at, reads, steps_in, looked_at}
 use Rattle.gf256_qic.proofs.Parities.{length-parity_sectors}
 use Rattle.qic_base.proofs.Steps.{Torn-all}
 use Rattle.qic_base.specs.Acts.{steps_of, Act}

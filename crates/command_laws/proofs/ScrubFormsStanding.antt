@@ -3,9 +3,9 @@ use Rattle.std.proofs.Common.{◌≡◌, ℕ, inl, inr, List, ◌<◌, arith, sy
 use Rattle.cartridge_laws.proofs.FormatStanding.{same_cells}
 use Rattle.cartridge_laws.proofs.FormatWriting.{some_weaker, effects-some}
 use Rattle.cartridge_laws.proofs.Sayings.{says_is_function}
-use Rattle.cartridge_spec.specs.Formatting.{IsCleanCopy, StandsCleanly}
+use Rattle.cartridge_spec.specs.Formatting.{StandsCleanly}
 use Rattle.cartridge_spec.specs.HeaderAndTable.{CopyReads, last_segment, IsArea}
-use Rattle.cartridge_laws.specs.Terms.{IsInForce}
+use Rattle.cartridge_laws.specs.Terms.{IsInForce, IsCleanCopy}
 use Rattle.cartridge_spec.specs.Says.{Says, Data, Mismatch}
 use Rattle.cartridge_spec.specs.Volumes.{Plain, Stands, entries_of}
 use Rattle.command_laws.proofs.ScrubBeside.{beside_stands, standing_wrong, written_not_wrong, zero_not_wrong}
@@ -17,7 +17,7 @@ use Rattle.command_laws.specs.DeepScrubLaws.{StoppedFormStands, DoneFormStands, 
 use Rattle.command_laws.specs.ScrubFound.{without_all}
 use Rattle.command_laws.specs.ScrubMended.{IsBeingMended}
 use Rattle.command_laws.specs.ScrubSayings.{Rise}
-use Rattle.command_spec.specs.Scrub.{Looked, looked_at, whole_segment, cells_at, Finding, IsSearched, IsWrong}
+use Rattle.command_spec.specs.Scrub.{Looked, looked_at, whole_segment, cells_at, Finding, IsWrong}
 use Rattle.command_spec.specs.declared.depth.Depth.{Depth}
 use Rattle.qic_base.proofs.Steps.{Torn-all}
 use Rattle.qic_base.specs.Acts.{steps_of}
@@ -146,7 +146,7 @@ stopped_form_is_clean depth c plain acts left clean scrubs torn =
     let e : Cartridge = without_all c looked fs in
     let run = as_seen depth c plain.words (entries_of plain) (last_segment c) acts (in_order c plain clean.stands) scrubs in
     let none : NoneWrong depth c looked =
-    λ s i found. clean_not_wrong c plain i found.sectors clean.stands.whole.header_area clean.second
+    λ s i found. clean_not_wrong c plain i found.sectors clean.stands.whole.header_area clean.copies.second
     (subst (λ (l : Looked). IsWrong c l i found.sectors) (standing_wrong depth c plain s i clean.stands found) found.wrong) in
     let same = seen_none depth c e looked fs none run.seen in
     some_weaker left (λ d is.

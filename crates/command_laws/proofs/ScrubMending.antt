@@ -18,8 +18,9 @@ use Rattle.command_laws.proofs.ScrubAtOnce.{mending_are, steps_are, scrub_steps,
 use Rattle.command_laws.proofs.ScrubTurns.{steps_whole}
 use Rattle.command_laws.specs.ScrubLaws.{StoppedScrub, StoppedScrubIsCartridge, DoneScrubIsCartridge, ReadableStays}
 use Rattle.command_laws.specs.ScrubMended.{IsMended, HasBeenMended, IsBeingMended}
+use Rattle.command_laws.specs.ScrubPlain.{looking_acts, Scrubs, SayInTurn}
 use Rattle.command_laws.specs.ScrubSayings.{SayAtOnce, acts_at_once}
-use Rattle.command_spec.specs.Scrub.{Looked, cells_at, steps_in, looked_at, looking_acts, Scrubs, SayInTurn}
+use Rattle.command_spec.specs.Scrub.{Looked, cells_at, steps_in, looked_at}
 use Rattle.qic_base.proofs.Steps.{Torn-all}
 use Rattle.qic_base.specs.Acts.{steps_of, Act}
 use Rattle.qic_base.specs.Cartridge.{Cartridge, view_at, with_view}

@@ -4,7 +4,8 @@ use Rattle.cartridge_laws.proofs.AppendVolume.{old_order}
 use Rattle.cartridge_laws.proofs.FormatWriting.{some_weaker}
 use Rattle.cartridge_laws.proofs.TableOrders.{faultless_is_sound}
 use Rattle.cartridge_laws.specs.Table.{IsSoundList}
-use Rattle.cartridge_spec.specs.Formatting.{IsCleanCopy, StandsCleanly}
+use Rattle.cartridge_spec.specs.Formatting.{StandsCleanly}
+use Rattle.cartridge_laws.specs.Terms.{IsCleanCopy}
 use Rattle.cartridge_spec.specs.Header.{Header, header_fault}
 use Rattle.cartridge_spec.specs.HeaderAndTable.{last_segment, IsArea}
 use Rattle.cartridge_spec.specs.Mounting.{IsMounted}
@@ -57,8 +58,10 @@ mending_is_clean c d plain rise clean way =
     let is_area : IsArea plain.header_area = clean.stands.whole.header_area in
     record {
       stands = mending_stands c d plain rise clean.stands way;
-      first = clean_copy looked c d 0 plain.header_area (omega arith) rise front.first way is_area clean.first;
-      second = clean_copy looked c d 1 plain.header_area (omega arith) rise front.second way is_area clean.second;
+      copies = record {
+        first = clean_copy looked c d 0 plain.header_area (omega arith) rise front.first way is_area clean.copies.first;
+        second = clean_copy looked c d 1 plain.header_area (omega arith) rise front.second way is_area clean.copies.second;
+      };
     }
 
 pub done_scrub_is_clean : DoneScrubIsClean

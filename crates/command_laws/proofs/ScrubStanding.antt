@@ -25,7 +25,8 @@ use Rattle.command_laws.proofs.ScrubMending.{readable_stays}
 use Rattle.command_laws.proofs.ScrubTurns.{copy_is_looked_at}
 use Rattle.command_laws.specs.ScrubMended.{IsMended, IsBeingMended}
 use Rattle.command_laws.specs.ScrubSayings.{Rise}
-use Rattle.command_spec.specs.Scrub.{Looked, cells_at, reads, whole_segment, looked_volumes, looked_at, looked_segments}
+use Rattle.command_spec.specs.Scrub.{Looked, cells_at, reads, whole_segment, looked_volumes, looked_at}
+use Rattle.command_laws.specs.CommandTerms.{looked_segments}
 use Rattle.gf256_qic.proofs.Parities.{block_count, length-parity_sectors}
 use Rattle.qic_base.specs.Cartridge.{Cartridge, view_at, IsSector}
 use Rattle.qic_base.specs.declared.tape.SectorView.{SectorView}

@@ -15,7 +15,8 @@ use Rattle.cartridge_spec.specs.Says.{Saying, Data, Says, with_parity, LostSecto
 use Rattle.cartridge_spec.specs.Settling.{changed_by}
 use Rattle.cartridge_spec.specs.Shape.{is_unreadable, usable_places}
 use Rattle.command_laws.specs.ScrubLaws.{ScrubsIsFunction, ScrubsAlways, CopyIsLookedAt}
-use Rattle.command_spec.specs.Scrub.{Looked, cells_at, steps_in, SayInTurn, looked_at, mending_writes, reads, whole_segment}
+use Rattle.command_laws.specs.ScrubPlain.{SayInTurn}
+use Rattle.command_spec.specs.Scrub.{Looked, cells_at, steps_in, looked_at, mending_writes, reads, whole_segment}
 use Rattle.command_laws.specs.Terms.{scrub_acts}
 use Rattle.gf256_qic.proofs.Parities.{parity_sectors-are_sectors}
 use Rattle.qic_base.proofs.Steps.{Torn-all}

@@ -31,9 +31,7 @@ use Rattle.command_laws.specs.DeepScrubLaws.{SilentSectorsAreMended, SilentSecto
 use Rattle.command_laws.specs.ScrubFound.{FindAtOnce, without_all}
 use Rattle.command_laws.specs.ScrubSayings.{Rise}
 use Rattle.command_laws.specs.SilentSectors.{IsSameIn, HasOneSilent, IsSilentIn, HasCopy, DiffersSilently}
-use Rattle.command_spec.specs.Scrub.{Looked, cells_at, reads, looked_at, looked_volumes, whole_segment, Finding, IsSearched, IsWrong, HasFound, without}
-use Rattle.command_laws.specs.Terms.{Finds}
-use Rattle.command_spec.specs.declared.depth.Depth.{Depth}
+use Rattle.command_spec.specs.Scrub.{Looked, cells_at, reads, looked_at, looked_volumes, whole_segment, Finding, IsWrong, HasFound, without}
 use Rattle.command_spec.specs.declared.depth.Depth.TheVariants.{Deep}
 use Rattle.gf256_qic.proofs.Parities.{parity_block, length-parity_sectors}
 use Rattle.qic_base.specs.Acts.{steps_of}

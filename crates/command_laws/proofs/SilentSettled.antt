@@ -1,5 +1,5 @@
 -- The settling with which a deep scrub begins changes nothing where the table was settled, so a run of it mends silent sectors.
-use Rattle.std.proofs.Common.{◌≡◌, ◌⊎◌, ℕ, inl, inr, List, ◌++◌, ◌∷◌, ◌<◌, ◌≤◌, refl, sym, ◌∙◌, subst, ap, Bool, cond, false}
+use Rattle.std.proofs.Common.{◌≡◌, ℕ, inl, inr, List, ◌<◌, ◌≤◌, refl, sym, ◌∙◌, subst, ap, Bool, cond, false}
 use Rattle.std.proofs.lemmas.Bool.{cases_eq}
 use Rattle.cartridge_laws.proofs.FormatStanding.{same_cells}
 use Rattle.cartridge_laws.proofs.FormatWriting.{changed_by-append}
@@ -14,11 +14,11 @@ use Rattle.cartridge_spec.specs.Mounting.{settled}
 use Rattle.cartridge_spec.specs.Says.{unreadable_count, with_parity, whole_mask}
 use Rattle.cartridge_spec.specs.Settling.{changed_by, settling_steps, writes_of}
 use Rattle.cartridge_spec.specs.Shape.{IsLive, sector_at, usable_places}
-use Rattle.cartridge_spec.specs.Volumes.{Plain, Stands, entries_of}
+use Rattle.cartridge_spec.specs.Volumes.{Plain, Stands}
 use Rattle.command_laws.proofs.ScrubSeen.{SameIn}
 use Rattle.command_laws.proofs.SilentMended.{silent_sectors_are_mended, table_reads}
 use Rattle.command_laws.specs.DeepScrubLaws.{SilentSectorsEnd}
-use Rattle.command_laws.specs.SilentSectors.{HasOneSilent, IsSilentIn, HasCopy, DiffersSilently}
+use Rattle.command_laws.specs.SilentSectors.{HasOneSilent, HasCopy, DiffersSilently}
 use Rattle.command_spec.specs.Outcome.{CommandOutcome}
 use Rattle.command_spec.specs.Scrub.{Looked, cells_at, whole_segment}
 use Rattle.qic_base.specs.Acts.{steps_of}

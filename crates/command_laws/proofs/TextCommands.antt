@@ -1,20 +1,21 @@
 -- The forms of commands.
 use Rattle.std.proofs.Common.{length, ◌≤◌, inl, inr, ℕ, List, [], ◌∷◌, ◌≡◌, ◌⊎◌, zero, suc, ◌+◌, ◌==◌, false, ◌++◌, refl, arith, ◌-◌, ap, ◌∙◌, ◌*◌, get_or, ◌/◌, ◌%◌, sym}
+use Rattle.std.specs.List.{AllZip}
 use Rattle.std.proofs.lemmas.Bool.Decides.{nat_tests}
 use Rattle.std.specs.Str.Parse.{digits_value}
 use Rattle.std.proofs.lemmas.Fmt.{decimal_is_IsNumeral}
 use Rattle.command_laws.proofs.TextDates.{HasPair, fields_of}
-use Rattle.command_spec.specs.Command.{Part, SpellsAll, HasForm, Date, dated, SpellsPart, IsNumber, IsDateWord}
+use Rattle.command_spec.specs.Command.{Part, HasForm, Date, dated, SpellsPart, IsNumber, IsDateWord}
 use Rattle.command_spec.specs.declared.words.Words.{Words}
 use Rattle.qic_base.specs.Field.{date_word}
 
 -- the only form
-pub only : (ws : List (List ℕ)) (form : List Part) → HasForm ws (form ∷ []) → SpellsAll ws form
+pub only : (ws : List (List ℕ)) (form : List Part) → HasForm ws (form ∷ []) → AllZip SpellsPart ws form
 only ws form (inl h) = h
 only ws form (inr h) = absurd h
 
 -- a form with a date or without one
-pub dated_cases : (ws : List (List ℕ)) (form : List Part) (date : ℕ) → HasForm ws (dated form date) → SpellsAll ws (form ++ Date date ∷ []) ⊎ (SpellsAll ws form × (date ≡ 0))
+pub dated_cases : (ws : List (List ℕ)) (form : List Part) (date : ℕ) → HasForm ws (dated form date) → AllZip SpellsPart ws (form ++ Date date ∷ []) ⊎ (AllZip SpellsPart ws form × (date ≡ 0))
 dated_cases ws form date (inl h) = inl h
 dated_cases ws form zero (inr h) = inr (only ws form h, refl)
 dated_cases ws form (suc date) (inr h) = let dated : (suc date == 0) ≡ false = grind (arith, nat_tests) in absurd (rw dated at h)
@@ -24,7 +25,7 @@ pub record One (ws : List (List ℕ)) (p : Part) : Type 0 where
   pub are : ws ≡ first ∷ []
   pub one : SpellsPart first p
 
-pub one_word : (ws : List (List ℕ)) (p : Part) → SpellsAll ws (p ∷ []) → One ws p
+pub one_word : (ws : List (List ℕ)) (p : Part) → AllZip SpellsPart ws (p ∷ []) → One ws p
 one_word [] p h = absurd h
 one_word (a ∷ []) p h = record { first = a; are = refl; one = h.0 }
 one_word (a ∷ b ∷ rest) p h = absurd h.1
@@ -36,7 +37,7 @@ pub record Two (ws : List (List ℕ)) (p q : Part) : Type 0 where
   pub one : SpellsPart first p
   pub two : SpellsPart second q
 
-pub two_words : (ws : List (List ℕ)) (p q : Part) → SpellsAll ws (p ∷ q ∷ []) → Two ws p q
+pub two_words : (ws : List (List ℕ)) (p q : Part) → AllZip SpellsPart ws (p ∷ q ∷ []) → Two ws p q
 two_words [] p q h = absurd h
 two_words (a ∷ []) p q h = absurd h.1
 two_words (a ∷ b ∷ []) p q h = record { first = a; second = b; are = refl; one = h.0; two = h.1.0 }
@@ -51,7 +52,7 @@ pub record Three (ws : List (List ℕ)) (p q r : Part) : Type 0 where
   pub two : SpellsPart second q
   pub three : SpellsPart third r
 
-pub three_words : (ws : List (List ℕ)) (p q r : Part) → SpellsAll ws (p ∷ q ∷ r ∷ []) → Three ws p q r
+pub three_words : (ws : List (List ℕ)) (p q r : Part) → AllZip SpellsPart ws (p ∷ q ∷ r ∷ []) → Three ws p q r
 three_words [] p q r h = absurd h
 three_words (a ∷ []) p q r h = absurd h.1
 three_words (a ∷ b ∷ []) p q r h = absurd h.1.1
@@ -60,7 +61,7 @@ three_words (a ∷ b ∷ c ∷ d ∷ rest) p q r h = absurd h.1.1.1
 
 -- ---- how many words there are
 
-pub spelled_length : (ws : List (List ℕ)) (ps : List Part) → SpellsAll ws ps → length ws ≡ length ps
+pub spelled_length : (ws : List (List ℕ)) (ps : List Part) → AllZip SpellsPart ws ps → length ws ≡ length ps
 spelled_length [] [] h = refl
 spelled_length [] (p ∷ ps) h = absurd h
 spelled_length (w ∷ ws) [] h = absurd h

@@ -1,11 +1,12 @@
 -- Words are those of a command or of none, and each input has a reading.
 use Rattle.std.proofs.Common.{◌⊎◌, inl, inr, ◌≡◌, Bool, true, false, refl, ℕ, ◌-◌, List, ◌≤◌, nat_le, arith, ◌==◌, decimal, zero, suc, [], ◌∷◌, All, Option, Some, None, ap, ◌≢◌, slice_get, length, ◌+◌, ◌*◌, ◌/◌, ◌%◌}
+use Rattle.std.specs.List.{AllZip}
 use Rattle.std.specs.Str.{bytes_eq}
 use Rattle.std.proofs.lemmas.Slice.Eq.{bytes_eq-Decides}
 use Rattle.std.proofs.lemmas.Bool.Decides.{nat_tests}
 use Rattle.command_laws.proofs.TextCommands.{pair_value, pair_is}
 use Rattle.command_laws.proofs.TextDates.{fields_of}
-use Rattle.command_spec.specs.Command.{IsNumber, IsDateWord, Part, Word, Number, Name, Date, SpellsPart, SpellsAll, HasForm}
+use Rattle.command_spec.specs.Command.{IsNumber, IsDateWord, Part, Word, Number, Name, Date, SpellsPart, HasForm}
 use Rattle.command_spec.specs.Lines.{date_form}
 use Rattle.qic_base.specs.Field.{IsDate, date_word, IsNameText, filled}
 use Rattle.qic_base.specs.Terms.{IsPrintable}
@@ -141,12 +142,12 @@ spelled word (Number least greatest n) =
 spelled word (Name name) = both (IsNameText word) (name ≡ filled word) (is_name word) (same_bytes name (filled word))
 spelled word (Date date) = is_date_word word date
 
-all_spelled : (words : List (List ℕ)) (parts : List Part) → Decided (SpellsAll words parts)
+all_spelled : (words : List (List ℕ)) (parts : List Part) → Decided (AllZip SpellsPart words parts)
 all_spelled [] [] = inl tt
 all_spelled [] (part ∷ parts) = inr (λ h. h)
 all_spelled (word ∷ words) [] = inr (λ h. h)
-all_spelled (word ∷ words) (part ∷ parts) = both (SpellsPart word part) (SpellsAll words parts) (spelled word part) (all_spelled words parts)
+all_spelled (word ∷ words) (part ∷ parts) = both (SpellsPart word part) (AllZip SpellsPart words parts) (spelled word part) (all_spelled words parts)
 
 pub has_form : (words : List (List ℕ)) (forms : List (List Part)) → Decided (HasForm words forms)
 has_form words [] = inr (λ h. h)
-has_form words (form ∷ forms) = either (SpellsAll words form) (HasForm words forms) (all_spelled words form) (has_form words forms)
+has_form words (form ∷ forms) = either (AllZip SpellsPart words form) (HasForm words forms) (all_spelled words form) (has_form words forms)

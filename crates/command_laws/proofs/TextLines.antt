@@ -1,9 +1,10 @@
 -- The forms of a script's lines, and the items that they begin.
 use Rattle.std.proofs.Common.{◌≡◌, ℕ, List, [], ◌∷◌, refl, codes, if◌then◌else◌, inl, inr, length, ap, sym, ◌∙◌, subst}
+use Rattle.std.specs.List.{AllZip}
 use Rattle.std.specs.Str.{bytes_eq}
 use Rattle.command_laws.proofs.TextCommands.{number_value, date_value, only, dated_cases, one_word, two_words, three_words, IsNumber-value, IsDateWord-value}
 use Rattle.command_laws.specs.TextInput.{OneLine}
-use Rattle.command_spec.specs.Command.{Part, SpellsPart, SpellsAll, Word, Name, IsDateWord, AnyNumber}
+use Rattle.command_spec.specs.Command.{Part, SpellsPart, Word, Name, IsDateWord, AnyNumber}
 use Rattle.command_laws.specs.CommandTerms.{HasLineForm}
 use Rattle.command_spec.specs.declared.line.Line.{Line}
 use Rattle.qic_base.specs.Field.{filled}
@@ -20,7 +21,7 @@ pub record Four (ws : List (List ℕ)) (p q r s : Part) : Type 0 where
   pub three : SpellsPart third r
   pub four : SpellsPart fourth s
 
-four_words : (ws : List (List ℕ)) (p q r s : Part) → SpellsAll ws (p ∷ q ∷ r ∷ s ∷ []) → Four ws p q r s
+four_words : (ws : List (List ℕ)) (p q r s : Part) → AllZip SpellsPart ws (p ∷ q ∷ r ∷ s ∷ []) → Four ws p q r s
 four_words [] p q r s h = absurd h
 four_words (a ∷ []) p q r s h = absurd h.1
 four_words (a ∷ b ∷ []) p q r s h = absurd h.1.1

@@ -1,6 +1,6 @@
 -- Names for what commands do in part, by which laws and code go: of appends, generated runs, restores, scripts and their texts (this
 -- project's own).
-use Rattle.std.specs.Prelude.{ℕ, ◌+◌, ◌*◌, ◌%◌, List, [], ◌∷◌, ◌++◌, codes, decimal, length, take, drop, min, Option, None, Some, unwrap_or, Bool, nat_le, ◌==◌, ◌&&◌, ◌||◌, if◌then◌else◌, ◌≡◌, ◌≢◌, ◌<◌, ◌≤◌, ◌⊎◌, slice_get, IsSomeAnd}
+use Rattle.std.specs.Prelude.{ℕ, ◌+◌, ◌*◌, ◌%◌, List, [], ◌∷◌, ◌++◌, codes, decimal, length, take, drop, min, Option, None, Some, unwrap_or, Bool, nat_le, ◌==◌, ◌&&◌, ◌||◌, if◌then◌else◌, ◌≡◌, ◌≢◌, ◌<◌, ◌≤◌, ◌⊎◌, slice_get, IsSomeAnd, fold, map, sum_by}
 use Rattle.std.specs.List.{slice_split}
 use Rattle.cartridge_spec.specs.Appending.{bytes_in, free_segments}
 use Rattle.cartridge_spec.specs.Shape.{mask_at, usable_places}
@@ -10,12 +10,14 @@ use Rattle.command_spec.specs.declared.words.Words.{Words}
 use Rattle.command_spec.specs.Commands.{command_of}
 use Rattle.command_spec.specs.Append.{Kept, Taking, Fits, TooLong, TooShort, append_acts, appended, entry_behind, kept_over}
 use Rattle.command_spec.specs.Command.{HasForm, SpellsPart, Number}
-use Rattle.command_spec.specs.Make.{made_bytes, made_length, Answer, Done, Full, Lost, MakeStep, Mismatch, Protected, TableMismatch, Runs, ScrubAll, after_items, appending, ending_answer, made_answer, made_list, made_name, making, sum_acts, wearing_volumes}
+use Rattle.command_spec.specs.Make.{made_bytes, made_length, MakeStep, WearSector, Runs, ScrubAll, appending, made_answer, made_list, made_name, making, sum_acts, wearing_volumes, Making, after_item}
 use Rattle.command_spec.specs.Input.{Item, line_forms, most_items}
 use Rattle.command_spec.specs.Lines.{place_line}
-use Rattle.command_spec.specs.Outcome.{CommandOutcome, Going}
-use Rattle.command_spec.specs.Restore.{GivingEnd, Restored, LostIn, MismatchIn, Piece, RestoresVolume, framed, pieces}
-use Rattle.command_spec.specs.Script.{Did, EndsEarly, LineDoes, Meeting, Meets, acts_on, given_as}
+use Rattle.command_spec.specs.Outcome.{CommandOutcome, Going, OpenOutcome, WritableOutcome}
+use Rattle.command_spec.specs.Restore.{GivingEnd, Restored, LostIn, MismatchIn, Piece, RestoresVolume, framed, pieces, ending_status, Gives}
+use Rattle.command_spec.specs.Script.{Did, EndsEarly, LineDoes, Meeting, Meets, acts_on, given_as, Scripting}
+use Rattle.command_spec.specs.Scrub.{Looked}
+use Rattle.command_spec.specs.Several.{LinesLeave, OverInput}
 use Rattle.command_spec.specs.declared.line.Line.{Line}
 use Rattle.command_spec.specs.declared.status.Status.{Status}
 use Rattle.qic_base.specs.Acts.{Act, text_of}
@@ -79,13 +81,26 @@ made_entry seed words entries volume = entry_for (kept_in words entries) (made_n
 abbrev pub first_two : (words : List ℕ) → (segment : ℕ) → List ℕ
 first_two words segment = take 2 (usable_places (mask_at words segment))
 
+-- these sectors of a segment are worn
+abbrev pub wearing : (segment : ℕ) → (sectors : List ℕ) → List MakeStep
+wearing segment sectors = map (WearSector segment) sectors
+
+-- each of the made volumes has room when its turn comes
+abbrev pub HaveRoom : (seed count : ℕ) → Plain → Type 0
+HaveRoom seed count plain =
+    (n : ℕ) → n < count → made_answer seed plain.words (made_list seed n plain.words (entries_of plain)) (1 + n) ≡ status.Done
+
+-- the volumes behind several steps of a run, one after the other
+abbrev pub after_items : (seed : ℕ) → (words : List ℕ) → List Entry → List MakeStep → List Entry
+after_items seed words entries items = fold (after_item seed words) entries items
+
 -- the acts of a made volume's append
 abbrev pub made_acts : (seed : ℕ) → Cartridge → (words : List ℕ) → List Entry → (table : List (List ℕ)) → (volume : ℕ) → List Act
 made_acts seed c words entries table volume =
     append_acts (kept_over c words entries table) (made_name volume) 0 (Some (made_length seed volume)) silently (made_bytes seed volume)
 
 -- the steps of a run over a mounted cartridge with this map and these volumes
-abbrev pub Makes : (seed count : ℕ) → Cartridge → (words : List ℕ) → List Entry → List Act → Answer → Type 0
+abbrev pub Makes : (seed count : ℕ) → Cartridge → (words : List ℕ) → List Entry → List Act → Status → Type 0
 Makes seed count c words entries acts answer = Runs seed c words entries (making seed count words entries) acts answer
 
 -- the steps in front of the sums: the appends, the worn sectors and the scrub
@@ -94,16 +109,28 @@ before_sums seed count plain =
     appending 1 count
     ++ (wearing_volumes plain.words (drop (length (entries_of plain)) (made_list seed count plain.words (entries_of plain))) ++ ScrubAll ∷ [])
 
+-- the outcome of a generated run, by what the drive holds
+abbrev pub MakeOutcome : (seed count : ℕ) → Option Cartridge → CommandOutcome → Type 0
+MakeOutcome seed count held outcome = WritableOutcome (Making seed count) held outcome
+
 -- so many of the volumes from this one on were appended by a run that is answered so
 abbrev pub AppendedFrom : (seed volume count : ℕ) → (words : List ℕ) → List Entry → Status → (n : ℕ) → Type 0
 AppendedFrom seed volume count words entries status.Done n = n ≡ count
 AppendedFrom seed volume count words entries (status.Full need have) n =
-    (n < count) × (made_answer seed words (after_items seed words entries (appending volume n)) (volume + n) ≡ Full need have)
+    (n < count) × (made_answer seed words (after_items seed words entries (appending volume n)) (volume + n) ≡ status.Full need have)
 AppendedFrom seed volume count words entries (status.Lost segment lost) n = segment ≢ 2 → n ≡ count
 AppendedFrom seed volume count words entries (status.Mismatch segment) n = n ≡ count
 AppendedFrom seed volume count words entries other n = Unit {0}
 
 -- ---- restores
+
+-- the outcome of a restore, by what the drive holds
+abbrev pub RestoreOutcome : (number : ℕ) → Option Cartridge → CommandOutcome → Type 0
+RestoreOutcome number held outcome = OpenOutcome (Gives number) held outcome
+
+-- the bytes that some pieces hold
+abbrev pub bytes_held : List Piece → ℕ
+bytes_held needed = sum_by (λ piece. piece.count) needed
 
 -- the act of a piece whose segment says these data
 abbrev pub act_of : Piece → (sectors : List (List ℕ)) → Act
@@ -114,19 +141,17 @@ abbrev pub framed_act : Piece → Act → Act
 framed_act piece act = record { steps = act.steps; text = codes "part " ++ decimal piece.count ++ codes "\n" ++ act.text }
 
 -- an append is carried out, or full, by the map and the volumes; else its table was refused, or the cartridge is protected
-abbrev pub MayAppend : (seed : ℕ) → (words : List ℕ) → List Entry → (volume : ℕ) → Answer → Type 0
-MayAppend seed words entries volume Done = made_answer seed words entries volume ≡ Done
-MayAppend seed words entries volume (Full need have) = made_answer seed words entries volume ≡ Full need have
-MayAppend seed words entries volume Protected = Unit {0}
-MayAppend seed words entries volume TableMismatch = Unit {0}
-MayAppend seed words entries volume (Lost segment lost) = (segment ≡ 2) × (3 < lost)
-MayAppend seed words entries volume (Mismatch segment) = ⊥
+abbrev pub MayAppend : (seed : ℕ) → (words : List ℕ) → List Entry → (volume : ℕ) → Status → Type 0
+MayAppend seed words entries volume status.Protected = Unit {0}
+MayAppend seed words entries volume status.TableMismatch = Unit {0}
+MayAppend seed words entries volume (status.Lost segment lost) = (segment ≡ 2) × (3 < lost)
+MayAppend seed words entries volume answer = made_answer seed words entries volume ≡ answer
 
 -- the sum of the volume with this number, as a step of a run
-abbrev pub IsSummed : Cartridge → (words : List ℕ) → List Entry → (number : ℕ) → List Act → Answer → Type 0
+abbrev pub IsSummed : Cartridge → (words : List ℕ) → List Entry → (number : ℕ) → List Act → Status → Type 0
 IsSummed c words entries number acts answer =
     RestoresVolume c words entries number
-    (λ entry given ending. (acts ≡ sum_acts number (volume_length words entry) (text_of given) ending) × (answer ≡ ending_answer ending))
+    (λ entry given ending. (acts ≡ sum_acts number (volume_length words entry) (text_of given) ending) × (answer ≡ ending_status ending))
 
 -- the volume with this number, as a line of a script gives it
 abbrev pub RestoreDoes : Cartridge → (words : List ℕ) → List Entry → (number : ℕ) → Did → Type 0
@@ -139,11 +164,25 @@ EndsAt needed done Restored = done ≡ length needed
 EndsAt needed done (LostIn segment lost) = (3 < lost) × IsSomeAnd (slice_get needed done) (λ piece. piece.segment ≡ segment)
 EndsAt needed done (MismatchIn segment) = IsSomeAnd (slice_get needed done) (λ piece. piece.segment ≡ segment)
 
+-- ---- scrubs
+
+-- segments by the words of the map
+abbrev pub looked_segments : (words segments : List ℕ) → List Looked
+looked_segments words segments = map (λ s. record { segment = s; mask = mask_at words s }) segments
+
 -- ---- scripts
 
 -- a volume that was given back: its number, and its length in bytes
 abbrev pub restored_line : (number bytes : ℕ) → List ℕ
 restored_line number bytes = place_line (codes "restored") number bytes
+
+-- the outcome of a script, by what the drive holds
+abbrev pub ScriptOutcome : Option Cartridge → (input : List ℕ) → CommandOutcome → Type 0
+ScriptOutcome held input outcome = OpenOutcome (Scripting input) held outcome
+
+-- what a stop in a script's lines leaves, over the input that is told, or some input of bytes where none is
+abbrev pub SomeScripted : (told : Option (List ℕ)) → (words : List (List ℕ)) → (held left : Option Cartridge) → Type 0
+SomeScripted told words held left = OverInput told (λ input. LinesLeave input words held left)
 
 -- what an item does
 abbrev pub ItemDoes : Cartridge → (words : List ℕ) → List Entry → Item → Did → Type 0
@@ -161,6 +200,11 @@ FaultDoes c words entries number rest acts =
 abbrev pub WearsBehind : Line → Type 0
 WearsBehind (line.Lose segment sector) = sector < 32 → 3 ≤ segment
 WearsBehind other = Unit {0}
+
+-- it wears no sector of the table's segment
+abbrev pub LineSparesTable : Line → Type 0
+LineSparesTable (line.Lose segment sector) = sector < 32 → segment ≢ 2
+LineSparesTable other = Unit {0}
 
 -- a sector that a line wears spares the header and the table, on the cartridge as it then stands
 abbrev pub LineSpares : Cartridge → Plain → Line → Type 0

@@ -13,10 +13,11 @@ use Rattle.command_laws.specs.ScrubFound.{FindAtOnce, finds_at_once, without_all
 use Rattle.command_laws.specs.ScrubLaws.{AreAllLive}
 use Rattle.command_laws.specs.ScrubMended.{IsScrubbed}
 use Rattle.command_laws.specs.SilentSectors.{DiffersSilently}
-use Rattle.command_laws.specs.Terms.{IsFirstCopyRight, ScrubsDeepOn}
+use Rattle.command_laws.specs.Terms.{IsFirstCopyRight}
 use Rattle.command_laws.specs.CommandTerms.{Yields}
+use Rattle.command_laws.specs.ScrubPlain.{Scrubs}
 use Rattle.command_spec.specs.Outcome.{CommandOutcome}
-use Rattle.command_spec.specs.Scrub.{Scrubs, Looked, looked_at, Finding, FindInTurn, MayBeFound, ScrubsAs, finding_acts}
+use Rattle.command_spec.specs.Scrub.{Looked, looked_at, Finding, FindInTurn, MayBeFound, ScrubsAs, finding_acts, ScrubsBy}
 use Rattle.command_spec.specs.declared.depth.Depth.{Depth}
 use Rattle.command_spec.specs.declared.depth.Depth.TheVariants.{Shallow, Deep}
 use Rattle.qic_base.specs.Acts.{Act, steps_of}
@@ -123,7 +124,7 @@ abbrev pub SilentSectorsEnd : Type 0
 SilentSectorsEnd =
     (k c : Cartridge) (plain : Plain) (outcome : CommandOutcome) → Stands k plain → IsSettledFor k plain.table_area →
     c.info.protected ≡ false → DiffersSilently k c plain →
-    ScrubsDeepOn c plain.words plain.table_area (entries_of plain) outcome → Stands (changed_by (steps_of outcome.acts) c) plain
+    ScrubsBy Deep c plain.header plain.words plain.table_area (entries_of plain) outcome → Stands (changed_by (steps_of outcome.acts) c) plain
 
 -- The command `scrub deep` is carried out on each such cartridge that isn't protected, and what it leaves stands.
 abbrev pub DeepScrubMends : Type 0

@@ -5,19 +5,21 @@ use Rattle.cartridge_laws.specs.AppendBetween.{IsWhole}
 use Rattle.cartridge_spec.specs.Appending.{has_room, with_bytes}
 use Rattle.cartridge_spec.specs.Mounting.{settled, ComesBackAs, LosesOneAlone}
 use Rattle.cartridge_spec.specs.Settling.{changed_by}
-use Rattle.cartridge_spec.specs.Volumes.{Plain, entries_of, worn}
+use Rattle.cartridge_spec.specs.Volumes.{Plain, entries_of, worn, WearSpares}
 use Rattle.command_laws.specs.ActStops.{IsLeftBy}
 use Rattle.command_laws.specs.MountedKept.{IsAppendable, IsKept, settle_and_append}
-use Rattle.command_spec.specs.Make.{Answer, Done}
 use Rattle.command_laws.specs.CommandTerms.{Makes}
 use Rattle.command_spec.specs.OneLoss.{ComesBackAsOneOf, SomeComeBack, with_items, with_made}
 use Rattle.command_spec.specs.Script.{ScriptDoes}
 use Rattle.command_spec.specs.Outcome.{CommandOutcome}
-use Rattle.command_spec.specs.ScriptLists.{CameFurther, ItemsWearBehind, GoesNoFurther, printed_by}
-use Rattle.command_spec.specs.Scrub.{Scrubs}
+use Rattle.command_spec.specs.ScriptLists.{CameFurther, GoesNoFurther, printed_by, FirstSpare, ItemsSpare, ItemsSpareTable}
+use Rattle.command_spec.specs.Scrub.{ScrubsAs}
 use Rattle.qic_base.specs.Acts.{Act, steps_of, next_steps, text_of}
 use Rattle.qic_base.specs.Cartridge.{Cartridge}
 use Rattle.qic_base.specs.Step.{Torn}
+use Rattle.command_spec.specs.declared.status.Status.{Status}
+use Rattle.command_spec.specs.declared.depth.Depth.TheVariants.{Shallow}
+use Rattle.command_spec.specs.declared.status.Status.TheVariants as status
 
 -- all 32 sectors of its table's segment hold their parts of the table
 pub record IsIntact (c : Cartridge) (plain : Plain) : Type 0 where
@@ -44,10 +46,11 @@ AppendsLeaveIntact =
     (c : Cartridge) (plain : Plain) (name : List ℕ) (date : ℕ) (bytes : List ℕ) → IsIntact c plain → IsAppendable name date bytes →
     has_room plain (length bytes) ≡ true → AppendLeavesIntact c plain name date bytes
 
--- so does a sector that is worn behind the table's segment, and a scrub, stopped or not
+-- so does a sector that is worn in no sector of the table's segment, and spares the header, and a scrub, stopped or not
 abbrev pub WearsLeaveIntact : Type 0
 WearsLeaveIntact =
-    (c : Cartridge) (plain : Plain) (segment sector : ℕ) → IsIntact c plain → 3 ≤ segment → sector < 32 → IsIntact (worn segment sector c) plain
+    (c : Cartridge) (plain : Plain) (segment sector : ℕ) → IsIntact c plain → WearSpares c plain segment sector → segment ≢ 2 →
+    sector < 32 → IsIntact (worn segment sector c) plain
 
 pub record ScrubLeavesIntact (c : Cartridge) (plain : Plain) (acts : List Act) : Type 0 where
   pub done : IsIntact (changed_by (steps_of acts) c) plain
@@ -55,21 +58,21 @@ pub record ScrubLeavesIntact (c : Cartridge) (plain : Plain) (acts : List Act) :
 
 abbrev pub ScrubsLeaveIntact : Type 0
 ScrubsLeaveIntact =
-    (c : Cartridge) (plain : Plain) (acts : List Act) → IsIntact c plain → Scrubs c plain.words (entries_of plain) acts → ScrubLeavesIntact c plain acts
+    (c : Cartridge) (plain : Plain) (acts : List Act) → IsIntact c plain → ScrubsAs Shallow c plain.words (entries_of plain) acts → ScrubLeavesIntact c plain acts
 
 -- ---- generated runs
 
 -- one that is stopped leaves what comes back with some of its volumes, ..
 abbrev pub StoppedMakeComesBack : Type 0
 StoppedMakeComesBack =
-    (seed count : ℕ) (c : Cartridge) (plain : Plain) (acts : List Act) (answer : Answer) (left : Option Cartridge) →
+    (seed count : ℕ) (c : Cartridge) (plain : Plain) (acts : List Act) (answer : Status) (left : Option Cartridge) →
     count ≤ 200 → IsIntact c plain → Makes seed count c plain.words (entries_of plain) acts answer →
     Torn (steps_of acts) (Some c) left → SomeComeBack (with_made plain seed) 0 count left
 
 -- .. with all, where something was printed before the stop, which may come inside the steps of the next act, ..
 abbrev pub PrintedMakeComesBack : Type 0
 PrintedMakeComesBack =
-    (seed count : ℕ) (c : Cartridge) (plain : Plain) (acts front rest : List Act) (answer : Answer)
+    (seed count : ℕ) (c : Cartridge) (plain : Plain) (acts front rest : List Act) (answer : Status)
     (left : Option Cartridge) → count ≤ 200 → IsIntact c plain →
     Makes seed count c plain.words (entries_of plain) acts answer → front ++ rest ≡ acts → text_of front ≢ [] →
     Torn (next_steps rest) (Some (changed_by (steps_of front) c)) left →
@@ -79,18 +82,19 @@ PrintedMakeComesBack =
 abbrev pub DoneMakeIsIntact : Type 0
 DoneMakeIsIntact =
     (seed count : ℕ) (c : Cartridge) (plain : Plain) (acts : List Act) → count ≤ 200 → IsIntact c plain →
-    Makes seed count c plain.words (entries_of plain) acts Done →
+    Makes seed count c plain.words (entries_of plain) acts status.Done →
     IsIntact (changed_by (steps_of acts) c) (with_made plain seed count)
 
 -- ---- scripts
 
--- One whose first lines wear no sector of the segments 0 to 2 leaves what comes back behind some of these, or the stop
--- came further.
+-- One whose first lines spare the header, and wear no sector of the table's segment, leaves what comes back behind some of
+-- these, or the stop came further.
 abbrev pub StoppedScriptComesBack : Type 0
 StoppedScriptComesBack =
     (c : Cartridge) (plain : Plain) (input : List ℕ) (outcome : CommandOutcome) (left : Option Cartridge) →
     IsIntact c plain → (does : ScriptDoes c plain.words (entries_of plain) input outcome) → All (λ b. b < 256) input →
-    (count : ℕ) → count ≤ length does.items → ItemsWearBehind (take count does.items) →
+    (count : ℕ) → count ≤ length does.items → FirstSpare c plain does.items does.dids count →
+    ItemsSpareTable (take count does.items) →
     Torn (steps_of outcome.acts) (Some c) left →
     CameFurther c does.items does.dids does.last count left
     ⊎ SomeComeBack (with_items plain does.items does.dids) 0 count left
@@ -103,7 +107,7 @@ AnsweredScriptComesBack =
     IsIntact c plain → (does : ScriptDoes c plain.words (entries_of plain) input outcome) → All (λ b. b < 256) input →
     (answered count : ℕ) → answered ≤ length does.items → printed_by does.dids answered ≤ length text →
     count ≤ length does.items → GoesNoFurther does.items does.dids count (length text) →
-    ItemsWearBehind (take count does.items) → IsLeftBy c outcome.acts text left →
+    FirstSpare c plain does.items does.dids count → ItemsSpareTable (take count does.items) → IsLeftBy c outcome.acts text left →
     SomeComeBack (with_items plain does.items does.dids) answered count left
 
 -- and all lines, where all of it was done
@@ -111,6 +115,6 @@ abbrev pub DoneScriptComesBack : Type 0
 DoneScriptComesBack =
     (c : Cartridge) (plain : Plain) (input : List ℕ) (outcome : CommandOutcome) → IsIntact c plain →
     (does : ScriptDoes c plain.words (entries_of plain) input outcome) → All (λ b. b < 256) input →
-    ItemsWearBehind does.items →
+    ItemsSpare c plain does.items does.dids → ItemsSpareTable does.items →
     SomeComeBack (with_items plain does.items does.dids) (length does.items) (length does.items)
     (Some (changed_by (steps_of outcome.acts) c))

@@ -29,6 +29,7 @@ pub mod ScriptStanding
 pub mod ScrubFound
 pub mod ScrubLaws
 pub mod ScrubMended
+pub mod ScrubPlain
 pub mod ScrubSayings
 pub mod SilentSectors
 pub mod Terms

@@ -6,7 +6,8 @@ use Rattle.cartridge_spec.specs.HeaderAndTable.{TableIs}
 use Rattle.cartridge_spec.specs.Mounting.{IsTableLive, ComesBackAs, LosesOneAlone}
 use Rattle.cartridge_spec.specs.Settling.{settling_steps, changed_by}
 use Rattle.cartridge_spec.specs.Volumes.{Plain, Stands, entries_of, worn}
-use Rattle.command_spec.specs.Scrub.{Scrubs}
+use Rattle.command_spec.specs.Scrub.{ScrubsAs}
+use Rattle.command_spec.specs.declared.depth.Depth.TheVariants.{Shallow}
 use Rattle.qic_base.specs.Acts.{Act, steps_of}
 use Rattle.qic_base.specs.Cartridge.{Cartridge}
 use Rattle.qic_base.specs.Terms.{IsCartridge}
@@ -75,7 +76,7 @@ WearsKeep =
 
 abbrev pub ScrubsKeep : Type 0
 ScrubsKeep =
-    (c : Cartridge) (plain : Plain) (acts : List Act) → IsKept c plain → Scrubs c plain.words (entries_of plain) acts →
+    (c : Cartridge) (plain : Plain) (acts : List Act) → IsKept c plain → ScrubsAs Shallow c plain.words (entries_of plain) acts →
     IsKept (changed_by (steps_of acts) c) plain
 
 -- ---- where sectors of the table's segment may take no write
@@ -94,5 +95,5 @@ WearsLeaveOpen =
 
 abbrev pub ScrubsLeaveOpen : Type 0
 ScrubsLeaveOpen =
-    (c : Cartridge) (plain : Plain) (acts : List Act) → IsOpen c plain → Scrubs c plain.words (entries_of plain) acts →
+    (c : Cartridge) (plain : Plain) (acts : List Act) → IsOpen c plain → ScrubsAs Shallow c plain.words (entries_of plain) acts →
     IsOpen (changed_by (steps_of acts) c) plain

@@ -14,7 +14,8 @@ use Rattle.cartridge_spec.specs.Volumes.{worn}
 use Rattle.command_spec.specs.Append.{Kept, Taking, Fits, TooLong, TooShort, append_acts, room_in, taking, kept_over}
 use Rattle.command_laws.specs.CommandTerms.{entry_for}
 use Rattle.command_spec.specs.Restore.{GivingEnd, Piece, Restores}
-use Rattle.command_spec.specs.Scrub.{Scrubs}
+use Rattle.command_spec.specs.Scrub.{ScrubsAs}
+use Rattle.command_spec.specs.declared.depth.Depth.TheVariants.{Shallow}
 use Rattle.qic_base.specs.Acts.{steps_of, Act}
 use Rattle.qic_base.specs.Cartridge.{Cartridge, IsLength}
 use Rattle.qic_base.specs.Terms.{IsCartridge}
@@ -75,7 +76,7 @@ WearListed =
 abbrev pub ScrubListed : Type 0
 ScrubListed =
     (c : Cartridge) (words : List ℕ) (entries : List Entry) (acts : List Act) → IsListed c words entries →
-    c.info.protected ≡ false → Scrubs c words entries acts → IsListed (changed_by (steps_of acts) c) words entries
+    c.info.protected ≡ false → ScrubsAs Shallow c words entries acts → IsListed (changed_by (steps_of acts) c) words entries
 
 -- ---- over any sectors
 
@@ -87,4 +88,4 @@ RestoresAnyway =
 
 -- .. and a scrub does something
 abbrev pub ScrubsAnyway : Type 0
-ScrubsAnyway = (c : Cartridge) (words : List ℕ) (entries : List Entry) → (acts : List Act) × Scrubs c words entries acts
+ScrubsAnyway = (c : Cartridge) (words : List ℕ) (entries : List Entry) → (acts : List Act) × ScrubsAs Shallow c words entries acts

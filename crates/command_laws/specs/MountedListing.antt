@@ -10,7 +10,8 @@ use Rattle.cartridge_spec.specs.Table.{Entry}
 use Rattle.cartridge_spec.specs.Volumes.{worn}
 use Rattle.command_laws.specs.MountedListed.{IsListed, listed_behind}
 use Rattle.command_spec.specs.Append.{append_acts, room_in, taking, Taking, Fits, kept_over}
-use Rattle.command_spec.specs.Scrub.{Scrubs}
+use Rattle.command_spec.specs.Scrub.{ScrubsAs}
+use Rattle.command_spec.specs.declared.depth.Depth.TheVariants.{Shallow}
 use Rattle.qic_base.specs.Acts.{steps_of, Act}
 use Rattle.qic_base.specs.Cartridge.{Cartridge}
 
@@ -56,5 +57,5 @@ WearLists =
 abbrev pub ScrubLists : Type 0
 ScrubLists =
     (c : Cartridge) (header : Header) (words : List ℕ) (entries : List Entry) (acts front rest : List Act) →
-    Lists c header words entries → Scrubs c words entries acts → front ++ rest ≡ acts →
+    Lists c header words entries → ScrubsAs Shallow c words entries acts → front ++ rest ≡ acts →
     Lists (changed_by (steps_of front) c) header words entries

@@ -2,8 +2,8 @@
 use Rattle.std.specs.Prelude.{ℕ, List, length, ◌≡◌, Bool, [], ◌≤◌, take}
 use Rattle.cartridge_spec.specs.Volumes.{carrying}
 use Rattle.command_laws.specs.OutputText.{AreOf, printed}
-use Rattle.command_spec.specs.Restore.{Piece, pieces_of, GivingEnd, Restores, bytes_held}
-use Rattle.command_laws.specs.CommandTerms.{EndsAt}
+use Rattle.command_spec.specs.Restore.{Piece, pieces_of, GivingEnd, Restores}
+use Rattle.command_laws.specs.CommandTerms.{EndsAt, bytes_held}
 use Rattle.qic_base.specs.Acts.{Act, steps_of, text_of}
 use Rattle.qic_base.specs.Cartridge.{Cartridge}
 

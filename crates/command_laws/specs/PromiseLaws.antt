@@ -1,5 +1,5 @@
 -- What follows of the promises of a run and is no clause of them, as a fact (this project's own).
-use Rattle.std.specs.Prelude.{◌≡◌, IsSomeAnd, List, Some, ℕ, IfSome, None}
+use Rattle.std.specs.Prelude.{◌≡◌, IsSomeAnd, List, Some, ℕ, IfSome, None, ◌<◌, All}
 use Rattle.cartridge_laws.specs.AppendSettled.{IsSettledFor}
 use Rattle.cartridge_spec.specs.Volumes.{Plain, Stands}
 use Rattle.command_laws.specs.SilentSectors.{DiffersSilently}
@@ -8,7 +8,7 @@ use Rattle.command_spec.specs.Headline.{NoneRose, ToldNow, EachLeft}
 use Rattle.command_spec.specs.Machine.{Spells}
 use Rattle.command_spec.specs.OneLoss.{StoppedComesBack}
 use Rattle.command_spec.specs.Promises.{Promises}
-use Rattle.command_spec.specs.Several.{SomeScripted}
+use Rattle.command_spec.specs.Several.{LinesLeave}
 use Rattle.command_spec.specs.declared.status.Status.{Status}
 use Rattle.qic_base.specs.Acts.{Outside}
 use Rattle.qic_base.specs.Cartridge.{Cartridge}
@@ -35,9 +35,10 @@ DeepScrubRunMends {T} {S} {K} t s k =
     ToldNow t new.tape (λ left. IsSomeAnd left (λ d. Stands d plain))
 
 -- Over a source that tells nothing, what a run of a script leaves, at its end or at any moment of it, is what one leaves
--- over some input; so what the clauses say of that input, if it is one of bytes, holds of it.
+-- over one input of bytes, of which hold the clauses on what it leaves, and on one loss.
 abbrev pub ScriptsUntold : {T S K : Type 0} → tapes.Meaning T → sources.Meaning S → sinks.Meaning K → Type 0
 ScriptsUntold {T} {S} {K} t s k =
     (words : List (List ℕ)) (old new : Outside T S K) (answer : Status) → Promises t s k words old new answer →
     s.left old.source ≡ None → EachLeft t old.tape new.tape (λ held left. IfSome held IsCartridge →
-    (input : List ℕ) × SomeScripted (Some input) words held left × StoppedComesBack (Some input) words held left)
+    Spells words commands.Script → (input : List ℕ) × All (λ b. b < 256) input × LinesLeave input words held left
+    × StoppedComesBack (Some input) words held left)

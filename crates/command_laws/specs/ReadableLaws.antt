@@ -1,6 +1,6 @@
 -- That a volume table can be read goes on from run to run, by what the promises of a run say, as facts (this project's
 -- own).
-use Rattle.std.specs.Prelude.{◌≡◌, ◌⊎◌, ℕ, List, Option, Some, IsSomeAnd, false}
+use Rattle.std.specs.Prelude.{◌≡◌, ◌⊎◌, ◌<◌, ℕ, All, IfNone, List, length, Option, Some, IsSomeAnd}
 use Rattle.cartridge_spec.specs.Formatting.{HasNoHeader}
 use Rattle.cartridge_spec.specs.HeaderAndTable.{IsUnformatted}
 use Rattle.cartridge_spec.specs.Mounting.{CanBeRead, IsTableLive}
@@ -11,9 +11,9 @@ use Rattle.command_spec.specs.Headline.{EachLeft, ToldNow}
 use Rattle.command_spec.specs.Machine.{Spells}
 use Rattle.command_spec.specs.OneLoss.{ComesBackAsOneOf, LeftComesBack}
 use Rattle.command_spec.specs.Promises.{Promises}
-use Rattle.command_spec.specs.ScriptLists.{ItemsWearBehind}
-use Rattle.command_spec.specs.Several.{Scripted}
-use Rattle.command_spec.specs.Volumes.{AreBytes}
+use Rattle.command_spec.specs.ScriptLists.{ItemsSpareTable}
+use Rattle.command_spec.specs.Several.{FirstLinesSpare, Scripted}
+use Rattle.command_spec.specs.Volumes.{AreBytes, IsInput}
 use Rattle.command_spec.specs.declared.words.Words.{Words}
 use Rattle.command_spec.specs.declared.status.Status.{Status}
 use Rattle.qic_base.specs.Acts.{Outside}
@@ -37,14 +37,16 @@ LeftCanBeRead =
 
 -- ---- runs
 
--- The words keep the list; or they are those of an append, of a generated run, or of a script no line of which wears a
--- sector of the segments 0 to 2, on a cartridge that is not protected.
+-- The words keep the list; or they are those of an append, of a generated run, or of a script each line of which spares
+-- the header, and wears no sector of the table's segment, whatever its input of bytes is, where none is told.
 abbrev pub WordsKeepReadable : (told : Option (List ℕ)) → (words : List (List ℕ)) → Cartridge → Plain → Type 0
 WordsKeepReadable told words c plain =
     ((command : Words) → Spells words command → (command_of command).keeps_list c)
     ⊎ ((name : List ℕ) × (date : ℕ) × Spells words (commands.Append name date) × AreBytes told)
     ⊎ ((seed : ℕ) × (count : ℕ) × Spells words (commands.Make seed count))
-    ⊎ ((script : Scripted told words c plain) × (c.info.protected ≡ false) × ItemsWearBehind script.does.items)
+    ⊎ ((input : List ℕ) → IsInput told input → IfNone told (All (λ b. b < 256) input) →
+    (script : Scripted input words c plain) × FirstLinesSpare script (length script.does.items)
+    × ItemsSpareTable script.does.items)
 
 abbrev pub StillReadable : (told : Option (List ℕ)) → (words : List (List ℕ)) → (held left : Option Cartridge) → Type 0
 StillReadable told words held left =

@@ -6,7 +6,8 @@ use Rattle.cartridge_spec.specs.Says.{unreadable_count}
 use Rattle.cartridge_spec.specs.Settling.{changed_by}
 use Rattle.cartridge_spec.specs.Table.{Entry}
 use Rattle.cartridge_spec.specs.Volumes.{volume_length, Plain, Volume, Stands}
-use Rattle.command_spec.specs.Restore.{Piece, GivingEnd, Restores, framed, pieces, bytes_held, Restored, LosesFew, pieces_in, FirstLost, LostIn, piece_cells, MismatchIn, IsRead, PieceEnds}
+use Rattle.command_spec.specs.Restore.{Piece, GivingEnd, Restores, framed, pieces, Restored, LosesFew, pieces_in, FirstLost, LostIn, piece_cells, MismatchIn, IsRead, PieceEnds}
+use Rattle.command_laws.specs.CommandTerms.{bytes_held}
 use Rattle.command_spec.specs.Copying.{GivenBytes}
 use Rattle.qic_base.specs.Acts.{Act, steps_of, text_of}
 use Rattle.qic_base.specs.Cartridge.{Cartridge}

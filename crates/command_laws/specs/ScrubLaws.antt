@@ -17,8 +17,9 @@ use Rattle.cartridge_spec.specs.Shape.{usable_count, IsLive}
 use Rattle.cartridge_spec.specs.Table.{Entry}
 use Rattle.cartridge_spec.specs.Volumes.{Plain, Stands, entries_of}
 use Rattle.command_laws.specs.ScrubMended.{IsScrubbed, IsBeingMended}
+use Rattle.command_laws.specs.ScrubPlain.{Scrubs, looking_acts, SayInTurn}
 use Rattle.command_laws.specs.ScrubSayings.{Rise, SayAtOnce, acts_at_once}
-use Rattle.command_spec.specs.Scrub.{Scrubs, looked_at, whole_segment, reads, looking_acts, Looked, SayInTurn, unread_count, cells_at, steps_in}
+use Rattle.command_spec.specs.Scrub.{looked_at, whole_segment, reads, Looked, unread_count, cells_at, steps_in}
 use Rattle.command_laws.specs.Terms.{look_act}
 use Rattle.qic_base.specs.Acts.{Act, steps_of}
 use Rattle.qic_base.specs.Cartridge.{Cartridge, view_at}

@@ -1,5 +1,5 @@
 -- Names that the laws of commands use for what the statement says in place (this project's own).
-use Rattle.std.specs.Prelude.{ℕ, ◌*◌, All, true, List, [], ◌∷◌, ◌++◌, length, ◌≡◌, ◌≢◌, ◌⊎◌, Bool, Option}
+use Rattle.std.specs.Prelude.{ℕ, codes, decimal, ◌*◌, All, true, List, [], ◌∷◌, ◌++◌, length, ◌≡◌, ◌≢◌, ◌⊎◌, Bool, Option}
 use Rattle.cartridge_spec.specs.Appending.{has_room}
 use Rattle.cartridge_spec.specs.Formatting.{HasNoHeader, clearing_steps, format_steps}
 use Rattle.cartridge_spec.specs.Header.{Header, HeaderFault}
@@ -15,11 +15,12 @@ use Rattle.command_spec.specs.Headline.{Stepped}
 use Rattle.command_spec.specs.Input.{AtEnd, AtStop, IsPulses, IsScript, Item}
 use Rattle.command_spec.specs.Lines.{blank_line, formatted_line, info_text, list_text, protected_line, upgraded_line}
 use Rattle.command_laws.specs.CommandTerms.{CommandPrints, RefusedPrints}
+use Rattle.command_laws.specs.ScrubPlain.{looking_acts}
 use Rattle.command_spec.specs.Outcome.{CommandOutcome, Going, OpenOutcome, Shows, StepOutcome, WritableOutcome, acted, carried_out, refused_behind}
 use Rattle.command_spec.specs.Machine.{OverTold}
-use Rattle.command_spec.specs.Scrub.{Counts, Looked, MendsBy, Scrubs, ScrubsBy, counted, counts_line, line_in, looking_acts, steps_in, whole_segment, Finding, HasFound, IsWrong, ScrubsAs, finding_acts, line_for, sayings_of, steps_for}
+use Rattle.command_spec.specs.Scrub.{Counts, Looked, ScrubsBy, counted, counts_line, line_in, steps_in, whole_segment, Finding, HasFound, IsWrong, finding_acts, line_for, sayings_of, steps_for}
 use Rattle.command_spec.specs.declared.depth.Depth.{Depth}
-use Rattle.command_spec.specs.declared.depth.Depth.TheVariants.{Deep}
+use Rattle.command_spec.specs.declared.depth.Depth.TheVariants.{Shallow, Deep}
 use Rattle.command_spec.specs.declared.status.Status.{Status}
 use Rattle.command_spec.specs.declared.words.Words.{Words}
 use Rattle.qic_base.specs.Acts.{Act, Outside}
@@ -144,6 +145,10 @@ counts_of c looked sayings = counted looked (looking_acts c looked sayings) sayi
 abbrev pub counts_for : Cartridge → List Looked → List Finding → Counts
 counts_for c looked findings = counted looked (finding_acts c looked findings) (sayings_of findings)
 
+-- the line of a header copy that doesn't read
+abbrev pub header_line : (copy : ℕ) → List ℕ
+header_line copy = codes "header " ++ decimal copy ++ codes " unreadable\n"
+
 -- the last act: no step, and the line of the counts
 abbrev pub last_act : Counts → Act
 last_act counts = record { steps = []; text = counts_line counts }
@@ -157,18 +162,14 @@ acts_for c looked findings = finding_acts c looked findings ++ last_act (counts_
 
 -- what `scrub` does once the cartridge is open, and its outcome
 abbrev pub Mends : Going
-Mends = MendsBy Scrubs
+Mends = ScrubsBy Shallow
 
 abbrev pub ScrubOutcome : Option Cartridge → CommandOutcome → Type 0
 ScrubOutcome held outcome = WritableOutcome Mends held outcome
 
--- the settled cartridge is scrubbed in the deep form
-abbrev pub ScrubsDeepOn : (c : Cartridge) (words : List ℕ) (table : List (List ℕ)) (entries : List Entry) (outcome : CommandOutcome) → Type 0
-ScrubsDeepOn c words table entries outcome = ScrubsBy (ScrubsAs Deep) c words table entries outcome
-
 -- what `scrub deep` does once it is open, and its outcome
 abbrev pub MendsDeep : Going
-MendsDeep = MendsBy (ScrubsAs Deep)
+MendsDeep = ScrubsBy Deep
 
 abbrev pub DeepScrubOutcome : Option Cartridge → CommandOutcome → Type 0
 DeepScrubOutcome held outcome = WritableOutcome MendsDeep held outcome

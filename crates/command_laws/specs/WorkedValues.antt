@@ -9,7 +9,6 @@ use Rattle.cartridge_spec.specs.Table.{Entry}
 use Rattle.cartridge_spec.specs.Volumes.{carrying}
 use Rattle.command_spec.specs.Append.{append_acts, taking, TooLong, TooShort}
 use Rattle.command_laws.specs.CommandTerms.{kept_in, entry_for, bytes_taken, append_status, made_byte, words_of}
-use Rattle.command_spec.specs.Commands.{IsCommand}
 use Rattle.command_spec.specs.Command.{IsNumber}
 use Rattle.command_spec.specs.Make.{made_length, sum_line, made_name, wearing_in, WearSector}
 use Rattle.command_spec.specs.Input.{IsScript, AtStop}
@@ -18,12 +17,13 @@ use Rattle.command_laws.specs.PulseRuns.{after_trains}
 use Rattle.command_spec.specs.Pulses.{train_acts}
 use Rattle.command_spec.specs.Restore.{pieces, framed, Restored}
 use Rattle.command_spec.specs.Script.{refusal_line, given_as}
-use Rattle.command_spec.specs.Scrub.{counts_line, header_line, fault_line, looked_at, wrong_line}
+use Rattle.command_spec.specs.Scrub.{counts_line, fault_line, looked_at, wrong_line, line_in, whole_segment}
 use Rattle.drive_spec.specs.Terms.{status_word, power_on_deck}
 use Rattle.drive_spec.specs.Record.{Record, power_on}
 use Rattle.qic_base.specs.Acts.{text_of}
 use Rattle.qic_base.specs.Field.{filled}
 use Rattle.qic_base.specs.declared.tape.TapeInfo.{TapeInfo}
+use Rattle.command_spec.specs.Machine.{Spells}
 use Rattle.command_spec.specs.declared.line.Line.TheVariants as line
 use Rattle.command_spec.specs.declared.refusal.Refusal.TheVariants as why
 use Rattle.command_spec.specs.declared.status.Status.TheVariants as status
@@ -84,7 +84,7 @@ ScrubLine = counts_line (record { segments = 586; mended = 10; unreadable = 0 })
 
 -- a header copy that does not read
 abbrev pub HeaderLine : Type 0
-HeaderLine = header_line 1 ≡ codes "header 1 unreadable\n"
+HeaderLine = line_in (whole_segment 1) Mismatch ≡ codes "header 1 unreadable\n"
 
 -- a segment that lost four sectors
 abbrev pub LostSegmentLine : Type 0
@@ -114,40 +114,40 @@ NameText = name_text (codes "a" ++ 0x80 ∷ 0x20 ∷ codes "b" ++ 0x00 ∷ 0x20 
 
 -- `list`
 abbrev pub ListWord : Type 0
-ListWord = IsCommand (codes "list" ∷ []) words.List
+ListWord = Spells (codes "list" ∷ []) words.List
 
 -- `scrub deep`
 abbrev pub DeepWords : Type 0
-DeepWords = IsCommand (codes "scrub" ∷ codes "deep" ∷ []) words.ScrubDeep
+DeepWords = Spells (codes "scrub" ∷ codes "deep" ∷ []) words.ScrubDeep
 
 -- `scrub deep` is not `scrub`, ..
 abbrev pub DeepIsNotScrub : Type 0
-DeepIsNotScrub = ¬ (IsCommand (codes "scrub" ∷ codes "deep" ∷ []) words.Scrub)
+DeepIsNotScrub = ¬ (Spells (codes "scrub" ∷ codes "deep" ∷ []) words.Scrub)
 
 -- .. nor `scrub` it
 abbrev pub ScrubIsNotDeep : Type 0
-ScrubIsNotDeep = ¬ (IsCommand (codes "scrub" ∷ []) words.ScrubDeep)
+ScrubIsNotDeep = ¬ (Spells (codes "scrub" ∷ []) words.ScrubDeep)
 
 -- `new 151`
 abbrev pub NewWords : Type 0
-NewWords = IsCommand (codes "new" ∷ codes "151" ∷ []) (words.New 151)
+NewWords = Spells (codes "new" ∷ codes "151" ∷ []) (words.New 151)
 
 -- `append a` with a date
 abbrev pub AppendWords : Type 0
-AppendWords = IsCommand (codes "append" ∷ codes "a" ∷ codes "1994-03-01T12:00:00" ∷ [])
+AppendWords = Spells (codes "append" ∷ codes "a" ∷ codes "1994-03-01T12:00:00" ∷ [])
     (words.Append (filled (codes "a")) 0x305265C0)
 
 -- `append a` alone has the date word 0
 abbrev pub AppendWithoutDate : Type 0
-AppendWithoutDate = IsCommand (codes "append" ∷ codes "a" ∷ []) (words.Append (filled (codes "a")) 0)
+AppendWithoutDate = Spells (codes "append" ∷ codes "a" ∷ []) (words.Append (filled (codes "a")) 0)
 
 -- `list now` is not `list`
 abbrev pub ListNow : Type 0
-ListNow = ¬ (IsCommand (codes "list" ∷ codes "now" ∷ []) words.List)
+ListNow = ¬ (Spells (codes "list" ∷ codes "now" ∷ []) words.List)
 
 -- `new 247` is not `new`
 abbrev pub New247 : Type 0
-New247 = ¬ (IsCommand (codes "new" ∷ codes "247" ∷ []) (words.New 247))
+New247 = ¬ (Spells (codes "new" ∷ codes "247" ∷ []) (words.New 247))
 
 -- `01` is not the number 1
 abbrev pub LeadingZero : Type 0

@@ -28,8 +28,8 @@ pub fn a_run_comes_back()
     ensures done { DoneMakeIsIntact }
 {}
 
-/// So does a script whose lines lose no sector of the segments 0 to 2, as far as it came: with the appends of all lines
-/// whose reply was written whole.
+/// So does a script whose lines spare the header, and lose no sector of the table's segment, as far as it came: with the
+/// appends of all lines whose reply was written whole.
 pub fn a_script_comes_back()
     ensures stopped { StoppedScriptComesBack }
     ensures answered { AnsweredScriptComesBack }

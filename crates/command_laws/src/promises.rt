@@ -23,8 +23,8 @@ pub fn a_formatted_table_can_be_read<T: Tape, S: Source, K: Sink>()
 {}
 
 /// Where the volume table can be read, and each sector of its segment takes a write, it can be read in each cartridge
-/// that a run leaves, but for `new`, `format`, what loses sectors of the segments 0 to 2, and a script on a protected
-/// cartridge.
+/// that a run leaves, but for `new`, `format`, and what loses sectors of the segments 0 to 2; a script may lose sectors of
+/// a header copy, where the header in force stays.
 pub fn a_run_leaves_the_table_readable<T: Tape, S: Source, K: Sink>()
     ensures { RunsKeepReadable T.means S.means K.means }
 {}

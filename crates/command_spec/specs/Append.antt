@@ -19,10 +19,9 @@ use Rattle.command_spec.specs.declared.status.Status.TheVariants as status
 
 -- a segment is written with the first of some bytes, as many as it carries
 abbrev pub segment_act : (words : List ℕ) → (segment : ℕ) → (bytes : List ℕ) → Act
-segment_act words segment bytes = record {
-  steps = part_writes words (record { segment = segment; sectors = in_sectors (data_count (mask_at words segment)) bytes });
-  text = [];
-}
+segment_act words segment bytes =
+    let sectors : List (List ℕ) = in_sectors (data_count (mask_at words segment)) bytes in
+    record { steps = part_writes words (record { segment = segment; sectors = sectors }); text = [] }
 
 -- all of these bytes, in as many of some carrying segments as they take: one act for each, and one for no byte
 abbrev pub volume_acts : (words segments : List ℕ) → (bytes : List ℕ) → List Act
@@ -36,15 +35,13 @@ abbrev pub filled_acts : (words segments : List ℕ) → (bytes : List ℕ) → 
 filled_acts words [] bytes = []
 filled_acts words (s ∷ ss) bytes =
     if nat_le (capacity (mask_at words s)) (length bytes)
-    then segment_act words s bytes ∷ filled_acts words ss (drop (capacity (mask_at words s)) bytes)
-    else []
+    then segment_act words s bytes ∷ filled_acts words ss (drop (capacity (mask_at words s)) bytes) else []
 
 -- Of an input at most so many bytes are wanted. Where just as many are and it has fewer, only segments that it fills are
 -- written.
 abbrev pub input_acts : (words segments : List ℕ) → (most : ℕ) → (exact : Bool) → (input : List ℕ) → List Act
 input_acts words segments most exact input =
-    if exact && nat_lt (length input) most then filled_acts words segments input
-    else volume_acts words segments (take most input)
+    if exact && nat_lt (length input) most then filled_acts words segments input else volume_acts words segments (take most input)
 
 -- ---- the input
 
@@ -66,8 +63,7 @@ abbrev pub taking : (have : ℕ) → (promised : Option ℕ) → (input : List �
 taking have None input =
     if nat_le 1 have && nat_le (length input) have then Fits input else TooLong (min (length input) (have + 1)) have
 taking have (Some n) input =
-    if has_promised_room have (Some n)
-    then (if nat_lt (length input) n then TooShort n (length input) else Fits (take n input))
+    if has_promised_room have (Some n) then (if nat_lt (length input) n then TooShort n (length input) else Fits (take n input))
     else TooLong n have
 
 -- ---- all acts
@@ -81,8 +77,7 @@ pub record Kept : Type 0 where
 
 -- what it goes by over a cartridge whose table has these data
 abbrev pub kept_over : Cartridge → (words : List ℕ) → (entries : List Entry) → (table : List (List ℕ)) → Kept
-kept_over c words entries table =
-    record { words = words; entries = entries; table = table; settling = settling_steps table c }
+kept_over c words entries table = record { words = words; entries = entries; table = table; settling = settling_steps table c }
 
 abbrev pub room_in : Kept → ℕ
 room_in kept = room kept.words kept.entries
@@ -90,11 +85,9 @@ room_in kept = room kept.words kept.entries
 -- the segments that the bytes of the input fill, where there is room: one act for each
 abbrev pub input_writes : Kept → (promised : Option ℕ) → (input : List ℕ) → List Act
 input_writes kept promised input =
+    let free : List ℕ = free_segments kept.words kept.entries in
     if has_promised_room (room_in kept) promised
-    then
-    input_acts kept.words (free_segments kept.words kept.entries) (unwrap_or promised (room_in kept))
-    (is_some promised) input
-    else []
+    then input_acts kept.words free (unwrap_or promised (room_in kept)) (is_some promised) input else []
 
 -- the entry of a volume of these bytes behind the others
 abbrev pub entry_behind : (words : List ℕ) → List Entry → (name : List ℕ) → (date : ℕ) → (bytes : List ℕ) → Entry
@@ -105,12 +98,9 @@ entry_behind words entries name date bytes =
 abbrev pub entry_acts : Kept → (name : List ℕ) → (date : ℕ) → (reply : Entry → List ℕ) → Taking → List Act
 entry_acts kept name date reply (Fits bytes) =
     let entry : Entry = entry_behind kept.words kept.entries name date bytes in
-    record {
-      steps = table_writes (length kept.entries / 8) (table_with kept.table (length kept.entries) entry);
-      text = reply entry;
-    } ∷ []
-entry_acts kept name date reply (TooLong need have) = []
-entry_acts kept name date reply (TooShort promised read) = []
+    let new : List (List ℕ) = table_with kept.table (length kept.entries) entry in
+    record { steps = table_writes (length kept.entries / 8) new; text = reply entry } ∷ []
+entry_acts kept name date reply other = []
 
 -- the settling of the table, the volume's segments, and the table
 abbrev pub append_acts : Kept → (name : List ℕ) → (date : ℕ) → (promised : Option ℕ) → (reply : Entry → List ℕ) → (input : List ℕ) → List Act
@@ -133,9 +123,8 @@ appended name date input c words table entries =
     }
 
 abbrev pub AppendOutcome : (name : List ℕ) → (date : ℕ) → Option Cartridge → (input : List ℕ) → CommandOutcome → Type 0
-AppendOutcome name date held input outcome =
-    WritableOutcome (λ c header words table entries outcome. outcome ≡ appended name date input c words table entries)
-    held outcome
+AppendOutcome name date held input =
+    WritableOutcome (λ c header words table entries outcome. outcome ≡ appended name date input c words table entries) held
 
 -- ---- the command
 
@@ -146,14 +135,7 @@ append_command name date =
     record (plain_command (dated (Word (codes "append") ∷ Name name ∷ []) date) (AppendOutcome name date)
     (λ text. (number : ℕ) × ((bytes : ℕ) × ((start : ℕ) × ((end : ℕ) × (text ≡ appended_line number bytes start end)))))) {
       values = IsLabel name × (date < 2 ^ 32);
-      traits = record none_of_them {
-        reads = true;
-        memory = true;
-        cartridge = true;
-        writable = true;
-        mounts = true;
-        appends = true;
-      };
+      traits = record none_of_them { reads = true; memory = true; cartridge = true; writable = true; mounts = true; appends = true };
       needs = λ held input. IsSomeAnd held (λ c. IsUnprotected c
           × ((plain : Plain) × ReadsAs c plain × (has_room plain (length input) ≡ true)));
       keeps_volumes = λ c plain. c.info.protected ≡ true;

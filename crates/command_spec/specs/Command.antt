@@ -1,6 +1,7 @@
 -- All that is said of a command, in one record: how its words are spelled, what kind of a command it is, what it needs,
 -- does, prints and keeps (this project's own).
 use Rattle.std.specs.Prelude.{◌≡◌, ℕ, ◌≤◌, List, decimal, [], ◌∷◌, ◌⊎◌, ◌==◌, ◌++◌, if◌then◌else◌, Bool, false, Option}
+use Rattle.std.specs.List.{AllZip}
 use Rattle.command_spec.specs.Lines.{date_form}
 use Rattle.qic_base.specs.Field.{IsDate, date_word, IsNameText, filled}
 use Rattle.cartridge_spec.specs.Mounting.{CanBeRead}
@@ -28,15 +29,12 @@ pub record IsDateWord (word : List ℕ) (date : ℕ) : Type 0 where
   pub written : word ≡ date_form year month day hour minute second
   pub stamped : date ≡ date_word year month day hour minute second
 
--- what stands at one place of a form, with the value that it stands for there
+-- what stands at one place of a form, with the value that it stands for there: this word itself; a number from the first to the
+-- second, and its value; the text of a name, and the 44 bytes of the name; a date, and its date word
 pub data Part : Type 0 where
-  -- this word itself
   Word : List ℕ → Part
-  -- a number from the first to the second, and its value
   Number : ℕ → ℕ → ℕ → Part
-  -- the text of a name, and the 44 bytes of the name
   Name : List ℕ → Part
-  -- a date, and its date word
   Date : ℕ → Part
 
 -- the word stands for the part
@@ -48,17 +46,10 @@ SpellsPart word (Date date) = IsDateWord word date
 
 -- ---- words
 
--- the words stand for the parts, each for its own
-abbrev pub SpellsAll : List (List ℕ) → List Part → Type 0
-SpellsAll [] [] = Unit {0}
-SpellsAll [] (part ∷ parts) = ⊥
-SpellsAll (word ∷ words) [] = ⊥
-SpellsAll (word ∷ words) (part ∷ parts) = SpellsPart word part × SpellsAll words parts
-
--- the words have one of the forms
+-- the words have one of the forms: they stand for its parts, each for its own
 abbrev pub HasForm : List (List ℕ) → List (List Part) → Type 0
 HasForm words [] = ⊥
-HasForm words (form ∷ forms) = SpellsAll words form ⊎ HasForm words forms
+HasForm words (form ∷ forms) = AllZip SpellsPart words form ⊎ HasForm words forms
 
 -- a form with a date at its end; the date may be left out where its word is 0
 abbrev pub dated : List Part → ℕ → List (List Part)
@@ -71,19 +62,17 @@ AnyNumber n = Number 0 999999999 n
 -- ---- its traits
 
 pub record Traits : Type 0 where
-  -- it reads the input; which is one of lines, one of which may be at fault
+  -- it reads the input; which is of lines, one of which may be at fault; prints as it goes, not once all else is done; takes memory
   pub reads : Bool
   pub lines : Bool
-  -- it prints as it goes, where the others print once all else is done; it takes memory
   pub goes : Bool
   pub memory : Bool
-  -- a missing cartridge stops it; a protected one does
+  -- a missing cartridge stops it; a protected one does; it names a sector; one that was never formatted
   pub cartridge : Bool
   pub writable : Bool
-  -- it names a sector; one that was never formatted
   pub sector : Bool
   pub blank : Bool
-  -- it formats; mounts the cartridge; appends its whole input as a volume; gives volumes back, so it reads their segments
+  -- it formats; mounts the cartridge; appends volumes, of bytes of its input; gives volumes back, so it reads their segments
   pub formats : Bool
   pub mounts : Bool
   pub appends : Bool
@@ -123,27 +112,25 @@ CanBeMounted c = (plain : Plain) × ReadsAs c plain
 
 -- ---- the record
 
--- a command with its values
+-- A command with its values. Where it is refused most print nothing. Some have printed the levels of the trains, or the replies to
+-- the lines, before a fault of the input, or before a volume table that doesn't show the list; the bytes of a volume before a segment
+-- that doesn't read; or the lines of a generated run before the step that was refused. A new cartridge and trains need none that is
+-- held; a line of a script that is refused is answered by its reply, so the lines need nothing more.
 pub record Command : Type 1 where
-  -- the forms of its words
+  -- the forms of its words, and the bounds of its values
   pub forms : List (List Part)
-  -- the bounds of its values
   pub values : Type 0
   pub traits : Traits
   -- the plain machine: its outcome over what the drive holds and an input
   pub yields : (held : Option Cartridge) (input : List ℕ) → CommandOutcome → Type 0
-  -- what it prints that was carried out, whatever it is that the drive holds
+  -- what it prints that was carried out, whatever it is that the drive holds; what it may have printed wherever a fault cuts it off
   pub prints : List ℕ → Type 0
-  -- what it may have printed wherever a fault cuts it off
   pub fronts : List ℕ → Type 0
-  -- what it has printed that was refused with an answer: most of them nothing; the levels of the trains, or the replies
-  -- to the lines, before a fault of the input, or before a volume table that doesn't show the list; the bytes of a
-  -- volume before a segment that doesn't read; and the lines of a generated run before the step that was refused
+  -- what it has printed that was refused with an answer: most of them nothing
   pub refused : Status → List ℕ → Type 0
   -- the fault of its input: the number of the line, counted from 1, and how many bytes stand before it
   pub fault : (input : List ℕ) → (line place : ℕ) → Type 0
-  -- All is there that it needs. A new cartridge and trains need none that is held; a line of a script that is refused
-  -- is answered by its reply, so the lines need nothing more.
+  -- all is there that it needs
   pub needs : (held : Option Cartridge) (input : List ℕ) → Type 0
   -- it keeps what a cartridge stands for; what it is mounted as, whether it stands for a plain one or not; its header copies; where
   -- it keeps these, that none of them can be read; and that each sector of the table's segment takes a write

@@ -1,7 +1,6 @@
 -- The commands: the record of each, from its own file, and its words and traits by that (this project's own).
-use Rattle.std.specs.Prelude.{ℕ, List}
 use Rattle.command_spec.specs.Append.{append_command}
-use Rattle.command_spec.specs.Command.{Command, Traits, HasForm}
+use Rattle.command_spec.specs.Command.{Command, Traits}
 use Rattle.command_spec.specs.Scrub.{deep_scrub_command, scrub_command}
 use Rattle.command_spec.specs.Single.{defect_command, format_command, info_command, list_command, lose_command, new_command, protect_command, upgrade_command}
 use Rattle.command_spec.specs.Make.{make_command}
@@ -27,12 +26,6 @@ command_of words.Pulses = pulses_command
 command_of words.Script = script_command
 command_of (words.Make seed count) = make_command seed count
 command_of words.Upgrade = upgrade_command
-
--- ---- words and traits
-
--- the words are those of the command
-abbrev pub IsCommand : List (List ℕ) → Words → Type 0
-IsCommand words command = HasForm words (command_of command).forms
 
 abbrev pub traits_of : Words → Traits
 traits_of command = (command_of command).traits

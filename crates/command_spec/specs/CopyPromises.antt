@@ -8,7 +8,7 @@ use Rattle.cartridge_spec.specs.Table.{Entry}
 use Rattle.cartridge_spec.specs.Volumes.{Plain, Stands}
 use Rattle.command_spec.specs.Copied.{CanBeCopied, StandAlike, StandsPrinted, StandsUpTo, copied, copied_lines, BeginsLike}
 use Rattle.command_spec.specs.Copying.{CopyOutcome, CopyYields, foreign_fault, giving_status}
-use Rattle.command_spec.specs.Headline.{EachLeft, StopsGoOn, ToldNow}
+use Rattle.command_spec.specs.Headline.{EachLeft, ToldNow}
 use Rattle.command_spec.specs.Lines.{count_line}
 use Rattle.command_spec.specs.Outcome.{is_refused}
 use Rattle.command_spec.specs.Restore.{GivingEnd, Restores, pieces}
@@ -253,6 +253,14 @@ pub record NoDeckRose {A B K : Type 0} (a : tapes.Meaning A) (b : tapes.Meaning 
   pub from : ¬ (Rose (a.faults old.from) (a.faults new.from))
   pub to : ¬ (Rose (b.faults old.to) (b.faults new.to))
   pub sink : ¬ (Rose (k.faults old.sink) (k.faults new.sink))
+
+-- what was told of stops before is told of them still, and time has not run backwards
+pub record StopsGoOn {T : Type 0} (t : tapes.Meaning T) (old new : T) : Type 0 where
+  pub telling : t.tells_stops new ≡ t.tells_stops old
+  pub clock : t.moment old ≤ t.moment new
+  pub kept : (time : ℕ) (left : Option Cartridge) → time ≤ t.moment old → t.left_since old time left → t.left_since new time left
+  pub parted : (time later : ℕ) (left : Option Cartridge) → time ≤ later → later ≤ t.moment old →
+      t.left_since new time left → t.left_since old time left ⊎ t.left_since new later left
 
 -- two copies over the same objects can be put together: no count has fallen, each tape tells as before, and of stops as before
 pub record CopiesJoin {A B K : Type 0} (a : tapes.Meaning A) (b : tapes.Meaning B) (k : sinks.Meaning K) (old new : Decks A B K) : Type 0 where

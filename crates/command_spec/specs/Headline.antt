@@ -1,15 +1,14 @@
 -- The clauses of the headline, one by one (this project's own).
-use Rattle.std.specs.Prelude.{◌≡◌, ℕ, List, ◌++◌, Option, Some, ◌⊎◌, true, IsSomeAnd, IfSome, ◌≤◌, is_some}
+use Rattle.std.specs.Prelude.{◌≡◌, ℕ, List, ◌++◌, Option, Some, ◌⊎◌, true, IsSomeAnd, IfSome, is_some}
 use Rattle.std.specs.Option.{option_map}
 use Rattle.command_spec.specs.Commands.{command_of}
 use Rattle.command_spec.specs.Machine.{Step, Spells, InputLeft, OverTold, IsCutOff, IsOfBytes}
 use Rattle.command_spec.specs.Outcome.{CommandOutcome}
 use Rattle.command_spec.specs.declared.status.Status.{Status}
 use Rattle.command_spec.specs.declared.words.Words.{Words}
-use Rattle.qic_base.specs.Acts.{Outside, Failing, steps_of, NoneFell}
+use Rattle.qic_base.specs.Acts.{Outside, Failing, FailingRose, steps_of, NoneFell}
 use Rattle.qic_base.specs.Cartridge.{Cartridge}
-use Rattle.qic_base.specs.Tape.{Rose}
-use Rattle.qic_base.specs.Step.{Torn}
+use Rattle.qic_base.specs.Step.{Step as TapeStep, Torn}
 use Rattle.qic_base.specs.Sink as sinks
 use Rattle.qic_base.specs.Source as sources
 use Rattle.qic_base.specs.Tape as tapes
@@ -28,10 +27,8 @@ pub record Stepped {T S K : Type 0} (t : tapes.Meaning T) (s : sources.Meaning S
   pub written : k.written new.sink ≡ option_map (λ bytes. bytes ++ output) (k.written old.sink)
 
 -- no count of faults rose
-pub record NoneRose {T S K : Type 0} (t : tapes.Meaning T) (s : sources.Meaning S) (k : sinks.Meaning K) (old new : Outside T S K) : Type 0 where
-  pub tape : ¬ (Rose (t.faults old.tape) (t.faults new.tape))
-  pub source : ¬ (Rose (s.faults old.source) (s.faults new.source))
-  pub sink : ¬ (Rose (k.faults old.sink) (k.faults new.sink))
+abbrev pub NoneRose : {T S K : Type 0} (t : tapes.Meaning T) (s : sources.Meaning S) (k : sinks.Meaning K) (old new : Outside T S K) → Type 0
+NoneRose t s k old new = (failing : Failing) → ¬ (FailingRose t s k old new failing)
 
 -- ---- a fault of the outside
 
@@ -65,25 +62,16 @@ pub record StopLeaves (told : Option (List ℕ)) (command : Words) (held left : 
 
 -- what a run leaves: what stood, or what a stop in its command leaves
 abbrev pub WordsLeave : (told : Option (List ℕ)) → List (List ℕ) → (held left : Option Cartridge) → Type 0
-WordsLeave told words held left =
-    (left ≡ held) ⊎ ((command : Words) × Spells words command × StopLeaves told command held left)
+WordsLeave told words held left = (left ≡ held) ⊎ ((command : Words) × Spells words command × StopLeaves told command held left)
 
 -- ---- runs one after the other
 
--- what was told of stops before is told of them still, and time has not run backwards
-pub record StopsGoOn {T : Type 0} (t : tapes.Meaning T) (old new : T) : Type 0 where
-  pub telling : t.tells_stops new ≡ t.tells_stops old
-  pub clock : t.moment old ≤ t.moment new
-  pub kept : (time : ℕ) (left : Option Cartridge) → time ≤ t.moment old → t.left_since old time left → t.left_since new time left
-  pub parted : (time later : ℕ) (left : Option Cartridge) → time ≤ later → later ≤ t.moment old →
-      t.left_since new time left → t.left_since old time left ⊎ t.left_since new later left
-
 -- the clauses of two runs over the same objects can be put together
 pub record Joins {T S K : Type 0} (t : tapes.Meaning T) (s : sources.Meaning S) (k : sinks.Meaning K) (old new : Outside T S K) : Type 0 where
-  -- no count has fallen
+  -- no count has fallen, and each object tells as before
   pub counts : NoneFell t s k old new
-  -- each object tells as before
   pub tape : is_some (t.told new.tape) ≡ is_some (t.told old.tape)
   pub source : is_some (s.left new.source) ≡ is_some (s.left old.source)
   pub sink : is_some (k.written new.sink) ≡ is_some (k.written old.sink)
-  pub stops : StopsGoOn t old.tape new.tape
+  -- the tape went through some steps, and what was told of stops before is told of them still
+  pub stops : (steps : List TapeStep) × tapes.Stops t old.tape new.tape steps

@@ -36,11 +36,7 @@ IsLineText text line = IsLined (λ before. HasForm (slice_split (λ b. b == 0x20
 -- how many bytes follow a line at once
 abbrev pub promised : Line → ℕ
 promised (line.Append name length date) = length
-promised line.List = 0
-promised (line.Restore number) = 0
-promised line.Scrub = 0
-promised (line.Lose segment sector) = 0
-promised line.End = 0
+promised other = 0
 
 -- what one line of a script asks for: the line, and the bytes of an append
 pub record Item : Type 0 where
@@ -74,9 +70,8 @@ pub data Ending : Type 0 where
 
 -- how an input is answered that was carried out up to there
 abbrev pub input_status : Ending → Status
-input_status AtEnd = status.Done
-input_status AtStop = status.Done
 input_status (AtFault line place) = status.ScriptFault line place
+input_status other = status.Done
 
 -- the line `end`, and anything behind it
 abbrev pub HasStop : List ℕ → Type 0
@@ -94,16 +89,14 @@ pub record IsFault {I : Type 0} (Spelled : List ℕ → I → Type 0) (line : �
 abbrev pub ItemsEnd : {I : Type 0} → (List ℕ → I → Type 0) → (line place : ℕ) → List ℕ → Ending → Type 0
 ItemsEnd Spelled line place input AtEnd = input ≡ []
 ItemsEnd Spelled line place input AtStop = HasStop input
-ItemsEnd Spelled line place input (AtFault number before) =
-    IsFault Spelled line input × (number ≡ line) × (before ≡ place)
+ItemsEnd Spelled line place input (AtFault number before) = IsFault Spelled line input × (number ≡ line) × (before ≡ place)
 
 -- the input is these items and then this ending, from the line with this number and the place with so many bytes
 -- before it
 abbrev pub HasItems : {I : Type 0} → (List ℕ → I → Type 0) → (line place : ℕ) → List ℕ → List I → Ending → Type 0
 HasItems Spelled line place input [] ending = ItemsEnd Spelled line place input ending
 HasItems Spelled line place input (item ∷ items) ending =
-    (line ≤ most_items)
-    × ((text : List ℕ) × ((rest : List ℕ) × ((input ≡ text ++ rest) × Spelled text item
+    (line ≤ most_items) × ((text : List ℕ) × ((rest : List ℕ) × ((input ≡ text ++ rest) × Spelled text item
     × HasItems Spelled (line + 1) (place + length text) rest items ending)))
 
 abbrev pub IsScript : List ℕ → List Item → Ending → Type 0

@@ -21,14 +21,10 @@ date_form year month day hour minute second =
 -- the date of a date word, or `?` where the month would be above 12
 unfoldable pub date_text : ℕ → List ℕ
 date_text word =
-    if nat_lt 0x01EA6DFF (low_part word) then codes "?"
-    else date_form
-    (1970 + word / 2 ^ 25)
-    (low_part word / 60 / 60 / 24 / 31 + 1)
-    (low_part word / 60 / 60 / 24 % 31 + 1)
-    (low_part word / 60 / 60 % 24)
-    (low_part word / 60 % 60)
-    (low_part word % 60)
+    let low : ℕ = low_part word in
+    let days : ℕ = low / 60 / 60 / 24 in
+    if nat_lt 0x01EA6DFF low then codes "?"
+    else date_form (1970 + word / 2 ^ 25) (days / 31 + 1) (days % 31 + 1) (low / 60 / 60 % 24) (low / 60 % 60) (low % 60)
 
 -- ---- names
 

@@ -1,7 +1,8 @@
 -- The plain machine over words, and how a command ended: all acts of its outcome went, or a fault of the outside cut
 -- them off (this project's own).
-use Rattle.std.specs.Prelude.{ℕ, List, Option, ◌≡◌, ◌⊎◌, [], IfSome, ◌+◌, drop, Bool, true, false, ◌&&◌, ◌==◌, nat_lt, ◌||◌, ◌<◌, All, IfNone, ◌≢◌, is_some}
-use Rattle.command_spec.specs.Commands.{command_of, IsCommand, traits_of}
+use Rattle.std.specs.Prelude.{ℕ, List, Option, not, ◌≡◌, ◌⊎◌, [], IfSome, ◌+◌, drop, Bool, true, false, ◌&&◌, ◌==◌, nat_lt, ◌||◌, ◌<◌, All, IfNone, ◌≢◌, is_some}
+use Rattle.command_spec.specs.Command.{HasForm}
+use Rattle.command_spec.specs.Commands.{command_of, traits_of}
 use Rattle.command_spec.specs.Outcome.{CommandOutcome, output_of, is_refused}
 use Rattle.command_spec.specs.declared.status.Status.{Status}
 use Rattle.command_spec.specs.declared.words.Words.{Words}
@@ -24,7 +25,7 @@ HasValues command = (command_of command).values
 
 -- the words are those of a command
 abbrev pub Spells : (words : List (List ℕ)) → Words → Type 0
-Spells words command = IsCommand words command
+Spells words command = HasForm words (command_of command).forms
 
 -- they are those of none
 abbrev pub SpellsNone : List (List ℕ) → Type 0
@@ -68,11 +69,8 @@ fault_of SinkFails = status.SinkFault
 -- an answer of a command to what it finds: each but the faults, words of no command and want of memory
 abbrev pub is_outcome : Status → Bool
 is_outcome status.Usage = false
-is_outcome status.SourceFault = false
-is_outcome status.SinkFault = false
-is_outcome status.TapeFault = false
 is_outcome status.NoMemory = false
-is_outcome answer = true
+is_outcome answer = not (is_fault answer)
 
 -- the commands that such an answer may come from, and with which numbers, whatever the tape and the source tell: a segment
 -- that doesn't read lost more than three sectors, and is that of the volume table but for commands that give volumes back; a foreign
@@ -95,7 +93,7 @@ may_come_from (status.NoVolume number count) command = (command_of command).is_n
 may_come_from (status.Mismatch segment) command = (traits_of command).restores
 may_come_from answer command = false
 
--- where the source tells nothing, the input of an append is one of bytes
+-- where the source tells nothing, an input that gives volumes their bytes is one of bytes
 abbrev pub IsOfBytes : Words → (told : Option (List ℕ)) → (input : List ℕ) → Type 0
 IsOfBytes command told input = (traits_of command).appends ≡ true → IfNone told (All (λ b. b < 256) input)
 
@@ -125,9 +123,8 @@ pub record Finished {T S K : Type 0} (t : tapes.Meaning T) (s : sources.Meaning 
 
 -- the acts that were done and written before the fault
 abbrev pub acts_before : {T S K : Type 0} (t : tapes.Meaning T) (s : sources.Meaning S) (k : sinks.Meaning K) (old new : Outside T S K) (acts : List Act) (failing : Failing) → Cut t s k old new acts failing → List Act
-acts_before t s k old new acts TapeFails cut = cut.front
-acts_before t s k old new acts SourceFails cut = cut.front
 acts_before t s k old new acts SinkFails cut = cut.at.front
+acts_before t s k old new acts failing cut = cut.front
 
 -- A fault of an object cut the acts of an outcome off. A command that prints once all is done had printed nothing before;
 -- where it is the sink's, it was carried out, and all steps were done.
@@ -147,7 +144,6 @@ pub record Stopped {T S K : Type 0} (t : tapes.Meaning T) (s : sources.Meaning S
   pub cut : Cut t s k old new acts failing
   pub front : (command_of command).fronts (text_of acts)
   pub silent : (traits_of command).goes ≡ false → failing ≢ SinkFails → new.sink ≡ old.sink
-  -- a fault of the source comes to a command that reads it
   pub reads : failing ≡ SourceFails → (traits_of command).reads ≡ true
   pub source_tells : is_some (s.left new.source) ≡ is_some (s.left old.source)
 

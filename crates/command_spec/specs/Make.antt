@@ -1,6 +1,6 @@
 -- The plain machine of `make`: the volumes that it appends, the steps of a generated run, what each does, what a run may
 -- print, how many were appended by its answer, and the command (this project's own).
-use Rattle.std.specs.Prelude.{ℕ, ◌+◌, ◌*◌, ◌%◌, List, map, ◌++◌, codes, decimal, [], ◌∷◌, zero, suc, take, ◌==◌, if◌then◌else◌, length, drop, Some, ◌≡◌, true, slice_get, IsSomeAnd, ◌^◌, sum, ◌⊎◌, false, ◌≢◌, ◌<◌, Option, ◌≤◌, All, nat_lt}
+use Rattle.std.specs.Prelude.{flat_map, fold, ℕ, ◌+◌, ◌*◌, ◌%◌, List, map, ◌++◌, codes, decimal, [], ◌∷◌, take, ◌==◌, if◌then◌else◌, length, drop, Some, ◌≡◌, true, slice_get, IsSomeAnd, ◌^◌, sum, ◌⊎◌, false, ◌≢◌, ◌<◌, ◌≤◌, All, nat_lt}
 use Rattle.std.specs.List.{range_with_len}
 use Rattle.cartridge_spec.specs.Appending.{room, Content}
 use Rattle.cartridge_spec.specs.Header.{Header}
@@ -13,14 +13,15 @@ use Rattle.cartridge_spec.specs.Table.{Entry}
 use Rattle.cartridge_spec.specs.Volumes.{carrying_segments, volume_length, Plain, entries_of}
 use Rattle.command_spec.specs.Append.{entry_behind, append_acts, has_promised_room, kept_over}
 use Rattle.command_spec.specs.Outcome.{settling_act, CommandOutcome, WritableOutcome}
-use Rattle.command_spec.specs.Restore.{GivingEnd, Restored, LostIn, MismatchIn, RestoresVolume, pieces, volume_at, LosesFew}
-use Rattle.command_spec.specs.Scrub.{Scrubs, Counts, looked_at, IsScrubText}
+use Rattle.command_spec.specs.Restore.{GivingEnd, Restored, RestoresVolume, pieces, volume_at, LosesFew, ending_status}
+use Rattle.command_spec.specs.Scrub.{Counts, looked_at, ScrubsAs, IsTextFor}
 use Rattle.command_spec.specs.declared.status.Status.{Status}
 use Rattle.qic_base.specs.Acts.{Act, text_of, steps_of}
 use Rattle.qic_base.specs.Cartridge.{Cartridge}
 use Rattle.qic_base.specs.Field.{filled}
 use Rattle.qic_base.specs.Step.{Wear}
 use Rattle.command_spec.specs.Command.{Command, plain_command, IsUnprotected, ReadsAs, none_of_them, Word, AnyNumber, Number}
+use Rattle.command_spec.specs.declared.depth.Depth.TheVariants.{Shallow}
 use Rattle.command_spec.specs.declared.status.Status.TheVariants as status
 
 -- ---- what is made
@@ -50,46 +51,30 @@ made_name volume = filled (codes "made-" ++ decimal volume)
 abbrev pub after_item : (seed : ℕ) → (words : List ℕ) → List Entry → MakeStep → List Entry
 after_item seed words entries (AppendMade volume) =
     entries ++ entry_behind words entries (made_name volume) 0 (made_bytes seed volume) ∷ []
-after_item seed words entries (WearSector segment sector) = entries
-after_item seed words entries ScrubAll = entries
-after_item seed words entries (SumVolume number) = entries
-
--- and behind several, one after the other
-abbrev pub after_items : (seed : ℕ) → (words : List ℕ) → List Entry → List MakeStep → List Entry
-after_items seed words entries [] = entries
-after_items seed words entries (item ∷ items) = after_items seed words (after_item seed words entries item) items
+after_item seed words entries other = entries
 
 -- ---- the steps
 
 -- so many made volumes are appended, from this one on
 abbrev pub appending : (volume count : ℕ) → List MakeStep
-appending volume zero = []
-appending volume (suc count) = AppendMade volume ∷ appending (volume + 1) count
-
--- these sectors of a segment are worn
-abbrev pub wearing : (segment : ℕ) → (sectors : List ℕ) → List MakeStep
-wearing segment [] = []
-wearing segment (sector ∷ sectors) = WearSector segment sector ∷ wearing segment sectors
+appending volume count = map AppendMade (range_with_len volume count)
 
 -- the first two usable sectors are worn in each of these segments whose number is a multiple of 100
 abbrev pub wearing_in : (words segments : List ℕ) → List MakeStep
-wearing_in words [] = []
-wearing_in words (s ∷ ss) =
-    (if s % 100 == 0 then wearing s (take 2 (usable_places (mask_at words s))) else []) ++ wearing_in words ss
+wearing_in words segments =
+    flat_map (λ s. if s % 100 == 0 then map (WearSector s) (take 2 (usable_places (mask_at words s))) else []) segments
 
 -- .. and so in the carrying segments of these volumes
 abbrev pub wearing_volumes : (words : List ℕ) → List Entry → List MakeStep
-wearing_volumes words [] = []
-wearing_volumes words (e ∷ es) = wearing_in words (carrying_segments words e) ++ wearing_volumes words es
+wearing_volumes words entries = flat_map (λ e. wearing_in words (carrying_segments words e)) entries
 
 -- so many volumes are restored and summed, from this number on
 abbrev pub summing : (number count : ℕ) → List MakeStep
-summing number zero = []
-summing number (suc count) = SumVolume number ∷ summing (number + 1) count
+summing number count = map SumVolume (range_with_len number count)
 
 -- the list behind so many made volumes
 abbrev pub made_list : (seed count : ℕ) → (words : List ℕ) → List Entry → List Entry
-made_list seed count words entries = after_items seed words entries (appending 1 count)
+made_list seed count words entries = fold (after_item seed words) entries (appending 1 count)
 
 -- all steps of a run
 abbrev pub making : (seed count : ℕ) → (words : List ℕ) → List Entry → List MakeStep
@@ -97,29 +82,17 @@ making seed count words entries =
     appending 1 count
     ++ (wearing_volumes words (drop (length entries) (made_list seed count words entries)) ++ ScrubAll ∷ summing (length entries + 1) count)
 
--- ---- answers
-
--- How a step is answered, or a run: it was carried out; or a refusal, of which a volume table that no code block agrees with
--- comes over no cartridge that is told.
-pub data Answer : Type 0 where
-  Done : Answer
-  Protected : Answer
-  TableMismatch : Answer
-  Full : (need have : ℕ) → Answer
-  Lost : (segment lost : ℕ) → Answer
-  Mismatch : (segment : ℕ) → Answer
-
 -- ---- an append
 
 -- it is full where fewer bytes have room than are promised
-abbrev pub made_answer : (seed : ℕ) → (words : List ℕ) → List Entry → (volume : ℕ) → Answer
+abbrev pub made_answer : (seed : ℕ) → (words : List ℕ) → List Entry → (volume : ℕ) → Status
 made_answer seed words entries volume =
-    if has_promised_room (room words entries) (Some (made_length seed volume)) then Done
-    else Full (made_length seed volume) (room words entries)
+    if has_promised_room (room words entries) (Some (made_length seed volume)) then status.Done
+    else status.Full (made_length seed volume) (room words entries)
 
 -- The volume table reads, and is settled; and the volume's bytes are appended, as many as are promised, without a reply,
 -- or it has no room.
-pub record IsAppended (seed : ℕ) (c : Cartridge) (words : List ℕ) (entries : List Entry) (volume : ℕ) (acts : List Act) (answer : Answer) : Type 0 where
+pub record IsAppended (seed : ℕ) (c : Cartridge) (words : List ℕ) (entries : List Entry) (volume : ℕ) (acts : List Act) (answer : Status) : Type 0 where
   pub table : List (List ℕ)
   pub reads : TableIs c table
   pub does : acts ≡ append_acts (kept_over c words entries table) (made_name volume) 0 (Some (made_length seed volume))
@@ -127,17 +100,13 @@ pub record IsAppended (seed : ℕ) (c : Cartridge) (words : List ℕ) (entries :
   pub answered : answer ≡ made_answer seed words entries volume
 
 -- it has lost more than three sectors
-pub record IsTableLost (c : Cartridge) (acts : List Act) (answer : Answer) : Type 0 where
-  pub lost : ℕ
-  pub says : TableSays (table_cells c) (ByCode (LostSectors lost))
-  pub does : acts ≡ []
-  pub answered : answer ≡ Lost 2 lost
+abbrev pub IsTableLost : Cartridge → List Act → Status → Type 0
+IsTableLost c acts answer =
+    (lost : ℕ) × TableSays (table_cells c) (ByCode (LostSectors lost)) × (acts ≡ []) × (answer ≡ status.Lost 2 lost)
 
 -- a cartridge that is protected takes no write
-pub record IsRefused (c : Cartridge) (acts : List Act) (answer : Answer) : Type 0 where
-  pub mark : c.info.protected ≡ true
-  pub does : acts ≡ []
-  pub answered : answer ≡ Protected
+abbrev pub IsRefused : Cartridge → List Act → Status → Type 0
+IsRefused c acts answer = (c.info.protected ≡ true) × (acts ≡ []) × (answer ≡ status.Protected)
 
 -- ---- a volume's sum
 
@@ -149,97 +118,75 @@ sum_line number bytes total =
 -- the line of a volume of which these are the bytes, once all of them were read; nothing of them is printed
 abbrev pub sum_acts : (number bytes : ℕ) → (given : List ℕ) → GivingEnd → List Act
 sum_acts number bytes given Restored = record { steps = []; text = sum_line number bytes (sum given % 2 ^ 32) } ∷ []
-sum_acts number bytes given (LostIn segment lost) = []
-sum_acts number bytes given (MismatchIn segment) = []
-
-abbrev pub ending_answer : GivingEnd → Answer
-ending_answer Restored = Done
-ending_answer (LostIn segment lost) = Lost segment lost
-ending_answer (MismatchIn segment) = Mismatch segment
+sum_acts number bytes given refused = []
 
 -- ---- one step, and a run
 
 -- what a step does on a cartridge with this map and these volumes, and how it is answered
-abbrev pub StepDoes : (seed : ℕ) → Cartridge → (words : List ℕ) → List Entry → MakeStep → List Act → Answer → Type 0
+abbrev pub StepDoes : (seed : ℕ) → Cartridge → (words : List ℕ) → List Entry → MakeStep → List Act → Status → Type 0
 StepDoes seed c words entries (AppendMade volume) acts answer =
     IsRefused c acts answer
     ⊎ ((c.info.protected ≡ false) × (IsAppended seed c words entries volume acts answer ⊎ IsTableLost c acts answer))
 StepDoes seed c words entries (WearSector segment sector) acts answer =
-    (acts ≡ record { steps = Wear segment sector ∷ []; text = [] } ∷ []) × (answer ≡ Done)
+    (acts ≡ record { steps = Wear segment sector ∷ []; text = [] } ∷ []) × (answer ≡ status.Done)
 StepDoes seed c words entries ScrubAll acts answer =
-    IsRefused c acts answer ⊎ ((c.info.protected ≡ false) × (Scrubs c words entries acts × (answer ≡ Done)))
+    IsRefused c acts answer ⊎ ((c.info.protected ≡ false) × (ScrubsAs Shallow c words entries acts × (answer ≡ status.Done)))
 StepDoes seed c words entries (SumVolume number) acts answer =
     RestoresVolume c words entries number
-    (λ entry given ending.
-    (acts ≡ sum_acts number (volume_length words entry) (text_of given) ending) × (answer ≡ ending_answer ending))
+    (λ entry given ending. (acts ≡ sum_acts number (volume_length words entry) (text_of given) ending) × (answer ≡ ending_status ending))
 
 -- Steps, one after the other, each on the cartridge that the ones before it leave. The first refusal ends them, and is the
 -- answer.
-abbrev pub Runs : (seed : ℕ) → Cartridge → (words : List ℕ) → List Entry → List MakeStep → List Act → Answer → Type 0
-Runs seed c words entries [] acts answer = (acts ≡ []) × (answer ≡ Done)
+abbrev pub Runs : (seed : ℕ) → Cartridge → (words : List ℕ) → List Entry → List MakeStep → List Act → Status → Type 0
+Runs seed c words entries [] acts answer = (acts ≡ []) × (answer ≡ status.Done)
 Runs seed c words entries (item ∷ items) acts answer =
-    ((answer ≢ Done) × StepDoes seed c words entries item acts answer)
-    ⊎ ((first : List Act) × (rest : List Act) × (first ++ rest ≡ acts) × StepDoes seed c words entries item first Done
+    ((answer ≢ status.Done) × StepDoes seed c words entries item acts answer)
+    ⊎ ((first : List Act) × (rest : List Act) × (first ++ rest ≡ acts) × StepDoes seed c words entries item first status.Done
     × Runs seed (changed_by (steps_of first) c) words (after_item seed words entries item) items rest answer)
 
 -- a volume's line has its number and its length; a segment that ends a restore is one of the volume's
-abbrev pub MaySum : (words : List ℕ) → (number : ℕ) → Entry → (text : List ℕ) → Answer → Type 0
-MaySum words number e text Done = (total : ℕ) × (total < 2 ^ 32) × (text ≡ sum_line number (volume_length words e) total)
-MaySum words number e text (Lost segment lost) =
-    (text ≡ [])
-    × ((read : ℕ) × ((3 < lost) × IsSomeAnd (slice_get (pieces words e) read) (λ piece. piece.segment ≡ segment)))
-MaySum words number e text (Mismatch segment) =
+abbrev pub MaySum : (words : List ℕ) → (number : ℕ) → Entry → (text : List ℕ) → Status → Type 0
+MaySum words number e text status.Done = (total : ℕ) × (total < 2 ^ 32) × (text ≡ sum_line number (volume_length words e) total)
+MaySum words number e text (status.Lost segment lost) =
+    (text ≡ []) × ((read : ℕ) × ((3 < lost) × IsSomeAnd (slice_get (pieces words e) read) (λ piece. piece.segment ≡ segment)))
+MaySum words number e text (status.Mismatch segment) =
     (text ≡ []) × ((read : ℕ) × IsSomeAnd (slice_get (pieces words e) read) (λ piece. piece.segment ≡ segment))
 MaySum words number e text answer = ⊥
 
 -- A step may print this and be answered so, over any cartridge. An append is carried out, or full, by the map and the
--- volumes; else its table was refused, or the cartridge is protected.
-abbrev pub MayDo : (seed : ℕ) → (words : List ℕ) → List Entry → MakeStep → (text : List ℕ) → Answer → Type 0
-MayDo seed words entries (AppendMade volume) text Done = (text ≡ []) × (made_answer seed words entries volume ≡ Done)
-MayDo seed words entries (AppendMade volume) text (Full need have) =
-    (text ≡ []) × (made_answer seed words entries volume ≡ Full need have)
-MayDo seed words entries (AppendMade volume) text (Lost segment lost) = (text ≡ []) × ((segment ≡ 2) × (3 < lost))
-MayDo seed words entries (AppendMade volume) text (Mismatch segment) = ⊥
-MayDo seed words entries (AppendMade volume) text answer = text ≡ []
-MayDo seed words entries (WearSector segment sector) text answer = (text ≡ []) × (answer ≡ Done)
-MayDo seed words entries ScrubAll text Done = (counts : Counts) × IsScrubText (looked_at words entries) counts text
-MayDo seed words entries ScrubAll text Protected = text ≡ []
+-- volumes; else the cartridge is protected, or its table was refused: as one that no code block agrees with only where the
+-- cartridge is not told.
+abbrev pub MayDo : (seed : ℕ) → (words : List ℕ) → List Entry → MakeStep → (text : List ℕ) → Status → Type 0
+MayDo seed words entries (AppendMade volume) text status.Protected = text ≡ []
+MayDo seed words entries (AppendMade volume) text status.TableMismatch = text ≡ []
+MayDo seed words entries (AppendMade volume) text (status.Lost segment lost) = (text ≡ []) × ((segment ≡ 2) × (3 < lost))
+MayDo seed words entries (AppendMade volume) text answer = (text ≡ []) × (made_answer seed words entries volume ≡ answer)
+MayDo seed words entries (WearSector segment sector) text answer = (text ≡ []) × (answer ≡ status.Done)
+MayDo seed words entries ScrubAll text status.Done = (counts : Counts) × IsTextFor Shallow (looked_at words entries) counts text
+MayDo seed words entries ScrubAll text status.Protected = text ≡ []
 MayDo seed words entries ScrubAll text answer = ⊥
 MayDo seed words entries (SumVolume number) text answer =
     (e : Entry) × (volume_at entries number ≡ Some e) × MaySum words number e text answer
 
 -- steps, one after the other
-abbrev pub MayRun : (seed : ℕ) → (words : List ℕ) → List Entry → List MakeStep → (text : List ℕ) → Answer → Type 0
-MayRun seed words entries [] text answer = (text ≡ []) × (answer ≡ Done)
+abbrev pub MayRun : (seed : ℕ) → (words : List ℕ) → List Entry → List MakeStep → (text : List ℕ) → Status → Type 0
+MayRun seed words entries [] text answer = (text ≡ []) × (answer ≡ status.Done)
 MayRun seed words entries (item ∷ items) text answer =
-    ((answer ≢ Done) × MayDo seed words entries item text answer)
-    ⊎ ((first : List ℕ) × (rest : List ℕ) × (first ++ rest ≡ text) × MayDo seed words entries item first Done
+    ((answer ≢ status.Done) × MayDo seed words entries item text answer)
+    ⊎ ((first : List ℕ) × (rest : List ℕ) × (first ++ rest ≡ text) × MayDo seed words entries item first status.Done
     × MayRun seed words (after_item seed words entries item) items rest answer)
-
--- how a run's answer is answered
-abbrev pub make_status : Answer → Status
-make_status Done = status.Done
-make_status Protected = status.Protected
-make_status TableMismatch = status.TableMismatch
-make_status (Full need have) = status.Full need have
-make_status (Lost segment lost) = status.Lost segment lost
-make_status (Mismatch segment) = status.Mismatch segment
 
 -- the table is settled, and the steps of a run are carried out on the settled cartridge
 pub record Making (seed count : ℕ) (c : Cartridge) (header : Header) (words : List ℕ) (table : List (List ℕ)) (entries : List Entry) (outcome : CommandOutcome) : Type 0 where
   pub acts : List Act
-  pub answer : Answer
+  pub answer : Status
   pub makes : Runs seed (settled table c) words entries (making seed count words entries) acts answer
-  pub is : outcome ≡ record { acts = settling_act table c ∷ acts; taken = 0; status = make_status answer }
-
-abbrev pub MakeOutcome : (seed count : ℕ) → Option Cartridge → CommandOutcome → Type 0
-MakeOutcome seed count held outcome = WritableOutcome (Making seed count) held outcome
+  pub is : outcome ≡ record { acts = settling_act table c ∷ acts; taken = 0; status = answer }
 
 -- so many made volumes, from this one on
 abbrev pub made_contents : (seed volume count : ℕ) → List Content
-made_contents seed volume zero = []
-made_contents seed volume (suc count) =
-    record { name = made_name volume; date = 0; bytes = made_bytes seed volume } ∷ made_contents seed (volume + 1) count
+made_contents seed volume count =
+    map (λ v. record { name = made_name v; date = 0; bytes = made_bytes seed v }) (range_with_len volume count)
 
 -- ---- how many were appended
 
@@ -248,17 +195,12 @@ made_contents seed volume (suc count) =
 abbrev pub AppendedBy : (seed count : ℕ) → (words : List ℕ) → List Entry → Status → (n : ℕ) → Type 0
 AppendedBy seed count words entries status.Done n = n ≡ count
 AppendedBy seed count words entries (status.Full need have) n =
-    (n < count) × (made_answer seed words (made_list seed n words entries) (1 + n) ≡ Full need have)
+    (n < count) × (made_answer seed words (made_list seed n words entries) (1 + n) ≡ status.Full need have)
 AppendedBy seed count words entries (status.Lost segment lost) n = (n ≤ count) × (segment ≢ 2 → n ≡ count)
 AppendedBy seed count words entries (status.Mismatch segment) n = n ≡ count
 AppendedBy seed count words entries other n = n ≤ count
 
 -- ---- a run that is carried out
-
--- each of the made volumes has room when its turn comes
-abbrev pub HaveRoom : (seed count : ℕ) → Plain → Type 0
-HaveRoom seed count plain =
-    (n : ℕ) → n < count → made_answer seed plain.words (made_list seed n plain.words (entries_of plain)) (1 + n) ≡ Done
 
 -- behind the appends, the worn sectors and the scrub no segment that holds some of a made volume has more than three
 -- unreadable sectors
@@ -266,19 +208,18 @@ abbrev pub LoseFewBehind : (seed count : ℕ) → Cartridge → Plain → Type 0
 LoseFewBehind seed count c plain =
     let entries : List Entry = entries_of plain in
     let made : List Entry = made_list seed count plain.words entries in
-    (acts : List Act) (number : ℕ) (e : Entry) →
-    Runs seed c plain.words entries
-    (appending 1 count ++ (wearing_volumes plain.words (drop (length entries) made) ++ ScrubAll ∷ [])) acts Done →
+    (acts : List Act) (number : ℕ) (e : Entry) → Runs seed c plain.words entries
+    (appending 1 count ++ (wearing_volumes plain.words (drop (length entries) made) ++ ScrubAll ∷ [])) acts status.Done →
     length entries < number → volume_at made number ≡ Some e →
     All (LosesFew (changed_by (steps_of acts) c) plain.words) (pieces plain.words e)
 
 -- ---- the command
 
--- its volumes have room, and lose few sectors of a segment once they were appended, worn and scrubbed
+-- each of its volumes has room when its turn comes, and they lose few sectors of a segment once they were appended, worn and scrubbed
 pub record CanMake (c : Cartridge) (seed count : ℕ) : Type 0 where
   pub plain : Plain
   pub mounts : ReadsAs c plain
-  pub room : HaveRoom seed count plain
+  pub room : (n : ℕ) → n < count → made_answer seed plain.words (made_list seed n plain.words (entries_of plain)) (1 + n) ≡ status.Done
   pub few : LoseFewBehind seed count (settled plain.table_area c) plain
 
 -- Where it is refused, the lines before the step that was refused are printed; where it is cut off, they may be any. A volume is
@@ -286,20 +227,13 @@ pub record CanMake (c : Cartridge) (seed count : ℕ) : Type 0 where
 abbrev pub make_command : (seed count : ℕ) → Command
 make_command seed count =
     record (plain_command ((Word (codes "make") ∷ AnyNumber seed ∷ Number 1 200 count ∷ []) ∷ [])
-    (λ held input outcome. MakeOutcome seed count held outcome)
-    (λ text. (words : List ℕ) × ((entries : List Entry) × MayRun seed words entries (making seed count words entries) text Done))) {
+    (λ held input outcome. WritableOutcome (Making seed count) held outcome)
+    (λ text. (words : List ℕ) × ((entries : List Entry) × MayRun seed words entries (making seed count words entries) text status.Done))) {
       values = count ≤ 200;
-      traits = record none_of_them {
-        goes = true;
-        memory = true;
-        cartridge = true;
-        writable = true;
-        mounts = true;
-        restores = true;
-      };
+      traits = record none_of_them { goes = true; memory = true; cartridge = true; writable = true; mounts = true; restores = true };
       fronts = λ text. Unit {0};
-      refused = λ answer text. (text ≡ []) ⊎ ((words : List ℕ) × ((entries : List Entry) × ((why : Answer)
-          × (answer ≡ make_status why) × MayRun seed words entries (making seed count words entries) text why)));
+      refused = λ answer text. (text ≡ []) ⊎ ((words : List ℕ) × ((entries : List Entry)
+          × MayRun seed words entries (making seed count words entries) text answer));
       needs = λ held input. IsSomeAnd held (λ c. IsUnprotected c × CanMake c seed count);
       keeps_volumes = λ c plain. c.info.protected ≡ true;
       keeps_list = λ c. c.info.protected ≡ true;

@@ -7,11 +7,11 @@ use Rattle.cartridge_spec.specs.Settling.{settling_steps}
 use Rattle.cartridge_spec.specs.Volumes.{Plain, Stands, entries_of}
 use Rattle.command_spec.specs.Headline.{EachLeft, ToldNow}
 use Rattle.command_spec.specs.Input.{Item}
-use Rattle.command_spec.specs.Several.{IsHeard, Scripted}
+use Rattle.command_spec.specs.Several.{IsHeard, Scripted, FirstLinesSpare, OverInput}
 use Rattle.command_spec.specs.Machine.{Spells}
 use Rattle.command_spec.specs.Make.{made_contents}
 use Rattle.command_spec.specs.Script.{Did}
-use Rattle.command_spec.specs.ScriptLists.{CameFurther, GoesNoFurther, ItemsWearBehind, all_added, printed_by}
+use Rattle.command_spec.specs.ScriptLists.{CameFurther, GoesNoFurther, all_added, printed_by, ItemsSpare, ItemsSpareTable}
 use Rattle.command_spec.specs.Volumes.{IsInput, AreBytes, IsCarriedOut}
 use Rattle.command_spec.specs.declared.status.Status.{Status}
 use Rattle.qic_base.specs.Cartridge.{Cartridge}
@@ -23,8 +23,7 @@ use Rattle.qic_base.specs.Tape as tapes
 -- whichever one sector of its table's segment is lost, and nothing else, it comes back as one of these two plain
 -- cartridges
 abbrev pub ComesBackAsOneOf : Plain → Plain → Cartridge → Type 0
-ComesBackAsOneOf one other d =
-    (f : Cartridge) (lost : ℕ) → LosesOneAlone d f lost → ComesBackAs f one ⊎ ComesBackAs f other
+ComesBackAsOneOf one other d = (f : Cartridge) (lost : ℕ) → LosesOneAlone d f lost → ComesBackAs f one ⊎ ComesBackAs f other
 
 -- Of plain cartridges, each with one volume or none more than the one before it, it comes back as one or as the next
 -- one: from so many volumes on, up to so many.
@@ -40,15 +39,13 @@ pub record SomeComeBack (standing : ℕ → Plain) (least most : ℕ) (left : Op
 -- there.
 abbrev pub LeftComesBack : Cartridge → (standing : ℕ → Plain) (least most : ℕ) (left : Option Cartridge) → Type 0
 LeftComesBack c standing least most left =
-    ((least ≡ 0) × Torn (settling_steps (standing 0).table_area c) (Some c) left)
-    ⊎ SomeComeBack standing least most left
+    ((least ≡ 0) × Torn (settling_steps (standing 0).table_area c) (Some c) left) ⊎ SomeComeBack standing least most left
 
 -- ---- the plain cartridges
 
 -- without the volume of an append, and with it
 abbrev pub with_one : Plain → (name : List ℕ) (date : ℕ) (input : List ℕ) (n : ℕ) → Plain
-with_one plain name date input n =
-    with_all plain (take n (record { name = name; date = date; bytes = input } ∷ []))
+with_one plain name date input n = with_all plain (take n (record { name = name; date = date; bytes = input } ∷ []))
 
 -- with the first ones of the volumes of a generated run
 abbrev pub with_made : Plain → (seed n : ℕ) → Plain
@@ -61,52 +58,44 @@ with_items plain items dids n = with_all plain (all_added (entries_of plain) (ta
 -- ---- what is left
 
 -- What words that append leave of a cartridge that stands for a plain one, each sector of whose table's segment takes a
--- write. Of a script the cartridge is not protected, and the first lines wear no sector of the segments 0 to 2; or the
--- stop came further.
-pub record AppendingLeaves (told : Option (List ℕ)) (words : List (List ℕ)) (c : Cartridge) (plain : Plain)
-    (left : Option Cartridge) : Type 0 where
+-- write. Of a script the cartridge is not protected, and the first lines spare the header, and wear no sector of the
+-- table's segment; or the stop came further.
+pub record AppendingLeaves (told : Option (List ℕ)) (words : List (List ℕ)) (c : Cartridge) (plain : Plain) (left : Option Cartridge) : Type 0 where
   pub append : (name : List ℕ) (date : ℕ) → Spells words (commands.Append name date) → AreBytes told →
       (input : List ℕ) × IsInput told input × LeftComesBack c (with_one plain name date input) 0 1 left
-  pub make : (seed count : ℕ) → Spells words (commands.Make seed count) →
-      LeftComesBack c (with_made plain seed) 0 count left
-  pub script : (script : Scripted told words c plain) → c.info.protected ≡ false →
-      (count : ℕ) → count ≤ length script.does.items → ItemsWearBehind (take count script.does.items) →
+  pub make : (seed count : ℕ) → Spells words (commands.Make seed count) → LeftComesBack c (with_made plain seed) 0 count left
+  pub script : OverInput told (λ input. (script : Scripted input words c plain) → c.info.protected ≡ false →
+      (count : ℕ) → FirstLinesSpare script count → ItemsSpareTable (take count script.does.items) →
       CameFurther (settled plain.table_area c) script.does.items script.does.dids script.does.last count left
-      ⊎ LeftComesBack c (with_items plain script.does.items script.does.dids) 0 count left
+      ⊎ LeftComesBack c (with_items plain script.does.items script.does.dids) 0 count left)
 
 abbrev pub StoppedComesBack : (told : Option (List ℕ)) → List (List ℕ) → (held left : Option Cartridge) → Type 0
 StoppedComesBack told words held left =
-    (c : Cartridge) (plain : Plain) → held ≡ Some c → Stands c plain → IsTableLive c →
-    AppendingLeaves told words c plain left
+    (c : Cartridge) (plain : Plain) → held ≡ Some c → Stands c plain → IsTableLive c → AppendingLeaves told words c plain left
 
 -- What stands when such words are over, and this was printed: with the volume of an append that was carried out; with
 -- all volumes of a generated run that was, or has printed anything; with all lines of a script whose reply was written
 -- whole, and none behind those that it went no further than; with all lines, once its input was carried out.
-pub record AppendingLeft {T K : Type 0} (t : tapes.Meaning T) (k : sinks.Meaning K)
-    (told : Option (List ℕ)) (words : List (List ℕ)) (c : Cartridge) (plain : Plain)
-    (new : T) (before behind : K) (answer : Status) : Type 0 where
+pub record AppendingLeft {T K : Type 0} (t : tapes.Meaning T) (k : sinks.Meaning K) (told : Option (List ℕ)) (words : List (List ℕ)) (c : Cartridge) (plain : Plain) (new : T) (before behind : K) (answer : Status) : Type 0 where
   pub text : List ℕ
   pub took : k.took before text behind
-  pub append : (name : List ℕ) (date : ℕ) → Spells words (commands.Append name date) → AreBytes told →
-      IsCarriedOut answer →
+  pub append : (name : List ℕ) (date : ℕ) → Spells words (commands.Append name date) → AreBytes told → IsCarriedOut answer →
       (input : List ℕ) × IsInput told input × ToldNow t new (SomeComeBack (with_one plain name date input) 1 1)
   pub make : (seed count : ℕ) → Spells words (commands.Make seed count) → (text ≢ []) ⊎ IsCarriedOut answer →
       ToldNow t new (SomeComeBack (with_made plain seed) count count)
-  pub script : (script : Scripted told words c plain) → c.info.protected ≡ false →
-      (answered count : ℕ) → answered ≤ length script.does.items →
-      printed_by script.does.dids answered ≤ length text → count ≤ length script.does.items →
+  pub script : OverInput told (λ input. (script : Scripted input words c plain) → c.info.protected ≡ false →
+      (answered count : ℕ) → answered ≤ length script.does.items → printed_by script.does.dids answered ≤ length text →
       GoesNoFurther script.does.items script.does.dids count (length text) →
-      ItemsWearBehind (take count script.does.items) →
-      ToldNow t new (LeftComesBack c (with_items plain script.does.items script.does.dids) answered count)
-  pub heard : (script : Scripted told words c plain) → c.info.protected ≡ false → IsHeard answer →
-      ItemsWearBehind script.does.items →
+      FirstLinesSpare script count → ItemsSpareTable (take count script.does.items) →
+      ToldNow t new (LeftComesBack c (with_items plain script.does.items script.does.dids) answered count))
+  pub heard : OverInput told (λ input. (script : Scripted input words c plain) → c.info.protected ≡ false → IsHeard answer →
+      ItemsSpare (settled plain.table_area c) plain script.does.items script.does.dids → ItemsSpareTable script.does.items →
       ToldNow t new (SomeComeBack (with_items plain script.does.items script.does.dids)
-      (length script.does.items) (length script.does.items))
+      (length script.does.items) (length script.does.items)))
 
 -- A sector of the table's segment may be lost behind an append, a generated run or a script, too: each cartridge that a
 -- run leaves comes back so, and so does what stands when it is over.
-pub record SurvivesOneLoss {T K : Type 0} (t : tapes.Meaning T) (k : sinks.Meaning K) (told : Option (List ℕ))
-    (words : List (List ℕ)) (old new : T) (before behind : K) (answer : Status) : Type 0 where
+pub record SurvivesOneLoss {T K : Type 0} (t : tapes.Meaning T) (k : sinks.Meaning K) (told : Option (List ℕ)) (words : List (List ℕ)) (old new : T) (before behind : K) (answer : Status) : Type 0 where
   pub stopped : EachLeft t old new (StoppedComesBack told words)
   pub over : (c : Cartridge) (plain : Plain) → t.told old ≡ Some (Some c) → Stands c plain → IsTableLive c →
       AppendingLeft t k told words c plain new before behind answer

@@ -9,7 +9,7 @@ use Rattle.qic_base.specs.Acts.{Act, text_of}
 use Rattle.qic_base.specs.Cartridge.{Cartridge, IsPlace}
 use Rattle.qic_base.specs.Step.{Step}
 use Rattle.qic_base.specs.declared.foreign.ForeignField.{ForeignField}
-use Rattle.qic_base.specs.declared.foreign.ForeignField.TheVariants.{FormatCode, FirstHeader, SecondHeader, FirstData, LastData, SegmentsPerTrack, Tracks, TrackMaximum, SectorMaximum, Map, Slot, Range}
+use Rattle.qic_base.specs.declared.foreign.ForeignField.TheVariants.{FormatCode, FirstHeader, SecondHeader, FirstData, Tracks, TrackMaximum, SectorMaximum, Map, Slot, Range}
 use Rattle.command_spec.specs.declared.status.Status.TheVariants as status
 use Rattle.cartridge_spec.specs.Mounting as mounting
 
@@ -41,17 +41,19 @@ Opened goes c (mounting.TableLost lost) outcome = outcome ≡ refused (status.Lo
 Opened goes c mounting.TableMismatch outcome = outcome ≡ refused status.TableMismatch
 Opened goes c (mounting.Mounted header words table entries) outcome = goes c header words table entries outcome
 
--- and by what the drive holds
+-- what it does by what the drive holds: without a cartridge it is refused
+abbrev pub HeldOutcome : (Cartridge → CommandOutcome → Type 0) → Option Cartridge → CommandOutcome → Type 0
+HeldOutcome Does None outcome = outcome ≡ refused status.NoCartridge
+HeldOutcome Does (Some c) outcome = Does c outcome
+
+-- and by what the mounting of that gives
 abbrev pub OpenOutcome : Going → Option Cartridge → CommandOutcome → Type 0
-OpenOutcome goes None outcome = outcome ≡ refused status.NoCartridge
-OpenOutcome goes (Some c) outcome = (m : Mounting) × Mounts c m × Opened goes c m outcome
+OpenOutcome goes = HeldOutcome (λ c outcome. (m : Mounting) × Mounts c m × Opened goes c m outcome)
 
 -- what a command does that writes on the cartridge: a protected one is refused, whether it mounts or not
 abbrev pub WritableOutcome : Going → Option Cartridge → CommandOutcome → Type 0
-WritableOutcome goes None outcome = outcome ≡ refused status.NoCartridge
-WritableOutcome goes (Some c) outcome =
-    ((c.info.protected ≡ true) × (outcome ≡ refused status.Protected))
-    ⊎ ((c.info.protected ≡ false) × OpenOutcome goes (Some c) outcome)
+WritableOutcome goes = HeldOutcome (λ c outcome. ((c.info.protected ≡ true) × (outcome ≡ refused status.Protected))
+    ⊎ ((c.info.protected ≡ false) × OpenOutcome goes (Some c) outcome))
 
 -- the act with which each begins: the table is settled
 abbrev pub settling_act : (table : List (List ℕ)) → Cartridge → Act
@@ -72,14 +74,13 @@ is_refused FormatCode value = not (value == 2)
 is_refused FirstHeader value = not (value == 0)
 is_refused SecondHeader value = not (value == 1)
 is_refused FirstData value = not (value == 2)
-is_refused LastData value = true
-is_refused SegmentsPerTrack value = true
 is_refused Tracks value = not (value == 28)
 is_refused TrackMaximum value = not (value == 149)
 is_refused SectorMaximum value = not (value == 128)
 is_refused Map value = nat_lt value 3
 is_refused Slot value = nat_lt value 232
 is_refused Range value = nat_lt value 232
+is_refused other value = true
 
 -- nothing was printed, and this answered behind some steps
 abbrev pub refused_behind : List Step → Status → CommandOutcome
@@ -91,8 +92,7 @@ carried_out step text = acted (step ∷ []) text
 
 -- .. over a cartridge that is there, with a text by what it was
 abbrev pub StepOutcome : Step → (text : Cartridge → List ℕ) → Option Cartridge → CommandOutcome → Type 0
-StepOutcome step text None outcome = outcome ≡ refused status.NoCartridge
-StepOutcome step text (Some c) outcome = outcome ≡ carried_out step (text c)
+StepOutcome step text = HeldOutcome (λ c outcome. outcome ≡ carried_out step (text c))
 
 -- all that is printed
 abbrev pub output_of : CommandOutcome → List ℕ

@@ -9,7 +9,7 @@ use Rattle.cartridge_spec.specs.Volumes.{Plain, Stands, Volume}
 use Rattle.command_spec.specs.Commands.{command_of, traits_of}
 use Rattle.command_spec.specs.Restore.{HasNumber}
 use Rattle.command_spec.specs.Headline.{Stepped, NoneRose, IsCut, EachLeft, WordsLeave, Joins}
-use Rattle.command_spec.specs.Several.{ListsAppends, Generated, SomeMade, AllMade, Scripted, SomeScripted, AllAnswered}
+use Rattle.command_spec.specs.Several.{ListsAppends, Generated, SomeMade, AllMade, OverInput, Scripted, LinesLeave, AllAnswered}
 use Rattle.command_spec.specs.Machine.{Spells, SpellsNone, OverTold, is_fault, fault_of, is_outcome, may_come_from}
 use Rattle.command_spec.specs.OneLoss.{SurvivesOneLoss}
 use Rattle.command_spec.specs.Volumes.{StillHolds, FormatsOrNot, AppendedOrNot, IsChanged, GivesBack}
@@ -71,7 +71,7 @@ pub record Promises {T S K : Type 0} (t : tapes.Meaning T) (s : sources.Meaning 
   pub formats : EachLeft t old.tape new.tape (FormatsOrNot words)
   pub appends : EachLeft t old.tape new.tape (AppendedOrNot (s.left old.source) words)
   pub makes : EachLeft t old.tape new.tape (SomeMade words)
-  pub scripts : EachLeft t old.tape new.tape (SomeScripted (s.left old.source) words)
+  pub scripts : EachLeft t old.tape new.tape (λ held left. OverInput (s.left old.source) (λ input. LinesLeave input words held left))
   -- Where then one sector more of the table's segment is lost, what appending left comes back as what stood, or as that with the
   -- volume; and once it was carried out, as that. So does what a generated run and a script left, with the first ones of their volumes.
   pub survives : SurvivesOneLoss t k (s.left old.source) words old.tape new.tape old.sink new.sink answer
@@ -85,8 +85,8 @@ pub record Promises {T S K : Type 0} (t : tapes.Meaning T) (s : sources.Meaning 
   -- carried out, the appends of all lines, also where some of these sectors take none.
   pub made : (seed count : ℕ) (c : Cartridge) (plain : Plain) → t.told old.tape ≡ Some (Some c) → Generated words seed count c plain →
       AllMade t k new.tape old.sink new.sink answer seed count c plain
-  pub scripted : (c : Cartridge) (plain : Plain) → t.told old.tape ≡ Some (Some c) → (script : Scripted (s.left old.source) words c plain) →
-      AllAnswered t k new.tape old.sink new.sink answer script
+  pub scripted : (c : Cartridge) (plain : Plain) → t.told old.tape ≡ Some (Some c) →
+      OverInput (s.left old.source) (λ input. (script : Scripted input words c plain) → AllAnswered t k new.tape old.sink new.sink answer script)
   -- Whether it stands for a plain one or not, a cartridge that was mounted is mounted behind `append`, `make` and `script` with the
   -- old list and the appends that were carried out, but after a fault of the tape.
   pub listed : (c : Cartridge) (header : Header) (map_words : List ℕ) (table : List (List ℕ)) (entries : List Entry) →

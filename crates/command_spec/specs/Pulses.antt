@@ -11,7 +11,6 @@ use Rattle.qic_base.specs.Cartridge.{Cartridge}
 use Rattle.qic_base.specs.Step.{Step}
 use Rattle.qic_base.specs.declared.tape.TapeInfo.{TapeInfo}
 use Rattle.command_spec.specs.Command.{Command, plain_command, none_of_them, Word}
-use Rattle.command_spec.specs.declared.status.Status.TheVariants as status
 
 -- ---- trains
 
@@ -71,10 +70,9 @@ AreLevels text = (known : Option TapeInfo) × ((trains : List ℕ) × (text ≡ 
 -- The drive shows its levels without a cartridge, and those of the trains before a fault of the input: the lines of trains go up to
 -- the end of the input or to the line `end`.
 abbrev pub pulses_command : Command
-pulses_command =
-    record (plain_command ((Word (codes "pulses") ∷ []) ∷ []) SentOutcome AreLevels) {
-      traits = record none_of_them { reads = true; lines = true; goes = true };
-      refused = λ answer text. AreLevels text;
-      fault = λ input line place. (trains : List ℕ) × IsPulses input trains (AtFault line place);
-      needs = λ held input. (trains : List ℕ) × (IsPulses input trains AtEnd ⊎ IsPulses input trains AtStop);
-    }
+pulses_command = record (plain_command ((Word (codes "pulses") ∷ []) ∷ []) SentOutcome AreLevels) {
+  traits = record none_of_them { reads = true; lines = true; goes = true };
+  refused = λ answer text. AreLevels text;
+  fault = λ input line place. (trains : List ℕ) × IsPulses input trains (AtFault line place);
+  needs = λ held input. (trains : List ℕ) × (IsPulses input trains AtEnd ⊎ IsPulses input trains AtStop);
+}

@@ -1,5 +1,5 @@
 -- The plain machine of `restore`: a volume's bytes, segment by segment, and how their giving ends (this project's own).
-use Rattle.std.specs.Prelude.{ℕ, zero, suc, ◌-◌, List, [], ◌∷◌, min, sum_by, ◌≤◌, take, ◌≡◌, ◌++◌, codes, decimal, ◌<◌, All, length, slice_get, Option, None, Some, ◌⊎◌, ◌==◌, ◌&&◌, Bool, true, nat_le, IsSomeAnd}
+use Rattle.std.specs.Prelude.{ℕ, zero, suc, ◌-◌, List, [], ◌∷◌, min, ◌≤◌, take, ◌≡◌, ◌++◌, codes, decimal, ◌<◌, All, length, slice_get, Option, None, Some, ◌⊎◌, ◌==◌, ◌&&◌, true, IsSomeAnd, ◌||◌, nat_lt}
 use Rattle.cartridge_spec.specs.Appending.{bytes_in}
 use Rattle.cartridge_spec.specs.Mounting.{settled, CanBeRead}
 use Rattle.cartridge_spec.specs.Says.{cells_of, unreadable_count, Says, Data, LostSectors, Mismatch}
@@ -7,7 +7,7 @@ use Rattle.cartridge_spec.specs.Settling.{settling_steps}
 use Rattle.cartridge_spec.specs.Shape.{mask_at, capacity}
 use Rattle.cartridge_spec.specs.Table.{Entry}
 use Rattle.cartridge_spec.specs.Volumes.{carrying_segments, volume_length, Plain, Volume, Stands}
-use Rattle.command_spec.specs.Outcome.{settling_act, CommandOutcome, Going, refused_behind, OpenOutcome}
+use Rattle.command_spec.specs.Outcome.{settling_act, Going, refused_behind, OpenOutcome}
 use Rattle.command_spec.specs.declared.status.Status.{Status}
 use Rattle.qic_base.specs.Acts.{Act}
 use Rattle.qic_base.specs.Cartridge.{Cartridge}
@@ -24,19 +24,14 @@ pub record Piece : Type 0 where
 
 -- so many bytes in these segments, each with as many as it carries: one that holds none of them is not read
 abbrev pub pieces_of : (words segments : List ℕ) (left : ℕ) → List Piece
-pieces_of words [] left = []
-pieces_of words (s ∷ ss) zero = []
 pieces_of words (s ∷ ss) (suc left) =
     record { segment = s; count = min (suc left) (capacity (mask_at words s)) }
     ∷ pieces_of words ss (suc left - capacity (mask_at words s))
+pieces_of words segments left = []
 
 -- a volume's length in its carrying segments
 abbrev pub pieces : (words : List ℕ) → Entry → List Piece
 pieces words e = pieces_of words (carrying_segments words e) (volume_length words e)
-
--- the bytes that some pieces hold
-abbrev pub bytes_held : List Piece → ℕ
-bytes_held needed = sum_by (λ piece. piece.count) needed
 
 -- ---- reading them
 
@@ -79,11 +74,9 @@ Restores c words (piece ∷ needed) (act ∷ acts) ending = IsRead c words piece
 
 -- each act of these pieces with the line `part K` before its text, where K is the count of its piece
 abbrev pub framed : List Piece → List Act → List Act
-framed [] acts = []
-framed (piece ∷ needed) [] = []
 framed (piece ∷ needed) (act ∷ acts) =
-    record { steps = act.steps; text = codes "part " ++ decimal piece.count ++ codes "\n" ++ act.text }
-    ∷ framed needed acts
+    record { steps = act.steps; text = codes "part " ++ decimal piece.count ++ codes "\n" ++ act.text } ∷ framed needed acts
+framed needed acts = []
 
 -- its pieces
 abbrev pub pieces_in : Plain → Volume → List Piece
@@ -99,9 +92,9 @@ pub record FirstLost (c : Cartridge) (words : List ℕ) (needed : List Piece) : 
   pub many : 3 < unreadable_count (piece_cells c words piece)
 
 -- the volume with a number, counted from 1
-abbrev pub volume_at : List Entry → (number : ℕ) → Option Entry
-volume_at entries zero = None
-volume_at entries (suc n) = slice_get entries n
+abbrev pub volume_at : {A : Type 0} → (volumes : List A) → (number : ℕ) → Option A
+volume_at volumes zero = None
+volume_at volumes (suc n) = slice_get volumes n
 
 -- the answer to how a restore ended
 abbrev pub ending_status : GivingEnd → Status
@@ -122,26 +115,15 @@ abbrev pub Gives : (number : ℕ) → Going
 Gives number c header words table entries outcome =
     ((volume_at entries number ≡ None) × (outcome ≡ refused_behind (settling_steps table c) (status.NoVolume number (length entries))))
     ⊎ RestoresVolume (settled table c) words entries number
-    (λ entry acts ending.
-    outcome ≡ record { acts = settling_act table c ∷ acts; taken = 0; status = ending_status ending })
-
-abbrev pub RestoreOutcome : (number : ℕ) → Option Cartridge → CommandOutcome → Type 0
-RestoreOutcome number held outcome = OpenOutcome (Gives number) held outcome
+    (λ entry acts ending. outcome ≡ record { acts = settling_act table c ∷ acts; taken = 0; status = ending_status ending })
 
 -- ---- the command
 
--- a cartridge stands for a plain one that has this volume of the number, counted from 1, and its volume table can be read
+-- a cartridge stands for a plain one that has this volume of the number, and its volume table can be read
 pub record HasNumber (c : Cartridge) (plain : Plain) (number : ℕ) (volume : Volume) : Type 0 where
   pub stands : Stands c plain
   pub reads : CanBeRead c
-  pub place : ℕ
-  pub numbered : number ≡ suc place
-  pub is : slice_get plain.volumes place ≡ Some volume
-
--- a number, counted from 1, is that of none of so many volumes
-abbrev pub is_past : (number count : ℕ) → Bool
-is_past zero count = true
-is_past (suc n) count = nat_le count n
+  pub is : volume_at plain.volumes number ≡ Some volume
 
 -- the bytes of a volume may have been printed before a segment that doesn't read
 abbrev pub restore_refused : Status → List ℕ → Type 0
@@ -150,14 +132,14 @@ restore_refused (status.Mismatch segment) text = Unit {0}
 restore_refused answer text = text ≡ []
 
 -- It needs a volume of the number, no segment of which, where it holds some of its bytes, has more than three unreadable sectors. The
--- bytes of a volume may be any; the number that is refused is the one that was asked for.
+-- bytes of a volume may be any. The number that is refused is the one that was asked for, and that of none of so many volumes.
 abbrev pub restore_command : (number : ℕ) → Command
 restore_command number =
     record (plain_command ((Word (codes "restore") ∷ AnyNumber number ∷ []) ∷ [])
-    (λ held input outcome. RestoreOutcome number held outcome) (λ text. Unit {0})) {
+    (λ held input outcome. OpenOutcome (Gives number) held outcome) (λ text. Unit {0})) {
       traits = record none_of_them { goes = true; memory = true; cartridge = true; mounts = true; restores = true };
       refused = restore_refused;
       needs = λ held input. IsSomeAnd held (λ c. (plain : Plain) × ((volume : Volume) × HasNumber c plain number volume
           × All (LosesFew c plain.words) (pieces_in plain volume)));
-      is_no_volume = λ named count. (named == number) && is_past number count;
+      is_no_volume = λ named count. (named == number) && (number == 0 || nat_lt count number);
     }

@@ -1,5 +1,5 @@
 -- The plain machine of `script`: its lines, one after the other, over a mounted cartridge, and their replies (this project's own).
-use Rattle.std.specs.Prelude.{ℕ, List, codes, ◌++◌, decimal, [], ◌+◌, ◌∷◌, ◌≡◌, true, false, length, Some, ◌⊎◌, None, ◌<◌, ◌≤◌, drop, Option, IsSomeAnd}
+use Rattle.std.specs.Prelude.{flat_map, fold, ℕ, List, codes, ◌++◌, decimal, [], ◌+◌, ◌∷◌, ◌≡◌, true, false, length, Some, ◌⊎◌, None, ◌<◌, ◌≤◌, drop, IsSomeAnd}
 use Rattle.cartridge_spec.specs.Appending.{room}
 use Rattle.cartridge_spec.specs.Header.{Header}
 use Rattle.cartridge_spec.specs.HeaderAndTable.{table_cells, TableIs}
@@ -13,7 +13,7 @@ use Rattle.command_spec.specs.Input.{Item, IsLineText, most_items, Ending, AtEnd
 use Rattle.command_spec.specs.Lines.{place_line, number_line, reply_behind, lost_line, list_text}
 use Rattle.command_spec.specs.Outcome.{settling_act, CommandOutcome, OpenOutcome}
 use Rattle.command_spec.specs.Restore.{GivingEnd, Restored, LostIn, MismatchIn, RestoresVolume, framed, pieces, volume_at}
-use Rattle.command_spec.specs.Scrub.{Scrubs}
+use Rattle.command_spec.specs.Scrub.{ScrubsAs}
 use Rattle.command_spec.specs.declared.line.Line.{Line}
 use Rattle.command_spec.specs.declared.refusal.Refusal.{Refusal}
 use Rattle.qic_base.specs.Acts.{Act, steps_of}
@@ -21,6 +21,7 @@ use Rattle.qic_base.specs.Cartridge.{Cartridge, IsPlace}
 use Rattle.qic_base.specs.Step.{Wear}
 use Rattle.command_spec.specs.Command.{Command, plain_command, CanBeMounted, none_of_them, Word}
 use Rattle.command_spec.specs.declared.status.Status.{Status}
+use Rattle.command_spec.specs.declared.depth.Depth.TheVariants.{Shallow}
 use Rattle.command_spec.specs.declared.refusal.Refusal.TheVariants as why
 use Rattle.command_spec.specs.declared.line.Line.TheVariants as line
 use Rattle.command_spec.specs.declared.status.Status.TheVariants as status
@@ -115,7 +116,7 @@ LineDoes c words entries (line.Restore number) bytes did =
     (λ entry acts ending. did ≡ given_as words entries number entry (framed (pieces words entry) acts) ending)
 LineDoes c words entries line.Scrub bytes did =
     ((c.info.protected ≡ true) × (did ≡ line_refused [] entries why.Protected))
-    ⊎ ((c.info.protected ≡ false) × ((acts : List Act) × Scrubs c words entries acts × (did ≡ record { acts = acts; entries = entries })))
+    ⊎ ((c.info.protected ≡ false) × ((acts : List Act) × ScrubsAs Shallow c words entries acts × (did ≡ record { acts = acts; entries = entries })))
 LineDoes c words entries (line.Lose segment sector) bytes did =
     (¬ (IsPlace c.info.segments_per_track segment sector) × (did ≡ line_refused [] entries (why.Place segment sector)))
     ⊎ (IsPlace c.info.segments_per_track segment sector
@@ -126,26 +127,22 @@ LineDoes c words entries line.End bytes did = ⊥
 
 -- the acts of all
 abbrev pub acts_of : List Did → List Act
-acts_of [] = []
-acts_of (did ∷ dids) = did.acts ++ acts_of dids
+acts_of dids = flat_map (λ did. did.acts) dids
 
 -- the volumes behind the last
 abbrev pub entries_behind : List Entry → List Did → List Entry
-entries_behind entries [] = entries
-entries_behind entries (did ∷ dids) = entries_behind did.entries dids
+entries_behind entries dids = fold (λ before did. did.entries) entries dids
 
 -- the cartridge behind the last
 abbrev pub cartridge_behind : Cartridge → List Did → Cartridge
-cartridge_behind c [] = c
-cartridge_behind c (did ∷ dids) = cartridge_behind (changed_by (steps_of did.acts) c) dids
+cartridge_behind c dids = fold (λ before did. changed_by (steps_of did.acts) before) c dids
 
 -- each item did this, on the cartridge and with the volumes as those before it left them
 abbrev pub ItemsDo : Cartridge → (words : List ℕ) → List Entry → List Item → List Did → Type 0
 ItemsDo c words entries [] [] = Unit {0}
-ItemsDo c words entries [] (did ∷ dids) = ⊥
-ItemsDo c words entries (item ∷ items) [] = ⊥
 ItemsDo c words entries (item ∷ items) (did ∷ dids) =
     LineDoes c words entries item.line item.bytes did × ItemsDo (changed_by (steps_of did.acts) c) words did.entries items dids
+ItemsDo c words entries items dids = ⊥
 
 -- ---- the end
 
@@ -163,12 +160,11 @@ pub record EndsEarly (rest : List ℕ) : Type 0 where
 -- The last acts, behind which these bytes are left: the reply `end`; or in front of a fault in the line with this number,
 -- which begins these bytes, those of an append whose bytes end early, and none where no line is read.
 abbrev pub EndDoes : Cartridge → (words : List ℕ) → List Entry → (rest : List ℕ) → Ending → List Act → Type 0
-EndDoes c words entries rest AtEnd acts = acts ≡ reply end_line ∷ []
-EndDoes c words entries rest AtStop acts = acts ≡ reply end_line ∷ []
 EndDoes c words entries rest (AtFault number place) acts =
     ((number ≤ most_items) × ((early : EndsEarly rest) × ((meeting : Meeting) × Meets c meeting
     × (acts ≡ acts_on c words entries early.name early.promised early.date early.bytes meeting))))
     ⊎ (((number ≤ most_items) → ¬ (EndsEarly rest)) × (acts ≡ []))
+EndDoes c words entries rest other acts = acts ≡ reply end_line ∷ []
 
 -- ---- the outcome
 
@@ -201,9 +197,6 @@ pub record Scripting (input : List ℕ) (c : Cartridge) (header : Header) (words
   pub does : ScriptDoes (settled table c) words entries input came
   pub is : outcome ≡ record came { acts = settling_act table c ∷ came.acts }
 
-abbrev pub ScriptOutcome : Option Cartridge → (input : List ℕ) → CommandOutcome → Type 0
-ScriptOutcome held input outcome = OpenOutcome (Scripting input) held outcome
-
 -- ---- the command
 
 -- the replies to the lines before a fault of the input, or before a volume table that doesn't show the list
@@ -217,8 +210,9 @@ script_refused answer text = text ≡ []
 -- volumes.
 abbrev pub script_command : Command
 script_command =
-    record (plain_command ((Word (codes "script") ∷ []) ∷ []) ScriptOutcome (λ text. (replies : List ℕ) × (text ≡ replies ++ end_line))) {
-      traits = record none_of_them { reads = true; lines = true; goes = true; memory = true; cartridge = true; mounts = true };
+    record (plain_command ((Word (codes "script") ∷ []) ∷ []) (λ held input outcome. OpenOutcome (Scripting input) held outcome)
+    (λ text. (replies : List ℕ) × (text ≡ replies ++ end_line))) {
+      traits = record none_of_them { reads = true; lines = true; goes = true; memory = true; cartridge = true; mounts = true; appends = true };
       refused = script_refused;
       fault = λ input line place. (items : List Item) × IsScript input items (AtFault line place);
       needs = λ held input. IsSomeAnd held CanBeMounted

@@ -1,6 +1,6 @@
 -- What a script leaves of a cartridge behind the lines that were carried out: what these append, what the cartridge stands for,
 -- and the list that it is mounted with (this project's own).
-use Rattle.std.specs.Prelude.{ℕ, List, ◌==◌, length, if◌then◌else◌, [], ◌∷◌, suc, ◌≤◌, take, drop, Option, Some, IsSomeAnd, ◌<◌, ◌↔◌, ◌++◌, ◌≡◌, ◌⊎◌}
+use Rattle.std.specs.Prelude.{ℕ, List, ◌==◌, length, if◌then◌else◌, [], ◌∷◌, suc, ◌≤◌, take, drop, Option, Some, IsSomeAnd, ◌<◌, ◌↔◌, ◌++◌, ◌≡◌, ◌⊎◌, ◌≢◌}
 use Rattle.cartridge_spec.specs.Appending.{Content, with_all}
 use Rattle.cartridge_spec.specs.Header.{Header}
 use Rattle.cartridge_spec.specs.Mounting.{Lists}
@@ -24,29 +24,32 @@ line_contents other bytes = []
 
 -- what an item added to a list: that, where the list is longer behind it
 abbrev pub item_added : List Entry → Item → Did → List Content
-item_added entries item did =
-    if length did.entries == length entries then [] else line_contents item.line item.bytes
+item_added entries item did = if length did.entries == length entries then [] else line_contents item.line item.bytes
 
 -- what several added, one behind the other
 abbrev pub all_added : List Entry → List Item → List Did → List Content
-all_added entries [] dids = []
-all_added entries (item ∷ items) [] = []
 all_added entries (item ∷ items) (did ∷ dids) = item_added entries item did ++ all_added did.entries items dids
+all_added entries items dids = []
 
 -- ---- what is asked of the items
 
 -- each sector that a line wears spares the header and the table, on the cartridge as it then stands
 abbrev pub ItemsSpare : Cartridge → Plain → List Item → List Did → Type 0
-ItemsSpare c plain [] dids = Unit {0}
-ItemsSpare c plain (item ∷ items) [] = Unit {0}
 ItemsSpare c plain (item ∷ items) (did ∷ dids) =
     ((segment sector : ℕ) → item.line ≡ line.Lose segment sector →
     IsPlace c.info.segments_per_track segment sector → WearSpares c plain segment sector)
     × ItemsSpare (changed_by (steps_of did.acts) c) (with_all plain (item_added (entries_of plain) item did)) items dids
+ItemsSpare c plain items dids = Unit {0}
 
 -- the first ones do
 abbrev pub FirstSpare : Cartridge → Plain → List Item → List Did → (count : ℕ) → Type 0
 FirstSpare c plain items dids count = ItemsSpare c plain (take count items) (take count dids)
+
+-- no line wears a sector of the table's segment
+abbrev pub ItemsSpareTable : List Item → Type 0
+ItemsSpareTable [] = Unit {0}
+ItemsSpareTable (item ∷ items) =
+    ((segment sector : ℕ) → item.line ≡ line.Lose segment sector → sector < 32 → segment ≢ 2) × ItemsSpareTable items
 
 -- ---- how far a script went
 

@@ -1,6 +1,6 @@
 -- Runs that add volumes: what a cartridge is mounted with when one is over, and what one of several items leaves of the
 -- plain cartridge (this project's own).
-use Rattle.std.specs.Prelude.{◌≡◌, ℕ, List, IsSomeAnd, [], ◌∷◌, ◌++◌, Option, ◌≢◌, ◌⊎◌, ◌≤◌, length, false, Some, ◌<◌, All, take}
+use Rattle.std.specs.Prelude.{◌≡◌, ℕ, List, IsSomeAnd, [], ◌∷◌, ◌++◌, Option, ◌≢◌, ◌⊎◌, ◌≤◌, length, false, Some, ◌<◌, All, IfNone, take}
 use Rattle.cartridge_spec.specs.Header.{Header}
 use Rattle.cartridge_spec.specs.Mounting.{Lists, settled, IsTableLive}
 use Rattle.cartridge_spec.specs.Table.{Entry}
@@ -60,8 +60,7 @@ pub record ListsAppends {T K : Type 0} (t : tapes.Meaning T) (k : sinks.Meaning 
       NowLists t new header map_words entries
   pub made : (seed count : ℕ) → Spells words (commands.Make seed count) →
       ListsMade t k new before behind answer header map_words entries seed count
-  pub scripted : Spells words commands.Script →
-      (input : List ℕ) × IsInput told input
+  pub scripted : Spells words commands.Script → (input : List ℕ) × IsInput told input
       × ((outcome : CommandOutcome) (does : ScriptDoes (settled table c) map_words entries input outcome) →
       ListsLines t k new before behind answer header map_words entries does.items does.dids)
 
@@ -85,35 +84,36 @@ SomeMade words held left =
 pub record AllMade {T K : Type 0} (t : tapes.Meaning T) (k : sinks.Meaning K) (new : T) (before behind : K) (answer : Status) (seed count : ℕ) (c : Cartridge) (plain : Plain) : Type 0 where
   pub text : List ℕ
   pub took : k.took before text behind
-  pub answered : is_fault answer ≡ false →
-      (n : ℕ) × AppendedBy seed count plain.words (entries_of plain) answer n
+  pub answered : is_fault answer ≡ false → (n : ℕ) × AppendedBy seed count plain.words (entries_of plain) answer n
       × ToldNow t new (λ left. IsSomeAnd left (λ d. Stands d (with_all plain (made_contents seed 1 n))))
   pub all : IsTableLive c → (text ≢ []) ⊎ (answer ≡ status.SinkFault) →
       ToldNow t new (λ left. IsSomeAnd left (λ d. Stands d (with_all plain (made_contents seed 1 count))))
 
 -- ---- a script
 
--- The words ask for a script over an input of bytes that is told, on a cartridge that stands for a plain one. By the plain machine
--- the lines do this on the settled cartridge.
-pub record Scripted (told : Option (List ℕ)) (words : List (List ℕ)) (c : Cartridge) (plain : Plain) : Type 0 where
+-- for the input that is told, or for some input of bytes where none is
+abbrev pub OverInput : (told : Option (List ℕ)) → (P : (input : List ℕ) → Type 0) → Type 0
+OverInput told P = (input : List ℕ) × IsInput told input × IfNone told (All (λ b. b < 256) input) × P input
+
+-- The words ask for a script over an input of bytes, on a cartridge that stands for a plain one. By the plain machine the lines do
+-- this on the settled cartridge.
+pub record Scripted (input : List ℕ) (words : List (List ℕ)) (c : Cartridge) (plain : Plain) : Type 0 where
   pub spelled : Spells words commands.Script
-  pub input : List ℕ
-  pub is_told : told ≡ Some input
   pub bytes : All (λ b. b < 256) input
   pub stands : Stands c plain
   pub outcome : CommandOutcome
   pub does : ScriptDoes (settled plain.table_area c) plain.words (entries_of plain) input outcome
 
 -- each sector that the first lines wear spares the header and the table, on the cartridge as it then stands
-abbrev pub FirstLinesSpare : {told : Option (List ℕ)} {words : List (List ℕ)} {c : Cartridge} {plain : Plain} → Scripted told words c plain → (count : ℕ) → Type 0
-FirstLinesSpare {told} {words} {c} {plain} script count =
+abbrev pub FirstLinesSpare : {input : List ℕ} {words : List (List ℕ)} {c : Cartridge} {plain : Plain} → Scripted input words c plain → (count : ℕ) → Type 0
+FirstLinesSpare {input} {words} {c} {plain} script count =
     (count ≤ length script.does.items) × FirstSpare (settled plain.table_area c) plain script.does.items script.does.dids count
 
 -- Where each sector of its table's segment takes a write, and the first lines spare header and table, what is left of it stands for
 -- the plain cartridge behind some of these; or the stop came further.
-abbrev pub SomeScripted : (told : Option (List ℕ)) → (words : List (List ℕ)) → (held left : Option Cartridge) → Type 0
-SomeScripted told words held left =
-    (c : Cartridge) (plain : Plain) → held ≡ Some c → (script : Scripted told words c plain) → IsTableLive c →
+abbrev pub LinesLeave : (input : List ℕ) → (words : List (List ℕ)) → (held left : Option Cartridge) → Type 0
+LinesLeave input words held left =
+    (c : Cartridge) (plain : Plain) → held ≡ Some c → (script : Scripted input words c plain) → IsTableLive c →
     (count : ℕ) → FirstLinesSpare script count →
     CameFurther (settled plain.table_area c) script.does.items script.does.dids script.does.last count left
     ⊎ ((n : ℕ) × (n ≤ count)
@@ -122,7 +122,7 @@ SomeScripted told words held left =
 -- When it is over, whatever it answered, this was printed. Where each sector of the table's segment takes a write, and the lines that
 -- it went no further than spare header and table, all lines whose reply was written whole are among these, and at most one more; and
 -- all lines, also where some of these sectors take none, once the input was carried out, if all lines spare them.
-pub record AllAnswered {T K : Type 0} (t : tapes.Meaning T) (k : sinks.Meaning K) {told : Option (List ℕ)} {words : List (List ℕ)} {c : Cartridge} {plain : Plain} (new : T) (before behind : K) (answer : Status) (script : Scripted told words c plain) : Type 0 where
+pub record AllAnswered {T K : Type 0} (t : tapes.Meaning T) (k : sinks.Meaning K) {input : List ℕ} {words : List (List ℕ)} {c : Cartridge} {plain : Plain} (new : T) (before behind : K) (answer : Status) (script : Scripted input words c plain) : Type 0 where
   pub text : List ℕ
   pub took : k.took before text behind
   pub answered : IsTableLive c → (count : ℕ) → GoesNoFurther script.does.items script.does.dids count (length text) →

@@ -1,5 +1,5 @@
 -- The commands that take no stream and give none: the plain machine of each, and its record (this project's own).
-use Rattle.std.specs.Prelude.{◌≡◌, ℕ, [], ◌∷◌, codes, ◌⊎◌, true, false, Option, Some, None, IsSomeAnd, ◌≤◌, Bool, if◌then◌else◌, ◌*◌, List, ◌<◌, ◌^◌, length}
+use Rattle.std.specs.Prelude.{◌≡◌, ℕ, [], ◌∷◌, codes, ◌⊎◌, true, false, Option, IsSomeAnd, ◌≤◌, Bool, if◌then◌else◌, ◌*◌, List, ◌<◌, ◌^◌, length}
 use Rattle.cartridge_spec.specs.Formatting.{HasNoHeader, clearing_steps, format_steps, IsFirstDefectInFront, HasNoDefectInFront, IsFreshWith, IsLabel}
 use Rattle.cartridge_spec.specs.Header.{Header}
 use Rattle.cartridge_spec.specs.Shape.{marked_sectors}
@@ -7,7 +7,7 @@ use Rattle.cartridge_spec.specs.Table.{Entry}
 use Rattle.cartridge_spec.specs.Volumes.{WearSpares}
 use Rattle.command_spec.specs.Command.{Command, plain_command, IsUnprotected, CanBeMounted, none_of_them, Word, Number, AnyNumber, Name, dated}
 use Rattle.command_spec.specs.Lines.{blank_line, defect_line, lost_line, protected_line, upgraded_line, formatted_line, info_text, list_text}
-use Rattle.command_spec.specs.Outcome.{carried_out, CommandOutcome, refused, refused_behind, HasPlace, StepOutcome, acted, Shows, OpenOutcome}
+use Rattle.command_spec.specs.Outcome.{carried_out, CommandOutcome, HeldOutcome, refused, refused_behind, HasPlace, StepOutcome, acted, Shows, OpenOutcome}
 use Rattle.qic_base.specs.Cartridge.{IsLength, Cartridge, view_at}
 use Rattle.qic_base.specs.Step.{Renew, Spoil, Wear, SetProtected, Upgrade}
 use Rattle.qic_base.specs.Tape.{spoil_answer}
@@ -28,13 +28,11 @@ new_command segments =
 
 -- a formatted sector stays as it is
 abbrev pub DefectOutcome : (segment sector : ℕ) → Option Cartridge → CommandOutcome → Type 0
-DefectOutcome segment sector None outcome = outcome ≡ refused status.NoCartridge
-DefectOutcome segment sector (Some c) outcome =
-    (¬ (HasPlace c segment sector) × (outcome ≡ refused status.BadPlace))
+DefectOutcome segment sector = HeldOutcome (λ c outcome. (¬ (HasPlace c segment sector) × (outcome ≡ refused status.BadPlace))
     ⊎ (HasPlace c segment sector × (spoil_answer (view_at c segment sector) ≡ false)
     × (outcome ≡ refused_behind (Spoil segment sector ∷ []) status.NotBlank))
     ⊎ (HasPlace c segment sector × (spoil_answer (view_at c segment sector) ≡ true)
-    × (outcome ≡ carried_out (Spoil segment sector) (defect_line segment sector)))
+    × (outcome ≡ carried_out (Spoil segment sector) (defect_line segment sector))))
 
 abbrev pub defect_command : (segment sector : ℕ) → Command
 defect_command segment sector =
@@ -45,10 +43,8 @@ defect_command segment sector =
     }
 
 abbrev pub LoseOutcome : (segment sector : ℕ) → Option Cartridge → CommandOutcome → Type 0
-LoseOutcome segment sector None outcome = outcome ≡ refused status.NoCartridge
-LoseOutcome segment sector (Some c) outcome =
-    (¬ (HasPlace c segment sector) × (outcome ≡ refused status.BadPlace))
-    ⊎ (HasPlace c segment sector × (outcome ≡ carried_out (Wear segment sector) (lost_line segment sector)))
+LoseOutcome segment sector = HeldOutcome (λ c outcome. (¬ (HasPlace c segment sector) × (outcome ≡ refused status.BadPlace))
+    ⊎ (HasPlace c segment sector × (outcome ≡ carried_out (Wear segment sector) (lost_line segment sector))))
 
 -- A sector that is worn has to spare the header and the table, and header copies that can't be read, unless both are bare.
 abbrev pub lose_command : (segment sector : ℕ) → Command
@@ -65,7 +61,7 @@ lose_command segment sector =
 abbrev pub protect_command : Bool → Command
 protect_command on =
     record (plain_command ((Word (codes "protect") ∷ Word (if on then codes "on" else codes "off") ∷ []) ∷ [])
-    (λ held input outcome. StepOutcome (SetProtected on) (λ c. protected_line on) held outcome) (λ text. text ≡ protected_line on)) {
+    (λ held input. StepOutcome (SetProtected on) (λ c. protected_line on) held) (λ text. text ≡ protected_line on)) {
       traits = record none_of_them { cartridge = true };
       needs = λ held input. IsSomeAnd held (λ c. Unit {0});
     }
@@ -83,16 +79,13 @@ upgrade_command =
 -- Formatting with this label and this date word: the map marks just the cartridge's defects, of which none may lie in the segments
 -- 0 to 2; where one does, the segments were formatted and no header was written.
 abbrev pub FormatOutcome : (label : List ℕ) → (date : ℕ) → Option Cartridge → CommandOutcome → Type 0
-FormatOutcome label date None outcome = outcome ≡ refused status.NoCartridge
-FormatOutcome label date (Some c) outcome =
-    ((c.info.protected ≡ true) × (outcome ≡ refused status.Protected))
-    ⊎ ((c.info.protected ≡ false)
-    × ((segment : ℕ) × IsFirstDefectInFront c segment
+FormatOutcome label date = HeldOutcome (λ c outcome. ((c.info.protected ≡ true) × (outcome ≡ refused status.Protected))
+    ⊎ ((c.info.protected ≡ false) × ((segment : ℕ) × IsFirstDefectInFront c segment
     × (outcome ≡ refused_behind (clearing_steps c.info.segments_per_track) (status.DefectInFront segment))))
     ⊎ ((c.info.protected ≡ false) × HasNoDefectInFront c
     × ((words : List ℕ) × ((area : List (List ℕ)) × IsFreshWith c label date words area
     × (outcome ≡ acted (format_steps c.info.segments_per_track area)
-    (formatted_line (28 * c.info.segments_per_track) (marked_sectors words))))))
+    (formatted_line (28 * c.info.segments_per_track) (marked_sectors words)))))))
 
 -- formatting empties a cartridge, and writes its header, but for a protected one
 abbrev pub format_command : (label : List ℕ) → (date : ℕ) → Command
@@ -108,20 +101,17 @@ format_command label date =
       keeps_copies = λ c. c.info.protected ≡ true;
     }
 
-abbrev pub info_command : Command
-info_command =
-    record (plain_command ((Word (codes "info") ∷ []) ∷ [])
-    (λ held input outcome. OpenOutcome (Shows (λ header words entries. info_text header words (length entries))) held outcome)
-    (λ text. (header : Header) × ((words : List ℕ) × ((volumes : ℕ) × (text ≡ info_text header words volumes))))) {
+-- a command that prints this of the header, the words of its map and the volumes
+abbrev pub showing_command : (word : List ℕ) → (prints : Header → (words : List ℕ) → List Entry → List ℕ) → Command
+showing_command word prints =
+    record (plain_command ((Word word ∷ []) ∷ []) (λ held input. OpenOutcome (Shows prints) held)
+    (λ text. (header : Header) × ((words : List ℕ) × ((entries : List Entry) × (text ≡ prints header words entries))))) {
       traits = record none_of_them { memory = true; cartridge = true; mounts = true };
       needs = λ held input. IsSomeAnd held CanBeMounted;
     }
 
+abbrev pub info_command : Command
+info_command = showing_command (codes "info") (λ header words entries. info_text header words (length entries))
+
 abbrev pub list_command : Command
-list_command =
-    record (plain_command ((Word (codes "list") ∷ []) ∷ [])
-    (λ held input outcome. OpenOutcome (Shows (λ header words entries. list_text words entries)) held outcome)
-    (λ text. (words : List ℕ) × ((entries : List Entry) × (text ≡ list_text words entries)))) {
-      traits = record none_of_them { memory = true; cartridge = true; mounts = true };
-      needs = λ held input. IsSomeAnd held CanBeMounted;
-    }
+list_command = showing_command (codes "list") (λ header words entries. list_text words entries)

@@ -1,6 +1,6 @@
 -- What a run leaves of the plain cartridge that a cartridge stands for, with its header and its volumes, of the list that it
 -- is mounted with, and of the sectors of its table's segment (this project's own).
-use Rattle.std.specs.Prelude.{◌≡◌, ℕ, List, Option, Some, IsSomeAnd, ◌⊎◌, IfSome, ◌<◌, All, ◌≢◌, false, take}
+use Rattle.std.specs.Prelude.{sum_by, ◌≡◌, ℕ, List, Option, Some, IsSomeAnd, ◌⊎◌, IfSome, ◌<◌, All, ◌≢◌, false, take}
 use Rattle.cartridge_spec.specs.Appending.{volume_bytes, with_bytes}
 use Rattle.cartridge_spec.specs.Formatting.{IsFreshFor, fresh_plain, StandsCleanly, HasNoHeader}
 use Rattle.cartridge_spec.specs.HeaderAndTable.{IsUnformatted}
@@ -11,7 +11,7 @@ use Rattle.command_spec.specs.Command.{Command}
 use Rattle.command_spec.specs.Commands.{command_of}
 use Rattle.command_spec.specs.Headline.{ToldNow}
 use Rattle.command_spec.specs.Machine.{Spells, is_fault, fault_of}
-use Rattle.command_spec.specs.Restore.{FirstLost, pieces_in, LosesFew, bytes_held, piece_cells}
+use Rattle.command_spec.specs.Restore.{FirstLost, pieces_in, LosesFew, piece_cells}
 use Rattle.command_spec.specs.declared.status.Status.{Status}
 use Rattle.command_spec.specs.declared.words.Words.{Words}
 use Rattle.qic_base.specs.Acts.{Failing, TookFront}
@@ -49,8 +49,7 @@ pub record FormatsOrNot (words : List (List ℕ)) (held left : Option Cartridge)
       held ≡ Some c → StandsCleanly c plain →
       IsSomeAnd left (λ d. StandsCleanly d plain ⊎ IsUnformatted d ⊎ StandsEmpty Stands c label date d)
   pub bare : (label : List ℕ) (date : ℕ) (c : Cartridge) → Spells words (commands.Format label date) →
-      held ≡ Some c → HasNoHeader c →
-      IsSomeAnd left (λ d. IsUnformatted d ⊎ StandsEmpty Stands c label date d)
+      held ≡ Some c → HasNoHeader c → IsSomeAnd left (λ d. IsUnformatted d ⊎ StandsEmpty Stands c label date d)
 
 -- ---- appending
 
@@ -85,7 +84,7 @@ pub record GivesBack {K : Type 0} (k : sinks.Meaning K) (c : Cartridge) (plain :
       (answer ≡ status.Done) × k.took before (volume_bytes plain.words volume) behind
   pub lost : (first : FirstLost c plain.words (pieces_in plain volume)) → is_fault answer ≡ false → answer ≢ status.NoMemory →
       (answer ≡ status.Lost first.piece.segment (unreadable_count (piece_cells c plain.words first.piece)))
-      × k.took before (take (bytes_held first.front) (volume_bytes plain.words volume)) behind
+      × k.took before (take (sum_by (λ piece. piece.count) first.front) (volume_bytes plain.words volume)) behind
   pub broken : (failing : Failing) → answer ≡ fault_of failing → TookFront k before behind (volume_bytes plain.words volume)
 
 -- ---- when a run is over

@@ -7,31 +7,27 @@ use Rattle.drive_spec.specs.declared.deck.Motion.TheVariants.{Stopped}
 use Rattle.drive_spec.specs.declared.under_way.UnderWay.{UnderWay}
 use Rattle.drive_spec.specs.declared.under_way.UnderWay.TheVariants.{Nothing}
 
+-- what a typed drive holds (cartridge, mode, place, motion, error word and format segments), the pulses counted since the
+-- last gap, the level that the last train left, and what is under way: a report's levels left to show, a parameter awaited
+-- with what came of it, or nothing
 pub record Record : Type 0 where
-  -- the part that a typed drive holds: cartridge, mode, place, motion, error word and format segments
   pub deck : Deck
-  -- the pulses counted since the last gap
   pub train : ℕ
-  -- the level that the last train left
   pub line : Bool
-  -- a report's levels left to show, a parameter awaited with what came of it, or nothing
   pub under_way : UnderWay
 
 -- after the cartridge was put in
 abbrev pub power_on : Option TapeInfo → Record
-power_on cartridge = record {
-  deck = record {
-    cartridge = cartridge;
-    mode = Primary;
-    at_load_point = true;
-    track = 0;
-    offset = 0;
-    motion = Stopped;
-    fresh = is_some cartridge;
-    error = 0;
-    format_segments = 0;
-  };
-  train = 0;
-  line = false;
-  under_way = Nothing;
-}
+power_on cartridge =
+    let deck : Deck = record {
+      cartridge = cartridge;
+      mode = Primary;
+      at_load_point = true;
+      track = 0;
+      offset = 0;
+      motion = Stopped;
+      fresh = is_some cartridge;
+      error = 0;
+      format_segments = 0;
+    } in
+    record { deck = deck; train = 0; line = false; under_way = Nothing }

@@ -1,6 +1,6 @@
 //! A drive in whatever state it is.
 
-ghost use Rattle.std.specs.Prelude.{◌≡◌, ℕ, [], ◌∷◌, IfErr, IfOk, IsSome, true};
+ghost use Rattle.std.specs.Prelude.{◌≡◌, ℕ, [], ◌∷◌, IfOk, true};
 ghost use Rattle.qic_base.specs.Cartridge.{view_at};
 ghost use Rattle.qic_base.specs.Step.{Wear, Spoil};
 ghost use Rattle.qic_base.specs.TapeCalls.{Does, Tells, IsPlaceOf};
@@ -11,17 +11,18 @@ ghost use Rattle.drive_spec.specs.Terms.{is_protected, run_on};
 ghost use Rattle.drive_spec.specs.Effects.{ticked, reset};
 ghost use Rattle.drive_states.specs.AnyDrive.{drive_of, state_of};
 ghost use Rattle.drive_states.specs.Errors.{with_error};
-ghost use Rattle.drive_states.specs.Hand.{IsUpgraded, FailsToUpgrade};
 ghost use Rattle.drive_states.specs.Reach.{reads_in, Reaches, ReachesNone, IsFormatting, Finds, Writes, Formats};
 ghost use Rattle.drive_states.specs.Sound.{IsSound};
-ghost use Rattle.drive_states.specs.Typed.{IsIn};
+ghost use Rattle.drive_states.specs.Typed.{IsIn, is_seeking};
 ghost use Rattle.drive_states.specs.Unit.{Knows};
 
+use crate::deck::is_seeking;
 use crate::drive::{Drive, Ticked};
 use crate::fault::FdcFault;
 use crate::states::{Format, LoadPoint, Primary, Seeking, Verify};
 use drive_spec::Deck;
 use qic_base::{Tape, TapeFailed};
+use qic117_commands::Mode;
 use tape_geometry::FloppyAddr;
 
 /// A typed drive.
@@ -53,19 +54,43 @@ macro_rules! in_each_state {
     };
 }
 
-/// Upgrades the cartridge of the drive of each state, which is in that state again.
-macro_rules! upgraded_in {
-    ($any:expr, $($state:ident,)*) => {
-        match $any {
-            $(AnyDrive::$state(drive) => match drive.upgrade() {
-                Ok((drive, version)) => Ok((AnyDrive::$state(drive), version)),
-                Err(tape) => Err(tape),
-            },)*
-        }
-    };
-}
-
 impl<T: Tape> AnyDrive<T> {
+    /// The drive of a deck and a tape, in the state that the deck tells.
+    pub fn of(deck: Deck, tape: T) -> AnyDrive<T>
+        requires sound { IsSound deck }
+        requires known { Knows deck.cartridge (T.means.size tape) }
+        ensures { drive_of result ≡ record { deck = deck; tape = tape } }
+    {
+        if is_seeking(&deck) {
+            return AnyDrive::seeking(deck, tape);
+        }
+        if deck.at_load_point {
+            return AnyDrive::LoadPoint(Drive::of(deck, tape));
+        }
+        match deck.mode {
+            Mode::Primary => AnyDrive::Primary(Drive::of(deck, tape)),
+            Mode::Format => AnyDrive::Format(Drive::of(deck, tape)),
+            Mode::Verify => AnyDrive::Verify(Drive::of(deck, tape)),
+        }
+    }
+
+    /// The same where the deck seeks.
+    fn seeking(deck: Deck, tape: T) -> AnyDrive<T>
+        requires sound { IsSound deck }
+        requires known { Knows deck.cartridge (T.means.size tape) }
+        requires seeks { is_seeking deck.motion ≡ true }
+        ensures { drive_of result ≡ record { deck = deck; tape = tape } }
+    {
+        if deck.at_load_point {
+            return AnyDrive::SeekingLoadPoint(Drive::of(deck, tape));
+        }
+        match deck.mode {
+            Mode::Primary => AnyDrive::SeekingPrimary(Drive::of(deck, tape)),
+            Mode::Format => AnyDrive::SeekingFormat(Drive::of(deck, tape)),
+            Mode::Verify => AnyDrive::SeekingVerify(Drive::of(deck, tape)),
+        }
+    }
+
     /// What the drive is in.
     pub fn deck(&self) -> Deck
         ensures deck { result ≡ (drive_of self.now).deck }
@@ -88,11 +113,21 @@ impl<T: Tape> AnyDrive<T> {
         let _ = self.deck();
     }
 
+    /// The deck, and the tape.
+    pub fn into_parts(self) -> (Deck, T)
+        ensures deck { result.0 ≡ (drive_of self).deck }
+        ensures tape { result.1 ≡ (drive_of self).tape }
+        ensures sound { IsSound (drive_of self).deck }
+        ensures known { Knows (drive_of self).deck.cartridge (T.means.size (drive_of self).tape) }
+    {
+        in_each_state!(self, drive => drive.into_parts())
+    }
+
     /// The tape.
     pub fn into_tape(self) -> T
         ensures { result ≡ (drive_of self).tape }
     {
-        in_each_state!(self, drive => drive.into_parts().1)
+        self.into_parts().1
     }
 
     /// Sets the error word and the new cartridge flag.
@@ -225,27 +260,5 @@ impl<T: Tape> AnyDrive<T> {
         ensures size { T.means.size (drive_of self.new).tape ≡ T.means.size (drive_of self.old).tape }
     {
         in_each_state!(self, drive => drive.spoil(segment, sector))
-    }
-
-    /// Has the cartridge kept in the newest layout. Gives back the drive, and the version of the layout before; or the
-    /// tape, which failed.
-    pub fn upgrade(self) -> Result<(AnyDrive<T>, u8), T>
-        requires { IsSome (T.means.size (drive_of self).tape) }
-        ensures deck { IfOk result (λ upgraded. (drive_of upgraded.0).deck ≡ (drive_of self).deck) }
-        ensures tape { IfOk result (λ upgraded.
-            IsUpgraded T.means (drive_of self).tape (drive_of upgraded.0).tape upgraded.1) }
-        ensures failed { IfErr result (λ tape. FailsToUpgrade T.means (drive_of self).tape tape) }
-    {
-        upgraded_in!(
-            self,
-            LoadPoint,
-            Primary,
-            Format,
-            Verify,
-            SeekingLoadPoint,
-            SeekingPrimary,
-            SeekingFormat,
-            SeekingVerify,
-        )
     }
 }

@@ -6,6 +6,7 @@ ghost use Rattle.drive_spec.specs.Terms.{refusal_of, is_protected, is_referenced
 ghost use Rattle.drive_spec.specs.Effects.{ends_early};
 ghost use Rattle.drive_states.specs.Reach.{segment_of};
 ghost use Rattle.drive_states.specs.Sound.{IsSound};
+ghost use Rattle.drive_states.specs.Typed.{is_seeking};
 
 use drive_spec::{Deck, Motion};
 use qic_base::TapeInfo;
@@ -72,6 +73,13 @@ pub(crate) fn is_stopped(deck: &Deck) -> bool
     ensures { result ≡ is_stopped deck.now.motion }
 {
     matches!(deck.motion, Motion::Stopped)
+}
+
+/// The drive is on the way to a place.
+pub(crate) fn is_seeking(deck: &Deck) -> bool
+    ensures { result ≡ is_seeking deck.now.motion }
+{
+    matches!(deck.motion, Motion::Seeking { .. })
 }
 
 /// The tape runs past the head.

@@ -1,6 +1,6 @@
 //! The typed drive.
 
-ghost use Rattle.std.specs.Prelude.{◌≡◌, [], ◌∷◌, IfErr, IfOk, IsSome, true};
+ghost use Rattle.std.specs.Prelude.{◌≡◌, [], ◌∷◌, IfOk, true};
 ghost use Rattle.qic_base.specs.Cartridge.{view_at};
 ghost use Rattle.qic_base.specs.Step.{Wear, Spoil};
 ghost use Rattle.qic_base.specs.TapeCalls.{Does, Tells, IsPlaceOf};
@@ -8,7 +8,6 @@ ghost use Rattle.qic_base.specs.Tape.{spoil_answer};
 ghost use Rattle.drive_spec.specs.Deck.{is_streaming};
 ghost use Rattle.drive_spec.specs.Terms.{run_on};
 ghost use Rattle.drive_states.specs.Errors.{with_error};
-ghost use Rattle.drive_states.specs.Hand.{IsUpgraded, FailsToUpgrade};
 ghost use Rattle.drive_states.specs.Sound.{IsSound};
 ghost use Rattle.drive_states.specs.Typed.{IsIn};
 ghost use Rattle.drive_states.specs.Unit.{Knows};
@@ -148,21 +147,5 @@ impl<S: State, T: Tape> Drive<S, T> {
         ensures size { T.means.size self.new.tape ≡ T.means.size self.old.tape }
     {
         self.tape.spoil(segment, sector)
-    }
-
-    /// Has the cartridge kept in the newest layout. Gives back the drive, and the version of the layout before; or the
-    /// tape, which failed.
-    pub(crate) fn upgrade(self) -> Result<(Drive<S, T>, u8), T>
-        requires { IsSome (T.means.size self.tape) }
-        ensures deck { IfOk result (λ upgraded. upgraded.0.deck ≡ self.deck) }
-        ensures tape { IfOk result (λ upgraded.
-            IsUpgraded T.means self.tape upgraded.0.tape upgraded.1) }
-        ensures failed { IfErr result (λ tape. FailsToUpgrade T.means self.tape tape) }
-    {
-        let (deck, mut tape) = self.into_parts();
-        match tape.upgrade() {
-            Ok(version) => Ok((Drive::of(deck, tape), version)),
-            Err(TapeFailed) => Err(tape),
-        }
     }
 }

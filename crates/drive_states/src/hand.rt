@@ -92,9 +92,10 @@ fn upgraded<T: Tape>(drive: AnyDrive<T>, _: ()) -> (AnyDrive<T>, Result<u8, Tape
     ensures failed { OnErr result.1
         (FailsToUpgrade T.means (drive_of drive).tape (drive_of result.0).tape) }
 {
-    match drive.upgrade() {
-        Ok((drive, version)) => (drive, Ok(version)),
-        Err(tape) => (empty(tape), Err(TapeFailed)),
+    let (deck, mut tape) = drive.into_parts();
+    match tape.upgrade() {
+        Ok(version) => (AnyDrive::of(deck, tape), Ok(version)),
+        Err(TapeFailed) => (empty(tape), Err(TapeFailed)),
     }
 }
 

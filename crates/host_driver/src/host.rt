@@ -46,13 +46,13 @@ impl Host {
             T.means.size unit.new.tape ≡ T.means.size unit.old.tape }
     {
         unit.insert()?;
-        let word = read_report(unit, Report::Status)?;
+        let word = read_report(unit, Report::Status);
         let status = StatusBits::from_bits_retain(word as u8);
         if !status.contains(StatusBits::PRESENT) {
             return Err(HostFault::NoCartridge);
         }
-        read_report(unit, Report::Error)?;
-        let segments_per_track = read_report(unit, Report::FormatSegments)?;
+        read_report(unit, Report::Error);
+        let segments_per_track = read_report(unit, Report::FormatSegments);
         let Ok(geometry) = Geometry::new(segments_per_track) else {
             unreachable!("a cartridge has 3 segments per track or more, up to the greatest number")
         };
@@ -128,5 +128,20 @@ impl Host {
             return Err(HostFault::Tape);
         }
         Ok(())
+    }
+
+    /// Sends a train that leaves the cartridge as it is, and a gap.
+    pub(crate) fn tell<T: Tape>(&mut self, unit: &mut Unit<T>, pulses: u8)
+        requires fits { Fits T.means self.old unit.old }
+        requires taken { TakesTrain unit.old.drive pulses }
+        requires reads { train_steps unit.old.drive pulses ≡ [] }
+        ensures row { unit.new.drive ≡ after_train unit.old.drive pulses }
+        ensures tape { unit.new.tape ≡ unit.old.tape }
+        ensures fits { Fits T.means self.new unit.new }
+    {
+        match self.send(unit, pulses) {
+            Ok(()) => (),
+            Err(_) => unreachable!("the tape has nothing to fail at"),
+        }
     }
 }

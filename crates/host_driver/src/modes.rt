@@ -1,6 +1,6 @@
 //! Modes, and the reference bursts.
 
-ghost use Rattle.std.specs.Prelude.{◌≡◌, ◌↔◌, [], ◌∷◌, None, true, false, IsOk, OnOk, OnErr, IsOkUnless};
+ghost use Rattle.std.specs.Prelude.{◌≡◌, ◌↔◌, [], ◌∷◌, None, true, false, OnOk, OnErr, IsOkUnless};
 ghost use Rattle.qic_base.specs.Step.{SetReferenced};
 ghost use Rattle.qic_base.specs.TapeCalls.{Does};
 ghost use Rattle.qic117_commands.specs.Views.{is_format};
@@ -41,18 +41,19 @@ impl Host {
             return Err(HostFault::Protected);
         }
         if refusal(&self.deck, entry_of(mode)).is_none() {
-            return self.enter_at_once(unit, mode);
+            self.enter_at_once(unit, mode);
+            return Ok(());
         }
-        self.enter_at_once(unit, Mode::Primary)?;
-        self.enter_at_once(unit, mode)
+        self.enter_at_once(unit, Mode::Primary);
+        self.enter_at_once(unit, mode);
+        Ok(())
     }
 
     /// Has the drive enter a mode from the present one, where no row refuses that.
-    fn enter_at_once<T: Tape>(&mut self, unit: &mut Unit<T>, mode: Mode) -> Result<(), HostFault>
+    pub(crate) fn enter_at_once<T: Tape>(&mut self, unit: &mut Unit<T>, mode: Mode)
         requires ready { IsReady T.means self.old unit.old }
         requires stopped { is_stopped unit.old.drive.deck.motion ≡ true }
         requires taken { refusal_of unit.old.drive.deck (entry_of mode) ≡ None }
-        ensures ok { IsOk result }
         ensures deck { unit.new.drive.deck ≡ accepted (entry_of mode) unit.old.drive.deck }
         ensures mode { unit.new.drive.deck.mode ≡ mode }
         ensures place { StandsAt unit.old.drive.deck.track unit.old.drive.deck.offset
@@ -61,7 +62,7 @@ impl Host {
         ensures tape { unit.new.tape ≡ unit.old.tape }
         ensures ready { IsReady T.means self.new unit.new }
     {
-        self.command(unit, entry_of(mode))
+        self.command(unit, entry_of(mode));
     }
 
     /// Has the drive write the reference bursts, in Format mode where the tape stands, and waits for it. After a
@@ -85,7 +86,7 @@ impl Host {
         ensures rest { OnOk result (IsAtRest unit.new.drive) }
     {
         self.send(unit, Command::WriteReference.number())?;
-        self.wait_ready(unit)?;
+        self.wait(unit);
         Ok(())
     }
 }

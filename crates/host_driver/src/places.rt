@@ -34,10 +34,11 @@ impl Host {
     {
         let track = self.geometry.track_of(segment);
         let offset = self.geometry.logical_offset(segment);
-        self.stand(unit)?;
-        self.align_track(unit, track)?;
-        self.align_offset(unit, offset)?;
-        self.forward(unit)
+        self.stand(unit);
+        self.align_track(unit, track);
+        self.align_offset(unit, offset);
+        self.forward(unit);
+        Ok(())
     }
 
     /// Has the tape that streams run on to the next segment of its track, or behind the last; one that stands stays.
@@ -50,7 +51,8 @@ impl Host {
         ensures tape { unit.new.tape ≡ unit.old.tape }
         ensures keeps { Keeps T.means self.new unit.old unit.new }
     {
-        self.send(unit, 0)
+        self.tell(unit, 0);
+        Ok(())
     }
 
     /// Stops the tape; the segment in which it streamed comes next.
@@ -61,74 +63,72 @@ impl Host {
         ensures tape { unit.new.tape ≡ unit.old.tape }
         ensures keeps { Keeps T.means self.new unit.old unit.new }
     {
-        self.command(unit, Command::StopTape)
+        self.command(unit, Command::StopTape);
+        Ok(())
     }
 
     /// Stops the tape where it streams.
-    fn stand<T: Tape>(&mut self, unit: &mut Unit<T>) -> Result<(), HostFault>
+    fn stand<T: Tape>(&mut self, unit: &mut Unit<T>)
         requires ready { IsReady T.means self.old unit.old }
-        ensures ok { IsOk result }
         ensures deck { unit.new.drive.deck ≡ ready_deck unit.old.drive.deck }
         ensures tape { unit.new.tape ≡ unit.old.tape }
         ensures ready { IsReady T.means self.new unit.new }
     {
-        if is_streaming(&self.deck) {
-            self.halt(unit)?;
+        if !is_streaming(&self.deck) {
+            return;
         }
-        Ok(())
+        self.command(unit, Command::StopTape);
     }
 
     /// Has the head go to a track, where it isn't there.
-    fn align_track<T: Tape>(&mut self, unit: &mut Unit<T>, track: u8) -> Result<(), HostFault>
+    fn align_track<T: Tape>(&mut self, unit: &mut Unit<T>, track: u8)
         requires ready { IsReady T.means self.old unit.old }
         requires stopped { is_stopped unit.old.drive.deck.motion ≡ true }
         requires referenced { is_referenced unit.old.drive.deck ≡ true }
         requires track { track < 28 }
-        ensures ok { IsOk result }
         ensures place { StandsAt track (sought track unit.old.drive.deck).offset
             unit.new.drive.deck }
         ensures same { KeepsMode unit.old.drive.deck unit.new.drive.deck }
         ensures tape { unit.new.tape ≡ unit.old.tape }
         ensures ready { IsReady T.means self.new unit.new }
     {
-        if self.deck.track != track {
-            self.seek_track(unit, track)?;
+        if self.deck.track == track {
+            return;
         }
-        Ok(())
+        self.seek_track(unit, track);
     }
 
     /// Has the tape skip to an offset on its track, where it doesn't stand there. Format mode has no skips: there the
     /// drive does it in Primary mode.
-    fn align_offset<T: Tape>(&mut self, unit: &mut Unit<T>, offset: u16) -> Result<(), HostFault>
+    fn align_offset<T: Tape>(&mut self, unit: &mut Unit<T>, offset: u16)
         requires ready { IsReady T.means self.old unit.old }
         requires stopped { is_stopped unit.old.drive.deck.motion ≡ true }
         requires referenced { is_referenced unit.old.drive.deck ≡ true }
         requires within { offset < segments_per_track unit.old.drive.deck }
-        ensures ok { IsOk result }
         ensures place { StandsAt unit.old.drive.deck.track offset unit.new.drive.deck }
         ensures same { KeepsMode unit.old.drive.deck unit.new.drive.deck }
         ensures tape { unit.new.tape ≡ unit.old.tape }
         ensures ready { IsReady T.means self.new unit.new }
     {
         if self.deck.offset == offset {
-            return Ok(());
+            return;
         }
         if self.deck.mode != Mode::Format {
-            return self.skip_to(unit, offset);
+            self.skip_to(unit, offset);
+            return;
         }
-        self.enter(unit, Mode::Primary)?;
-        self.skip_to(unit, offset)?;
-        self.enter(unit, Mode::Format)
+        self.enter_at_once(unit, Mode::Primary);
+        self.skip_to(unit, offset);
+        self.enter_at_once(unit, Mode::Format);
     }
 
     /// Has the tape skip to an offset on its track.
-    fn skip_to<T: Tape>(&mut self, unit: &mut Unit<T>, offset: u16) -> Result<(), HostFault>
+    fn skip_to<T: Tape>(&mut self, unit: &mut Unit<T>, offset: u16)
         requires ready { IsReady T.means self.old unit.old }
         requires stopped { is_stopped unit.old.drive.deck.motion ≡ true }
         requires referenced { is_referenced unit.old.drive.deck ≡ true }
         requires skips { is_format unit.old.drive.deck.mode ≡ false }
         requires within { offset < segments_per_track unit.old.drive.deck }
-        ensures ok { IsOk result }
         ensures place { StandsAt unit.old.drive.deck.track offset unit.new.drive.deck }
         ensures same { KeepsMode unit.old.drive.deck unit.new.drive.deck }
         ensures tape { unit.new.tape ≡ unit.old.tape }
@@ -136,68 +136,58 @@ impl Host {
     {
         let here = self.deck.offset;
         if here < offset {
-            self.skip(unit, true, (offset - here) as u8)
+            self.skip(unit, true, (offset - here) as u8);
         } else {
-            self.skip(unit, false, (here - offset) as u8)
+            self.skip(unit, false, (here - offset) as u8);
         }
     }
 
     /// Has the tape skip so many segments of its track.
-    fn skip<T: Tape>(
-        &mut self,
-        unit: &mut Unit<T>,
-        forward: bool,
-        count: u8,
-    ) -> Result<(), HostFault>
+    fn skip<T: Tape>(&mut self, unit: &mut Unit<T>, forward: bool, count: u8)
         requires ready { IsReady T.means self.old unit.old }
         requires stopped { is_stopped unit.old.drive.deck.motion ≡ true }
         requires referenced { is_referenced unit.old.drive.deck ≡ true }
         requires skips { is_format unit.old.drive.deck.mode ≡ false }
-        ensures ok { IsOk result }
         ensures deck { unit.new.drive.deck
             ≡ ready_deck (skipped forward count unit.old.drive.deck) }
         ensures tape { unit.new.tape ≡ unit.old.tape }
         ensures ready { IsReady T.means self.new unit.new }
     {
-        self.command(unit, skip_command(forward))?;
-        self.give(unit, count % 16)?;
-        self.give(unit, count / 16)?;
-        self.wait_ready(unit)?;
-        Ok(())
+        self.command(unit, skip_command(forward));
+        self.give(unit, count % 16);
+        self.give(unit, count / 16);
+        self.wait(unit);
     }
 
     /// Has the head go to a track.
-    fn seek_track<T: Tape>(&mut self, unit: &mut Unit<T>, track: u8) -> Result<(), HostFault>
+    fn seek_track<T: Tape>(&mut self, unit: &mut Unit<T>, track: u8)
         requires ready { IsReady T.means self.old unit.old }
         requires stopped { is_stopped unit.old.drive.deck.motion ≡ true }
         requires referenced { is_referenced unit.old.drive.deck ≡ true }
         requires track { track < 28 }
-        ensures ok { IsOk result }
         ensures deck { unit.new.drive.deck ≡ ready_deck (sought track unit.old.drive.deck) }
         ensures tape { unit.new.tape ≡ unit.old.tape }
         ensures ready { IsReady T.means self.new unit.new }
     {
-        self.command(unit, Command::SeekTrack)?;
-        self.give(unit, track)?;
-        self.wait_ready(unit)?;
-        Ok(())
+        self.command(unit, Command::SeekTrack);
+        self.give(unit, track);
+        self.wait(unit);
     }
 
     /// Has the tape stream from before a segment of its track.
-    fn forward<T: Tape>(&mut self, unit: &mut Unit<T>) -> Result<(), HostFault>
+    fn forward<T: Tape>(&mut self, unit: &mut Unit<T>)
         requires ready { IsReady T.means self.old unit.old }
         requires stopped { is_stopped unit.old.drive.deck.motion ≡ true }
         requires referenced { is_referenced unit.old.drive.deck ≡ true }
         requires within { unit.old.drive.deck.offset < segments_per_track unit.old.drive.deck }
         requires first { is_format unit.old.drive.deck.mode ≡ true →
             unit.old.drive.deck.offset ≡ 0 }
-        ensures ok { IsOk result }
         ensures place { StreamsAt (segment_of unit.old.drive.deck) 0 unit.new.drive.deck }
         ensures same { KeepsMode unit.old.drive.deck unit.new.drive.deck }
         ensures tape { unit.new.tape ≡ unit.old.tape }
         ensures ready { IsReady T.means self.new unit.new }
     {
-        self.command(unit, Command::LogicalForward)
+        self.command(unit, Command::LogicalForward);
     }
 }
 

@@ -19,7 +19,7 @@ use crate::host::Host;
 use crate::report::Report;
 use bitflags::Flags;
 use drive_states::{Motion, Unit};
-use qic_base::{Tape, TapeFailed};
+use qic_base::Tape;
 use qic117_commands::StatusBits;
 
 impl Host {
@@ -35,7 +35,7 @@ impl Host {
         ensures host { self.new ≡ self.old }
         ensures ready { IsReady T.means self.new unit.new }
     {
-        Ok(read_report(unit, kind)?)
+        Ok(read_report(unit, kind))
     }
 
     /// Waits until the drive is ready: the number of reports of the status until one shows that, 1 to 17.
@@ -49,26 +49,40 @@ impl Host {
         ensures tape { unit.new.tape ≡ unit.old.tape }
         ensures ready { IsReady T.means self.new unit.new }
     {
+        Ok(self.wait(unit))
+    }
+
+    /// Waits until the drive is ready, and counts the reports, of which none fails.
+    pub(crate) fn wait<T: Tape>(&mut self, unit: &mut Unit<T>) -> u8
+        requires fits { Fits T.means self.old unit.old }
+        requires idle { unit.old.drive.under_way ≡ Nothing }
+        requires still { is_streaming unit.old.drive.deck.motion ≡ false }
+        ensures reports { result ≡ reports_until_ready unit.old.drive.deck.motion }
+        ensures most { result ≤ 17 }
+        ensures deck { unit.new.drive.deck ≡ ready_deck unit.old.drive.deck }
+        ensures tape { unit.new.tape ≡ unit.old.tape }
+        ensures ready { IsReady T.means self.new unit.new }
+    {
         let mut before = 0;
-        while !is_ready(unit)? {
+        while !is_ready(unit) {
             before += 1;
         }
         self.deck.motion = Motion::Stopped;
-        Ok(before + 1)
+        before + 1
     }
 }
 
 /// Whether the drive is ready, by a report of its status.
-fn is_ready<T: Tape>(unit: &mut Unit<T>) -> Result<bool, TapeFailed>
+fn is_ready<T: Tape>(unit: &mut Unit<T>) -> bool
     requires no_pulse { unit.old.drive.train ≡ 0 }
     requires idle { unit.old.drive.under_way ≡ Nothing }
     requires no_error { unit.old.drive.deck.error ≡ 0 }
     requires generates { GeneratesAll unit.old.drive.deck }
     requires sound { IsSoundUnit T.means unit.old }
-    ensures ready { result ≡ Ok (is_stopped (ticked unit.old.drive.deck).motion) }
+    ensures ready { result ≡ is_stopped (ticked unit.old.drive.deck).motion }
     ensures drive { unit.new ≡ record unit.old { drive = after_report Status unit.old.drive } }
     ensures sound { IsSoundUnit T.means unit.new }
 {
-    let status = read_report(unit, Report::Status)?;
-    Ok(StatusBits::from_bits_retain(status as u8).contains(StatusBits::STOPPED))
+    let status = read_report(unit, Report::Status);
+    StatusBits::from_bits_retain(status as u8).contains(StatusBits::STOPPED)
 }

@@ -2,6 +2,7 @@
 
 use cart_image::ImageTape;
 use drive_states::Unit;
+use qic_base::Tape;
 use read_ahead::{MOST, ReadAhead};
 use std::fs::{File, Files};
 use tape_files::{FileDisk, NoImage, open_image};
@@ -22,3 +23,12 @@ pub fn open_unit<'a, R: Files<File = File> + Alloc>(
     let image = open_image(files, path)?;
     Ok(Unit::new(ImageTape::open(ReadAhead::new(image, room))))
 }
+
+/// Drops a unit: its image is closed, and unlocked. What drops one by itself has the drop of its tape, layer by layer, in
+/// each state of the drive once more, so the programs call this.
+pub fn close_unit(unit: ImageUnit<'_>) {
+    drop_unit(unit);
+}
+
+/// Drops a unit whose tape is any one, so that its layers are not looked into here.
+fn drop_unit<T: Tape + Drop>(_unit: Unit<T>) {}

@@ -13,25 +13,27 @@ use Rattle.cartridge_spec.specs.Table.{Entry}
 use Rattle.drive_spec.specs.Terms.{is_protected}
 use Rattle.drive_states.specs.Unit.{UnitView}
 use Rattle.cartridge_spec.specs.Settling.{settling_steps}
-use Rattle.command_spec.specs.Make.{made_length, made_bytes, AppendMade, made_name, Answer, Done, Protected, TableMismatch, Full, Lost, StepDoes, Runs, IsTableLost, made_answer}
+use Rattle.command_spec.specs.Make.{made_length, made_bytes, AppendMade, made_name, StepDoes, Runs, IsTableLost, made_answer}
 use Rattle.tape_script.specs.Generator.{made_means}
 use Rattle.volume_store.specs.declared.appended.Appended.{Appended}
-use Rattle.volume_store.specs.declared.fault.StoreFault.{StoreFault}
 use Rattle.command_spec.specs.Append.{Taking, Fits, TooLong, TooShort, taking, room_in, has_promised_room, append_acts}
 use Rattle.command_laws.specs.CommandTerms.{kept_in, entry_for, silently, made_entry, made_acts, MayAppend}
 use Rattle.volume_store.specs.Appending.{kept_by, AppendRan, AppendCut, TableRefused, AppendEnds, CutUnread, FaultsUnread}
 use Rattle.volume_store.specs.Mounting.{StoreView, StoreFits}
-use Rattle.volume_store.proofs.Copies.{IsLearnt, told_learnt, tells_two}
 use Rattle.made_volumes.specs.declared.fault.MakeFault.{MakeFault}
 use Rattle.made_volumes.specs.Faults.{is_of_step, fault_of}
 use Rattle.made_volumes.specs.Runs.{HasRun, RunCut, RunEnds}
 use Rattle.command_laws.proofs.MadeMachineLaws.{run_of, done_of, never_lost}
 use Rattle.command_laws.proofs.MadeMadeBytes.{length-made_bytes}
 use Rattle.command_laws.proofs.MadeMayLaws.{may_of, may_append}
+use Rattle.command_spec.specs.declared.status.Status.{Status}
+use Rattle.cartridge_front.specs.declared.fault.StoreFault.{StoreFault}
+use Rattle.cartridge_front.proofs.Copies.{IsLearnt, told_learnt, tells_two}
 use Rattle.qic_base.specs.Tape as tapes
 use Rattle.qic_base.specs.TapeCalls as tape_calls
-use Rattle.volume_store.specs.declared.fault.StoreFault.TheVariants as store
+use Rattle.cartridge_front.specs.declared.fault.StoreFault.TheVariants as store
 use Rattle.made_volumes.specs.declared.fault.MakeFault.TheVariants as fault
+use Rattle.command_spec.specs.declared.status.Status.TheVariants as status
 
 -- ---- the mark
 
@@ -53,16 +55,16 @@ not_marked P false means never = refl
 abbrev by_room : (have n : ℕ) (bytes : List ℕ) → Bool → Taking
 by_room have n bytes room = cond room (cond (nat_lt (length bytes) n) (TooShort n (length bytes)) (Fits (take n bytes))) (TooLong n have)
 
-abbrev by_promise : ℕ → ℕ → Bool → Answer
-by_promise have n room = cond room Done (Full n have)
+abbrev by_promise : ℕ → ℕ → Bool → Status
+by_promise have n room = cond room status.Done (status.Full n have)
 
 -- where there are as many as promised
-answer_fits : (have n : ℕ) (bytes some : List ℕ) (room : Bool) → by_room have n bytes room ≡ Fits some → by_promise have n room ≡ Done
+answer_fits : (have n : ℕ) (bytes some : List ℕ) (room : Bool) → by_room have n bytes room ≡ Fits some → by_promise have n room ≡ status.Done
 answer_fits have n bytes some true is = refl
 answer_fits have n bytes some false is = absurd (cc)
 
 answer_long : (have n : ℕ) (bytes : List ℕ) (need there : ℕ) (room : Bool) → length bytes ≡ n → by_room have n bytes room ≡ TooLong need there →
-    by_promise have n room ≡ Full need there
+    by_promise have n room ≡ status.Full need there
 answer_long have n bytes need there true long is = absurd (by_length (nat_lt (length bytes) n) is)
   where
     by_length : (less : Bool) → cond less (TooShort n (length bytes)) (Fits (take n bytes)) ≡ TooLong need there → ⊥
@@ -125,7 +127,7 @@ module _ {T : Type 0} (t : tapes.Meaning T) (seed volume : ℕ) (before : StoreV
   around_went acts went = record { did = went.did; wrote = went.wrote; source_later = omega arith }
 
   -- the acts went up to this answer
-  went_so : (acts : List Act) (answer : Answer) → Acts acts → MayAppend seed words entries volume answer →
+  went_so : (acts : List Act) (answer : Status) → Acts acts → MayAppend seed words entries volume answer →
       tape_calls.Tells t a (λ c. StepDoes seed c words entries (AppendMade volume) acts answer) →
       HasRun t no_sink seed words entries (AppendMade volume ∷ []) (around a tt) (around b tt) answer
   went_so acts answer went may told = record {
@@ -143,7 +145,7 @@ module _ {T : Type 0} (t : tapes.Meaning T) (seed volume : ℕ) (before : StoreV
       ap (λ (steps : List Step). append_acts (kept_by before table steps) (made_name volume) 0 promise silently input) settles
       ∙ ap (λ (xs : List ℕ). append_acts (kept_by before table (settling_steps table c)) (made_name volume) 0 promise silently xs) is
 
-  ran_so : (became : Taking) (answer : Answer) → is_protected u.drive.deck ≡ false →
+  ran_so : (became : Taking) (answer : Status) → is_protected u.drive.deck ≡ false →
       AppendRan t made_means (reading a bytes) (reading b rest) before (made_name volume) 0 promise became →
       made_answer seed words entries volume ≡ answer → MayAppend seed words entries volume answer →
       HasRun t no_sink seed words entries (AppendMade volume ∷ []) (around a tt) (around b tt) answer
@@ -167,7 +169,7 @@ module _ {T : Type 0} (t : tapes.Meaning T) (seed volume : ℕ) (before : StoreV
       by_room have (made_length seed volume) bytes (has_promised_room have promise) ≡ became
   became_is became ran = ap (λ (xs : List ℕ). taking have promise xs) (sym ran.is_told) ∙ ran.took
 
-  refused_so : (Says : Cartridge → Type 0) (answer : Answer) → is_protected u.drive.deck ≡ false →
+  refused_so : (Says : Cartridge → Type 0) (answer : Status) → is_protected u.drive.deck ≡ false →
       TableRefused t made_means (reading a bytes) (reading b rest) Says → MayAppend seed words entries volume answer →
       ((c : Cartridge) (acts : List Act) → acts ≡ [] → Says c → IsTableLost c acts answer) →
       HasRun t no_sink seed words entries (AppendMade volume ∷ []) (around a tt) (around b tt) answer
@@ -202,7 +204,7 @@ module _ {T : Type 0} (t : tapes.Meaning T) (seed volume : ℕ) (before : StoreV
       RunCut t no_sink seed words entries (AppendMade volume ∷ []) (around a tt) (around b tt) TapeFails
   cut_so free cut unread = record {
     told = tells_two t a (λ c. (c.info.protected ≡ false) × CutReading cut.input c) CutBefore
-        (λ c. (acts : List Act) (answer : Answer) → Runs seed c words entries (AppendMade volume ∷ []) acts answer →
+        (λ c. (acts : List Act) (answer : Status) → Runs seed c words entries (AppendMade volume ∷ []) acts answer →
         Cut t no_source no_sink (around a tt) (around b tt) acts TapeFails)
         (λ c known none acts answer runs. by_does c known none acts answer (done_of seed c words entries (AppendMade volume) acts answer runs))
         (tells_two t a (λ c. c.info.protected ≡ false) (CutReading cut.input) (λ c. (c.info.protected ≡ false) × CutReading cut.input c) (λ c mark known. (mark, known))
@@ -211,33 +213,33 @@ module _ {T : Type 0} (t : tapes.Meaning T) (seed volume : ℕ) (before : StoreV
     cut = around_cut cut.acts cut.cut;
   }
     where
-      by_does : (c : Cartridge) → (c.info.protected ≡ false) × CutReading cut.input c → CutBefore c → (acts : List Act) (answer : Answer) → StepDoes seed c words entries (AppendMade volume) acts answer →
+      by_does : (c : Cartridge) → (c.info.protected ≡ false) × CutReading cut.input c → CutBefore c → (acts : List Act) (answer : Status) → StepDoes seed c words entries (AppendMade volume) acts answer →
           Cut t no_source no_sink (around a tt) (around b tt) acts TapeFails
-      by_does c (mark, known) none acts answer (inl refused) = absurd (let same : true ≡ false = sym refused.mark ∙ mark in cc)
+      by_does c (mark, known) none acts answer (inl refused) = absurd (let same : true ≡ false = sym refused.0 ∙ mark in cc)
       by_does c (mark, known) none acts answer (inr (free', inl appended)) =
           subst (λ (zs : List Act). Cut t no_source no_sink (around a tt) (around b tt) zs TapeFails)
           (same_acts c appended.table (settling_steps appended.table c) cut.input refl cut.is_told ∙ sym appended.does)
           (around_cut (append_acts (kept_by before appended.table (settling_steps appended.table c)) (made_name volume) 0 promise silently cut.input) (known appended.table appended.reads silently))
       by_does c (mark, known) none acts answer (inr (free', inr lost)) =
-          subst (λ (zs : List Act). Cut t no_source no_sink (around a tt) (around b tt) zs TapeFails) (sym lost.does)
-          (around_cut [] (none (λ table reads. never_lost c table lost.lost reads lost.says)))
+          subst (λ (zs : List Act). Cut t no_source no_sink (around a tt) (around b tt) zs TapeFails) (sym lost.2)
+          (around_cut [] (none (λ table reads. never_lost c table lost.0 reads lost.1)))
 
   -- ---- by the answer
 
   appended_so : (appended : Appended) → is_protected u.drive.deck ≡ false → Ends (Ok appended) → Result' (Ok tt)
   appended_so appended free ends =
-      let is : made_answer seed words entries volume ≡ Done =
+      let is : made_answer seed words entries volume ≡ status.Done =
       answer_fits have (made_length seed volume) bytes ends.bytes (has_promised_room have promise) (became_is (Fits ends.bytes) ends.ran) in
-      ran_so (Fits ends.bytes) Done free ends.ran is is
+      ran_so (Fits ends.bytes) status.Done free ends.ran is is
 
   locked_so : is_protected u.drive.deck ≡ true → Ends (Err store.Protected) → Result' (Err fault.Protected)
   locked_so locked ends = subst (λ (end : T). RunEnds t no_sink seed words entries (AppendMade volume ∷ []) (around a tt) (around end tt) (Err fault.Protected)) (sym ends.0) (record {
     acts = [];
     went = record { did = Done-nothing t a; wrote = record { took = refl; later = omega arith }; source_later = omega arith };
-    told = Tells-map t a (λ c. c.info.protected ≡ true) (λ c. Runs seed c words entries (AppendMade volume ∷ []) [] Protected)
-        (λ c mark. run_of seed c words entries (AppendMade volume) [] Protected (inl (record { mark = mark; does = refl; answered = refl })))
+    told = Tells-map t a (λ c. c.info.protected ≡ true) (λ c. Runs seed c words entries (AppendMade volume ∷ []) [] status.Protected)
+        (λ c mark. run_of seed c words entries (AppendMade volume) [] status.Protected (inl (mark, refl, refl)))
         (told_mark t before u fits true locked);
-    may = may_of seed words entries (AppendMade volume) [] Protected refl;
+    may = may_of seed words entries (AppendMade volume) [] status.Protected refl;
   })
 
   -- the answers of a call that a run makes
@@ -247,17 +249,17 @@ module _ {T : Type 0} (t : tapes.Meaning T) (seed volume : ℕ) (before : StoreV
   append_so (store.Lost segment lost) mark ends unread =
       let free : is_protected u.drive.deck ≡ false = not_marked (store.Lost segment lost ≡ store.Protected) (is_protected u.drive.deck) mark.1 (λ is. cc) in (
         refl,
-        refused_so (λ c. TableSays (table_cells c) (ByCode (LostSectors lost))) (Lost segment lost) free ends.2 (ends.0, ends.1)
-            (λ c acts none says. record { lost = lost; says = says; does = none; answered = ap (λ (s : ℕ). Lost s lost) ends.0 }),
+        refused_so (λ c. TableSays (table_cells c) (ByCode (LostSectors lost))) (status.Lost segment lost) free ends.2 (ends.0, ends.1)
+            (λ c acts none says. (lost, says, none, ap (λ (s : ℕ). status.Lost s lost) ends.0)),
       )
   append_so store.TableMismatch mark ends unread =
       let free : is_protected u.drive.deck ≡ false = not_marked (store.TableMismatch ≡ store.Protected) (is_protected u.drive.deck) mark.1 (λ is. cc) in
-      (refl, refused_so (λ c. ⊥) TableMismatch free ends tt (λ c acts none never. absurd never))
+      (refl, refused_so (λ c. ⊥) status.TableMismatch free ends tt (λ c acts none never. absurd never))
   append_so (store.Full need there) mark ends unread =
       let free : is_protected u.drive.deck ≡ false = not_marked (store.Full need there ≡ store.Protected) (is_protected u.drive.deck) mark.1 (λ is. cc) in
-      let is : made_answer seed words entries volume ≡ Full need there =
+      let is : made_answer seed words entries volume ≡ status.Full need there =
       answer_long have (made_length seed volume) bytes need there (has_promised_room have promise) (length-made_bytes seed volume) (became_is (TooLong need there) ends) in
-      (refl, ran_so (TooLong need there) (Full need there) free ends is is)
+      (refl, ran_so (TooLong need there) (status.Full need there) free ends is is)
   append_so (store.Short asked read) mark ends unread =
       absurd (never_short have (made_length seed volume) bytes asked read (has_promised_room have promise) (length-made_bytes seed volume) (became_is (TooShort asked read) ends))
   append_so store.Source mark ends unread = absurd (let rose = ends.cut.cause in omega arith)

@@ -10,8 +10,8 @@ use Rattle.cartridge_spec.specs.Table.{Entry}
 use Rattle.cartridge_spec.specs.Volumes.{carrying, carrying_segments}
 use Rattle.cartridge_laws.proofs.Places.{none_below, front_of_places, front_of_all}
 use Rattle.made_volumes.specs.declared.fault.MakeFault.{MakeFault}
-use Rattle.command_spec.specs.Make.{MakeStep, AppendMade, WearSector, ScrubAll, SumVolume, appending, wearing, wearing_in, wearing_volumes, summing, made_list, making, Done}
-use Rattle.command_laws.specs.CommandTerms.{made_entry, first_two}
+use Rattle.command_spec.specs.Make.{MakeStep, AppendMade, WearSector, ScrubAll, SumVolume, appending, wearing_in, wearing_volumes, summing, made_list, making}
+use Rattle.command_laws.specs.CommandTerms.{made_entry, first_two, wearing}
 use Rattle.made_volumes.specs.Runs.{HasRun, RunEnds}
 use Rattle.made_volumes.proofs.Joining.{run_none, ends_behind, ends_longer, ends_quietly}
 use Rattle.made_volumes.proofs.Loops.{appending_next, appending_whole, made_next, after_summing, ends_after, two_below, two_next, two_full, wearing_next, wearing_part, wearing_in_part, volumes_next, volumes_whole, summing_next, summing_whole}
@@ -19,6 +19,7 @@ use Rattle.command_laws.proofs.MadeLoops.{length-made, after_wearing, after_wear
 use Rattle.segment_mending.proofs.Looked.{carries, carrying_below, below_none, segments_part, one_more, one_carries, none_carries}
 use Rattle.qic_base.specs.Sink as sinks
 use Rattle.qic_base.specs.Tape as tapes
+use Rattle.command_spec.specs.declared.status.Status.TheVariants as status
 
 -- a sink that is never asked takes two texts as one
 pub none_takes_both : TakesBoth no_sink
@@ -27,7 +28,7 @@ none_takes_both a b c xs ys one other = ap (λ (text : List ℕ). text ++ ys) on
 -- ---- appends
 
 module _ {T : Type 0} (t : tapes.Meaning T) (seed : ℕ) (words : List ℕ) (es : List Entry) (v : ℕ) (some : 1 ≤ v) (now : List ℕ) (list : List Entry) (same : now ≡ words) (is : list ≡ made_list seed (v - 1) words es) (a b c : T) where
-  pub append_next : (r : Result (Unit {0}) MakeFault) → HasRun t no_sink seed words es (appending 1 (v - 1)) (around a tt) (around b tt) Done →
+  pub append_next : (r : Result (Unit {0}) MakeFault) → HasRun t no_sink seed words es (appending 1 (v - 1)) (around a tt) (around b tt) status.Done →
       RunEnds t no_sink seed now list (AppendMade v ∷ []) (around b tt) (around c tt) r →
       RunEnds t no_sink seed words es (appending 1 (v + 1 - 1)) (around a tt) (around c tt) r
   append_next r ran ends =
@@ -40,7 +41,7 @@ module _ {T : Type 0} (t : tapes.Meaning T) (seed : ℕ) (words : List ℕ) (es 
       subst (λ (items : List MakeStep). RunEnds t no_sink seed words es items (around a tt) (around c tt) r) (appending_next (v - 1) ∙ ap (appending 1) more)
       (ends_behind t no_sink seed words none_takes_both es (appending 1 (v - 1)) (AppendMade (1 + (v - 1)) ∷ []) (around a tt) (around b tt) (around c tt) r ran here)
 
-  pub append_failed : (count : ℕ) → v ≤ count → (f : MakeFault) → HasRun t no_sink seed words es (appending 1 (v - 1)) (around a tt) (around b tt) Done →
+  pub append_failed : (count : ℕ) → v ≤ count → (f : MakeFault) → HasRun t no_sink seed words es (appending 1 (v - 1)) (around a tt) (around b tt) status.Done →
       RunEnds t no_sink seed now list (AppendMade v ∷ []) (around b tt) (around c tt) (Err f) →
       RunEnds t no_sink seed words es (appending 1 count) (around a tt) (around c tt) (Err f)
   append_failed count few f ran ends =
@@ -67,16 +68,16 @@ pub two_none : (mask : ℕ) → two_below mask 0 ≡ []
 two_none mask = ap (take 2) (none_below mask)
 
 module _ {T : Type 0} (t : tapes.Meaning T) (words : List ℕ) (es : List Entry) (segment : ℕ) (a b c : T) where
-  pub wear_begun : (seed : ℕ) → HasRun t no_sink seed words es (wearing segment (two_below (mask_at words segment) 0)) (around a tt) (around a tt) Done
+  pub wear_begun : (seed : ℕ) → HasRun t no_sink seed words es (wearing segment (two_below (mask_at words segment) 0)) (around a tt) (around a tt) status.Done
   wear_begun seed =
-      subst (λ (xs : List ℕ). HasRun t no_sink seed words es (wearing segment xs) (around a tt) (around a tt) Done) (sym (two_none (mask_at words segment)))
+      subst (λ (xs : List ℕ). HasRun t no_sink seed words es (wearing segment xs) (around a tt) (around a tt) status.Done) (sym (two_none (mask_at words segment)))
       (run_none t no_sink seed words es (around a tt) (λ x. refl))
 
   abbrev mask : ℕ
   mask = mask_at words segment
 
   pub wear_next : (seed sector : ℕ) (r : Result (Unit {0}) MakeFault) → IsLost mask sector → length (two_below mask sector) < 2 →
-      HasRun t no_sink seed words es (wearing segment (two_below mask sector)) (around a tt) (around b tt) Done →
+      HasRun t no_sink seed words es (wearing segment (two_below mask sector)) (around a tt) (around b tt) status.Done →
       RunEnds t no_sink seed words es (WearSector segment sector ∷ []) (around b tt) (around c tt) r →
       RunEnds t no_sink seed words es (wearing segment (two_below mask (sector + 1))) (around a tt) (around c tt) r
   wear_next seed sector r usable few ran ends =
@@ -86,7 +87,7 @@ module _ {T : Type 0} (t : tapes.Meaning T) (words : List ℕ) (es : List Entry)
       (after_wearing seed words es segment (two_below mask sector)) ran ends)
 
   pub wear_failed : (seed sector : ℕ) (f : MakeFault) → sector < 32 → IsLost mask sector → length (two_below mask sector) < 2 →
-      HasRun t no_sink seed words es (wearing segment (two_below mask sector)) (around a tt) (around b tt) Done →
+      HasRun t no_sink seed words es (wearing segment (two_below mask sector)) (around a tt) (around b tt) status.Done →
       RunEnds t no_sink seed words es (WearSector segment sector ∷ []) (around b tt) (around c tt) (Err f) →
       RunEnds t no_sink seed words es (wearing segment (first_two words segment)) (around a tt) (around c tt) (Err f)
   wear_failed seed sector f within usable few ran ends =
@@ -136,13 +137,13 @@ segment_due words segment due many =
 -- ---- several segments
 
 module _ {T : Type 0} (t : tapes.Meaning T) (words : List ℕ) (es : List Entry) (start segment : ℕ) (low : start ≤ segment) (a b c : T) where
-  pub segments_begun : (seed : ℕ) → HasRun t no_sink seed words es (wearing_in words (carrying_below words start start)) (around a tt) (around a tt) Done
+  pub segments_begun : (seed : ℕ) → HasRun t no_sink seed words es (wearing_in words (carrying_below words start start)) (around a tt) (around a tt) status.Done
   segments_begun seed =
-      subst (λ (ss : List ℕ). HasRun t no_sink seed words es (wearing_in words ss) (around a tt) (around a tt) Done) (sym (below_none words start))
+      subst (λ (ss : List ℕ). HasRun t no_sink seed words es (wearing_in words ss) (around a tt) (around a tt) status.Done) (sym (below_none words start))
       (run_none t no_sink seed words es (around a tt) (λ x. refl))
 
   pub segments_next : (seed : ℕ) (r : Result (Unit {0}) MakeFault) →
-      HasRun t no_sink seed words es (wearing_in words (carrying_below words start segment)) (around a tt) (around b tt) Done →
+      HasRun t no_sink seed words es (wearing_in words (carrying_below words start segment)) (around a tt) (around b tt) status.Done →
       RunEnds t no_sink seed words es (wearing_in words (carrying words segment segment)) (around b tt) (around c tt) r →
       RunEnds t no_sink seed words es (wearing_in words (carrying_below words start (segment + 1))) (around a tt) (around c tt) r
   segments_next seed r ran ends =
@@ -153,7 +154,7 @@ module _ {T : Type 0} (t : tapes.Meaning T) (words : List ℕ) (es : List Entry)
       (around a tt) (around b tt) (around c tt) r (after_wearing_in seed words es (carrying_below words start segment)) ran ends)
 
   pub segments_failed : (seed last : ℕ) (f : MakeFault) → segment < last →
-      HasRun t no_sink seed words es (wearing_in words (carrying_below words start segment)) (around a tt) (around b tt) Done →
+      HasRun t no_sink seed words es (wearing_in words (carrying_below words start segment)) (around a tt) (around b tt) status.Done →
       RunEnds t no_sink seed words es (wearing_in words (carrying words segment segment)) (around b tt) (around c tt) (Err f) →
       RunEnds t no_sink seed words es (wearing_in words (carrying_below words start last)) (around a tt) (around c tt) (Err f)
   segments_failed seed last f high ran ends =
@@ -170,7 +171,7 @@ module _ {T : Type 0} (t : tapes.Meaning T) (words : List ℕ) (es : List Entry)
   rest = drop first es
 
   pub volumes_go_on : (seed : ℕ) (r : Result (Unit {0}) MakeFault) →
-      HasRun t no_sink seed words es (wearing_volumes words (take (index - first) rest)) (around a tt) (around b tt) Done →
+      HasRun t no_sink seed words es (wearing_volumes words (take (index - first) rest)) (around a tt) (around b tt) status.Done →
       RunEnds t no_sink seed words es (wearing_in words (carrying_segments words e)) (around b tt) (around c tt) r →
       RunEnds t no_sink seed words es (wearing_volumes words (take (index + 1 - first) rest)) (around a tt) (around c tt) r
   volumes_go_on seed r ran ends =
@@ -182,7 +183,7 @@ module _ {T : Type 0} (t : tapes.Meaning T) (words : List ℕ) (es : List Entry)
       (around a tt) (around b tt) (around c tt) r (after_wearing_volumes seed words es (take (index - first) rest)) ran ends)
 
   pub volumes_failed : (seed : ℕ) (f : MakeFault) →
-      HasRun t no_sink seed words es (wearing_volumes words (take (index - first) rest)) (around a tt) (around b tt) Done →
+      HasRun t no_sink seed words es (wearing_volumes words (take (index - first) rest)) (around a tt) (around b tt) status.Done →
       RunEnds t no_sink seed words es (wearing_in words (carrying_segments words e)) (around b tt) (around c tt) (Err f) →
       RunEnds t no_sink seed words es (wearing_volumes words rest) (around a tt) (around c tt) (Err f)
   volumes_failed seed f ran ends =
@@ -193,7 +194,7 @@ module _ {T : Type 0} (t : tapes.Meaning T) (words : List ℕ) (es : List Entry)
 -- ---- sums
 
 module _ {T K : Type 0} (t : tapes.Meaning T) (k : sinks.Meaning K) (both : TakesBoth k) (words : List ℕ) (es : List Entry) (first number : ℕ) (low : first + 1 ≤ number) (a b c : Outside T (Unit {0}) K) where
-  pub sums_next : (seed : ℕ) (r : Result (Unit {0}) MakeFault) → HasRun t k seed words es (summing (first + 1) (number - (first + 1))) a b Done →
+  pub sums_next : (seed : ℕ) (r : Result (Unit {0}) MakeFault) → HasRun t k seed words es (summing (first + 1) (number - (first + 1))) a b status.Done →
       RunEnds t k seed words es (SumVolume number ∷ []) b c r → RunEnds t k seed words es (summing (first + 1) (number + 1 - (first + 1))) a c r
   sums_next seed r ran ends =
       let here : number ≡ first + 1 + (number - (first + 1)) = omega arith in
@@ -203,7 +204,7 @@ module _ {T K : Type 0} (t : tapes.Meaning T) (k : sinks.Meaning K) (both : Take
       (after_summing seed words es (first + 1) (number - (first + 1))) ran
       (subst (λ (n : ℕ). RunEnds t k seed words es (SumVolume n ∷ []) b c r) here ends))
 
-  pub sums_failed : (seed count : ℕ) (f : MakeFault) → number < first + 1 + count → HasRun t k seed words es (summing (first + 1) (number - (first + 1))) a b Done →
+  pub sums_failed : (seed count : ℕ) (f : MakeFault) → number < first + 1 + count → HasRun t k seed words es (summing (first + 1) (number - (first + 1))) a b status.Done →
       RunEnds t k seed words es (SumVolume number ∷ []) b c (Err f) → RunEnds t k seed words es (summing (first + 1) count) a c (Err f)
   sums_failed seed count f high ran ends =
       subst (λ (items : List MakeStep). RunEnds t k seed words es items a c (Err f)) (summing_whole (first + 1) (number + 1 - (first + 1)) count (omega arith))
@@ -230,7 +231,7 @@ module _ {T K : Type 0} (t : tapes.Meaning T) (k : sinks.Meaning K) (both : Take
       (ends_quietly t k seed words es (appending 1 count) a b x (none x) (Err f) ends)
 
   -- they were carried out, and what comes behind ended so
-  pub make_appended : (c : Outside T (Unit {0}) K) (r : Result (Unit {0}) MakeFault) → HasRun t no_sink seed words es (appending 1 count) (around a tt) (around b tt) Done →
+  pub make_appended : (c : Outside T (Unit {0}) K) (r : Result (Unit {0}) MakeFault) → HasRun t no_sink seed words es (appending 1 count) (around a tt) (around b tt) status.Done →
       RunEnds t k seed words made behind (around b x) c r → RunEnds t k seed words es (making seed count words es) (around a x) c r
   make_appended c r ran ends =
       ends_behind t k seed words both es (appending 1 count) behind (around a x) (around b x) c r
@@ -246,19 +247,19 @@ module _ {T K : Type 0} (t : tapes.Meaning T) (k : sinks.Meaning K) (both : Take
       (subst (λ (l : List Entry). RunEnds t no_sink seed words made (wearing_volumes words (drop (length es) l)) (around b tt) (around c tt) (Err f)) is ends))
 
   pub make_worn : (c : T) (d : Outside T (Unit {0}) K) (r : Result (Unit {0}) MakeFault) →
-      HasRun t no_sink seed words made (wearing_volumes words (drop (length es) made)) (around b tt) (around c tt) Done →
+      HasRun t no_sink seed words made (wearing_volumes words (drop (length es) made)) (around b tt) (around c tt) status.Done →
       RunEnds t k seed words made (ScrubAll ∷ sums) (around c x) d r → RunEnds t k seed words made behind (around b x) d r
   make_worn c d r ran ends =
       ends_after t k seed words made both wears (ScrubAll ∷ sums) (around b x) (around c x) d r (after_wearing_volumes seed words made (drop (length es) (made_list seed count words es)))
       (ends_quietly t k seed words made wears b c x (none x) (Ok tt)
-      (subst (λ (l : List Entry). HasRun t no_sink seed words made (wearing_volumes words (drop (length es) l)) (around b tt) (around c tt) Done) is ran)) ends
+      (subst (λ (l : List Entry). HasRun t no_sink seed words made (wearing_volumes words (drop (length es) l)) (around b tt) (around c tt) status.Done) is ran)) ends
 
   -- the scrub failed
   pub make_unscrubbed : (c d : Outside T (Unit {0}) K) (f : MakeFault) → RunEnds t k seed words made (ScrubAll ∷ []) c d (Err f) →
       RunEnds t k seed words made (ScrubAll ∷ sums) c d (Err f)
   make_unscrubbed c d f ends = ends_longer t k seed words made (ScrubAll ∷ []) sums c d f ends
 
-  pub make_scrubbed : (c d e : Outside T (Unit {0}) K) (r : Result (Unit {0}) MakeFault) → HasRun t k seed words made (ScrubAll ∷ []) c d Done →
+  pub make_scrubbed : (c d e : Outside T (Unit {0}) K) (r : Result (Unit {0}) MakeFault) → HasRun t k seed words made (ScrubAll ∷ []) c d status.Done →
       RunEnds t k seed words made (summing (length es + 1) (length made - length es)) d e r → RunEnds t k seed words made (ScrubAll ∷ sums) c e r
   make_scrubbed c d e r ran ends =
       let long : length made ≡ length es + count = ap length is ∙ length-made seed words es 1 count in
@@ -272,10 +273,10 @@ of_entry es index e at P fact = subst (λ (o : Option Entry). IfSome o P) (sym a
 
 -- no volume was gone through yet
 pub volumes_begun : {T : Type 0} (t : tapes.Meaning T) (words : List ℕ) (es : List Entry) (first : ℕ) (a : T) (seed : ℕ) →
-    HasRun t no_sink seed words es (wearing_volumes words (take (first - first) (drop first es))) (around a tt) (around a tt) Done
+    HasRun t no_sink seed words es (wearing_volumes words (take (first - first) (drop first es))) (around a tt) (around a tt) status.Done
 volumes_begun t words es first a seed =
     let zero_more : 0 ≡ first - first = omega arith in
-    subst (λ (n : ℕ). HasRun t no_sink seed words es (wearing_volumes words (take n (drop first es))) (around a tt) (around a tt) Done) zero_more
+    subst (λ (n : ℕ). HasRun t no_sink seed words es (wearing_volumes words (take n (drop first es))) (around a tt) (around a tt) status.Done) zero_more
     (run_none t no_sink seed words es (around a tt) (λ x. refl))
 
 -- a fact of the entry at an index, where there is one
@@ -287,10 +288,10 @@ volume_there (e ∷ es) (suc i) within P fact = volume_there es i (omega arith) 
 
 -- no volume was summed yet
 pub sums_begun : {T K : Type 0} (t : tapes.Meaning T) (k : sinks.Meaning K) (none : (z : K) → k.took z [] z) (words : List ℕ) (es : List Entry) (number : ℕ) (a : Outside T (Unit {0}) K) (seed : ℕ) →
-    HasRun t k seed words es (summing number (number - number)) a a Done
+    HasRun t k seed words es (summing number (number - number)) a a status.Done
 sums_begun t k none words es number a seed =
     let zero_more : 0 ≡ number - number = omega arith in
-    subst (λ (n : ℕ). HasRun t k seed words es (summing number n) a a Done) zero_more (run_none t k seed words es a none)
+    subst (λ (n : ℕ). HasRun t k seed words es (summing number n) a a status.Done) zero_more (run_none t k seed words es a none)
 
 -- steps of a store with the same map and list
 pub same_store : {T K : Type 0} (t : tapes.Meaning T) (k : sinks.Meaning K) (seed : ℕ) (words now : List ℕ) (es list : List Entry) (items : List MakeStep) (a b : Outside T (Unit {0}) K) (r : Result (Unit {0}) MakeFault) →

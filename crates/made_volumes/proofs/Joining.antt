@@ -1,8 +1,6 @@
 -- How steps of `make` that ran one after the other join.
 use Rattle.std.proofs.Common.{◌≢◌, ℕ, List, [], ◌++◌, Result, Ok, Err, refl, sym, subst, arith}
 use Rattle.qic_base.specs.Cartridge.{Cartridge}
-use Rattle.qic_base.specs.Sink as sinks
-use Rattle.qic_base.specs.Tape as tapes
 use Rattle.qic_base.proofs.Steps.{Tells-map}
 use Rattle.qic_base.proofs.Writing.{TakesBoth}
 use Rattle.qic_base.specs.Acts.{Act, steps_of, text_of, Outside, Failing, TapeFails, SourceFails, SinkFails, Went, Cut}
@@ -11,32 +9,37 @@ use Rattle.qic_base.proofs.Joins.{text_of-append, nothing_went, went_both, went_
 use Rattle.cartridge_spec.specs.Table.{Entry}
 use Rattle.cartridge_spec.specs.Settling.{changed_by}
 use Rattle.segment_io.proofs.Going.{tells_always}
-use Rattle.volume_store.proofs.Copies.{tells_two}
 use Rattle.command_laws.proofs.MadeTelling.{tells_before}
 use Rattle.made_volumes.specs.declared.fault.MakeFault.{MakeFault}
-use Rattle.made_volumes.specs.declared.fault.MakeFault.TheVariants as fault
-use Rattle.command_spec.specs.Make.{MakeStep, after_items, Answer, Done, Protected, TableMismatch, Full, Lost, Mismatch, Runs, MayRun}
+use Rattle.command_spec.specs.Make.{MakeStep, Runs, MayRun}
 use Rattle.made_volumes.specs.Runs.{HasRun, RunCut, RunEnds}
 use Rattle.command_laws.proofs.MadeMachineLaws.{runs_both, runs_longer, runs_behind, runs_front}
 use Rattle.command_laws.proofs.MadeMayLaws.{may_both, may_longer}
+use Rattle.command_spec.specs.declared.status.Status.{Status}
+use Rattle.command_laws.specs.CommandTerms.{after_items}
+use Rattle.cartridge_front.proofs.Copies.{tells_two}
+use Rattle.qic_base.specs.Sink as sinks
+use Rattle.qic_base.specs.Tape as tapes
+use Rattle.made_volumes.specs.declared.fault.MakeFault.TheVariants as fault
+use Rattle.command_spec.specs.declared.status.Status.TheVariants as status
 
 module _ {T K : Type 0} (t : tapes.Meaning T) (k : sinks.Meaning K) (seed : ℕ) (words : List ℕ) where
-  pub run_none : (es : List Entry) (a : Outside T (Unit {0}) K) → ((x : K) → k.took x [] x) → HasRun t k seed words es [] a a Done
+  pub run_none : (es : List Entry) (a : Outside T (Unit {0}) K) → ((x : K) → k.took x [] x) → HasRun t k seed words es [] a a status.Done
   run_none es a none = record {
     acts = [];
     went = nothing_went t no_source k none a;
-    told = tells_always t a.tape (λ c. Runs seed c words es [] [] Done) (λ c. (refl, refl));
+    told = tells_always t a.tape (λ c. Runs seed c words es [] [] status.Done) (λ c. (refl, refl));
     may = (refl, refl);
   }
 
-  pub run_both : TakesBoth k → (es : List Entry) (xs ys : List MakeStep) (a b c : Outside T (Unit {0}) K) (y : Answer) →
-      HasRun t k seed words es xs a b Done → HasRun t k seed words (after_items seed words es xs) ys b c y → HasRun t k seed words es (xs ++ ys) a c y
+  pub run_both : TakesBoth k → (es : List Entry) (xs ys : List MakeStep) (a b c : Outside T (Unit {0}) K) (y : Status) →
+      HasRun t k seed words es xs a b status.Done → HasRun t k seed words (after_items seed words es xs) ys b c y → HasRun t k seed words es (xs ++ ys) a c y
   run_both both es xs ys a b c y first next =
       let after : List Entry = after_items seed words es xs in
       record {
         acts = first.acts ++ next.acts;
         went = went_both t no_source k both a b c first.acts next.acts first.went next.went;
-        told = tells_two t a.tape (λ d. Runs seed d words es xs first.acts Done)
+        told = tells_two t a.tape (λ d. Runs seed d words es xs first.acts status.Done)
             (λ d. Runs seed (changed_by (steps_of first.acts) d) words after ys next.acts y)
             (λ d. Runs seed d words es (xs ++ ys) (first.acts ++ next.acts) y)
             (λ d one other. runs_both seed d words es xs ys first.acts next.acts y one other) first.told
@@ -45,7 +48,7 @@ module _ {T K : Type 0} (t : tapes.Meaning T) (k : sinks.Meaning K) (seed : ℕ)
             (may_both seed words es xs ys (text_of first.acts) (text_of next.acts) y first.may next.may);
       }
 
-  pub run_longer : (es : List Entry) (xs ys : List MakeStep) (a b : Outside T (Unit {0}) K) (y : Answer) → y ≢ Done →
+  pub run_longer : (es : List Entry) (xs ys : List MakeStep) (a b : Outside T (Unit {0}) K) (y : Status) → y ≢ status.Done →
       HasRun t k seed words es xs a b y → HasRun t k seed words es (xs ++ ys) a b y
   run_longer es xs ys a b y other run = record {
     acts = run.acts;
@@ -58,15 +61,15 @@ module _ {T K : Type 0} (t : tapes.Meaning T) (k : sinks.Meaning K) (seed : ℕ)
   -- what a cut in these steps tells of a cartridge
   abbrev CutOver : List Entry → List MakeStep → (a b : Outside T (Unit {0}) K) → Failing → Cartridge → Type 0
   CutOver es items a b failing d =
-      (acts : List Act) (answer : Answer) → Runs seed d words es items acts answer → Cut t no_source k a b acts failing
+      (acts : List Act) (answer : Status) → Runs seed d words es items acts answer → Cut t no_source k a b acts failing
 
   pub cut_behind : TakesBoth k → (es : List Entry) (xs ys : List MakeStep) (a b c : Outside T (Unit {0}) K) (failing : Failing) →
-      HasRun t k seed words es xs a b Done → RunCut t k seed words (after_items seed words es xs) ys b c failing →
+      HasRun t k seed words es xs a b status.Done → RunCut t k seed words (after_items seed words es xs) ys b c failing →
       RunCut t k seed words es (xs ++ ys) a c failing
   cut_behind both es xs ys a b c failing first next =
       let after : List Entry = after_items seed words es xs in
       record {
-        told = tells_two t a.tape (λ d. Runs seed d words es xs first.acts Done)
+        told = tells_two t a.tape (λ d. Runs seed d words es xs first.acts status.Done)
             (λ d. CutOver after ys b c failing (changed_by (steps_of first.acts) d)) (CutOver es (xs ++ ys) a c failing)
             (λ d one other acts answer all.
             let behind = runs_behind seed d words es xs ys first.acts acts answer one all in
@@ -94,24 +97,24 @@ module _ {T K : Type 0} (t : tapes.Meaning T) (k : sinks.Meaning K) (seed : ℕ)
 
   -- steps behind others that were carried out
   pub ends_behind : TakesBoth k → (es : List Entry) (xs ys : List MakeStep) (a b c : Outside T (Unit {0}) K) (r : Result (Unit {0}) MakeFault) →
-      HasRun t k seed words es xs a b Done → RunEnds t k seed words (after_items seed words es xs) ys b c r → RunEnds t k seed words es (xs ++ ys) a c r
-  ends_behind both es xs ys a b c (Ok done) first next = run_both both es xs ys a b c Done first next
-  ends_behind both es xs ys a b c (Err fault.Protected) first next = run_both both es xs ys a b c Protected first next
-  ends_behind both es xs ys a b c (Err fault.TableMismatch) first next = run_both both es xs ys a b c TableMismatch first next
-  ends_behind both es xs ys a b c (Err (fault.Full need have)) first next = run_both both es xs ys a b c (Full need have) first next
-  ends_behind both es xs ys a b c (Err (fault.Lost segment lost)) first next = run_both both es xs ys a b c (Lost segment lost) first next
-  ends_behind both es xs ys a b c (Err (fault.Mismatch segment)) first next = run_both both es xs ys a b c (Mismatch segment) first next
+      HasRun t k seed words es xs a b status.Done → RunEnds t k seed words (after_items seed words es xs) ys b c r → RunEnds t k seed words es (xs ++ ys) a c r
+  ends_behind both es xs ys a b c (Ok done) first next = run_both both es xs ys a b c status.Done first next
+  ends_behind both es xs ys a b c (Err fault.Protected) first next = run_both both es xs ys a b c status.Protected first next
+  ends_behind both es xs ys a b c (Err fault.TableMismatch) first next = run_both both es xs ys a b c status.TableMismatch first next
+  ends_behind both es xs ys a b c (Err (fault.Full need have)) first next = run_both both es xs ys a b c (status.Full need have) first next
+  ends_behind both es xs ys a b c (Err (fault.Lost segment lost)) first next = run_both both es xs ys a b c (status.Lost segment lost) first next
+  ends_behind both es xs ys a b c (Err (fault.Mismatch segment)) first next = run_both both es xs ys a b c (status.Mismatch segment) first next
   ends_behind both es xs ys a b c (Err fault.Sink) first next = cut_behind both es xs ys a b c SinkFails first next
   ends_behind both es xs ys a b c (Err fault.Tape) first next = cut_behind both es xs ys a b c TapeFails first next
 
   -- steps that were refused or cut off, whatever would have come behind them
   pub ends_longer : (es : List Entry) (xs ys : List MakeStep) (a b : Outside T (Unit {0}) K) (f : MakeFault) →
       RunEnds t k seed words es xs a b (Err f) → RunEnds t k seed words es (xs ++ ys) a b (Err f)
-  ends_longer es xs ys a b fault.Protected run = run_longer es xs ys a b Protected (λ is. cc) run
-  ends_longer es xs ys a b fault.TableMismatch run = run_longer es xs ys a b TableMismatch (λ is. cc) run
-  ends_longer es xs ys a b (fault.Full need have) run = run_longer es xs ys a b (Full need have) (λ is. cc) run
-  ends_longer es xs ys a b (fault.Lost segment lost) run = run_longer es xs ys a b (Lost segment lost) (λ is. cc) run
-  ends_longer es xs ys a b (fault.Mismatch segment) run = run_longer es xs ys a b (Mismatch segment) (λ is. cc) run
+  ends_longer es xs ys a b fault.Protected run = run_longer es xs ys a b status.Protected (λ is. cc) run
+  ends_longer es xs ys a b fault.TableMismatch run = run_longer es xs ys a b status.TableMismatch (λ is. cc) run
+  ends_longer es xs ys a b (fault.Full need have) run = run_longer es xs ys a b (status.Full need have) (λ is. cc) run
+  ends_longer es xs ys a b (fault.Lost segment lost) run = run_longer es xs ys a b (status.Lost segment lost) (λ is. cc) run
+  ends_longer es xs ys a b (fault.Mismatch segment) run = run_longer es xs ys a b (status.Mismatch segment) (λ is. cc) run
   ends_longer es xs ys a b fault.Sink cut = cut_longer es xs ys a b SinkFails cut
   ends_longer es xs ys a b fault.Tape cut = cut_longer es xs ys a b TapeFails cut
 
@@ -154,7 +157,7 @@ module _ {T K : Type 0} (t : tapes.Meaning T) (k : sinks.Meaning K) (a b : T) (x
   cut_quietly acts SinkFails cut = absurd (let rose = cut.broke.cause in omega arith)
 
 module _ {T K : Type 0} (t : tapes.Meaning T) (k : sinks.Meaning K) (seed : ℕ) (words : List ℕ) (es : List Entry) (items : List MakeStep) (a b : T) (x : K) (none : k.took x [] x) where
-  run_quietly : (y : Answer) → HasRun t no_sink seed words es items (around a tt) (around b tt) y → HasRun t k seed words es items (around a x) (around b x) y
+  run_quietly : (y : Status) → HasRun t no_sink seed words es items (around a tt) (around b tt) y → HasRun t k seed words es items (around a x) (around b x) y
   run_quietly y run = record { acts = run.acts; went = went_quietly t k a b x none run.acts run.went; told = run.told; may = run.may }
 
   broke_quietly : (failing : Failing) → RunCut t no_sink seed words es items (around a tt) (around b tt) failing → RunCut t k seed words es items (around a x) (around b x) failing
@@ -168,11 +171,11 @@ module _ {T K : Type 0} (t : tapes.Meaning T) (k : sinks.Meaning K) (seed : ℕ)
   -- they ended so with a sink that they were not handed, too
   pub ends_quietly : (r : Result (Unit {0}) MakeFault) → RunEnds t no_sink seed words es items (around a tt) (around b tt) r →
       RunEnds t k seed words es items (around a x) (around b x) r
-  ends_quietly (Ok done) run = run_quietly Done run
-  ends_quietly (Err fault.Protected) run = run_quietly Protected run
-  ends_quietly (Err fault.TableMismatch) run = run_quietly TableMismatch run
-  ends_quietly (Err (fault.Full need have)) run = run_quietly (Full need have) run
-  ends_quietly (Err (fault.Lost segment lost)) run = run_quietly (Lost segment lost) run
-  ends_quietly (Err (fault.Mismatch segment)) run = run_quietly (Mismatch segment) run
+  ends_quietly (Ok done) run = run_quietly status.Done run
+  ends_quietly (Err fault.Protected) run = run_quietly status.Protected run
+  ends_quietly (Err fault.TableMismatch) run = run_quietly status.TableMismatch run
+  ends_quietly (Err (fault.Full need have)) run = run_quietly (status.Full need have) run
+  ends_quietly (Err (fault.Lost segment lost)) run = run_quietly (status.Lost segment lost) run
+  ends_quietly (Err (fault.Mismatch segment)) run = run_quietly (status.Mismatch segment) run
   ends_quietly (Err fault.Sink) cut = broke_quietly SinkFails cut
   ends_quietly (Err fault.Tape) cut = broke_quietly TapeFails cut

@@ -1,5 +1,5 @@
 -- The list behind a run that was refused.
-use Rattle.std.proofs.Common.{◌≡◌, ℕ, ◌+◌, ◌-◌, ◌<◌, ◌≤◌, List, [], ◌∷◌, Err, ap, ◌∙◌, subst, arith}
+use Rattle.std.proofs.Common.{◌≡◌, ℕ, ◌+◌, ◌-◌, ◌<◌, ◌≤◌, Bool, true, false, cond, Some, List, [], ◌∷◌, Err, ap, ◌∙◌, subst, arith}
 use Rattle.qic_base.specs.Tape as tapes
 use Rattle.qic_base.specs.Acts.{Outside, text_of}
 use Rattle.qic_base.specs.Terms.{no_sink}
@@ -7,9 +7,17 @@ use Rattle.cartridge_spec.specs.Table.{Entry}
 use Rattle.volume_store.specs.Mounting.{StoreView}
 use Rattle.made_volumes.specs.declared.fault.MakeFault.{MakeFault}
 use Rattle.made_volumes.specs.declared.fault.MakeFault.TheVariants as fault
-use Rattle.command_spec.specs.Make.{AppendMade, made_list, Full, Lost, Mismatch, made_answer}
+use Rattle.cartridge_spec.specs.Appending.{room}
+use Rattle.command_spec.specs.Append.{has_promised_room}
+use Rattle.command_spec.specs.Make.{AppendMade, made_length, made_list, made_answer}
 use Rattle.made_volumes.specs.Runs.{RunEnds, IsListed, HoldsAll, HoldsSome, AreListed, NeverFull}
 use Rattle.command_laws.proofs.MadeMayLaws.{may_done}
+use Rattle.command_spec.specs.declared.status.Status.TheVariants as status
+
+-- an append is answered Done or Full
+never_mismatched : (need have segment : ℕ) (b : Bool) → cond b status.Done (status.Full need have) ≡ status.Mismatch segment → ⊥
+never_mismatched need have segment true is = cc
+never_mismatched need have segment false is = cc
 
 -- an append was refused behind so many
 module _ {T : Type 0} (t : tapes.Meaning T) (seed count n : ℕ) (few : n < count) (before : StoreView) (es : List Entry) (after : StoreView) (is : es ≡ made_list seed n before.words before.entries) (a b : Outside T (Unit {0}) (Unit {0})) where
@@ -21,7 +29,7 @@ module _ {T : Type 0} (t : tapes.Meaning T) (seed count n : ℕ) (few : n < coun
   listed_refused fault.Protected e run kept = some_held kept
   listed_refused fault.TableMismatch e run kept = some_held kept
   listed_refused (fault.Full need have) e run kept =
-      let may = may_done seed before.words es (AppendMade (1 + n)) (text_of run.acts) (Full need have) run.may in
+      let may = may_done seed before.words es (AppendMade (1 + n)) (text_of run.acts) (status.Full need have) run.may in
       record {
         appended = n;
         within = few;
@@ -29,11 +37,11 @@ module _ {T : Type 0} (t : tapes.Meaning T) (seed count n : ℕ) (few : n < coun
         full = ap (λ (now : List Entry). made_answer seed before.words now (1 + n)) kept ∙ may.1;
       }
   listed_refused (fault.Lost segment lost) e run kept =
-      let may = may_done seed before.words es (AppendMade (1 + n)) (text_of run.acts) (Lost segment lost) run.may in
+      let may = may_done seed before.words es (AppendMade (1 + n)) (text_of run.acts) (status.Lost segment lost) run.may in
       (some_held kept, λ other. absurd (other may.1.0))
   listed_refused (fault.Mismatch segment) e run kept =
-      let may = may_done seed before.words es (AppendMade (1 + n)) (text_of run.acts) (Mismatch segment) run.may in
-      absurd may
+      let may = may_done seed before.words es (AppendMade (1 + n)) (text_of run.acts) (status.Mismatch segment) run.may in
+      absurd (never_mismatched (made_length seed (1 + n)) (room before.words es) segment (has_promised_room (room before.words es) (Some (made_length seed (1 + n)))) may.1)
   listed_refused fault.Sink e cut kept = absurd (let rose = cut.cut.broke.cause in omega arith)
   listed_refused fault.Tape e cut kept = tt
 

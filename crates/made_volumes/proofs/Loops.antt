@@ -5,8 +5,8 @@ use Rattle.std.proofs.lemmas.Option.{slice_get_within, get_or_from_slice_get}
 use Rattle.cartridge_spec.specs.Table.{Entry}
 use Rattle.cartridge_spec.specs.Volumes.{carrying_segments}
 use Rattle.command_laws.proofs.MadeMachineLaws.{after_items-append}
-use Rattle.command_spec.specs.Make.{MakeStep, AppendMade, appending, after_items, made_list, summing, Done, WearSector, wearing, wearing_in, wearing_volumes, SumVolume}
-use Rattle.command_laws.specs.CommandTerms.{made_entry, first_two}
+use Rattle.command_spec.specs.Make.{MakeStep, AppendMade, appending, made_list, summing, WearSector, wearing_in, wearing_volumes, SumVolume}
+use Rattle.command_laws.specs.CommandTerms.{made_entry, first_two, after_items, wearing}
 use Rattle.made_volumes.proofs.Joining.{ends_behind}
 use Rattle.made_volumes.specs.Runs.{HasRun, RunEnds}
 use Rattle.made_volumes.specs.declared.fault.MakeFault.{MakeFault}
@@ -17,6 +17,7 @@ use Rattle.qic_base.specs.Cartridge.{lost_places}
 use Rattle.qic_base.specs.Terms.{IsLost}
 use Rattle.qic_base.specs.Sink as sinks
 use Rattle.qic_base.specs.Tape as tapes
+use Rattle.command_spec.specs.declared.status.Status.TheVariants as status
 
 -- ---- appends
 
@@ -52,7 +53,7 @@ after_summing seed words es number (suc count) = after_summing seed words es (nu
 -- behind these, steps go on with the same list
 module _ {T K : Type 0} (t : tapes.Meaning T) (k : sinks.Meaning K) (seed : ℕ) (words : List ℕ) (es : List Entry) where
   pub ends_after : TakesBoth k → (xs ys : List MakeStep) (a b c : Outside T (Unit {0}) K) (r : Result (Unit {0}) MakeFault) → after_items seed words es xs ≡ es →
-      HasRun t k seed words es xs a b Done → RunEnds t k seed words es ys b c r → RunEnds t k seed words es (xs ++ ys) a c r
+      HasRun t k seed words es xs a b status.Done → RunEnds t k seed words es ys b c r → RunEnds t k seed words es (xs ++ ys) a c r
   ends_after both xs ys a b c r kept first next =
       ends_behind t k seed words both es xs ys a b c r first (subst (λ (now : List Entry). RunEnds t k seed words now ys b c r) (sym kept) next)
 

@@ -7,26 +7,29 @@ use Rattle.qic_base.specs.Terms.{no_source, no_sink, around}
 use Rattle.cartridge_spec.specs.Table.{Entry}
 use Rattle.drive_spec.specs.Terms.{is_protected}
 use Rattle.drive_states.specs.Unit.{UnitView}
-use Rattle.command_spec.specs.Scrub.{Scrubs, looked_at}
-use Rattle.command_laws.specs.Terms.{counts_of}
+use Rattle.command_spec.specs.Scrub.{looked_at, ScrubsAs}
+use Rattle.command_laws.specs.Terms.{counts_for}
 use Rattle.segment_io.proofs.Going.{tells_always}
-use Rattle.segment_mending.specs.Mending.{reported}
+use Rattle.segment_mending.specs.Mending.{reported, ScrubCut}
 use Rattle.segment_mending.specs.declared.report.ScrubReport.{ScrubReport}
-use Rattle.volume_store.proofs.Copies.{tells_two}
-use Rattle.volume_store.specs.declared.fault.StoreFault.{StoreFault}
 use Rattle.volume_store.specs.Mounting.{StoreView, StoreFits}
-use Rattle.volume_store.specs.Scrubbing.{MendCut, MendEnds}
+use Rattle.volume_store.specs.Scrubbing.{MendEnds}
 use Rattle.made_volumes.specs.Faults.{is_of_step, fault_of}
-use Rattle.command_spec.specs.Make.{WearSector, ScrubAll, Answer, Done, Protected, Runs}
+use Rattle.command_spec.specs.Make.{WearSector, ScrubAll, Runs}
 use Rattle.made_volumes.specs.Runs.{RunEnds, NeverFull}
 use Rattle.command_laws.proofs.MadeMachineLaws.{run_of, done_of}
 use Rattle.command_laws.proofs.MadeMayLaws.{may_of}
 use Rattle.made_volumes.proofs.Appends.{told_mark, not_marked}
+use Rattle.command_spec.specs.declared.status.Status.{Status}
+use Rattle.command_spec.specs.declared.depth.Depth.TheVariants.{Shallow}
+use Rattle.cartridge_front.proofs.Copies.{tells_two}
+use Rattle.cartridge_front.specs.declared.fault.StoreFault.{StoreFault}
 use Rattle.qic_base.specs.Sink as sinks
 use Rattle.qic_base.specs.Tape as tapes
 use Rattle.qic_base.specs.TapeCalls as tape_calls
-use Rattle.volume_store.specs.declared.fault.StoreFault.TheVariants as store
+use Rattle.cartridge_front.specs.declared.fault.StoreFault.TheVariants as store
 use Rattle.made_volumes.specs.declared.fault.MakeFault.TheVariants as fault
+use Rattle.command_spec.specs.declared.status.Status.TheVariants as status
 
 -- ---- a worn sector
 
@@ -39,9 +42,9 @@ module _ {T : Type 0} (t : tapes.Meaning T) (seed : ℕ) (words : List ℕ) (ent
   wear_done done = record {
     acts = worn;
     went = record { did = done; wrote = record { took = refl; later = omega arith }; source_later = omega arith };
-    told = tells_always t a (λ c. Runs seed c words entries (WearSector segment sector ∷ []) worn Done)
-        (λ c. run_of seed c words entries (WearSector segment sector) worn Done (refl, refl));
-    may = may_of seed words entries (WearSector segment sector) [] Done (refl, refl);
+    told = tells_always t a (λ c. Runs seed c words entries (WearSector segment sector ∷ []) worn status.Done)
+        (λ c. run_of seed c words entries (WearSector segment sector) worn status.Done (refl, refl));
+    may = may_of seed words entries (WearSector segment sector) [] status.Done (refl, refl);
   }
 
   wear_cut : tapes.Broke t a b (Wear segment sector ∷ []) → Cut t no_source no_sink (around a tt) (around b tt) worn TapeFails
@@ -59,7 +62,7 @@ module _ {T : Type 0} (t : tapes.Meaning T) (seed : ℕ) (words : List ℕ) (ent
       RunEnds t no_sink seed words entries (WearSector segment sector ∷ []) (around a tt) (around b tt) (Err fault.Tape)
   wear_broke broke = record {
     told = tells_always t a
-        (λ c. (acts : List Act) (answer : Answer) → Runs seed c words entries (WearSector segment sector ∷ []) acts answer →
+        (λ c. (acts : List Act) (answer : Status) → Runs seed c words entries (WearSector segment sector ∷ []) acts answer →
         Cut t no_source no_sink (around a tt) (around b tt) acts TapeFails)
         (λ c acts answer runs.
         let does = done_of seed c words entries (WearSector segment sector) acts answer runs in
@@ -81,7 +84,7 @@ module _ {T K : Type 0} (t : tapes.Meaning T) (k : sinks.Meaning K) (seed : ℕ)
   a = u.tape
 
   abbrev Ends : Result ScrubReport StoreFault → Type 0
-  Ends result = MendEnds t k before (around a x) (around b y) result
+  Ends result = MendEnds t k Shallow before (around a x) (around b y) result
 
   pub scrub_done : (report : ScrubReport) → is_protected u.drive.deck ≡ false → Ends (Ok report) →
       RunEnds t k seed words entries (ScrubAll ∷ []) (around a x) (around b y) (Ok tt)
@@ -90,23 +93,23 @@ module _ {T K : Type 0} (t : tapes.Meaning T) (k : sinks.Meaning K) (seed : ℕ)
         acts = ends.acts;
         went = ends.went;
         told = tells_two t a (λ c. c.info.protected ≡ false)
-            (λ c. (scrubs : Scrubs c words entries ends.acts) × (reported report ≡ counts_of c (looked_at words entries) scrubs.sayings))
-            (λ c. Runs seed c words entries (ScrubAll ∷ []) ends.acts Done)
-            (λ c unlocked known. run_of seed c words entries ScrubAll ends.acts Done (inr (unlocked, (known.0, refl))))
+            (λ c. (scrubs : ScrubsAs Shallow c words entries ends.acts) × (reported report ≡ counts_for c (looked_at words entries) scrubs.findings))
+            (λ c. Runs seed c words entries (ScrubAll ∷ []) ends.acts status.Done)
+            (λ c unlocked known. run_of seed c words entries ScrubAll ends.acts status.Done (inr (unlocked, (known.0, refl))))
             (told_mark t before u fits false free) ends.told;
-        may = may_of seed words entries ScrubAll (text_of ends.acts) Done (reported report, ends.text);
+        may = may_of seed words entries ScrubAll (text_of ends.acts) status.Done (reported report, ends.text);
       }
 
-  scrub_cut : (failing : Failing) → is_protected u.drive.deck ≡ false → MendCut t k words entries (around a x) (around b y) failing →
-      tape_calls.Tells t a (λ c. (acts : List Act) (answer : Answer) → Runs seed c words entries (ScrubAll ∷ []) acts answer →
+  scrub_cut : (failing : Failing) → is_protected u.drive.deck ≡ false → ScrubCut t k Shallow words entries (around a x) (around b y) failing →
+      tape_calls.Tells t a (λ c. (acts : List Act) (answer : Status) → Runs seed c words entries (ScrubAll ∷ []) acts answer →
       Cut t no_source k (around a x) (around b y) acts failing)
   scrub_cut failing free cut =
       tells_two t a (λ c. c.info.protected ≡ false)
-      (λ c. (acts : List Act) → Scrubs c words entries acts → Cut t no_source k (around a x) (around b y) acts failing)
-      (λ c. (acts : List Act) (answer : Answer) → Runs seed c words entries (ScrubAll ∷ []) acts answer →
+      (λ c. (acts : List Act) → ScrubsAs Shallow c words entries acts → Cut t no_source k (around a x) (around b y) acts failing)
+      (λ c. (acts : List Act) (answer : Status) → Runs seed c words entries (ScrubAll ∷ []) acts answer →
       Cut t no_source k (around a x) (around b y) acts failing)
       (λ c unlocked known acts answer runs. elim (done_of seed c words entries ScrubAll acts answer runs) [
-        | inl refused ↦ absurd (let same : true ≡ false = sym refused.mark ∙ unlocked in cc)
+        | inl refused ↦ absurd (let same : true ≡ false = sym refused.0 ∙ unlocked in cc)
         | inr done ↦ known acts done.1.0
       ]) (told_mark t before u fits false free) cut.told
 
@@ -120,10 +123,10 @@ module _ {T K : Type 0} (t : tapes.Meaning T) (k : sinks.Meaning K) (seed : ℕ)
           (subst (λ (z : K). RunEnds t k seed words entries (ScrubAll ∷ []) (around a x) (around a z) (Err fault.Protected)) (sym sink) (record {
             acts = [];
             went = record { did = Done-nothing t a; wrote = record { took = none x; later = omega arith }; source_later = omega arith };
-            told = Tells-map t a (λ c. c.info.protected ≡ true) (λ c. Runs seed c words entries (ScrubAll ∷ []) [] Protected)
-                (λ c locked. run_of seed c words entries ScrubAll [] Protected (inl (record { mark = locked; does = refl; answered = refl })))
+            told = Tells-map t a (λ c. c.info.protected ≡ true) (λ c. Runs seed c words entries (ScrubAll ∷ []) [] status.Protected)
+                (λ c locked. run_of seed c words entries ScrubAll [] status.Protected (inl (locked, refl, refl)))
                 (told_mark t before u fits true (mark.0 refl));
-            may = may_of seed words entries ScrubAll [] Protected refl;
+            may = may_of seed words entries ScrubAll [] status.Protected refl;
           }))
   scrub_so none store.Sink mark ends =
       let free : is_protected u.drive.deck ≡ false = not_marked (store.Sink ≡ store.Protected) (is_protected u.drive.deck) mark.1 (λ is. cc) in

@@ -9,26 +9,28 @@ use Rattle.qic_base.specs.Terms.{no_source, around}
 use Rattle.qic_base.proofs.Joins.{steps_of-append, sink_cut_one}
 use Rattle.cartridge_spec.specs.Table.{Entry}
 use Rattle.cartridge_spec.specs.Volumes.{volume_length}
-use Rattle.command_spec.specs.Restore.{Piece, GivingEnd, Restored, LostIn, MismatchIn, Restores, pieces, volume_at}
+use Rattle.command_spec.specs.Restore.{Piece, GivingEnd, Restored, LostIn, MismatchIn, Restores, pieces, volume_at, ending_status}
 use Rattle.command_laws.proofs.RestoreCounts.{restores_in_no_step}
 use Rattle.tape_script.specs.Generator.{sum_means}
 use Rattle.command_laws.specs.OutputText.{AreOf}
 use Rattle.volume_output.specs.Output.{GaveVolume, VolumeCut}
-use Rattle.volume_store.specs.declared.fault.StoreFault.{StoreFault}
 use Rattle.volume_store.specs.Mounting.{StoreView}
 use Rattle.volume_store.specs.Restoring.{RestoreEnds}
 use Rattle.made_volumes.specs.Faults.{is_of_step, fault_of, printed}
-use Rattle.command_spec.specs.Make.{SumVolume, Answer, Done, StepDoes, Runs, sum_line, sum_acts, ending_answer, MaySum}
+use Rattle.command_spec.specs.Make.{SumVolume, StepDoes, Runs, sum_line, sum_acts, MaySum}
 use Rattle.command_laws.specs.CommandTerms.{IsSummed}
 use Rattle.made_volumes.specs.Runs.{HasRun, RunEnds, NeverFull}
 use Rattle.command_laws.proofs.MadeMachineLaws.{run_of, done_of, does_one}
 use Rattle.command_laws.proofs.MadeMayLaws.{may_of}
+use Rattle.command_spec.specs.declared.status.Status.{Status}
+use Rattle.cartridge_front.specs.declared.fault.StoreFault.{StoreFault}
 use Rattle.qic_base.specs.Sink as sinks
 use Rattle.qic_base.specs.SinkCalls as sink_calls
 use Rattle.qic_base.specs.Tape as tapes
 use Rattle.qic_base.specs.TapeCalls as tape_calls
-use Rattle.volume_store.specs.declared.fault.StoreFault.TheVariants as store
+use Rattle.cartridge_front.specs.declared.fault.StoreFault.TheVariants as store
 use Rattle.made_volumes.specs.declared.fault.MakeFault.TheVariants as fault
+use Rattle.command_spec.specs.declared.status.Status.TheVariants as status
 
 -- ---- no step
 
@@ -91,7 +93,7 @@ module _ {T K : Type 0} (t : tapes.Meaning T) (k : sinks.Meaning K) (seed : ℕ)
 
   summed_so : (e : Entry) (ending : GivingEnd) (gave : Gave e ending) (c : Cartridge) → volume_at entries number ≡ Some e →
       Restores c words (pieces words e) gave.acts ending →
-      StepDoes seed c words entries (SumVolume number) (sum_acts number (volume_length words e) (text_of gave.acts) ending) (ending_answer ending)
+      StepDoes seed c words entries (SumVolume number) (sum_acts number (volume_length words e) (text_of gave.acts) ending) (ending_status ending)
   summed_so e ending gave c numbered restores = record {
     entry = e;
     numbered = numbered;
@@ -113,10 +115,10 @@ module _ {T K : Type 0} (t : tapes.Meaning T) (k : sinks.Meaning K) (seed : ℕ)
   acts_are e gave small = ap (λ (n : ℕ). record { steps = []; text = sum_line number (volume_length words e) n } ∷ []) (total_is e Restored gave small)
 
   line_told : (e : Entry) (gave : Gave e Restored) → total < 2 ^ 32 → volume_at entries number ≡ Some e →
-      tape_calls.Tells t a (λ c. StepDoes seed c words entries (SumVolume number) (line_act e ∷ []) Done)
+      tape_calls.Tells t a (λ c. StepDoes seed c words entries (SumVolume number) (line_act e ∷ []) status.Done)
   line_told e gave small numbered =
-      Tells-map t a (λ c. Restores c words (pieces words e) gave.acts Restored) (λ c. StepDoes seed c words entries (SumVolume number) (line_act e ∷ []) Done)
-      (λ c restores. subst (λ (acts : List Act). StepDoes seed c words entries (SumVolume number) acts Done) (acts_are e gave small) (summed_so e Restored gave c numbered restores))
+      Tells-map t a (λ c. Restores c words (pieces words e) gave.acts Restored) (λ c. StepDoes seed c words entries (SumVolume number) (line_act e ∷ []) status.Done)
+      (λ c restores. subst (λ (acts : List Act). StepDoes seed c words entries (SumVolume number) acts status.Done) (acts_are e gave small) (summed_so e Restored gave c numbered restores))
       gave.told
 
   line_written : (y : K) (e : Entry) → Gave e Restored → total < 2 ^ 32 → volume_at entries number ≡ Some e → sinks.Wrote k x y (line_of e) →
@@ -128,10 +130,10 @@ module _ {T K : Type 0} (t : tapes.Meaning T) (k : sinks.Meaning K) (seed : ℕ)
       wrote = subst (λ (text : List ℕ). sinks.Wrote k x y text) (sym (append-nil (line_of e))) wrote;
       source_later = omega arith;
     };
-    told = Tells-map t a (λ c. StepDoes seed c words entries (SumVolume number) (line_act e ∷ []) Done)
-        (λ c. Runs seed c words entries (SumVolume number ∷ []) (line_act e ∷ []) Done)
-        (λ c does. run_of seed c words entries (SumVolume number) (line_act e ∷ []) Done does) (line_told e gave small numbered);
-    may = may_of seed words entries (SumVolume number) (line_of e ++ []) Done (e, numbered, (total, small, append-nil (line_of e)));
+    told = Tells-map t a (λ c. StepDoes seed c words entries (SumVolume number) (line_act e ∷ []) status.Done)
+        (λ c. Runs seed c words entries (SumVolume number ∷ []) (line_act e ∷ []) status.Done)
+        (λ c does. run_of seed c words entries (SumVolume number) (line_act e ∷ []) status.Done does) (line_told e gave small numbered);
+    may = may_of seed words entries (SumVolume number) (line_of e ++ []) status.Done (e, numbered, (total, small, append-nil (line_of e)));
   }
 
   line_cut : (y : K) (e : Entry) → Gave e Restored → sink_calls.BrokeOff k x y (line_of e) → Cut t no_source k (around a x) (around b y) (line_act e ∷ []) SinkFails
@@ -140,12 +142,12 @@ module _ {T K : Type 0} (t : tapes.Meaning T) (k : sinks.Meaning K) (seed : ℕ)
   line_broke : (y : K) (e : Entry) → Gave e Restored → total < 2 ^ 32 → volume_at entries number ≡ Some e → sink_calls.BrokeOff k x y (line_of e) →
       RunEnds t k seed words entries (SumVolume number ∷ []) (around a x) (around b y) (Err fault.Sink)
   line_broke y e gave small numbered broke = record {
-    told = Tells-map t a (λ c. StepDoes seed c words entries (SumVolume number) (line_act e ∷ []) Done)
-        (λ c. (acts : List Act) (answer : Answer) → Runs seed c words entries (SumVolume number ∷ []) acts answer →
+    told = Tells-map t a (λ c. StepDoes seed c words entries (SumVolume number) (line_act e ∷ []) status.Done)
+        (λ c. (acts : List Act) (answer : Status) → Runs seed c words entries (SumVolume number ∷ []) acts answer →
         Cut t no_source k (around a x) (around b y) acts SinkFails)
         (λ c does acts answer runs.
         let same : line_act e ∷ [] ≡ acts =
-        (does_one seed c words entries (SumVolume number) (line_act e ∷ []) acts Done answer does (done_of seed c words entries (SumVolume number) acts answer runs)).0 in
+        (does_one seed c words entries (SumVolume number) (line_act e ∷ []) acts status.Done answer does (done_of seed c words entries (SumVolume number) acts answer runs)).0 in
         subst (λ (zs : List Act). Cut t no_source k (around a x) (around b y) zs SinkFails) same (line_cut y e gave broke)) (line_told e gave small numbered);
     acts = line_act e ∷ [];
     cut = line_cut y e gave broke;
@@ -164,16 +166,16 @@ module _ {T K : Type 0} (t : tapes.Meaning T) (k : sinks.Meaning K) (seed : ℕ)
 
   refused_went : (e : Entry) (ending : GivingEnd) (gave : Gave e ending) → volume_at entries number ≡ Some e →
       sum_acts number (volume_length words e) (text_of gave.acts) ending ≡ [] →
-      MaySum words number e [] (ending_answer ending) →
-      HasRun t k seed words entries (SumVolume number ∷ []) (around a x) (around b x) (ending_answer ending)
+      MaySum words number e [] (ending_status ending) →
+      HasRun t k seed words entries (SumVolume number ∷ []) (around a x) (around b x) (ending_status ending)
   refused_went e ending gave numbered silent may = record {
     acts = [];
     went = record { did = did_nothing e ending gave; wrote = record { took = none x; later = omega arith }; source_later = omega arith };
     told = Tells-map t a (λ c. Restores c words (pieces words e) gave.acts ending)
-        (λ c. Runs seed c words entries (SumVolume number ∷ []) [] (ending_answer ending))
-        (λ c restores. run_of seed c words entries (SumVolume number) [] (ending_answer ending)
-        (subst (λ (acts : List Act). StepDoes seed c words entries (SumVolume number) acts (ending_answer ending)) silent (summed_so e ending gave c numbered restores))) gave.told;
-    may = may_of seed words entries (SumVolume number) [] (ending_answer ending) (e, numbered, may);
+        (λ c. Runs seed c words entries (SumVolume number ∷ []) [] (ending_status ending))
+        (λ c restores. run_of seed c words entries (SumVolume number) [] (ending_status ending)
+        (subst (λ (acts : List Act). StepDoes seed c words entries (SumVolume number) acts (ending_status ending)) silent (summed_so e ending gave c numbered restores))) gave.told;
+    may = may_of seed words entries (SumVolume number) [] (ending_status ending) (e, numbered, may);
   }
 
   -- ---- a fault of the tape
@@ -208,7 +210,7 @@ module _ {T K : Type 0} (t : tapes.Meaning T) (k : sinks.Meaning K) (seed : ℕ)
     told = Tells-map t a
         (λ c. (given : List Act) (ending : GivingEnd) → Restores c words (pieces words e) given ending →
         Cut t no_source sum_means (around a 0) (around b total) given TapeFails)
-        (λ c. (acts : List Act) (answer : Answer) → Runs seed c words entries (SumVolume number ∷ []) acts answer →
+        (λ c. (acts : List Act) (answer : Status) → Runs seed c words entries (SumVolume number ∷ []) acts answer →
         Cut t no_source k (around a x) (around b x) acts TapeFails)
         (λ c known acts answer runs. by_does c known acts answer (done_of seed c words entries (SumVolume number) acts answer runs)) cut.told;
     acts = [];
@@ -217,7 +219,7 @@ module _ {T K : Type 0} (t : tapes.Meaning T) (k : sinks.Meaning K) (seed : ℕ)
     where
       by_does : (c : Cartridge) → ((given : List Act) (ending : GivingEnd) → Restores c words (pieces words e) given ending →
           Cut t no_source sum_means (around a 0) (around b total) given TapeFails) →
-          (acts : List Act) (answer : Answer) → IsSummed c words entries number acts answer → Cut t no_source k (around a x) (around b x) acts TapeFails
+          (acts : List Act) (answer : Status) → IsSummed c words entries number acts answer → Cut t no_source k (around a x) (around b x) acts TapeFails
       by_does c known acts answer summed =
           let there : Some summed.entry ≡ Some e = sym summed.numbered ∙ numbered in
           let entry : summed.entry ≡ e = cc in

@@ -1,7 +1,7 @@
 -- The fault of a run that a fault of a store's call makes (this project's own).
 use Rattle.std.specs.Prelude.{Bool, true, false, Result, Ok, Err}
-use Rattle.volume_store.specs.declared.fault.StoreFault.{StoreFault}
-use Rattle.volume_store.specs.declared.fault.StoreFault.TheVariants as store
+use Rattle.cartridge_front.specs.declared.fault.StoreFault.{StoreFault}
+use Rattle.cartridge_front.specs.declared.fault.StoreFault.TheVariants as store
 use Rattle.made_volumes.specs.declared.fault.MakeFault.{MakeFault}
 use Rattle.made_volumes.specs.declared.fault.MakeFault.TheVariants as fault
 

@@ -9,10 +9,12 @@ use Rattle.cartridge_spec.specs.Table.{Entry}
 use Rattle.volume_store.specs.Mounting.{StoreView}
 use Rattle.made_volumes.specs.declared.fault.MakeFault.{MakeFault}
 use Rattle.made_volumes.specs.declared.fault.MakeFault.TheVariants as fault
-use Rattle.command_spec.specs.Make.{MakeStep, made_list, making, Answer, Done, Protected, TableMismatch, Full, Lost, Mismatch, Runs, made_answer, MayRun}
+use Rattle.command_spec.specs.Make.{MakeStep, made_list, making, Runs, made_answer, MayRun}
+use Rattle.command_spec.specs.declared.status.Status.{Status}
+use Rattle.command_spec.specs.declared.status.Status.TheVariants as status
 
 -- All acts of some steps went, up to this answer: over a cartridge that is told those of the plain machine.
-pub record HasRun {T K : Type 0} (t : tapes.Meaning T) (k : sinks.Meaning K) (seed : ℕ) (words : List ℕ) (entries : List Entry) (items : List MakeStep) (old new : Outside T (Unit {0}) K) (answer : Answer) : Type 0 where
+pub record HasRun {T K : Type 0} (t : tapes.Meaning T) (k : sinks.Meaning K) (seed : ℕ) (words : List ℕ) (entries : List Entry) (items : List MakeStep) (old new : Outside T (Unit {0}) K) (answer : Status) : Type 0 where
   pub acts : List Act
   pub went : Went t no_source k old new acts
   pub told : tape_calls.Tells t old.tape (λ c. Runs seed c words entries items acts answer)
@@ -21,7 +23,7 @@ pub record HasRun {T K : Type 0} (t : tapes.Meaning T) (k : sinks.Meaning K) (se
 
 -- A fault of the tape or of the sink cut them off: over a cartridge that is told in the acts of the plain machine.
 pub record RunCut {T K : Type 0} (t : tapes.Meaning T) (k : sinks.Meaning K) (seed : ℕ) (words : List ℕ) (entries : List Entry) (items : List MakeStep) (old new : Outside T (Unit {0}) K) (failing : Failing) : Type 0 where
-  pub told : tape_calls.Tells t old.tape (λ c. (acts : List Act) (answer : Answer) → Runs seed c words entries items acts answer →
+  pub told : tape_calls.Tells t old.tape (λ c. (acts : List Act) (answer : Status) → Runs seed c words entries items acts answer →
       Cut t no_source k old new acts failing)
   -- and over any tape
   pub acts : List Act
@@ -29,12 +31,12 @@ pub record RunCut {T K : Type 0} (t : tapes.Meaning T) (k : sinks.Meaning K) (se
 
 -- how some steps ended
 abbrev pub RunEnds : {T K : Type 0} (t : tapes.Meaning T) (k : sinks.Meaning K) (seed : ℕ) (words : List ℕ) (entries : List Entry) (items : List MakeStep) (old new : Outside T (Unit {0}) K) → Result (Unit {0}) MakeFault → Type 0
-RunEnds t k seed words entries items old new (Ok done) = HasRun t k seed words entries items old new Done
-RunEnds t k seed words entries items old new (Err fault.Protected) = HasRun t k seed words entries items old new Protected
-RunEnds t k seed words entries items old new (Err fault.TableMismatch) = HasRun t k seed words entries items old new TableMismatch
-RunEnds t k seed words entries items old new (Err (fault.Full need have)) = HasRun t k seed words entries items old new (Full need have)
-RunEnds t k seed words entries items old new (Err (fault.Lost segment lost)) = HasRun t k seed words entries items old new (Lost segment lost)
-RunEnds t k seed words entries items old new (Err (fault.Mismatch segment)) = HasRun t k seed words entries items old new (Mismatch segment)
+RunEnds t k seed words entries items old new (Ok done) = HasRun t k seed words entries items old new status.Done
+RunEnds t k seed words entries items old new (Err fault.Protected) = HasRun t k seed words entries items old new status.Protected
+RunEnds t k seed words entries items old new (Err fault.TableMismatch) = HasRun t k seed words entries items old new status.TableMismatch
+RunEnds t k seed words entries items old new (Err (fault.Full need have)) = HasRun t k seed words entries items old new (status.Full need have)
+RunEnds t k seed words entries items old new (Err (fault.Lost segment lost)) = HasRun t k seed words entries items old new (status.Lost segment lost)
+RunEnds t k seed words entries items old new (Err (fault.Mismatch segment)) = HasRun t k seed words entries items old new (status.Mismatch segment)
 RunEnds t k seed words entries items old new (Err fault.Sink) = RunCut t k seed words entries items old new SinkFails
 RunEnds t k seed words entries items old new (Err fault.Tape) = RunCut t k seed words entries items old new TapeFails
 
@@ -66,7 +68,7 @@ pub record HoldsBeforeFull (seed count need have : ℕ) (store after : StoreView
   pub appended : ℕ
   pub within : appended < count
   pub list : HoldsAll seed appended store after
-  pub full : made_answer seed store.words after.entries (1 + appended) ≡ Full need have
+  pub full : made_answer seed store.words after.entries (1 + appended) ≡ status.Full need have
 
 -- All made volumes were added to the list of a store, or those that were appended before a refusal. The sink, and segments
 -- other than the table's, are asked for behind the appends.

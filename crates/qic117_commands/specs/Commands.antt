@@ -47,12 +47,11 @@ number_of PhantomDeselect = 47
 -- every command, by ascending number (QIC-117)
 unfoldable pub commands : List Command
 commands =
-    Reset ∷ ReportNextBit ∷ Pause ∷ MicroStepPause ∷ AlternateTimeout ∷ ReportStatus ∷ ReportError
-    ∷ ReportConfiguration ∷ ReportRom ∷ LogicalForward ∷ PhysicalReverse ∷ PhysicalForward ∷ SeekTrack
-    ∷ SeekLoadPoint ∷ EnterFormat ∷ WriteReference ∷ EnterVerify ∷ StopTape ∷ MicroStepUp ∷ MicroStepDown
-    ∷ SoftSelect ∷ SoftDeselect ∷ SkipReverse ∷ SkipForward ∷ SelectRate ∷ Diagnostic1 ∷ Diagnostic2 ∷ EnterPrimary
-    ∷ VendorUnique ∷ ReportVendor ∷ ReportTapeStatus ∷ ExtendedSkipReverse ∷ ExtendedSkipForward ∷ CalibrateLength
-    ∷ ReportFormatSegments ∷ SetFormatSegments ∷ PhantomSelect ∷ PhantomDeselect ∷ []
+    Reset ∷ ReportNextBit ∷ Pause ∷ MicroStepPause ∷ AlternateTimeout ∷ ReportStatus ∷ ReportError ∷ ReportConfiguration ∷ ReportRom
+    ∷ LogicalForward ∷ PhysicalReverse ∷ PhysicalForward ∷ SeekTrack ∷ SeekLoadPoint ∷ EnterFormat ∷ WriteReference ∷ EnterVerify
+    ∷ StopTape ∷ MicroStepUp ∷ MicroStepDown ∷ SoftSelect ∷ SoftDeselect ∷ SkipReverse ∷ SkipForward ∷ SelectRate ∷ Diagnostic1
+    ∷ Diagnostic2 ∷ EnterPrimary ∷ VendorUnique ∷ ReportVendor ∷ ReportTapeStatus ∷ ExtendedSkipReverse ∷ ExtendedSkipForward
+    ∷ CalibrateLength ∷ ReportFormatSegments ∷ SetFormatSegments ∷ PhantomSelect ∷ PhantomDeselect ∷ []
 
 -- the command of a number (QIC-117)
 unfoldable pub command_at : ℕ → Option Command

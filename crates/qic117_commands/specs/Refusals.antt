@@ -21,8 +21,7 @@ among commands command = list_any (λ listed. number_of listed == number_of comm
 
 -- no drive of this profile has them: they are refused like a number that no command has
 unfoldable pub is_unsupported : Command → Bool
-is_unsupported =
-    among (Pause ∷ MicroStepPause ∷ AlternateTimeout ∷ PhysicalReverse ∷ PhysicalForward ∷ MicroStepUp ∷ MicroStepDown
+is_unsupported = among (Pause ∷ MicroStepPause ∷ AlternateTimeout ∷ PhysicalReverse ∷ PhysicalForward ∷ MicroStepUp ∷ MicroStepDown
     ∷ SoftSelect ∷ SoftDeselect ∷ SelectRate ∷ VendorUnique ∷ ExtendedSkipReverse ∷ ExtendedSkipForward
     ∷ CalibrateLength ∷ PhantomSelect ∷ PhantomDeselect ∷ [])
 
@@ -32,8 +31,7 @@ is_diagnostic = among (Diagnostic1 ∷ Diagnostic2 ∷ [])
 
 -- they ask for a cartridge in the drive
 unfoldable pub needs_cartridge : Command → Bool
-needs_cartridge =
-    among (LogicalForward ∷ SeekTrack ∷ SeekLoadPoint ∷ EnterFormat ∷ WriteReference ∷ EnterVerify ∷ StopTape
+needs_cartridge = among (LogicalForward ∷ SeekTrack ∷ SeekLoadPoint ∷ EnterFormat ∷ WriteReference ∷ EnterVerify ∷ StopTape
     ∷ SkipReverse ∷ SkipForward ∷ EnterPrimary ∷ ReportTapeStatus ∷ ReportFormatSegments ∷ SetFormatSegments ∷ [])
 
 -- they wait until a seek is over
@@ -42,8 +40,7 @@ waits_for_seek command = not (among (Reset ∷ ReportNextBit ∷ ReportStatus �
 
 -- they wait until the tape stands
 unfoldable pub waits_for_stop : Command → Bool
-waits_for_stop command =
-    not (among (Reset ∷ ReportNextBit ∷ ReportStatus ∷ ReportError ∷ LogicalForward ∷ StopTape ∷ []) command)
+waits_for_stop command = not (among (Reset ∷ ReportNextBit ∷ ReportStatus ∷ ReportError ∷ LogicalForward ∷ StopTape ∷ []) command)
 
 -- what each mode forbids
 unfoldable pub illegal_in_primary : Command → Bool
@@ -53,8 +50,7 @@ unfoldable pub illegal_in_format : Command → Bool
 illegal_in_format = among (EnterFormat ∷ SkipReverse ∷ SkipForward ∷ [])
 
 unfoldable pub illegal_in_verify : Command → Bool
-illegal_in_verify =
-    among (EnterFormat ∷ WriteReference ∷ EnterVerify ∷ SetFormatSegments ∷ [])
+illegal_in_verify = among (EnterFormat ∷ WriteReference ∷ EnterVerify ∷ SetFormatSegments ∷ [])
 
 -- they prepare for writing, which a protected cartridge forbids
 unfoldable pub needs_writable : Command → Bool
@@ -63,40 +59,35 @@ needs_writable = among (EnterFormat ∷ [])
 -- they wait until the host has read the error word since the cartridge was put in
 unfoldable pub needs_known_cartridge : Command → Bool
 needs_known_cartridge =
-    among
-    (LogicalForward ∷ SeekTrack ∷ SeekLoadPoint ∷ EnterFormat ∷ EnterVerify ∷ SkipReverse ∷ SkipForward ∷ [])
+    among (LogicalForward ∷ SeekTrack ∷ SeekLoadPoint ∷ EnterFormat ∷ EnterVerify ∷ SkipReverse ∷ SkipForward ∷ [])
 
 -- they find their place by the reference bursts
 unfoldable pub needs_reference : Command → Bool
-needs_reference =
-    among (LogicalForward ∷ SeekTrack ∷ EnterVerify ∷ SkipReverse ∷ SkipForward ∷ [])
+needs_reference = among (LogicalForward ∷ SeekTrack ∷ EnterVerify ∷ SkipReverse ∷ SkipForward ∷ [])
 
 -- in Format mode they begin at the start of a track
 unfoldable pub needs_logical_bot : Command → Bool
 needs_logical_bot = among (LogicalForward ∷ [])
 
+abbrev pub row : ErrorCode → (covers : Command → Bool) → (holds : DriveView → Bool) → Row
+row code covers holds = record { code = code; covers = covers; holds = holds }
+
 -- the rows, in order (this project's profile)
 abbrev pub refusal_rows : List Row
 refusal_rows =
-    record { code = UndefinedCommand; covers = is_unsupported; holds = λ view. true }
-    ∷ record { code = IllegalDiagnostic; covers = is_diagnostic; holds = λ view. true }
-    ∷ record { code = NoCartridge; covers = needs_cartridge; holds = λ view. not view.present }
-    ∷ record { code = NotReady; covers = waits_for_seek; holds = λ view. is_seeking view.motion }
-    ∷ record { code = NotReady; covers = waits_for_stop; holds = λ view. is_streaming view.motion }
-    ∷ record { code = IllegalInPrimary; covers = illegal_in_primary; holds = λ view. is_primary view.mode }
-    ∷ record { code = IllegalInFormat; covers = illegal_in_format; holds = λ view. is_format view.mode }
-    ∷ record { code = IllegalInVerify; covers = illegal_in_verify; holds = λ view. is_verify view.mode }
-    ∷ record { code = WriteProtected; covers = needs_writable; holds = λ view. view.protected }
-    ∷ record { code = NewCartridge; covers = needs_known_cartridge; holds = λ view. view.fresh }
-    ∷ record { code = NotReferenced; covers = needs_reference; holds = λ view. not view.referenced }
-    ∷ record {
-      code = NotAtLogicalBot;
-      covers = needs_logical_bot;
-      holds = λ view. is_format view.mode && not (view.offset == 0) && is_stopped view.motion;
-    }
-    ∷ []
+    row UndefinedCommand is_unsupported (λ view. true)
+    ∷ row IllegalDiagnostic is_diagnostic (λ view. true)
+    ∷ row NoCartridge needs_cartridge (λ view. not view.present)
+    ∷ row NotReady waits_for_seek (λ view. is_seeking view.motion)
+    ∷ row NotReady waits_for_stop (λ view. is_streaming view.motion)
+    ∷ row IllegalInPrimary illegal_in_primary (λ view. is_primary view.mode)
+    ∷ row IllegalInFormat illegal_in_format (λ view. is_format view.mode)
+    ∷ row IllegalInVerify illegal_in_verify (λ view. is_verify view.mode)
+    ∷ row WriteProtected needs_writable (λ view. view.protected)
+    ∷ row NewCartridge needs_known_cartridge (λ view. view.fresh)
+    ∷ row NotReferenced needs_reference (λ view. not view.referenced)
+    ∷ row NotAtLogicalBot needs_logical_bot (λ view. is_format view.mode && not (view.offset == 0) && is_stopped view.motion) ∷ []
 
 -- the code of the first row that speaks of the command and holds of the drive (this project's profile)
 unfoldable pub first_refusal : DriveView → Command → Option ErrorCode
-first_refusal view command =
-    option_map (λ row. row.code) (find (λ row. row.covers command && row.holds view) refusal_rows)
+first_refusal view command = option_map (λ row. row.code) (find (λ row. row.covers command && row.holds view) refusal_rows)

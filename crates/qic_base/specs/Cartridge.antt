@@ -9,8 +9,7 @@ use Rattle.qic_base.specs.declared.TheConstants.{LONGEST}
 -- the places below a number that are in the set, in ascending order
 unfoldable pub lost_places : ℕ → ℕ → List ℕ
 lost_places mask zero = []
-lost_places mask (suc place) =
-    lost_places mask place ++ (if mask / 2 ^ place % 2 == 1 then place ∷ [] else [])
+lost_places mask (suc place) = lost_places mask place ++ (if mask / 2 ^ place % 2 == 1 then place ∷ [] else [])
 
 -- Its length and marks, the version of the layout in which it is kept, and the views of its sectors, 32 to a segment,
 -- segment after segment.
@@ -48,8 +47,6 @@ with_view c segment sector view = record c { views = slice_set c.views (32 * seg
 
 -- a new cartridge, of version 2: no sector was ever formatted, and no mark stands
 abbrev pub new_cartridge : ℕ → Cartridge
-new_cartridge n = record {
-  info = record { segments_per_track = n; protected = false; referenced = false };
-  version = 2;
-  views = replicate (896 * n) Blank;
-}
+new_cartridge n =
+    let info : TapeInfo = record { segments_per_track = n; protected = false; referenced = false } in
+    record { info = info; version = 2; views = replicate (896 * n) Blank }

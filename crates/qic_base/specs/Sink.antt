@@ -1,11 +1,10 @@
 -- A sink of bytes: what was written to it, what it took, and how often it failed (this project's profile).
 use Rattle.std.specs.Prelude.{ℕ, ◌≤◌, List, Option}
 
--- All that a sink means to the code above it.
+-- All that a sink means to the code above it: the bytes written so far, None where the sink doesn't tell them; what it
+-- took, from the sink before to the sink after; and the count of its faults.
 pub record Meaning (K : Type 0) : Type 1 where
-  -- the bytes written so far; None where the sink doesn't tell them
   pub written : K → Option (List ℕ)
-  -- from the sink before to the sink after, these bytes were taken
   pub took : K → List ℕ → K → Type 0
   pub faults : K → ℕ
 

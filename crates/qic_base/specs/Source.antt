@@ -1,10 +1,9 @@
 -- A source of bytes: what is left of it, what its calls keep, and how often it failed (this project's profile).
 use Rattle.std.specs.Prelude.{ℕ, List, Option}
 
--- All that a source means to the code above it.
+-- All that a source means to the code above it: the bytes left, None where the source doesn't tell them; what each call
+-- keeps, of the source before and after; and the count of its faults.
 pub record Meaning (S : Type 0) : Type 1 where
-  -- the bytes left; None where the source doesn't tell them
   pub left : S → Option (List ℕ)
-  -- what each call keeps, of the source before and after
   pub keeps : S → S → Type 0
   pub faults : S → ℕ

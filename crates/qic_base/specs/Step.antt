@@ -39,11 +39,9 @@ spoiled_view view = view
 -- a change of a cartridge that is there
 abbrev pub changed : Step → Cartridge → Cartridge
 changed (WriteSector segment sector bytes) c = with_view c segment sector (written_view bytes (view_at c segment sector))
-changed (FormatSegment segment) c = record c {
-  views = take (32 * segment) c.views
-      ++ map formatted_view (take 32 (drop (32 * segment) c.views))
-      ++ drop (32 * (segment + 1)) c.views;
-}
+changed (FormatSegment segment) c =
+    let formatted : List SectorView = map formatted_view (take 32 (drop (32 * segment) c.views)) in
+    record c { views = take (32 * segment) c.views ++ formatted ++ drop (32 * (segment + 1)) c.views }
 changed SetReferenced c = record c { info = record c.info { referenced = true } }
 changed (SetProtected on) c = record c { info = record c.info { protected = on } }
 changed (Renew n) c = new_cartridge n

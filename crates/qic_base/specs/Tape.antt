@@ -24,8 +24,7 @@ pub record Meaning (S : Type 0) : Type 1 where
   pub tells_stops : S → Bool
   -- a clock, which never falls
   pub moment : S → ℕ
-  -- A stop at some moment from this one on, up to now, might have left this. Where the tape doesn't tell its stops nothing
-  -- is meant by it.
+  -- a stop from this moment on, up to now, might have left this; it means nothing where the tape doesn't tell its stops
   pub left_since : S → ℕ → Option Cartridge → Type 0
 
 -- From old on time went by, and each stop since then, inside these steps or between them, left what their fronts leave.

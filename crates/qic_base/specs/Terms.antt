@@ -1,4 +1,5 @@
--- Words that contracts and proofs cite, and no definition of the statement: of cartridges, dates, names and acts.
+-- Words that contracts and proofs cite, the clauses of the outside's traits among them, and that no clause of `run` reaches: of
+-- cartridges, dates, names and acts.
 use Rattle.std.specs.Prelude.{◌≡◌, ℕ, ◌+◌, ◌*◌, ◌/◌, ◌%◌, ◌^◌, ◌≤◌, [], ◌++◌, length, take, drop, map, All, Option, None, Result, OnErr}
 use Rattle.qic_base.specs.declared.tape.SectorView.{SectorView}
 use Rattle.qic_base.specs.declared.tape.SectorView.TheVariants.{Blank, Defect, Lost, Holds}

@@ -10,7 +10,8 @@ use Rattle.cartridge_spec.specs.Shape.{mask_at, usable_count}
 use Rattle.cartridge_spec.specs.Table.{Entry}
 use Rattle.cartridge_laws.specs.Table.{LieBehind}
 use Rattle.cartridge_spec.specs.Volumes.{carrying, carrying_segments}
-use Rattle.command_spec.specs.Scrub.{Looked, looked_segments, looked_volumes}
+use Rattle.command_spec.specs.Scrub.{Looked, looked_volumes}
+use Rattle.command_laws.specs.CommandTerms.{looked_segments}
 
 -- ---- the segments of a volume
 

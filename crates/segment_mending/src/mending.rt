@@ -20,7 +20,7 @@ use crate::report::ScrubReport;
 use drive_states::Unit;
 use host_driver::Host;
 use qic_base::{LostSet, Sink, SinkFailed, Tape};
-use segment_io::{Workspace, write_sectors};
+use segment_io::{SegFault, Workspace, write_sectors};
 use tape_script::{TextLine, write_text};
 
 /// Writes the sectors at the lost places again. Where there are none, the tape stays where it is.
@@ -46,7 +46,10 @@ fn write_lost<T: Tape>(
     }
     match write_sectors(host, unit, segment, usable, lost, work) {
         Ok(()) => Ok(()),
-        Err(_) => Err(ScrubFault::Tape),
+        Err(SegFault::Tape) => Err(ScrubFault::Tape),
+        Err(SegFault::Lost { .. } | SegFault::Mismatch { .. }) => {
+            unreachable!("a write reads nothing")
+        }
     }
 }
 

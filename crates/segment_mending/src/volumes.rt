@@ -7,7 +7,8 @@ ghost use Rattle.cartridge_spec.specs.Volumes.{carrying};
 ghost use Rattle.drive_spec.specs.Terms.{is_referenced};
 ghost use Rattle.host_driver.specs.Calls.{IsReady, MayWrite, Keeps};
 ghost use Rattle.host_driver.specs.Fits.{segments_of};
-ghost use Rattle.command_spec.specs.Scrub.{looked_segments, looked_volumes};
+ghost use Rattle.command_spec.specs.Scrub.{looked_volumes};
+ghost use Rattle.command_laws.specs.CommandTerms.{looked_segments};
 ghost use Rattle.segment_mending.specs.Looking.{HasFew, Looks};
 ghost use Rattle.segment_mending.specs.Mending.{reported};
 

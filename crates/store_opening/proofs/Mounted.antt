@@ -8,14 +8,15 @@ use Rattle.qic_base.specs.declared.tape.TapeInfo.{TapeInfo}
 use Rattle.store_opening.proofs.Started.{Knows, Present, told_known_beside, told_at_start}
 use Rattle.store_opening.specs.Opening.{IsOpened, IsTurnedDown, HasOpened, OpenFails, StartFails}
 use Rattle.store_opening.specs.declared.opening.OpenFault.{OpenFault}
-use Rattle.volume_store.specs.Finding.{is_of_mounting, NamesCause}
-use Rattle.volume_store.specs.Mounting.{StoreView, StoreFits, IsSettling, MountRefuses, MountDoes}
-use Rattle.volume_store.specs.declared.fault.StoreFault.{StoreFault}
+use Rattle.cartridge_front.specs.Finding.{is_of_mounting, NamesCause}
+use Rattle.cartridge_front.specs.Learning.{MountRefuses}
+use Rattle.volume_store.specs.Mounting.{StoreView, StoreFits, IsSettling, MountDoes}
+use Rattle.cartridge_front.specs.declared.fault.StoreFault.{StoreFault}
 use Rattle.qic_base.specs.Tape as tapes
 use Rattle.qic_base.specs.TapeCalls as tape_calls
 use Rattle.store_opening.specs.declared.opening.OpenFault.TheVariants as open_fault
 use Rattle.volume_store.specs.Mounting as stores
-use Rattle.volume_store.specs.declared.fault.StoreFault.TheVariants as fault
+use Rattle.cartridge_front.specs.declared.fault.StoreFault.TheVariants as fault
 
 is_mounted : (info : TapeInfo) (store : StoreView) (steps : List TapeStep) (held : Option Cartridge) → Knows (Some info) held →
     IfSome held (λ c. stores.Settles c store.header store.words store.entries steps) → IsSomeAnd held (λ c. IsOpened c store steps)

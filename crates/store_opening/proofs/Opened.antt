@@ -17,14 +17,14 @@ use Rattle.qic_base.specs.Cartridge.{Cartridge}
 use Rattle.qic_base.specs.Step.{Step as TapeStep, effects}
 use Rattle.qic_base.specs.declared.tape.TapeInfo.{TapeInfo}
 use Rattle.store_opening.specs.Opening.{IsOpened, HasOpened}
-use Rattle.volume_store.proofs.Copies.{IsLearnt, told_learnt}
+use Rattle.cartridge_front.proofs.Copies.{IsLearnt, told_learnt}
 use Rattle.volume_store.specs.Mounting.{StoreView}
-use Rattle.volume_store.specs.declared.fault.StoreFault.{StoreFault}
+use Rattle.cartridge_front.specs.declared.fault.StoreFault.{StoreFault}
 use Rattle.qic_base.specs.Sink as sinks
 use Rattle.qic_base.specs.Source as sources
 use Rattle.qic_base.specs.Tape as tapes
 use Rattle.qic_base.specs.TapeCalls as tape_calls
-use Rattle.volume_store.specs.declared.fault.StoreFault.TheVariants as fault
+use Rattle.cartridge_front.specs.declared.fault.StoreFault.TheVariants as fault
 
 abbrev pub outside : {T S K : Type 0} → T → S → K → Outside T S K
 outside tape source sink = record { tape = tape; source = source; sink = sink }

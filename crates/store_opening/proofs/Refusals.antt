@@ -3,7 +3,7 @@ use Rattle.std.proofs.Common.{◌≡◌, ℕ, true, not, refl, ap}
 use Rattle.std.proofs.lemmas.Bool.{lt-ltb, ne_eqb}
 use Rattle.command_spec.specs.Outcome.{is_refused}
 use Rattle.qic_base.specs.declared.foreign.ForeignField.{ForeignField}
-use Rattle.volume_store.specs.Finding.{IsForeign}
+use Rattle.cartridge_front.specs.Finding.{IsForeign}
 use Rattle.qic_base.specs.declared.foreign.ForeignField.TheVariants as foreign_field
 
 pub foreign_is_refused : (n : ℕ) (field : ForeignField) (value : ℕ) → IsForeign n field value → is_refused field value ≡ true

@@ -10,10 +10,11 @@ use Rattle.qic_base.specs.Step.{Step}
 use Rattle.qic_base.specs.Tape.{Meaning, Done, Broke}
 use Rattle.store_opening.specs.declared.opening.OpenFault.{OpenFault}
 use Rattle.store_opening.specs.declared.opening.OpenFault.TheVariants.{NoCartridge, Refused}
-use Rattle.volume_store.specs.Finding.{is_of_mounting, NamesCause}
-use Rattle.volume_store.specs.Mounting.{StoreView, StoreFits, IsSettling, MountRefuses, Settles}
-use Rattle.volume_store.specs.declared.fault.StoreFault.{StoreFault}
-use Rattle.volume_store.specs.declared.fault.StoreFault.TheVariants.{Tape}
+use Rattle.cartridge_front.specs.Finding.{is_of_mounting, NamesCause}
+use Rattle.cartridge_front.specs.Learning.{MountRefuses}
+use Rattle.volume_store.specs.Mounting.{StoreView, StoreFits, IsSettling, Settles}
+use Rattle.cartridge_front.specs.declared.fault.StoreFault.{StoreFault}
+use Rattle.cartridge_front.specs.declared.fault.StoreFault.TheVariants.{Tape}
 
 -- ---- the start
 

@@ -4,7 +4,7 @@
 ghost use Rattle.std.specs.Prelude.{◌≡◌, ◌≢◌};
 ghost use Rattle.tape_cmd.specs.Lines.{status_code};
 
-use image_units::{Arguments, NO_IMAGE, open_unit, read_arguments};
+use image_units::{Arguments, NO_IMAGE, close_unit, open_unit, read_arguments};
 use read_ahead::MOST;
 use std::io::ErrorKind;
 use std::process::ExitCode;
@@ -44,7 +44,9 @@ fn run_over_image(rt: &HostRuntime, arguments: &Arguments) -> u8 {
         &mut source,
         &mut sink,
     );
-    finish(status, &mut errors)
+    let code = finish(status, &mut errors);
+    close_unit(unit);
+    code
 }
 
 /// Answers the exit status where the words can't be had: there is no memory for them, which prints nothing, or one is no

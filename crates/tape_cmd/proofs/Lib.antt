@@ -1,10 +1,2 @@
-pub mod Added
-pub mod Endings
-pub mod Formats
-pub mod Hands
 pub mod Made
-pub mod Mounted
-pub mod Restored
 pub mod Scripted
-pub mod Scrubbed
-pub mod Trains

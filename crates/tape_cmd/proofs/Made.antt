@@ -10,9 +10,9 @@ use Rattle.cartridge_spec.specs.Mounting.{Mounting}
 use Rattle.cartridge_spec.specs.Table.{Entry}
 use Rattle.drive_states.specs.Unit.{UnitView}
 use Rattle.cartridge_laws.proofs.MountOnce.{mounts_is_function}
-use Rattle.command_spec.specs.Make.{made_length, MakeStep, AppendMade, WearSector, ScrubAll, SumVolume, after_item, making, Answer, made_answer, MayDo, MayRun, Making, make_status}
+use Rattle.command_spec.specs.Make.{made_length, MakeStep, AppendMade, WearSector, ScrubAll, SumVolume, after_item, making, made_answer, MayDo, MayRun, Making}
 use Rattle.command_spec.specs.Append.{has_promised_room, room_in}
-use Rattle.command_laws.specs.CommandTerms.{kept_in, Makes, RefusedPrints, EndsBlind}
+use Rattle.command_laws.specs.CommandTerms.{kept_in, Makes, EndsBlind}
 use Rattle.volume_store.specs.Mounting.{StoreView}
 use Rattle.command_laws.proofs.StoreTaking.{both_true}
 use Rattle.made_volumes.specs.declared.fault.MakeFault.{MakeFault}
@@ -20,21 +20,20 @@ use Rattle.made_volumes.specs.Runs.{HasRun, MakeEnds, RunCut}
 use Rattle.command_spec.specs.declared.status.Status.{Status}
 use Rattle.tape_cmd.specs.Make.{run_status}
 use Rattle.command_spec.specs.Outcome.{Going, Opened, OpenOutcome, WritableOutcome, CommandOutcome}
-use Rattle.tape_cmd.specs.Opening.{IsUnlocked, WritableEnds, is_opening}
 use Rattle.store_opening.specs.Opening.{IsOpened, HasOpened}
-use Rattle.tape_cmd.specs.Outcome.{first_steps}
 use Rattle.command_spec.specs.Machine.{IsCutOff, fault_of, may_come_from}
 use Rattle.command_laws.specs.Terms.{Prints}
-use Rattle.tape_cmd.proofs.Endings.{IsBlind, none_taken, turned_down, cut_off, told_map}
-use Rattle.tape_cmd.proofs.Mounted.{Settles, no_outcome, told_both, locked_is, unlocked_refused_is, writable_begins}
 use Rattle.command_laws.proofs.CommandOpened.{quiet}
 use Rattle.store_opening.proofs.Opened.{went_behind, cut_behind, settled_told}
+use Rattle.host_commands.specs.Opening.{IsUnlocked, WritableEnds, is_opening}
+use Rattle.hand_commands.specs.Outcome.{first_steps}
+use Rattle.hand_commands.proofs.Endings.{IsBlind, none_taken, turned_down, cut_off, told_map, told_both}
+use Rattle.host_commands.proofs.Mounted.{Settles, no_outcome, locked_is, unlocked_refused_is, writable_begins}
 use Rattle.qic_base.specs.Sink as sinks
 use Rattle.qic_base.specs.Tape as tapes
 use Rattle.cartridge_spec.specs.Mounting as mounting
 use Rattle.command_spec.specs.declared.words.Words.TheVariants as words
 use Rattle.made_volumes.specs.declared.fault.MakeFault.TheVariants as fault
-use Rattle.command_spec.specs.Make as made
 use Rattle.command_spec.specs.declared.status.Status.TheVariants as status
 
 -- ---- the answers of a run
@@ -55,60 +54,49 @@ full_more have n some small =
 some_bytes : (seed volume : ℕ) → 1 ≤ made_length seed volume
 some_bytes seed volume = omega arith
 
-full_sound : (seed count : ℕ) (ws : List ℕ) (es : List Entry) (volume need have : ℕ) → made_answer seed ws es volume ≡ made.Full need have →
-    may_come_from (status.Full need have) (words.Make seed count) ≡ true
-full_sound seed count ws es volume need have is = by_room (has_promised_room (room_in (kept_in ws es)) (Some (made_length seed volume))) refl is
+-- an append is carried out, or full
+append_sound : (seed count : ℕ) (ws : List ℕ) (es : List Entry) (volume : ℕ) (answer : Status) → made_answer seed ws es volume ≡ answer →
+    may_come_from answer (words.Make seed count) ≡ true
+append_sound seed count ws es volume answer is = by_room (has_promised_room (room_in (kept_in ws es)) (Some (made_length seed volume))) refl is
   where
     by_room : (b : Bool) → has_promised_room (room_in (kept_in ws es)) (Some (made_length seed volume)) ≡ b →
-        cond b made.Done (made.Full (made_length seed volume) (room_in (kept_in ws es))) ≡ made.Full need have → nat_lt have need ≡ true
-    by_room true there same = absurd (cc)
+        cond b status.Done (status.Full (made_length seed volume) (room_in (kept_in ws es))) ≡ answer → may_come_from answer (words.Make seed count) ≡ true
+    by_room true there same = subst (λ (a : Status). may_come_from a (words.Make seed count) ≡ true) same refl
     by_room false none same =
-        let n : made_length seed volume ≡ need = cc in
-        let h : room_in (kept_in ws es) ≡ have = cc in
-        let more : nat_lt (room_in (kept_in ws es)) (made_length seed volume) ≡ true =
-        full_more (room_in (kept_in ws es)) (made_length seed volume) (some_bytes seed volume) none in
-        subst (λ (x : ℕ). nat_lt x need ≡ true) h (subst (λ (x : ℕ). nat_lt (room_in (kept_in ws es)) x ≡ true) n more)
+        subst (λ (a : Status). may_come_from a (words.Make seed count) ≡ true) same
+        (full_more (room_in (kept_in ws es)) (made_length seed volume) (some_bytes seed volume) none)
 
 lost_sound : (seed count segment lost : ℕ) → 3 < lost → may_come_from (status.Lost segment lost) (words.Make seed count) ≡ true
 lost_sound seed count segment lost many = both_true (nat_lt 3 lost) true (lt-ltb 3 lost many) refl
 
-do_sound : (seed count : ℕ) (ws : List ℕ) (es : List Entry) (item : MakeStep) (text : List ℕ) (answer : Answer) → MayDo seed ws es item text answer →
-    may_come_from (make_status answer) (words.Make seed count) ≡ true
-do_sound seed count ws es item text made.Done may = refl
-do_sound seed count ws es item text made.Protected may = refl
-do_sound seed count ws es item text made.TableMismatch may = refl
-do_sound seed count ws es (AppendMade volume) text (made.Full need have) may = full_sound seed count ws es volume need have may.1
-do_sound seed count ws es (WearSector segment sector) text (made.Full need have) may = let same = may.1 in absurd (cc)
-do_sound seed count ws es ScrubAll text (made.Full need have) may = absurd may
-do_sound seed count ws es (SumVolume number) text (made.Full need have) may = absurd may.2
-do_sound seed count ws es (AppendMade volume) text (made.Lost segment lost) may = lost_sound seed count segment lost may.1.1
-do_sound seed count ws es (WearSector at sector) text (made.Lost segment lost) may = let same = may.1 in absurd (cc)
-do_sound seed count ws es ScrubAll text (made.Lost segment lost) may = absurd may
-do_sound seed count ws es (SumVolume number) text (made.Lost segment lost) may = let at = may.2.1.1 in lost_sound seed count segment lost at.0
-do_sound seed count ws es item text (made.Mismatch segment) may = refl
+do_sound : (seed count : ℕ) (ws : List ℕ) (es : List Entry) (item : MakeStep) (text : List ℕ) (answer : Status) → MayDo seed ws es item text answer →
+    may_come_from answer (words.Make seed count) ≡ true
+do_sound seed count ws es (AppendMade volume) text status.Protected may = refl
+do_sound seed count ws es (AppendMade volume) text status.TableMismatch may = refl
+do_sound seed count ws es (AppendMade volume) text (status.Lost segment lost) may = lost_sound seed count segment lost may.1.1
+do_sound seed count ws es (AppendMade volume) text answer may = append_sound seed count ws es volume answer may.1
+do_sound seed count ws es (WearSector segment sector) text answer may =
+    subst (λ (a : Status). may_come_from a (words.Make seed count) ≡ true) (sym may.1) refl
+do_sound seed count ws es ScrubAll text status.Done may = refl
+do_sound seed count ws es ScrubAll text status.Protected may = refl
+do_sound seed count ws es ScrubAll text answer may = absurd may
+do_sound seed count ws es (SumVolume number) text status.Done may = refl
+do_sound seed count ws es (SumVolume number) text (status.Lost segment lost) may = let at = may.2.1.1 in lost_sound seed count segment lost at.0
+do_sound seed count ws es (SumVolume number) text (status.Mismatch segment) may = refl
+do_sound seed count ws es (SumVolume number) text answer may = absurd may.2
 
-run_sound : (seed count : ℕ) (ws : List ℕ) (items : List MakeStep) (es : List Entry) (text : List ℕ) (answer : Answer) → MayRun seed ws es items text answer →
-    may_come_from (make_status answer) (words.Make seed count) ≡ true
-run_sound seed count ws [] es text answer (none, done) = subst (λ (a : Answer). may_come_from (make_status a) (words.Make seed count) ≡ true) (sym done) refl
+run_sound : (seed count : ℕ) (ws : List ℕ) (items : List MakeStep) (es : List Entry) (text : List ℕ) (answer : Status) → MayRun seed ws es items text answer →
+    may_come_from answer (words.Make seed count) ≡ true
+run_sound seed count ws [] es text answer (none, done) = subst (λ (a : Status). may_come_from a (words.Make seed count) ≡ true) (sym done) refl
 run_sound seed count ws (item ∷ items) es text answer (inl (other, may)) = do_sound seed count ws es item text answer may
 run_sound seed count ws (item ∷ items) es text answer (inr (first, rest, parts, may, more)) =
     run_sound seed count ws items (after_item seed ws es item) rest answer more
 
 -- it printed what such a run may print
-run_prints : (seed count : ℕ) (ws : List ℕ) (es : List Entry) (text : List ℕ) (answer : Answer) → MayRun seed ws es (making seed count ws es) text answer →
-    Prints (words.Make seed count) (make_status answer) text
-run_prints seed count ws es text answer may = by_answer answer refl
-  where
-    turned : (why : Answer) → answer ≡ why → RefusedPrints (words.Make seed count) (make_status why) text
-    turned why same = inr (ws, (es, (answer, ap make_status (sym same), may)))
-
-    by_answer : (why : Answer) → answer ≡ why → Prints (words.Make seed count) (make_status why) text
-    by_answer made.Done same = ((λ is. (ws, (es, subst (MayRun seed ws es (making seed count ws es) text) same may))), (λ other. absurd (other refl)))
-    by_answer made.Protected same = ((λ is. absurd (cc)), (λ other. turned made.Protected same))
-    by_answer made.TableMismatch same = ((λ is. absurd (cc)), (λ other. turned made.TableMismatch same))
-    by_answer (made.Full need have) same = ((λ is. absurd (cc)), (λ other. turned (made.Full need have) same))
-    by_answer (made.Lost segment lost) same = ((λ is. absurd (cc)), (λ other. turned (made.Lost segment lost) same))
-    by_answer (made.Mismatch segment) same = ((λ is. absurd (cc)), (λ other. turned (made.Mismatch segment) same))
+run_prints : (seed count : ℕ) (ws : List ℕ) (es : List Entry) (text : List ℕ) (answer : Status) → MayRun seed ws es (making seed count ws es) text answer →
+    Prints (words.Make seed count) answer text
+run_prints seed count ws es text answer may =
+    ((λ is. (ws, (es, subst (MayRun seed ws es (making seed count ws es) text) is may))), (λ other. inr (ws, (es, may))))
 
 -- ---- a cartridge that is not protected
 
@@ -155,11 +143,11 @@ module _ {T K : Type 0} (t : tapes.Meaning T) (k : sinks.Meaning K) (seed count 
 
   module _ (b : UnitView T) (store : StoreView) (opening : HasOpened t a b store) (free : IsUnlocked t a) where
     -- it came to its end, or to a refusal
-    ran : (c : T) (x y : K) (answer : Answer) → TakesBoth k → ((z : K) → k.took z [] z) →
+    ran : (c : T) (x y : K) (answer : Status) → TakesBoth k → ((z : K) → k.took z [] z) →
         HasRun t k seed store.words store.entries (making seed count store.words store.entries) (around b.tape x) (around c y) answer →
-        EndsBlind t k (words.Make seed count) a c x y (make_status answer)
+        EndsBlind t k (words.Make seed count) a c x y answer
     ran c x y answer both nothing run =
-        let outcome : CommandOutcome = record { acts = quiet opening.steps ∷ run.acts; taken = 0; status = make_status answer } in
+        let outcome : CommandOutcome = record { acts = quiet opening.steps ∷ run.acts; taken = 0; status = answer } in
         inl (record {
           outcome = outcome;
           answered = refl;
@@ -172,12 +160,12 @@ module _ {T K : Type 0} (t : tapes.Meaning T) (k : sinks.Meaning K) (seed count 
                   acts = run.acts;
                   answer = answer;
                   makes = makes;
-                  is = ap (λ (ss : List TapeStep). record { acts = quiet ss ∷ run.acts; taken = 0; status = make_status answer }) is.settles;
+                  is = ap (λ (ss : List TapeStep). record { acts = quiet ss ∷ run.acts; taken = 0; status = answer }) is.settles;
                 },
               ))))
               (λ held is. ([], tt, ((λ no. absurd (cc)), unlocked_does (Making seed count) held outcome is.0 is.1)));
           went = went_behind t no_source k both nothing a b.tape tt x (around c y) opening.steps run.acts opening.did run.went;
-          left = none_taken (make_status answer) 0;
+          left = none_taken answer 0;
           sound = run_sound seed count store.words (making seed count store.words store.entries) store.entries (text_of run.acts) answer run.may;
           none_taken = λ no. refl;
           prints = run_prints seed count store.words store.entries (text_of run.acts) answer run.may;
@@ -187,7 +175,7 @@ module _ {T K : Type 0} (t : tapes.Meaning T) (k : sinks.Meaning K) (seed count 
 
     -- over a mounted cartridge the acts of the outcome were cut off
     making_cut : (c : T) (x y : K) (failing : Failing) → TakesBoth k → ((z : K) → k.took z [] z) → (d : Cartridge) → (is : IsOpened d store opening.steps) →
-        ((acts : List Act) (answer : Answer) → Makes seed count (mounting.settled is.table d) store.words store.entries acts answer → Cut t no_source k (around b.tape x) (around c y) acts failing) →
+        ((acts : List Act) (answer : Status) → Makes seed count (mounting.settled is.table d) store.words store.entries acts answer → Cut t no_source k (around b.tape x) (around c y) acts failing) →
         (outcome : CommandOutcome) → OpenOutcome (Making seed count) (Some d) outcome → IsCutOff t no_source k (words.Make seed count) (around a x) (around c y) failing outcome
     making_cut c x y failing both nothing d is each outcome (m, mounts, does) =
         let same : m ≡ mounting.Mounted store.header store.words is.table store.entries = mounts_is_function d m _ mounts is.mounts in
@@ -216,7 +204,7 @@ module _ {T K : Type 0} (t : tapes.Meaning T) (k : sinks.Meaning K) (seed count 
           record {
             told = told_map (t.told a) _ _ (told_both (t.told a) _ Cuts free
                 (settled_told t a b store opening
-                (λ d. (acts : List Act) (answer : Answer) → Makes seed count d store.words store.entries acts answer → Cut t no_source k (around b.tape x) (around c y) acts failing)
+                (λ d. (acts : List Act) (answer : Status) → Makes seed count d store.words store.entries acts answer → Cut t no_source k (around b.tape x) (around c y) acts failing)
                 Cuts cut.told (λ d is each outcome plain. making_cut c x y failing both nothing d is each outcome plain)))
                 (λ held is. ([], tt, ((λ no. absurd (cc)), λ outcome plain. is.1 outcome (does_unlocked (Making seed count) held outcome is.0 plain))));
             acts = quiet opening.steps ∷ cut.acts;
@@ -231,11 +219,11 @@ module _ {T K : Type 0} (t : tapes.Meaning T) (k : sinks.Meaning K) (seed count 
     -- by the answer of the call
     pub make_ended : (c : T) (x y : K) (result : Result (Unit {0}) MakeFault) → TakesBoth k → ((z : K) → k.took z [] z) →
         MakeEnds t k store seed count (around b.tape x) (around c y) result → EndsBlind t k (words.Make seed count) a c x y (run_status result)
-    make_ended c x y (Ok done) both nothing run = ran c x y made.Done both nothing run
-    make_ended c x y (Err fault.Protected) both nothing run = ran c x y made.Protected both nothing run
-    make_ended c x y (Err fault.TableMismatch) both nothing run = ran c x y made.TableMismatch both nothing run
-    make_ended c x y (Err (fault.Full need have)) both nothing run = ran c x y (made.Full need have) both nothing run
-    make_ended c x y (Err (fault.Lost segment lost)) both nothing run = ran c x y (made.Lost segment lost) both nothing run
-    make_ended c x y (Err (fault.Mismatch segment)) both nothing run = ran c x y (made.Mismatch segment) both nothing run
+    make_ended c x y (Ok done) both nothing run = ran c x y status.Done both nothing run
+    make_ended c x y (Err fault.Protected) both nothing run = ran c x y status.Protected both nothing run
+    make_ended c x y (Err fault.TableMismatch) both nothing run = ran c x y status.TableMismatch both nothing run
+    make_ended c x y (Err (fault.Full need have)) both nothing run = ran c x y (status.Full need have) both nothing run
+    make_ended c x y (Err (fault.Lost segment lost)) both nothing run = ran c x y (status.Lost segment lost) both nothing run
+    make_ended c x y (Err (fault.Mismatch segment)) both nothing run = ran c x y (status.Mismatch segment) both nothing run
     make_ended c x y (Err fault.Sink) both nothing run = ran_cut c x y SinkFails (λ same. cc) both nothing run
     make_ended c x y (Err fault.Tape) both nothing run = ran_cut c x y TapeFails (λ same. cc) both nothing run

@@ -11,22 +11,23 @@ use Rattle.drive_states.specs.Unit.{UnitView}
 use Rattle.cartridge_laws.proofs.MountOnce.{mounts_is_function}
 use Rattle.command_spec.specs.Input.{Item, IsItem, Ending, AtEnd, AtStop, AtFault, IsScript}
 use Rattle.volume_script.specs.declared.fault.ScriptFault.{ScriptFault}
-use Rattle.command_spec.specs.Script.{end_line, ScriptDoes, Scripting, ScriptOutcome}
+use Rattle.command_spec.specs.Script.{end_line, ScriptDoes, Scripting}
 use Rattle.command_laws.specs.ScriptAnswers.{Answer, AllDone, FaultIn, script_answer, script_status}
 use Rattle.volume_store.specs.Mounting.{StoreView}
 use Rattle.command_spec.specs.declared.status.Status.{Status}
 use Rattle.command_spec.specs.Outcome.{Opened, CommandOutcome, refused}
-use Rattle.tape_cmd.specs.Opening.{OpeningEnds, is_opening}
 use Rattle.store_opening.specs.Opening.{IsOpened, HasOpened}
-use Rattle.tape_cmd.specs.Outcome.{first_steps}
 use Rattle.command_spec.specs.Machine.{CommandEnds, InputLeft, IsCutOff, NamesFault, fault_of, may_come_from}
 use Rattle.command_laws.specs.Terms.{Prints}
 use Rattle.tape_cmd.specs.Script.{run_status}
-use Rattle.tape_cmd.proofs.Endings.{told_map}
-use Rattle.tape_cmd.proofs.Mounted.{Settles, no_outcome, begins_is, refused_is}
 use Rattle.store_opening.proofs.Opened.{opening_cut, outside, went_behind, cut_behind, settled_told}
 use Rattle.command_laws.proofs.CommandOpened.{quiet}
-use Rattle.command_laws.proofs.CommandTold.{input_of, input_told}
+use Rattle.command_laws.proofs.CommandTold.{input_of, input_told, input_bytes}
+use Rattle.command_laws.specs.CommandTerms.{ScriptOutcome}
+use Rattle.host_commands.specs.Opening.{OpeningEnds, is_opening}
+use Rattle.hand_commands.specs.Outcome.{first_steps}
+use Rattle.hand_commands.proofs.Endings.{told_map}
+use Rattle.host_commands.proofs.Mounted.{Settles, no_outcome, begins_is, refused_is}
 use Rattle.qic_base.specs.Sink as sinks
 use Rattle.qic_base.specs.Source as sources
 use Rattle.qic_base.specs.Tape as tapes
@@ -115,7 +116,7 @@ module _ {T S K : Type 0} (t : tapes.Meaning T) (s : sources.Meaning S) (k : sin
     outcome = refused why;
     answered = refl;
     told = told_map (t.told a) _ _ turned.told
-        (λ held is. (input_of (s.left i), input_told (s.left i), ((λ no. absurd (cc)), refused_is (Scripting (input_of (s.left i))) why held is)));
+        (λ held is. (input_of (s.left i), input_told (s.left i), ((λ is. input_bytes (s.left i)), refused_is (Scripting (input_of (s.left i))) why held is)));
     went = record { did = turned.did; wrote = record { took = nothing x; later = omega arith }; source_later = omega arith };
     left = left_as why 0 (s.left i) (s.left i) (no_fault why turned.sound) (all_left (s.left i));
     sound = found_by_script why turned.sound;
@@ -133,7 +134,7 @@ module _ {T S K : Type 0} (t : tapes.Meaning T) (s : sources.Meaning S) (k : sin
             input_of (s.left i),
             input_told (s.left i),
             (
-              (λ no. absurd (cc)),
+              (λ is. input_bytes (s.left i)),
               λ outcome plain.
                   let begins = begins_is (Scripting (input_of (s.left i))) (scripting_first (input_of (s.left i))) cut.steps held front outcome plain in record {
                     cut = opening_cut t s k nothing a b.tape i x cut.steps outcome.acts begins.0 begins.1 cut.broke;
@@ -184,7 +185,7 @@ module _ {T S K : Type 0} (t : tapes.Meaning T) (s : sources.Meaning S) (k : sin
           outcome = record { acts = quiet opening.steps ∷ came.acts; taken = came.taken; status = came.status };
           answered = sym run.answered;
           told = settled_told t a b store opening (λ d. ScriptDoes d store.words store.entries run.input came) _ run.told
-              (λ d is does. (run.input, run.is_told, ((λ no. absurd (cc)), is_plain run.input came d is does)));
+              (λ d is does. (run.input, run.is_told, ((λ is. run.content), is_plain run.input came d is does)));
           went = went_behind t s k both nothing a b.tape i x (outside c j y) opening.steps came.acts opening.did run.went;
           left = left_so came.taken answer run.left;
           sound = sound_so answer;
@@ -238,7 +239,7 @@ module _ {T S K : Type 0} (t : tapes.Meaning T) (s : sources.Meaning S) (k : sin
       record {
         told = settled_told t a b store opening
             (λ d. (came : CommandOutcome) → ScriptDoes d store.words store.entries run.input came → Cut t s k (outside b.tape i x) (outside c j y) came.acts failing) _ run.told
-            (λ d is each. (run.input, run.is_told, ((λ no. absurd (cc)), λ outcome plain. scripting_cut failing run.input d is each outcome plain)));
+            (λ d is each. (run.input, run.is_told, ((λ is. run.content), λ outcome plain. scripting_cut failing run.input d is each outcome plain)));
         acts = quiet opening.steps ∷ run.acts;
         cut = cut_behind t s k both nothing a b.tape i x (outside c j y) opening.steps run.acts failing opening.did run.cut;
         front = said (text_of run.acts);

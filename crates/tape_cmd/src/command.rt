@@ -1,30 +1,21 @@
 //! The top calls, and the way to each command.
 
 ghost use Rattle.std.specs.Prelude.{◌≡◌, ◌≢◌, ◌⊎◌, ℕ, List, IfOk, OnErr, true, false, map, string_bytes};
+ghost use Rattle.command_spec.specs.declared.words.Words.TheVariants.{Append, Pulses, Script};
 ghost use Rattle.command_spec.specs.Machine.{HasValues, Spells, CommandEnds};
-ghost use Rattle.command_laws.specs.CommandTerms.{ReadsCommand};
+ghost use Rattle.command_laws.specs.CommandTerms.{EndsBlind, ReadsCommand};
 ghost use Rattle.command_spec.specs.Promises.{Promises};
 ghost use Rattle.command_spec.specs.Commands.{traits_of};
 
-mod append;
-mod defect;
-mod format;
-mod info;
-mod list;
-mod lose;
 mod make;
-mod new;
-mod protect;
-mod pulses;
-mod restore;
 mod script;
-mod scrub;
-mod upgrade;
 
 use crate::Status;
 use crate::room::Memory;
 use bad_sector_map::BadMap;
 use drive_states::Unit;
+use hand_commands::{defect, lose, new, protect, pulses, upgrade};
+use host_commands::{append, format, info, list, restore, scrub};
 use qic_base::{NoMemory, Sink, Source, Tape};
 use segment_io::Workspace;
 use std::alloc::Global;
@@ -52,6 +43,38 @@ fn carry_out<M: Memory + Drop, T: Tape, S: Source, K: Sink>(
     ensures kept { S.means.keeps source.old source.new }
 {
     match *command {
+        Words::Append { ref name, date } => Ok(append::append(
+            unit,
+            memory.room()?,
+            name,
+            date,
+            source,
+            sink,
+        )),
+        Words::Pulses => Ok(pulses::pulses(unit, source, sink)),
+        Words::Script => Ok(script::script(unit, memory.room()?, source, sink)),
+        _ => carry_out_blind(memory, command, unit, sink),
+    }
+}
+
+/// Carries out a command that reads no input.
+fn carry_out_blind<M: Memory + Drop, T: Tape, K: Sink>(
+    memory: M,
+    command: &Words,
+    unit: &mut Unit<T>,
+    sink: &mut K,
+) -> Result<Status, M::Want>
+    requires values { HasValues command.now }
+    requires no_append { (name : List ℕ) (date : ℕ) → command.now ≢ Append name date }
+    requires no_pulses { command.now ≢ Pulses }
+    requires no_script { command.now ≢ Script }
+    ensures blind { (traits_of command.now).reads ≡ false }
+    ensures ends { IfOk result (λ status. EndsBlind T.means K.means command.now
+        unit.old.tape unit.new.tape sink.old sink.new status) }
+    ensures want { OnErr result ((traits_of command.now).memory ≡ true) }
+    ensures untouched { OnErr result ((unit.new ≡ unit.old) × (sink.new ≡ sink.old)) }
+{
+    match *command {
         Words::New { segments } => Ok(new::put_in_new(unit, segments, sink)),
         Words::Defect { segment, sector } => Ok(defect::spoil(unit, segment, sector, sink)),
         Words::Lose { segment, sector } => Ok(lose::lose(unit, segment, sector, sink)),
@@ -61,22 +84,15 @@ fn carry_out<M: Memory + Drop, T: Tape, S: Source, K: Sink>(
             Ok(format::format_cartridge(unit, &mut room, label, date, sink))
         }
         Words::Info => Ok(info::info(unit, memory.room()?, sink)),
-        Words::Append { ref name, date } => Ok(append::append(
-            unit,
-            memory.room()?,
-            name,
-            date,
-            source,
-            sink,
-        )),
         Words::List => Ok(list::list(unit, memory.room()?, sink)),
         Words::Restore { number } => Ok(restore::restore(unit, memory.room()?, number, sink)),
         Words::Scrub => Ok(scrub::scrub(unit, memory.room()?, sink)),
         Words::ScrubDeep => Ok(scrub::scrub_deep(unit, memory.room()?, sink)),
-        Words::Pulses => Ok(pulses::pulses(unit, source, sink)),
-        Words::Script => Ok(script::script(unit, memory.room()?, source, sink)),
         Words::Make { seed, count } => Ok(make::make(unit, memory.room()?, seed, count, sink)),
         Words::Upgrade => Ok(upgrade::upgrade(unit, sink)),
+        Words::Append { .. } | Words::Pulses | Words::Script => {
+            unreachable!("a command that reads its input")
+        }
     }
 }
 

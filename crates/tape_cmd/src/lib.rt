@@ -1,10 +1,8 @@
-//! The commands of `tape`: their words, what they do through the drive, their lines, and the answers of a run. The contract
-//! of `run` is the headline, over the plain machine of specs/Machine.
+//! The commands of `tape` by their words: the way to each, and the answers of a run with their lines. The contract of `run`
+//! is the headline, over the plain machine of specs/Machine.
 #![tactic(auto)]
 
 mod command;
-mod lines;
-mod opening;
 mod room;
 mod status;
 

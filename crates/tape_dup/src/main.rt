@@ -1,7 +1,7 @@
 //! The program: the volumes of a cartridge copied onto another one, both in image files.
 #![tactic(auto)]
 
-use image_units::{Arguments, NO_IMAGE, open_unit, read_arguments};
+use image_units::{Arguments, NO_IMAGE, close_unit, open_unit, read_arguments};
 use read_ahead::MOST;
 use std::io::ErrorKind;
 use std::process::ExitCode;
@@ -32,12 +32,17 @@ fn run_over_images(rt: &HostRuntime, arguments: &Arguments) -> u8 {
     };
     let mut to = match open_unit(rt, to, &mut to_room) {
         Ok(unit) => unit,
-        Err(cause) => return refuse(cause),
+        Err(cause) => {
+            close_unit(from);
+            return refuse(cause);
+        }
     };
     let mut sink = StdoutSink::new(rt.stdout());
-    let (status, _from) = run_copy(rt.alloc(), &arguments.command, from, &mut to, &mut sink);
+    let (status, from) = run_copy(rt.alloc(), &arguments.command, from, &mut to, &mut sink);
     // The exit status tells it, too, where standard error can't.
     let _printed = write_status(&status, &mut StderrSink::new(rt.stderr()));
+    close_unit(from);
+    close_unit(to);
     exit_status(&status)
 }
 

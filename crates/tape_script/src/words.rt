@@ -1,8 +1,8 @@
 //! The words behind the image's path.
 
 ghost use Rattle.std.specs.Prelude.{[], ◌∷◌, map, string_bytes, codes, MatchOption, MatchResult};
-ghost use Rattle.command_spec.specs.Commands.{IsCommand};
 ghost use Rattle.command_laws.specs.TextWords.{IsNoCommand};
+ghost use Rattle.command_spec.specs.Machine.{Spells};
 
 use crate::date::read_date;
 use crate::number::{GREATEST, read_number, read_number_within};
@@ -16,7 +16,7 @@ pub struct BadWords;
 
 fn read_one(first: &[u8]) -> Option<Words>
     ensures { MatchOption result
-        (IsNoCommand (first.now ∷ [])) (IsCommand (first.now ∷ [])) }
+        (IsNoCommand (first.now ∷ [])) (Spells (first.now ∷ [])) }
 {
     if is_word(first, "info") {
         Some(Words::Info)
@@ -38,7 +38,7 @@ fn read_one(first: &[u8]) -> Option<Words>
 fn read_new(segments: &[u8]) -> Option<Words>
     ensures { MatchOption result
         (IsNoCommand (codes "new" ∷ segments.now ∷ []))
-        (IsCommand (codes "new" ∷ segments.now ∷ [])) }
+        (Spells (codes "new" ∷ segments.now ∷ [])) }
 {
     match read_number_within(segments, 3, u32::from(LONGEST)) {
         Some(segments) => Some(Words::New {
@@ -51,7 +51,7 @@ fn read_new(segments: &[u8]) -> Option<Words>
 fn read_protect(on: &[u8]) -> Option<Words>
     ensures { MatchOption result
         (IsNoCommand (codes "protect" ∷ on.now ∷ []))
-        (IsCommand (codes "protect" ∷ on.now ∷ [])) }
+        (Spells (codes "protect" ∷ on.now ∷ [])) }
 {
     if is_word(on, "on") {
         Some(Words::Protect { on: true })
@@ -65,7 +65,7 @@ fn read_protect(on: &[u8]) -> Option<Words>
 fn read_format(label: &[u8]) -> Option<Words>
     ensures { MatchOption result
         (IsNoCommand (codes "format" ∷ label.now ∷ []))
-        (IsCommand (codes "format" ∷ label.now ∷ [])) }
+        (Spells (codes "format" ∷ label.now ∷ [])) }
 {
     match Name::from_text(label) {
         Some(label) => Some(Words::Format { label, date: 0 }),
@@ -76,7 +76,7 @@ fn read_format(label: &[u8]) -> Option<Words>
 fn read_append(name: &[u8]) -> Option<Words>
     ensures { MatchOption result
         (IsNoCommand (codes "append" ∷ name.now ∷ []))
-        (IsCommand (codes "append" ∷ name.now ∷ [])) }
+        (Spells (codes "append" ∷ name.now ∷ [])) }
 {
     match Name::from_text(name) {
         Some(name) => Some(Words::Append { name, date: 0 }),
@@ -87,7 +87,7 @@ fn read_append(name: &[u8]) -> Option<Words>
 fn read_restore(number: &[u8]) -> Option<Words>
     ensures { MatchOption result
         (IsNoCommand (codes "restore" ∷ number.now ∷ []))
-        (IsCommand (codes "restore" ∷ number.now ∷ [])) }
+        (Spells (codes "restore" ∷ number.now ∷ [])) }
 {
     match read_number_within(number, 0, GREATEST) {
         Some(number) => Some(Words::Restore { number }),
@@ -98,7 +98,7 @@ fn read_restore(number: &[u8]) -> Option<Words>
 fn read_scrub(form: &[u8]) -> Option<Words>
     ensures { MatchOption result
         (IsNoCommand (codes "scrub" ∷ form.now ∷ []))
-        (IsCommand (codes "scrub" ∷ form.now ∷ [])) }
+        (Spells (codes "scrub" ∷ form.now ∷ [])) }
 {
     if is_word(form, "deep") {
         Some(Words::ScrubDeep)
@@ -110,7 +110,7 @@ fn read_scrub(form: &[u8]) -> Option<Words>
 fn read_two(first: &[u8], second: &[u8]) -> Option<Words>
     ensures { MatchOption result
         (IsNoCommand (first.now ∷ second.now ∷ []))
-        (IsCommand (first.now ∷ second.now ∷ [])) }
+        (Spells (first.now ∷ second.now ∷ [])) }
 {
     if is_word(first, "new") {
         read_new(second)
@@ -132,7 +132,7 @@ fn read_two(first: &[u8], second: &[u8]) -> Option<Words>
 fn read_defect(segment: &[u8], sector: &[u8]) -> Option<Words>
     ensures { MatchOption result
         (IsNoCommand (codes "defect" ∷ segment.now ∷ sector.now ∷ []))
-        (IsCommand (codes "defect" ∷ segment.now ∷ sector.now ∷ [])) }
+        (Spells (codes "defect" ∷ segment.now ∷ sector.now ∷ [])) }
 {
     match (read_number(segment), read_number(sector)) {
         (Some(segment), Some(sector)) => Some(Words::Defect { segment, sector }),
@@ -143,7 +143,7 @@ fn read_defect(segment: &[u8], sector: &[u8]) -> Option<Words>
 fn read_lose(segment: &[u8], sector: &[u8]) -> Option<Words>
     ensures { MatchOption result
         (IsNoCommand (codes "lose" ∷ segment.now ∷ sector.now ∷ []))
-        (IsCommand (codes "lose" ∷ segment.now ∷ sector.now ∷ [])) }
+        (Spells (codes "lose" ∷ segment.now ∷ sector.now ∷ [])) }
 {
     match (read_number(segment), read_number(sector)) {
         (Some(segment), Some(sector)) => Some(Words::Lose { segment, sector }),
@@ -154,7 +154,7 @@ fn read_lose(segment: &[u8], sector: &[u8]) -> Option<Words>
 fn read_dated_format(label: &[u8], date: &[u8]) -> Option<Words>
     ensures { MatchOption result
         (IsNoCommand (codes "format" ∷ label.now ∷ date.now ∷ []))
-        (IsCommand (codes "format" ∷ label.now ∷ date.now ∷ [])) }
+        (Spells (codes "format" ∷ label.now ∷ date.now ∷ [])) }
 {
     let label = Name::from_text(label)?;
     let date = read_date(date)?;
@@ -164,7 +164,7 @@ fn read_dated_format(label: &[u8], date: &[u8]) -> Option<Words>
 fn read_dated_append(name: &[u8], date: &[u8]) -> Option<Words>
     ensures { MatchOption result
         (IsNoCommand (codes "append" ∷ name.now ∷ date.now ∷ []))
-        (IsCommand (codes "append" ∷ name.now ∷ date.now ∷ [])) }
+        (Spells (codes "append" ∷ name.now ∷ date.now ∷ [])) }
 {
     let name = Name::from_text(name)?;
     let date = read_date(date)?;
@@ -174,7 +174,7 @@ fn read_dated_append(name: &[u8], date: &[u8]) -> Option<Words>
 fn read_make(seed: &[u8], count: &[u8]) -> Option<Words>
     ensures { MatchOption result
         (IsNoCommand (codes "make" ∷ seed.now ∷ count.now ∷ []))
-        (IsCommand (codes "make" ∷ seed.now ∷ count.now ∷ [])) }
+        (Spells (codes "make" ∷ seed.now ∷ count.now ∷ [])) }
 {
     match (read_number(seed), read_number_within(count, 1, 200)) {
         (Some(seed), Some(count)) => Some(Words::Make { seed, count }),
@@ -185,7 +185,7 @@ fn read_make(seed: &[u8], count: &[u8]) -> Option<Words>
 fn read_three(first: &[u8], second: &[u8], third: &[u8]) -> Option<Words>
     ensures { MatchOption result
         (IsNoCommand (first.now ∷ second.now ∷ third.now ∷ []))
-        (IsCommand (first.now ∷ second.now ∷ third.now ∷ [])) }
+        (Spells (first.now ∷ second.now ∷ third.now ∷ [])) }
 {
     if is_word(first, "defect") {
         read_defect(second, third)
@@ -205,7 +205,7 @@ fn read_three(first: &[u8], second: &[u8], third: &[u8]) -> Option<Words>
 fn read_command(words: &[String]) -> Option<Words>
     ensures { MatchOption result
         (IsNoCommand (map string_bytes words.now))
-        (IsCommand (map string_bytes words.now)) }
+        (Spells (map string_bytes words.now)) }
 {
     match words {
         [] => None,
@@ -220,7 +220,7 @@ fn read_command(words: &[String]) -> Option<Words>
 
 /// The command that the words are, refused exactly where they have no form.
 pub fn read_words(words: &Vec<String>) -> Result<Words, BadWords>
-    ensures { MatchResult result (IsCommand (map string_bytes words.now.items))
+    ensures { MatchResult result (Spells (map string_bytes words.now.items))
         (λ bad. IsNoCommand (map string_bytes words.now.items)) }
 {
     match read_command(words.as_slice()) {

@@ -23,14 +23,14 @@ use Rattle.qic_base.specs.Step.{Step as TapeStep, effects}
 use Rattle.qic_base.specs.declared.tape.TapeInfo.{TapeInfo}
 use Rattle.volume_copy.specs.Runs.{CopiesOne, SideFits, SideView, append_answer}
 use Rattle.volume_source.specs.Source.{SourceView, new_source, source_means}
-use Rattle.volume_store.proofs.Copies.{IsLearnt, told_learnt}
+use Rattle.cartridge_front.proofs.Copies.{IsLearnt, told_learnt}
 use Rattle.volume_store.specs.Appending.{AppendEnds, AppendRan, kept_by}
 use Rattle.volume_store.specs.Mounting.{StoreView}
 use Rattle.volume_store.specs.declared.appended.Appended.{Appended}
-use Rattle.volume_store.specs.declared.fault.StoreFault.{StoreFault}
+use Rattle.cartridge_front.specs.declared.fault.StoreFault.{StoreFault}
 use Rattle.qic_base.specs.Tape as tapes
 use Rattle.qic_base.specs.TapeCalls as tape_calls
-use Rattle.volume_store.specs.declared.fault.StoreFault.TheVariants as fault
+use Rattle.cartridge_front.specs.declared.fault.StoreFault.TheVariants as fault
 
 -- ---- what is told
 

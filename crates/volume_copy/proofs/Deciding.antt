@@ -44,15 +44,16 @@ use Rattle.volume_copy.specs.Faults.{copy_fault, from_status, to_status}
 use Rattle.volume_copy.specs.Runs.{CopyView, HasCopied, HasRun, HaveCopied, IsCounted, IsRefused, IsUnlike, IsUnprinted, PrintsCount, RunEnds, Units, append_status, next_number}
 use Rattle.volume_source.specs.Source.{IsOfPart, IsRefusal, new_source, source_means}
 use Rattle.volume_store.specs.Appending.{AppendEnds}
-use Rattle.volume_store.specs.Mounting.{IsSettling, MountRefuses, StoreView}
-use Rattle.volume_store.specs.declared.fault.StoreFault.{StoreFault}
+use Rattle.cartridge_front.specs.Learning.{MountRefuses}
+use Rattle.volume_store.specs.Mounting.{IsSettling, StoreView}
+use Rattle.cartridge_front.specs.declared.fault.StoreFault.{StoreFault}
 use Rattle.cartridge_spec.specs.Mounting as mounting
 use Rattle.command_spec.specs.declared.copy_fault.CopyFault.TheVariants as copy
 use Rattle.command_spec.specs.declared.copy_status.CopyStatus.TheVariants as status
 use Rattle.qic_base.specs.Sink as sinks
 use Rattle.qic_base.specs.Tape as tapes
 use Rattle.store_opening.specs.declared.opening.OpenFault.TheVariants as open_fault
-use Rattle.volume_store.specs.declared.fault.StoreFault.TheVariants as fault
+use Rattle.cartridge_front.specs.declared.fault.StoreFault.TheVariants as fault
 
 -- ---- the openings
 

@@ -31,8 +31,9 @@ use Rattle.volume_copy.proofs.Openings.{OpenedAt, RefusedAs, locked_steps, opene
 use Rattle.volume_copy.proofs.Volume.{is_outside}
 use Rattle.volume_copy.specs.Faults.{copy_fault, from_status, to_status}
 use Rattle.volume_copy.specs.Runs.{AreOpened, BothRefused, CopyRuns, CopyView, HasRun, IsUnlike, RunEnds, Units}
-use Rattle.volume_store.specs.Mounting.{MountRefuses, StoreView}
-use Rattle.volume_store.specs.declared.fault.StoreFault.{StoreFault}
+use Rattle.cartridge_front.specs.Learning.{MountRefuses}
+use Rattle.volume_store.specs.Mounting.{StoreView}
+use Rattle.cartridge_front.specs.declared.fault.StoreFault.{StoreFault}
 use Rattle.cartridge_spec.specs.Mounting as mounting
 use Rattle.command_spec.specs.declared.copy_fault.CopyFault.TheVariants as copy
 use Rattle.command_spec.specs.declared.copy_status.CopyStatus.TheVariants as status
@@ -40,7 +41,7 @@ use Rattle.qic_base.specs.Sink as sinks
 use Rattle.qic_base.specs.Tape as tapes
 use Rattle.qic_base.specs.TapeCalls as tape_calls
 use Rattle.store_opening.specs.declared.opening.OpenFault.TheVariants as open_fault
-use Rattle.volume_store.specs.declared.fault.StoreFault.TheVariants as fault
+use Rattle.cartridge_front.specs.declared.fault.StoreFault.TheVariants as fault
 
 -- the tapes and the sink of units
 abbrev pub decks_of : {A B K : Type 0} → Units A B K → Decks A B K

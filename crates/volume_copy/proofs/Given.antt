@@ -12,8 +12,8 @@ use Rattle.command_laws.proofs.CommandEnds.{over_at}
 use Rattle.command_laws.proofs.RestoreCounts.{FitsIn, pieces_fit, pieces_hold_all}
 use Rattle.command_laws.proofs.RestoreGiven.{given_is_long, length-given}
 use Rattle.command_spec.specs.Copying.{GivenBytes}
-use Rattle.command_spec.specs.Restore.{GivingEnd, Piece, PieceEnds, Restored, Restores, bytes_held, pieces, volume_at}
-use Rattle.command_laws.specs.CommandTerms.{act_of}
+use Rattle.command_spec.specs.Restore.{GivingEnd, Piece, PieceEnds, Restored, Restores, pieces, volume_at}
+use Rattle.command_laws.specs.CommandTerms.{act_of, bytes_held}
 use Rattle.command_spec.specs.declared.copy_status.CopyStatus.{CopyStatus}
 use Rattle.qic_base.specs.Acts.{Act}
 use Rattle.qic_base.specs.Cartridge.{Cartridge}

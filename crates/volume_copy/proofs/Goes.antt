@@ -6,12 +6,11 @@ use Rattle.std.proofs.lemmas.Bool.{and_from, and_cases, leb-false, lt-ltb}
 use Rattle.cartridge_spec.specs.Appending.{room}
 use Rattle.cartridge_spec.specs.Table.{Entry}
 use Rattle.cartridge_spec.specs.Volumes.{volume_length}
-use Rattle.command_laws.proofs.CommandEnds.{is_some-map, stops_go_on}
+use Rattle.command_laws.proofs.CommandEnds.{is_some-map}
 use Rattle.command_spec.specs.Append.{Fits, Taking, TooLong, TooShort, has_promised_room, taking}
 use Rattle.command_spec.specs.Copied.{copied_lines}
 use Rattle.command_spec.specs.Copying.{copied_line}
-use Rattle.command_spec.specs.CopyPromises.{HasKind, is_before_copies}
-use Rattle.command_spec.specs.Headline.{StopsGoOn}
+use Rattle.command_spec.specs.CopyPromises.{HasKind, StopsGoOn, is_before_copies}
 use Rattle.command_spec.specs.declared.copy_status.CopyStatus.{CopyStatus}
 use Rattle.qic_base.proofs.Steps.{Done-Done, Done-nothing}
 use Rattle.qic_base.proofs.Writing.{TakesBoth}
@@ -23,11 +22,11 @@ use Rattle.volume_source.specs.Source.{IsOfPart, SourceView, new_source, source_
 use Rattle.volume_store.specs.Appending.{AppendEnds}
 use Rattle.volume_store.specs.Mounting.{StoreView}
 use Rattle.volume_store.specs.declared.appended.Appended.{Appended}
-use Rattle.volume_store.specs.declared.fault.StoreFault.{StoreFault}
+use Rattle.cartridge_front.specs.declared.fault.StoreFault.{StoreFault}
 use Rattle.command_spec.specs.declared.copy_status.CopyStatus.TheVariants as status
 use Rattle.qic_base.specs.Sink as sinks
 use Rattle.qic_base.specs.Tape as tapes
-use Rattle.volume_store.specs.declared.fault.StoreFault.TheVariants as fault
+use Rattle.cartridge_front.specs.declared.fault.StoreFault.TheVariants as fault
 
 -- ---- a tape
 
@@ -36,6 +35,9 @@ pub record GoesOn {T : Type 0} (m : tapes.Meaning T) (old new : T) : Type 0 wher
   pub later : m.faults old ≤ m.faults new
   pub tells : is_some (m.told new) ≡ is_some (m.told old)
   pub stops : StopsGoOn m old new
+
+stops_go_on : {T : Type 0} (t : tapes.Meaning T) (a b : T) (steps : List TapeStep) → tapes.Stops t a b steps → StopsGoOn t a b
+stops_go_on t a b steps stops = record { telling = stops.telling; clock = stops.clock; kept = stops.kept; parted = stops.parted }
 
 pub goes_done : {T : Type 0} (m : tapes.Meaning T) (a b : T) (steps : List TapeStep) → tapes.Done m a b steps → GoesOn m a b
 goes_done m a b steps did = record {

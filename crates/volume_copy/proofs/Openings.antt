@@ -23,13 +23,14 @@ use Rattle.qic_base.specs.Step.{Step as TapeStep, effects}
 use Rattle.store_opening.proofs.Opened.{IsKnown, known_before, opened_known}
 use Rattle.store_opening.specs.Opening.{HasOpened, IsOpened}
 use Rattle.volume_copy.specs.Faults.{copy_fault}
-use Rattle.volume_store.specs.Mounting.{IsSettling, MountRefuses, StoreView}
-use Rattle.volume_store.specs.declared.fault.StoreFault.{StoreFault}
+use Rattle.cartridge_front.specs.Learning.{MountRefuses}
+use Rattle.volume_store.specs.Mounting.{IsSettling, StoreView}
+use Rattle.cartridge_front.specs.declared.fault.StoreFault.{StoreFault}
 use Rattle.cartridge_spec.specs.Mounting as mounting
 use Rattle.command_spec.specs.declared.copy_fault.CopyFault.TheVariants as copy
 use Rattle.command_spec.specs.declared.copy_status.CopyStatus.TheVariants as status
 use Rattle.qic_base.specs.Tape as tapes
-use Rattle.volume_store.specs.declared.fault.StoreFault.TheVariants as fault
+use Rattle.cartridge_front.specs.declared.fault.StoreFault.TheVariants as fault
 
 -- ---- opened
 

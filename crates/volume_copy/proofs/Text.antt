@@ -8,16 +8,14 @@ use Rattle.cartridge_spec.specs.Table.{Entry}
 use Rattle.cartridge_spec.specs.Volumes.{Plain, Volume, entries_of, volume_length}
 use Rattle.command_laws.proofs.CopyGoing.{behind}
 use Rattle.command_laws.proofs.CopyLeaving.{behind_are, opened, to_does, within}
-use Rattle.command_laws.proofs.CopyOnce.{begun_text}
-use Rattle.command_laws.proofs.ScriptActs.{full_acts}
+use Rattle.command_laws.proofs.CopyPrinted.{refused_text}
 use Rattle.command_laws.proofs.CopyStanding.{done_text, entries_in, open_behind, side_behind, side_for, with_volume}
 use Rattle.command_laws.proofs.CopyValues.{IsOriginal}
 use Rattle.command_laws.specs.CopyLaws.{AreCopied}
 use Rattle.command_laws.specs.MountedKept.{IsOpen}
 use Rattle.command_spec.specs.Copied.{copied_lines, lengths_of, lines_upto}
-use Rattle.command_spec.specs.Copying.{Copies, CopiesVolume, CopyOutcome, CopyYields, DoneOf, Side, copied_behind, copied_line, giving_status, kept_on, length_on}
+use Rattle.command_spec.specs.Copying.{Copies, CopyOutcome, CopyYields, Side, copied_line}
 use Rattle.command_spec.specs.Lines.{count_line}
-use Rattle.command_spec.specs.Restore.{GivingEnd, LostIn, MismatchIn, Restored}
 use Rattle.command_spec.specs.declared.copy_status.CopyStatus.{CopyStatus}
 use Rattle.qic_base.proofs.Joins.{text_of-append}
 use Rattle.qic_base.specs.Acts.{Act, steps_of, text_of}
@@ -40,18 +38,6 @@ more_begins line whole text answer begins = record {
   parts = append_assoc line text begins.rest ∙ ap (λ (xs : List ℕ). line ++ xs) begins.parts;
   all = begins.all;
 }
-
--- a volume that was refused prints none
-refused_text : (from : Side) (e : Entry) (to : Side) (acts : List Act) (answer : CopyStatus) → answer ≢ status.Done → CopiesVolume from e to acts answer → text_of acts ≡ []
-refused_text from e to acts answer other (inl lost) = ap text_of lost.does
-refused_text from e to acts answer other (inr (table, reads, inl full)) =
-    ap text_of (full.does ∙ full_acts (kept_on to table) e.name e.date (length_on from e) full.none (copied_behind (length to.entries)) [])
-refused_text from e to acts answer other (inr (table, reads, inr is)) = by_ending is.ending is.does is.answered
-  where
-    by_ending : (ending : GivingEnd) → DoneOf from e to table is.bytes ending acts → answer ≡ giving_status ending → text_of acts ≡ []
-    by_ending Restored does answered = absurd (other answered)
-    by_ending (LostIn segment lost) does answered = begun_text from e to table is.bytes acts does
-    by_ending (MismatchIn segment) does answered = begun_text from e to table is.bytes acts does
 
 module _ (c : Cartridge) (one : Plain) where
   -- the lines of volumes behind those of a plain cartridge, and the count

@@ -34,11 +34,11 @@ use Rattle.volume_copy.specs.Runs.{CopiesOne, SideFits, SideView, append_answer,
 use Rattle.volume_source.specs.Source.{IsOfPart, IsRefusal, SourceView, new_source, source_means}
 use Rattle.volume_store.specs.Appending.{AppendCut, AppendEnds, CutBeforeEntry, CutUnread, FaultsUnread, HasGivenAll, ListsLast, MayAsk, acts_before_entry, kept_by}
 use Rattle.volume_store.specs.declared.appended.Appended.{Appended}
-use Rattle.volume_store.specs.declared.fault.StoreFault.{StoreFault}
+use Rattle.cartridge_front.specs.declared.fault.StoreFault.{StoreFault}
 use Rattle.command_spec.specs.declared.copy_fault.CopyFault.TheVariants as copy
 use Rattle.command_spec.specs.declared.copy_status.CopyStatus.TheVariants as status
 use Rattle.qic_base.specs.Tape as tapes
-use Rattle.volume_store.specs.declared.fault.StoreFault.TheVariants as fault
+use Rattle.cartridge_front.specs.declared.fault.StoreFault.TheVariants as fault
 
 -- a fault of the outside is the answer
 abbrev pub is_outside : CopyStatus → Bool

@@ -2,7 +2,7 @@
 
 ghost use Rattle.std.specs.Prelude.{◌≡◌, ◌<◌, ◌≤◌, length, true};
 ghost use Rattle.cartridge_spec.specs.Formatting.{IsLabel};
-ghost use Rattle.volume_copy.specs.Runs.{CopiesOne, MissingEnds, append_status, is_append_fault};
+ghost use Rattle.volume_copy.specs.Runs.{CopiesOne, MissingEnds, PrintsCount, append_status, is_append_fault};
 ghost use Rattle.volume_store.specs.Mounting.{StoreFits};
 
 use crate::fault::copy_fault;
@@ -118,9 +118,15 @@ pub fn copy_missing<A: Tape, B: Tape, K: Sink>(
             return (CopyStatus::SinkFault, from);
         }
     }
-    let line = number_text(b"volumes", u64::from(store.count()));
-    match write_text(line.bytes(), sink) {
-        Ok(()) => (CopyStatus::Done, from),
-        Err(SinkFailed) => (CopyStatus::SinkFault, from),
+    (print_count(store.count(), sink), from)
+}
+
+/// Prints how many volumes there are.
+fn print_count<K: Sink>(count: u32, sink: &mut K) -> CopyStatus
+    ensures { PrintsCount K.means sink.old sink.new count result }
+{
+    match write_text(number_text(b"volumes", u64::from(count)).bytes(), sink) {
+        Ok(()) => CopyStatus::Done,
+        Err(SinkFailed) => CopyStatus::SinkFault,
     }
 }

@@ -13,7 +13,7 @@ use bad_sector_map::BadMap;
 use drive_states::Unit;
 use host_driver::Host;
 use qic_base::{Source, SourceFailed, Tape};
-use segment_io::{Workspace, write_segment};
+use segment_io::{SegFault, Workspace, write_segment};
 
 /// Writes a carrying segment with the next bytes of the source, as many as it carries, and no more than `most` with the
 /// `before` ones that stand in the segments in front of it. The answer is their number; None where none came behind
@@ -56,6 +56,9 @@ pub fn write_next<T: Tape, S: Source>(
     }
     match write_segment(host, unit, segment, map.usable(segment), work) {
         Ok(()) => Ok(Some(read)),
-        Err(_) => Err(InputFault::Tape),
+        Err(SegFault::Tape) => Err(InputFault::Tape),
+        Err(SegFault::Lost { .. } | SegFault::Mismatch { .. }) => {
+            unreachable!("a write reads nothing")
+        }
     }
 }

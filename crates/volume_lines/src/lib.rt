@@ -2,7 +2,7 @@
 #![tactic(auto)]
 
 mod lines;
-mod list;
+mod volume;
 
-pub use lines::{appended_text, number_text, place_text};
-pub use list::write_list;
+pub use lines::{number_text, place_text};
+pub use volume::{appended_text, write_count, write_volume};

@@ -1,10 +1,9 @@
-//! Lines of a volume, of a place, and of a number.
+//! Lines of a place, and of a number.
 
 ghost use Rattle.std.specs.Prelude.{◌≡◌, ◌≤◌, length};
-ghost use Rattle.command_spec.specs.Lines.{appended_line, number_line, place_line};
+ghost use Rattle.command_spec.specs.Lines.{number_line, place_line};
 
 use tape_script::TextLine;
-use volume_store::Appended;
 
 /// A word of at most 100 bytes, and a number.
 #[tactic(auto, unfolding(command_spec::specs::Lines::number_line))]
@@ -32,25 +31,6 @@ pub fn place_text(word: &[u8], first: u64, second: u64) -> TextLine
     line.push_number(first);
     line.push_text(b" ");
     line.push_number(second);
-    line.push_text(b"\n");
-    line
-}
-
-/// The line of a volume that was appended.
-#[tactic(auto, unfolding(command_spec::specs::Lines::appended_line))]
-pub fn appended_text(appended: &Appended) -> TextLine
-    ensures { result ≡ appended_line appended.now.number appended.now.bytes
-        appended.now.start appended.now.end }
-{
-    let mut line = TextLine::new();
-    line.push_text(b"appended ");
-    line.push_number(u64::from(appended.number));
-    line.push_text(b" ");
-    line.push_number(appended.bytes);
-    line.push_text(b" ");
-    line.push_number(u64::from(appended.start));
-    line.push_text(b" ");
-    line.push_number(u64::from(appended.end));
     line.push_text(b"\n");
     line
 }

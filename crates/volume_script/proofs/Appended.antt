@@ -1,5 +1,5 @@
 -- An append of a script, by what the store's append answered.
-use Rattle.std.proofs.Common.{◌≡◌, ◌≢◌, ℕ, ◌+◌, ◌≤◌, true, false, List, [], ◌∷◌, ◌++◌, length, take, drop, Option, Some, None, Result, Ok, Err, IfSome, refl, sym, ap, ◌∙◌, subst, arith, inl, inr, append-nil}
+use Rattle.std.proofs.Common.{◌≡◌, ◌≢◌, ℕ, ◌+◌, ◌≤◌, true, false, List, [], ◌∷◌, ◌++◌, length, take, drop, Option, Some, None, Result, Ok, Err, IfSome, IfNone, refl, sym, ap, ◌∙◌, subst, arith, inl, inr, append-nil}
 use Rattle.std.specs.Option.{option_map}
 use Rattle.std.specs.Prelude.{◌↔◌}
 use Rattle.std.proofs.lemmas.List.{length-append, length-take-le}
@@ -22,17 +22,15 @@ use Rattle.command_spec.specs.declared.line.Line.{Line}
 use Rattle.command_spec.specs.Input.{promised as promised_by}
 use Rattle.qic_base.specs.SourceCalls.{Gave}
 use Rattle.qic_base.proofs.Giving.{Gave-Gave}
-use Rattle.tape_script.proofs.Rests.{any_rest, whole_told}
+use Rattle.tape_script.proofs.Rests.{whole_told}
 use Rattle.command_spec.specs.Lines.{appended_line, reply_behind}
 use Rattle.volume_store.specs.declared.appended.Appended.{Appended}
-use Rattle.volume_store.specs.declared.fault.StoreFault.{StoreFault}
 use Rattle.command_spec.specs.Append.{Kept, Taking, Fits, TooLong, TooShort, taking, room_in, append_acts, kept_over}
 use Rattle.command_laws.specs.CommandTerms.{entry_for, silently}
 use Rattle.volume_store.specs.Appending.{kept_by, AppendRan, HasAppended, TableRefused, AppendCut, CutUnread, KeepsList}
 use Rattle.volume_store.specs.Mounting.{StoreView, StoreFits}
 use Rattle.drive_spec.specs.Terms.{is_protected}
 use Rattle.drive_states.specs.Unit.{UnitView}
-use Rattle.volume_store.proofs.Copies.{tells_two}
 use Rattle.volume_script.specs.declared.fault.ItemFault.{ItemFault}
 use Rattle.volume_script.specs.declared.limited.Limited.{Limited}
 use Rattle.command_spec.specs.declared.refusal.Refusal.{Refusal}
@@ -42,17 +40,20 @@ use Rattle.volume_script.specs.Limited.{limited_means}
 use Rattle.command_spec.specs.Script.{refusal_line, Did, LineDoes, Meeting, Finds, Meets, acts_on, line_refused, reply, taken_as}
 use Rattle.volume_script.specs.Promised.{RanPromised, Refuses, replied_so}
 use Rattle.command_laws.proofs.ScriptActs.{quietly, same_acts, same_taking, took_enough, took_too_long, took_short, full_acts, full_taking, short_acts, fits_acts, front_acts, front_and_last, replied_steps, replied_text, input_texts}
-use Rattle.command_laws.proofs.ScriptGiven.{gave_all, gave_few, Behind, behind}
+use Rattle.command_laws.proofs.ScriptGiven.{gave_all, gave_few, Behind}
 use Rattle.command_laws.proofs.ScriptLifting.{out, TakesNone, read_went, read_cut, replied_went, replied_cut, rested}
+use Rattle.volume_script.proofs.Content.{AreBytes, BehindBytes, GivenAs, any_bytes, behind_bytes, content_both, given_as, limit_untold, taken_content}
 use Rattle.volume_script.proofs.Quiet.{mark_told, unmarked}
 use Rattle.command_laws.proofs.ScriptPlain.{line_one, meets_one, not_lost}
+use Rattle.cartridge_front.specs.declared.fault.StoreFault.{StoreFault}
+use Rattle.cartridge_front.proofs.Copies.{tells_two}
 use Rattle.qic_base.specs.Sink as sinks
 use Rattle.qic_base.specs.SinkCalls as sink_calls
 use Rattle.qic_base.specs.Source as sources
 use Rattle.qic_base.specs.Tape as tapes
 use Rattle.qic_base.specs.TapeCalls as tape_calls
 use Rattle.command_spec.specs.declared.line.Line.TheVariants as line
-use Rattle.volume_store.specs.declared.fault.StoreFault.TheVariants as store_fault
+use Rattle.cartridge_front.specs.declared.fault.StoreFault.TheVariants as store_fault
 use Rattle.volume_script.specs.declared.fault.ItemFault.TheVariants as fault
 use Rattle.command_spec.specs.declared.refusal.Refusal.TheVariants as why
 use Rattle.command_spec.specs.Script as script
@@ -120,6 +121,11 @@ module _ {T S K : Type 0} (t : tapes.Meaning T) (s : sources.Meaning S) (k : sin
         subst (λ (p : S). IfSome (option_map (take promised) (s.left p)) (λ bytes. input ≡ bytes)) ran.starts
         (subst (λ (n : ℕ). IfSome (option_map (take n) (s.left ran.before.source.now)) (λ bytes. input ≡ bytes)) ran.promises told)
 
+    -- and of which bytes it is where it tells none
+    limit_content : (bytes : List ℕ) → IfNone (option_map (take ran.before.left) (s.left ran.before.source.now)) (AreBytes bytes) → IfNone (s.left i) (AreBytes bytes)
+    limit_content bytes known =
+        subst (λ (p : S). IfNone (s.left p) (AreBytes bytes)) ran.starts (limit_untold (take ran.before.left) (s.left ran.before.source.now) (AreBytes bytes) known)
+
     limit_left : (n : ℕ) → option_map (take ran.behind.left) (s.left ran.behind.source.now) ≡ option_map (drop n) (option_map (take ran.before.left) (s.left ran.before.source.now)) →
         option_map (take left) (s.left j) ≡ option_map (drop n) (option_map (take promised) (s.left i))
     limit_left n told =
@@ -161,6 +167,9 @@ module _ {T S K : Type 0} (t : tapes.Meaning T) (s : sources.Meaning S) (k : sin
           (gave_all (s.left i) (s.left j) ran.lends.gave.0 has.ran.input promised ran.lends.count left was_given given_long counted (limit_told has.ran.input has.ran.is_told) took_all.0
           (limit_left promised (has.ran.left ∙ ap (λ (n : ℕ). option_map (drop n) (option_map (take ran.before.left) (s.left ran.before.source.now))) bytes_long)))
 
+      bytes_content : IfNone (s.left i) (AreBytes has.bytes)
+      bytes_content = subst (λ (bytes : List ℕ). IfNone (s.left i) (AreBytes bytes)) (sym took_all.1) (taken_content (s.left i) promised has.ran.input (limit_content has.ran.input has.ran.content))
+
       -- the acts, with the reply
       abbrev whole : List Act
       whole = append_acts kept name date (Some promised) reply_of has.ran.input
@@ -199,6 +208,7 @@ module _ {T S K : Type 0} (t : tapes.Meaning T) (s : sources.Meaning S) (k : sin
         bytes = has.bytes;
         kept = bytes_long;
         gave = gave_bytes;
+        content = bytes_content;
         acts = whole;
         went = record {
           did = subst (tapes.Done t a b) (replied_steps kept name date promised has.ran.input has.bytes has.ran.took reply_of) silent.did;
@@ -229,9 +239,10 @@ module _ {T S K : Type 0} (t : tapes.Meaning T) (s : sources.Meaning S) (k : sin
 
       pub appended_cut : sink_calls.BrokeOff k x y text → ItemCut t s k store (out a i x) (out b j y) asked SinkFails
       appended_cut broke =
-          let rest = any_rest (s.left j) in record {
+          let rest = any_bytes (s.left j) in record {
             rest = has.bytes ++ rest.rest;
             is_told = flip (s.left i) (has.bytes ++ rest.rest) (whole_told (s.left i) (s.left j) has.bytes rest.rest gave_bytes rest.told);
+            content = content_both (s.left i) (s.left j) has.bytes rest.rest gave_bytes bytes_content rest.content;
             told = Tells-map t a (λ c. LineDoes c store.words store.entries asked has.bytes (record { acts = whole; entries = store.entries ++ has.entry ∷ [] }))
                 (λ c. (acts : List Act) → WouldDo c store.words store.entries asked (has.bytes ++ rest.rest) acts → Cut t s k (out a i x) (out b j y) acts SinkFails)
                 (λ c does acts would. subst (λ (zs : List Act). Cut t s k (out a i x) (out b j y) zs SinkFails)
@@ -268,6 +279,7 @@ module _ {T S K : Type 0} (t : tapes.Meaning T) (s : sources.Meaning S) (k : sin
           bytes = short.input;
           short = few.0;
           gave = gave.gave;
+          content = limit_content short.input short.content;
           ended = gave.ended;
           acts = acts;
           went = lift acts short.went;
@@ -293,9 +305,12 @@ module _ {T S K : Type 0} (t : tapes.Meaning T) (s : sources.Meaning S) (k : sin
     pub failed : (failing : Failing) → failing ≢ SinkFails → AppendCut t (limited_means s) (reading a ran.before) (reading b ran.behind) store name date (Some promised) failing →
         CutUnread t (limited_means s) (reading a ran.before) (reading b ran.behind) failing → tape_calls.Tells t a (λ c. c.info.protected ≡ false) → ItemCut t s k store (out a i x) (out b j x) asked failing
     failed failing other cut unread free =
-        let at : Behind (s.left i) promised cut.input = behind (s.left i) promised cut.input (limit_told cut.input cut.is_told) in record {
+        let both : BehindBytes (s.left i) promised cut.input =
+        behind_bytes (s.left i) promised cut.input (limit_told cut.input cut.is_told) (limit_content cut.input cut.content) in
+        let at : Behind (s.left i) promised cut.input = both.at in record {
           rest = at.rest;
           is_told = at.told;
+          content = both.content;
           told = tells_two t a
               (λ c. ((table : List (List ℕ)) → TableIs c table → (reply : Entry → List ℕ) →
               Cut t (limited_means s) no_sink (reading a ran.before) (reading b ran.behind) (append_acts (kept_by store table (settling_steps table c)) name date (Some promised) reply cut.input) failing)
@@ -425,46 +440,54 @@ module _ {T S K : Type 0} (t : tapes.Meaning T) (s : sources.Meaning S) (k : sin
       all_given : (bytes : List ℕ) → Gave s j j2 bytes → Gave s i j2 (ran.lends.gave.0 ++ bytes)
       all_given bytes gave = Gave-Gave s i j j2 ran.lends.gave.0 bytes was_given gave
 
+      -- any bytes where none are told
+      given_so : (bytes : List ℕ) → Gave s j j2 bytes → GivenAs (s.left i) (s.left j2) (length (ran.lends.gave.0 ++ bytes))
+      given_so bytes gave = given_as (s.left i) (s.left j2) (ran.lends.gave.0 ++ bytes) (all_given bytes gave)
+
       all_long : (bytes : List ℕ) → length bytes ≡ left → length (ran.lends.gave.0 ++ bytes) ≡ promised
       all_long bytes long = (let l = length-append ran.lends.gave.0 bytes in let g = given_long in let c = counted in omega arith)
 
       pub refused_ends : (r : Result (Unit {0}) ItemFault) → Refuses s k j j2 x y left refusal r → ItemEnds t s k store after (out a i x) (out b j2 y) asked r
-      refused_ends (Ok done) (all, wrote) = record {
-        bytes = ran.lends.gave.0 ++ all.bytes;
-        kept = all_long all.bytes all.all;
-        gave = all_given all.bytes all.gave;
+      refused_ends (Ok done) (all, wrote) = let given = given_so all.bytes all.gave in record {
+        bytes = given.bytes;
+        kept = given.long ∙ all_long all.bytes all.all;
+        gave = given.gave;
+        content = given.content;
         acts = acts ++ reply (refusal_line refusal) ∷ [];
         went = replied_went t s k both (out a i x) b j2 x y acts (refusal_line refusal) (later_went all.later) wrote;
-        told = does_so (ran.lends.gave.0 ++ all.bytes) after.entries same;
+        told = does_so given.bytes after.entries same;
       }
-      refused_ends (Err fault.Short) (short, sink) = subst (λ (z : K). ItemShort t s k store (out a i x) (out b j2 z) asked) (sym sink) (record {
-        bytes = ran.lends.gave.0 ++ short.bytes;
-        short = (let l = length-append ran.lends.gave.0 short.bytes in let g = given_long in let c = counted in let f = short.short in omega arith);
-        gave = all_given short.bytes short.gave;
+      refused_ends (Err fault.Short) (short, sink) = subst (λ (z : K). ItemShort t s k store (out a i x) (out b j2 z) asked) (sym sink) (let given = given_so short.bytes short.gave in record {
+        bytes = given.bytes;
+        short = (let same = given.long in let l = length-append ran.lends.gave.0 short.bytes in let g = given_long in let c = counted in let f = short.short in omega arith);
+        gave = given.gave;
+        content = given.content;
         ended = short.ended;
         acts = acts;
         went = later_went short.later;
-        told = Tells-map t a _ (λ c. EarlyDoes c store.words store.entries asked (ran.lends.gave.0 ++ short.bytes) acts)
-            (λ c known. (known.0, known.1, sym (known.2.0 (ran.lends.gave.0 ++ short.bytes)))) refusing.told;
+        told = Tells-map t a _ (λ c. EarlyDoes c store.words store.entries asked given.bytes acts)
+            (λ c known. (known.0, known.1, sym (known.2.0 given.bytes))) refusing.told;
       })
       refused_ends (Err fault.Sink) (all, broke) =
-          let bytes : List ℕ = ran.lends.gave.0 ++ all.bytes in
-          let rest = any_rest (s.left j2) in
+          let given = given_so all.bytes all.gave in
+          let bytes : List ℕ = given.bytes in
+          let rest = any_bytes (s.left j2) in
           let cut = replied_cut t s k both none (out a i x) b j2 x y acts (refusal_line refusal) (later_went all.later) broke in
           record {
             rest = bytes ++ rest.rest;
-            is_told = flip (s.left i) (bytes ++ rest.rest) (whole_told (s.left i) (s.left j2) bytes rest.rest (all_given all.bytes all.gave) rest.told);
+            is_told = flip (s.left i) (bytes ++ rest.rest) (whole_told (s.left i) (s.left j2) bytes rest.rest given.gave rest.told);
+            content = content_both (s.left i) (s.left j2) bytes rest.rest given.gave given.content rest.content;
             told = Tells-map t a (λ c. LineDoes c store.words store.entries asked bytes (record { acts = acts ++ reply (refusal_line refusal) ∷ []; entries = store.entries }))
                 (λ c. (zs : List Act) → WouldDo c store.words store.entries asked (bytes ++ rest.rest) zs → Cut t s k (out a i x) (out b j2 y) zs SinkFails)
                 (λ c does zs would. subst (λ (ws : List Act). Cut t s k (out a i x) (out b j2 y) ws SinkFails)
-                (would_be c store.words store.entries asked bytes rest.rest (all_long all.bytes all.all) (record { acts = acts ++ reply (refusal_line refusal) ∷ []; entries = store.entries }) does zs would) cut)
+                (would_be c store.words store.entries asked bytes rest.rest (given.long ∙ all_long all.bytes all.all) (record { acts = acts ++ reply (refusal_line refusal) ∷ []; entries = store.entries }) does zs would) cut)
                 (does_so bytes store.entries refl);
             acts = acts ++ reply (refusal_line refusal) ∷ [];
             cut = cut;
           }
       refused_ends (Err fault.Source) (failed, sink) =
           let went = later_went failed.later in
-          let rest = any_rest (s.left i) in
+          let rest = any_bytes (s.left i) in
           let cut : Cut t s k (out a i x) (out b j2 x) acts SourceFails = record {
             front = acts;
             rest = [];
@@ -477,6 +500,7 @@ module _ {T S K : Type 0} (t : tapes.Meaning T) (s : sources.Meaning S) (k : sin
           subst (λ (z : K). ItemCut t s k store (out a i x) (out b j2 z) asked SourceFails) (sym sink) (record {
             rest = rest.rest;
             is_told = rest.told;
+            content = rest.content;
             told = Tells-map t a _ (λ c. (zs : List Act) → WouldDo c store.words store.entries asked rest.rest zs → Cut t s k (out a i x) (out b j2 x) zs SourceFails)
                 (λ c known zs would. by_would c known.0 known.1 known.2.0 known.2.1 rest.rest zs would cut) refusing.told;
             acts = acts;

@@ -18,7 +18,7 @@ use Rattle.command_spec.specs.Input.{AtEnd, AtStop, AtFault, promised, most_item
 use Rattle.qic_base.specs.SourceCalls.{Gave}
 use Rattle.tape_script.specs.Reading.{GaveInLine, BeginsWithNo}
 use Rattle.qic_base.proofs.Giving.{Gave-Gave}
-use Rattle.tape_script.proofs.Rests.{any_rest, whole_told}
+use Rattle.tape_script.proofs.Rests.{whole_told}
 use Rattle.volume_store.specs.Mounting.{StoreView}
 use Rattle.volume_script.specs.Ending.{GaveNoEnd}
 use Rattle.volume_script.specs.Heard.{HeardItem, HeardShort, HeardCut, HeardMismatch, NextDoes}
@@ -26,6 +26,7 @@ use Rattle.command_laws.specs.ScriptItems.{EarlyDoes}
 use Rattle.volume_script.specs.Items.{ItemDone, ItemShort, ItemCut, ItemMismatched, WouldDo}
 use Rattle.command_spec.specs.Script.{EndsEarly, LineDoes}
 use Rattle.volume_script.proofs.Appended.{flip}
+use Rattle.volume_script.proofs.Content.{any_bytes, content_behind}
 use Rattle.volume_script.proofs.Input.{end_is_line, item_of, line_of_item, some_text}
 use Rattle.command_laws.proofs.ScriptInput.{same_line}
 use Rattle.command_laws.proofs.ScriptLifting.{out, TakesNone}
@@ -105,6 +106,7 @@ module _ {T S K : Type 0} (t : tapes.Meaning T) (s : sources.Meaning S) (k : sin
         is = item_of text done.bytes asked is other done.kept;
         long = (let l = length-append text done.bytes in let kept = done.kept in omega arith);
         gave = Gave-Gave s i m j text done.bytes gave done.gave;
+        content = content_behind (s.left i) (s.left m) text done.bytes asked is gave done.content;
         acts = done.acts;
         went = earlier_went a i m x (out b j y) done.acts later done.went;
         told = done.told;
@@ -118,6 +120,7 @@ module _ {T S K : Type 0} (t : tapes.Meaning T) (s : sources.Meaning S) (k : sin
         bytes = short.bytes;
         short = short.short;
         gave = Gave-Gave s i m j text short.bytes gave short.gave;
+        content = content_behind (s.left i) (s.left m) text short.bytes asked is gave short.content;
         ended = short.ended;
         acts = short.acts;
         went = earlier_went a i m x (out b j y) short.acts later short.went;
@@ -188,6 +191,7 @@ module _ {T S K : Type 0} (t : tapes.Meaning T) (s : sources.Meaning S) (k : sin
       heard_cut number place failing within cut = record {
         rest = text ++ cut.rest;
         is_told = flip (s.left i) (text ++ cut.rest) (whole_told (s.left i) (s.left m) text cut.rest gave cut.is_told);
+        content = content_behind (s.left i) (s.left m) text cut.rest asked is gave cut.content;
         told = Tells-map t a (λ c. (acts : List Act) → WouldDo c store.words store.entries asked cut.rest acts → Cut t s k (out a m x) (out b j y) acts failing)
             (λ c. (acts : List Act) → NextDoes c store.words store.entries number place (text ++ cut.rest) acts → Cut t s k (out a i x) (out b j y) acts failing)
             (λ c each acts next. earlier_cut a i m x (out b j y) acts failing later (each acts (would_next c number place cut.rest acts within next))) cut.told;
@@ -199,7 +203,7 @@ module _ {T S K : Type 0} (t : tapes.Meaning T) (s : sources.Meaning S) (k : sin
 
     pub unheard : TakesNone k → (number place : ℕ) → Rose (s.faults i) (s.faults m) → HeardCut t s k store (out a i x) (out a m x) number place SourceFails
     unheard none number place rose =
-        let rest = any_rest (s.left i) in
+        let rest = any_bytes (s.left i) in
         let cut : Cut t s k (out a i x) (out a m x) [] SourceFails = record {
           front = [];
           rest = [];
@@ -212,6 +216,7 @@ module _ {T S K : Type 0} (t : tapes.Meaning T) (s : sources.Meaning S) (k : sin
         record {
           rest = rest.rest;
           is_told = rest.told;
+          content = rest.content;
           told = tells_always t a (λ c. (acts : List Act) → NextDoes c store.words store.entries number place rest.rest acts → Cut t s k (out a i x) (out a m x) acts SourceFails)
               (λ c acts next. cut_is_longer t s k (out a i x) (out a m x) [] acts SourceFails cut);
           acts = [];

@@ -1,18 +1,19 @@
 -- The lines of a script, and what is no item.
-use Rattle.std.proofs.Common.{◌≡◌, ℕ, List, [], ◌∷◌, ◌++◌, codes, sym, ap, ◌∙◌, inl, inr, refl, arith, ◌<◌, length, ◌≤◌, ◌≢◌, append_assoc, get_or, Option, Some, None, IfSome}
-use Rattle.std.specs.List.{join_with_byte}
+use Rattle.std.proofs.Common.{◌≡◌, ℕ, List, [], ◌∷◌, ◌++◌, codes, sym, ap, ◌∙◌, inl, inr, refl, arith, ◌<◌, length, ◌≤◌, ◌≢◌, append_assoc, get_or, Option, Some, None, IfSome, IfNone}
+use Rattle.std.specs.List.{AllZip, join_with_byte}
 use Rattle.std.proofs.lemmas.List.Splits.{join_with_byte-slice_split}
 use Rattle.std.proofs.lemmas.List.{length-append}
 use Rattle.std.specs.Option.{option_map}
 use Rattle.command_laws.proofs.ScriptInput.{SameLine, same_line}
 use Rattle.command_laws.proofs.TextLined.{end_no_newline}
 use Rattle.command_laws.proofs.TextLines.{one_line}
-use Rattle.command_spec.specs.Command.{SpellsAll, Word}
+use Rattle.command_spec.specs.Command.{Word, SpellsPart}
 use Rattle.command_laws.specs.CommandTerms.{words_of}
 use Rattle.command_spec.specs.Input.{IsLineText, IsItem, promised, Item, IsFault, most_items, HasStop}
 use Rattle.command_spec.specs.Script.{EndsEarly}
 use Rattle.command_spec.specs.declared.line.Line.{Line}
 use Rattle.tape_script.proofs.Rests.{Rest}
+use Rattle.volume_script.proofs.Content.{AreBytes, stop_bytes, zero_byte}
 use Rattle.command_spec.specs.declared.line.Line.TheVariants as line
 
 -- ---- the line `end`
@@ -24,7 +25,7 @@ end_text text is = elim is.has [
       is.whole ∙ ap (λ (bs : List ℕ). bs ++ 0x0A ∷ []) before
   | inr never ↦ absurd never
 ] where
-  one_word : (words : List (List ℕ)) → SpellsAll words (Word (codes "end") ∷ []) → words ≡ codes "end" ∷ []
+  one_word : (words : List (List ℕ)) → AllZip SpellsPart words (Word (codes "end") ∷ []) → words ≡ codes "end" ∷ []
   one_word [] spells = absurd spells
   one_word (word ∷ []) spells = ap (λ (w : List ℕ). w ∷ []) spells.0
   one_word (word ∷ other ∷ words) spells = absurd spells.1
@@ -150,3 +151,23 @@ none_told (Some bytes) rest e = absurd (cc)
 pub stop_rest : (o p : Option (List ℕ)) → o ≡ option_map (λ rest. codes "end\n" ++ rest) p → Rest o HasStop
 stop_rest o None gave = record { rest = codes "end\n" ++ []; told = none_told o (codes "end\n" ++ []) gave; has = ([], refl) }
 stop_rest o (Some rest) gave = record { rest = codes "end\n" ++ rest; told = stop_told o rest gave; has = (rest, refl) }
+
+-- ---- of bytes, where none are told
+
+pub none_content : (o p : Option (List ℕ)) (n : ℕ) (bytes : List ℕ) (some : 0 < n) (long : length bytes ≡ n) (gave : o ≡ option_map (λ rest. bytes ++ rest) p)
+    (no_line : (asked : Line) → IfSome o (λ all. (text rest : List ℕ) → all ≡ text ++ rest → ¬ (IsLineText text asked))) → IfNone o (AreBytes (none_rest o p n bytes some long gave no_line).rest)
+unfolding none_rest
+none_content None p n bytes some long gave no_line = zero_byte
+none_content (Some all) p n bytes some long gave no_line = tt
+
+pub on_content : (number : ℕ) (o p : Option (List ℕ)) (n : ℕ) (bytes : List ℕ) (beyond : most_items < number) (some : 0 < n) (long : length bytes ≡ n) (gave : o ≡ option_map (λ rest. bytes ++ rest) p)
+    (no_stop : IfSome o (λ all. (text rest : List ℕ) → all ≡ text ++ rest → ¬ (text ≡ codes "end\n"))) → IfNone o (AreBytes (on_rest number o p n bytes beyond some long gave no_stop).rest)
+unfolding on_rest
+on_content number None p n bytes beyond some long gave no_stop = zero_byte
+on_content number (Some all) p n bytes beyond some long gave no_stop = tt
+
+pub stop_content : (o p : Option (List ℕ)) (gave : o ≡ option_map (λ rest. codes "end\n" ++ rest) p) → IfNone o (AreBytes (stop_rest o p gave).rest)
+unfolding stop_rest
+stop_content (Some all) p gave = tt
+stop_content None (Some rest) gave = absurd (cc)
+stop_content None None gave = stop_bytes

@@ -1,4 +1,5 @@
 pub mod Appended
+pub mod Content
 pub mod Hearing
 pub mod Input
 pub mod Plain

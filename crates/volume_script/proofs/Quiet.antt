@@ -20,21 +20,18 @@ use Rattle.drive_states.specs.Hand.{Wears}
 use Rattle.drive_states.specs.Unit.{UnitView}
 use Rattle.host_driver.specs.Fits.{segments_of}
 use Rattle.command_spec.specs.Restore.{Restored, LostIn, MismatchIn, Restores, framed, pieces, volume_at}
-use Rattle.command_spec.specs.Scrub.{Scrubs, looked_at}
-use Rattle.command_laws.specs.Terms.{counts_of}
+use Rattle.command_spec.specs.Scrub.{ScrubsAs, looked_at}
+use Rattle.command_laws.specs.Terms.{counts_for}
 use Rattle.segment_io.proofs.Going.{tells_always}
-use Rattle.segment_mending.specs.Mending.{reported}
+use Rattle.segment_mending.specs.Mending.{reported, HasScrubbed, ScrubCut}
 use Rattle.segment_mending.specs.declared.report.ScrubReport.{ScrubReport}
 use Rattle.command_spec.specs.declared.line.Line.{Line}
 use Rattle.command_spec.specs.Input.{promised}
 use Rattle.qic_base.proofs.Giving.{Gave-nothing}
-use Rattle.tape_script.proofs.Rests.{any_rest}
 use Rattle.command_spec.specs.Lines.{list_text, lost_line}
 use Rattle.volume_output.specs.Output.{GaveVolume, VolumeCut}
-use Rattle.volume_store.specs.Scrubbing.{HasMended, MendCut}
 use Rattle.volume_store.specs.Mounting.{StoreView, StoreFits}
 use Rattle.volume_store.specs.Restoring.{RestoreEnds}
-use Rattle.volume_store.proofs.Copies.{IsLearnt, told_learnt, tells_two}
 use Rattle.volume_script.specs.Items.{ItemDone, ItemCut, ItemEnds, WouldDo}
 use Rattle.command_spec.specs.Script.{refusal_line, Did, LineDoes, given_as, reply}
 use Rattle.command_laws.specs.CommandTerms.{restored_line}
@@ -43,6 +40,9 @@ use Rattle.command_laws.proofs.ScriptLifting.{out, TakesNone, printed_went, prin
 use Rattle.command_laws.proofs.ScriptPlain.{given, line_one}
 use Rattle.volume_script.proofs.Plain.{would_without}
 use Rattle.command_laws.proofs.ScriptPlaces.{place_or_not}
+use Rattle.command_spec.specs.declared.depth.Depth.TheVariants.{Shallow}
+use Rattle.volume_script.proofs.Content.{any_bytes, no_content}
+use Rattle.cartridge_front.proofs.Copies.{IsLearnt, told_learnt, tells_two}
 use Rattle.qic_base.specs.Sink as sinks
 use Rattle.qic_base.specs.SinkCalls as sink_calls
 use Rattle.qic_base.specs.Source as sources
@@ -51,7 +51,7 @@ use Rattle.qic_base.specs.TapeCalls as tape_calls
 use Rattle.drive_states.specs.declared.fault.HandFault.TheVariants as hand
 use Rattle.command_spec.specs.Restore as restoring
 use Rattle.command_spec.specs.declared.line.Line.TheVariants as line
-use Rattle.volume_store.specs.declared.fault.StoreFault.TheVariants as store_fault
+use Rattle.cartridge_front.specs.declared.fault.StoreFault.TheVariants as store_fault
 use Rattle.command_spec.specs.declared.refusal.Refusal.TheVariants as why
 
 -- the mark that is told is the one that the drive knows
@@ -70,15 +70,16 @@ module _ {T S K : Type 0} (t : tapes.Meaning T) (s : sources.Meaning S) (k : sin
   pub quiet_done : (acts : List Act) → Went t s k (out a i x) (out b i y) acts →
       tape_calls.Tells t a (λ c. LineDoes c store.words store.entries asked [] (record { acts = acts; entries = after.entries })) →
       ItemDone t s k store after (out a i x) (out b i y) asked
-  quiet_done acts went told = record { bytes = []; kept = sym quiet; gave = Gave-nothing s i i refl; acts = acts; went = went; told = told }
+  quiet_done acts went told = record { bytes = []; kept = sym quiet; gave = Gave-nothing s i i refl; content = no_content (s.left i); acts = acts; went = went; told = told }
 
   pub quiet_cut : (failing : Failing) (acts : List Act) → Cut t s k (out a i x) (out b i y) acts failing →
       tape_calls.Tells t a (λ c. (did : Did) → LineDoes c store.words store.entries asked [] did → Cut t s k (out a i x) (out b i y) did.acts failing) →
       ItemCut t s k store (out a i x) (out b i y) asked failing
   quiet_cut failing acts cut told =
-      let left = any_rest (s.left i) in record {
+      let left = any_bytes (s.left i) in record {
         rest = left.rest;
         is_told = left.told;
+        content = left.content;
         told = Tells-map t a (λ c. (did : Did) → LineDoes c store.words store.entries asked [] did → Cut t s k (out a i x) (out b i y) did.acts failing)
             (λ c. (xs : List Act) → WouldDo c store.words store.entries asked left.rest xs → Cut t s k (out a i x) (out b i y) xs failing)
             (λ c each xs would.
@@ -208,25 +209,25 @@ module _ {T S K : Type 0} (t : tapes.Meaning T) (s : sources.Meaning S) (k : sin
       (Tells-map t a (λ c. c.info.protected ≡ true)
       (λ c. LineDoes c store.words store.entries line.Scrub [] (record { acts = [] ++ reply (refusal_line why.Protected) ∷ []; entries = store.entries })) (λ c is. inl (is, refl)) mark))
 
-  pub scrub_done : (report : ScrubReport) → tape_calls.Tells t a (λ c. c.info.protected ≡ false) → HasMended t k store.words store.entries (around a x) (around b y) report →
+  pub scrub_done : (report : ScrubReport) → tape_calls.Tells t a (λ c. c.info.protected ≡ false) → HasScrubbed t k Shallow store.words store.entries (around a x) (around b y) report →
       ItemDone t s k store after (out a i x) (out b i y) line.Scrub
   scrub_done report free did =
       quiet_done t s k store after line.Scrub refl a b i x y did.acts (printed_went t s k a b i i x y did.acts (omega arith) did.went)
       (subst (λ (es : List Entry). tape_calls.Tells t a (λ c. LineDoes c store.words store.entries line.Scrub [] (record { acts = did.acts; entries = es }))) (sym same)
       (tells_two t a (λ c. c.info.protected ≡ false)
-      (λ c. (scrubs : Scrubs c store.words store.entries did.acts) × (reported report ≡ counts_of c (looked_at store.words store.entries) scrubs.sayings))
+      (λ c. (scrubs : ScrubsAs Shallow c store.words store.entries did.acts) × (reported report ≡ counts_for c (looked_at store.words store.entries) scrubs.findings))
       (λ c. LineDoes c store.words store.entries line.Scrub [] (record { acts = did.acts; entries = store.entries }))
       (λ c off is. inr (off, (did.acts, is.0, refl))) free did.told))
 
-  pub scrub_cut : (failing : Failing) → failing ≢ SourceFails → tape_calls.Tells t a (λ c. c.info.protected ≡ false) → MendCut t k store.words store.entries (around a x) (around b y) failing →
+  pub scrub_cut : (failing : Failing) → failing ≢ SourceFails → tape_calls.Tells t a (λ c. c.info.protected ≡ false) → ScrubCut t k Shallow store.words store.entries (around a x) (around b y) failing →
       ItemCut t s k store (out a i x) (out b i y) line.Scrub failing
   scrub_cut failing other free cut =
       quiet_cut t s k store after line.Scrub refl a b i x y failing cut.acts (printed_cut t s k a b i i x y cut.acts failing other (omega arith) cut.cut)
-      (tells_two t a (λ c. c.info.protected ≡ false) (λ c. (acts : List Act) → Scrubs c store.words store.entries acts → Cut t no_source k (around a x) (around b y) acts failing)
+      (tells_two t a (λ c. c.info.protected ≡ false) (λ c. (acts : List Act) → ScrubsAs Shallow c store.words store.entries acts → Cut t no_source k (around a x) (around b y) acts failing)
       (λ c. (did : Did) → LineDoes c store.words store.entries line.Scrub [] did → Cut t s k (out a i x) (out b i y) did.acts failing)
       (λ c off each did does. by_cases c off each did does) free cut.told)
     where
-      by_cases : (c : Cartridge) → c.info.protected ≡ false → ((acts : List Act) → Scrubs c store.words store.entries acts → Cut t no_source k (around a x) (around b y) acts failing) →
+      by_cases : (c : Cartridge) → c.info.protected ≡ false → ((acts : List Act) → ScrubsAs Shallow c store.words store.entries acts → Cut t no_source k (around a x) (around b y) acts failing) →
           (did : Did) → LineDoes c store.words store.entries line.Scrub [] did → Cut t s k (out a i x) (out b i y) did.acts failing
       by_cases c off each did (inl (on, is)) = absurd (cc)
       by_cases c off each did (inr (again, (acts, scrubs, is))) =

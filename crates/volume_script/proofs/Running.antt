@@ -1,5 +1,5 @@
 -- A run of a script, item after item: the acts so far went, and then those of what is left went or were cut off.
-use Rattle.std.proofs.Common.{◌≡◌, ℕ, ◌+◌, ◌*◌, ◌<◌, ◌≤◌, List, [], ◌∷◌, ◌++◌, length, drop, None, IfSome, Result, Ok, Err, codes, refl, sym, ap, ◌∙◌, subst, arith, inl, inr, append_assoc, append-nil}
+use Rattle.std.proofs.Common.{◌≡◌, ℕ, ◌+◌, ◌*◌, ◌<◌, ◌≤◌, List, [], ◌∷◌, ◌++◌, length, drop, None, IfSome, IfNone, Result, Ok, Err, codes, refl, sym, ap, ◌∙◌, subst, arith, inl, inr, append_assoc, append-nil}
 use Rattle.std.specs.Option.{option_map}
 use Rattle.std.proofs.lemmas.List.{length-append, length_push}
 use Rattle.std.proofs.Math.Seq.{drop-append_seam}
@@ -16,10 +16,9 @@ use Rattle.command_spec.specs.Input.{Item, IsItem, IsFault, Ending, AtEnd, AtSto
 use Rattle.qic_base.specs.SourceCalls.{Gave}
 use Rattle.qic_base.proofs.Giving.{Gave-Gave, Gave-end, Gave-nothing}
 use Rattle.command_laws.proofs.TextInputs.{one_reading, no_ending}
-use Rattle.tape_script.proofs.Rests.{any_rest, ended_rest, whole_told, left_behind}
+use Rattle.tape_script.proofs.Rests.{ended_rest, whole_told, left_behind}
 use Rattle.tape_script.specs.Reading.{GaveEnd}
 use Rattle.volume_store.specs.Mounting.{StoreView}
-use Rattle.volume_store.proofs.Copies.{tells_two}
 use Rattle.volume_store.proofs.Ending.{back}
 use Rattle.volume_script.specs.declared.fault.ScriptFault.{ScriptFault}
 use Rattle.volume_script.specs.Ending.{HearsEnd, RepliesEnd}
@@ -31,10 +30,12 @@ use Rattle.command_laws.specs.ScriptAnswers.{Answer, AllDone, FaultIn, script_an
 use Rattle.command_laws.specs.CommandTerms.{FaultDoes, ItemDoes}
 use Rattle.command_spec.specs.Outcome.{CommandOutcome}
 use Rattle.volume_script.proofs.Appended.{flip}
+use Rattle.volume_script.proofs.Content.{AreBytes, any_bytes, content_both, ended_content, no_content}
 use Rattle.volume_script.proofs.Hearing.{early_of}
-use Rattle.volume_script.proofs.Input.{no_line_fault, no_line_early, early_fault, none_rest, on_rest, stop_rest}
+use Rattle.volume_script.proofs.Input.{no_line_fault, no_line_early, early_fault, none_content, none_rest, on_content, on_rest, stop_content, stop_rest}
 use Rattle.command_laws.proofs.ScriptLifting.{out, TakesNone, replied_went, replied_cut}
 use Rattle.command_laws.proofs.ScriptReading.{Reads, reads_more, read_end, place_is, split_reading, acts_of-append, entries_behind-append, cartridge_is, do_more, split_doing}
+use Rattle.cartridge_front.proofs.Copies.{tells_two}
 use Rattle.qic_base.specs.Sink as sinks
 use Rattle.qic_base.specs.SinkCalls as sink_calls
 use Rattle.qic_base.specs.Source as sources
@@ -70,6 +71,7 @@ pub record SoFar {T S K : Type 0} (t : tapes.Meaning T) (s : sources.Meaning S) 
   pub bytes : place ≡ length texts
   pub short : place ≤ longest * lines
   pub gave : Gave s start.source now.source texts
+  pub content : IfNone (s.left start.source) (AreBytes texts)
   pub acts : List Act
   pub went : Went t s k start now acts
   pub told : tape_calls.Tells t start.tape (Ran first store items acts)
@@ -85,6 +87,7 @@ module _ {T S K : Type 0} {t : tapes.Meaning T} {s : sources.Meaning S} {k : sin
     bytes = refl;
     short = omega arith;
     gave = Gave-nothing s start.source start.source refl;
+    content = no_content (s.left start.source);
     acts = [];
     went = record { did = Done-nothing t start.tape; wrote = record { took = none start.sink; later = omega arith }; source_later = omega arith };
     told = tells_always t start.tape (Ran first first [] []) (λ c. record { dids = []; ran_so = tt; are = refl; entries = refl });
@@ -113,6 +116,7 @@ module _ {T S K : Type 0} {t : tapes.Meaning T} {s : sources.Meaning S} {k : sin
       bytes = (let e = far.bytes in let l = length-append far.texts heard.text in let h = heard.long in omega arith);
       short = (let e = far.short in omega arith);
       gave = Gave-Gave s start.source now.source new.source far.texts heard.text far.gave heard.gave;
+      content = content_both (s.left start.source) (s.left now.source) far.texts heard.text far.gave far.content heard.content;
       acts = far.acts ++ heard.acts;
       went = went_both t s k both start now new far.acts heard.acts far.went heard.went;
       told = Tells-map t start.tape _ (Ran first after (far.items ++ heard.item ∷ []) (far.acts ++ heard.acts)) (λ c both_told. more c both_told.0 both_told.1)
@@ -137,11 +141,11 @@ module _ {T S K : Type 0} {t : tapes.Meaning T} {s : sources.Meaning S} {k : sin
 
     -- how the input ends behind the items is how it ends
     ended_so : (rest : List ℕ) (ending : Ending) (answer : Answer) (last : List Act) → lines ≤ most_items → Went t s k now new last → IfSome (s.left now.source) (λ bytes. bytes ≡ rest) →
-        ItemsEnd IsItem (lines + 1) place rest ending → script_answer ending ≡ answer → tape_calls.Tells t now.tape (λ c. EndDoes c store.words store.entries rest ending last) →
+        IfNone (s.left now.source) (AreBytes rest) → ItemsEnd IsItem (lines + 1) place rest ending → script_answer ending ≡ answer → tape_calls.Tells t now.tape (λ c. EndDoes c store.words store.entries rest ending last) →
         (answer ≡ AllDone → last ≡ reply end_line ∷ []) →
         ((read : IsScript (far.texts ++ rest) far.items ending) → Leaves s start.source new.source (items_taken (far.texts ++ rest) far.items ending read) answer) →
         Ended t s k first start new answer
-    ended_so rest ending answer last few went told ends answered does only left =
+    ended_so rest ending answer last few went told content ends answered does only left =
         let input : List ℕ = far.texts ++ rest in
         let read : IsScript input far.items ending =
         read_end far.items far.texts rest 1 0 (lines + 1) place ending far.reads (let n = far.number in omega arith) (let n = far.number in omega arith) (let b = far.bytes in omega arith) ends in
@@ -150,6 +154,7 @@ module _ {T S K : Type 0} {t : tapes.Meaning T} {s : sources.Meaning S} {k : sin
         record {
           input = input;
           is_told = whole_told (s.left start.source) (s.left now.source) far.texts rest far.gave told;
+          content = content_both (s.left start.source) (s.left now.source) far.texts rest far.gave far.content content;
           outcome = record { acts = far.acts ++ last; taken = items_taken input far.items ending read; status = input_status ending };
           told = Tells-map t start.tape _ (λ c. ScriptDoes c first.words first.entries input (record { acts = far.acts ++ last; taken = items_taken input far.items ending read; status = input_status ending }))
               (λ c both_told.
@@ -188,6 +193,7 @@ module _ {T S K : Type 0} {t : tapes.Meaning T} {s : sources.Meaning S} {k : sin
         record {
           input = input;
           is_told = whole_told (s.left start.source) (s.left now.source) far.texts heard.rest far.gave heard.is_told;
+          content = content_both (s.left start.source) (s.left now.source) far.texts heard.rest far.gave far.content heard.content;
           told = Tells-map t start.tape _ (λ c. (outcome : CommandOutcome) → ScriptDoes c first.words first.entries input outcome → Cut t s k start new outcome.acts failing)
               (λ c both_told outcome does. by_outcome c both_told.0 both_told.1 outcome does)
               (at_start (λ c. (acts : List Act) → NextDoes c store.words store.entries (lines + 1) place heard.rest acts → Cut t s k now new acts failing) heard.told);
@@ -263,7 +269,7 @@ module _ {T S K : Type 0} {t : tapes.Meaning T} {s : sources.Meaning S} {k : sin
         let same : other ≡ ending = (one_reading IsItem inputs.items (lines + 1) place rest [] [] other ending again ends).1 in
         only (subst (λ (e : Ending). EndDoes c store.words store.entries rest e acts) same does)
 
-    module _ (tape : T) (source : S) (sink y : K) (rest : List ℕ) (ending : Ending) (told : IfSome (s.left now.source) (λ bytes. bytes ≡ rest)) (ends : ItemsEnd IsItem (lines + 1) place rest ending)
+    module _ (tape : T) (source : S) (sink y : K) (rest : List ℕ) (ending : Ending) (told : IfSome (s.left now.source) (λ bytes. bytes ≡ rest)) (content : IfNone (s.left now.source) (AreBytes rest)) (ends : ItemsEnd IsItem (lines + 1) place rest ending)
         (went : Went t s k now (out tape source sink) []) (does : (c : Cartridge) → EndDoes c store.words store.entries rest ending (reply end_line ∷ []))
         (only : (c : Cartridge) (acts : List Act) → EndDoes c store.words store.entries rest ending acts → (reply end_line ∷ []) ≡ acts) where
       replied_end : sinks.Wrote k sink y end_line → script_answer ending ≡ AllDone →
@@ -271,7 +277,7 @@ module _ {T S K : Type 0} {t : tapes.Meaning T} {s : sources.Meaning S} {k : sin
           Ended t s k first start (out tape source y) AllDone
       replied_end wrote answered left =
           ended_so both first store store start now (out tape source y) lines place far rest ending AllDone (reply end_line ∷ []) few
-          (replied_went t s k both now tape source sink y [] end_line went wrote) told ends answered
+          (replied_went t s k both now tape source sink y [] end_line went wrote) told content ends answered
           (tells_always t now.tape (λ c. EndDoes c store.words store.entries rest ending (reply end_line ∷ [])) does) (λ done. refl) left
 
       unreplied_end : sink_calls.BrokeOff k sink y end_line → CutOff t s k first start (out tape source y) SinkFails
@@ -280,6 +286,7 @@ module _ {T S K : Type 0} {t : tapes.Meaning T} {s : sources.Meaning S} {k : sin
           cut_so both first store store start now (out tape source y) lines place far SinkFails few (record {
             rest = rest;
             is_told = told;
+            content = content;
             told = tells_always t now.tape (λ c. (acts : List Act) → NextDoes c store.words store.entries (lines + 1) place rest acts → Cut t s k now (out tape source y) acts SinkFails)
                 (λ c acts next. subst (λ (zs : List Act). Cut t s k now (out tape source y) zs SinkFails) (end_alone c rest ending acts (reply end_line ∷ []) ends (only c acts) next) cut);
             acts = reply end_line ∷ [];
@@ -293,21 +300,21 @@ module _ {T S K : Type 0} {t : tapes.Meaning T} {s : sources.Meaning S} {k : sin
         runs.ScriptEnds t s k first start (out tape source y) r
     at_end tape source sink y went (inl end) (Ok done) wrote =
         let behind = ended_rest (s.left now.source) end.0 in
-        replied_end tape source sink y behind.rest AtEnd behind.told behind.has went (λ c. refl) (λ c acts is. sym is) wrote refl
+        replied_end tape source sink y behind.rest AtEnd behind.told (ended_content (s.left now.source) behind.rest behind.has) behind.has went (λ c. refl) (λ c acts is. sym is) wrote refl
         (λ read. left_behind (s.left start.source) (s.left source) far.texts (length (far.texts ++ behind.rest)) (Gave-end s start.source now.source source far.texts far.gave end.1)
         (ap (λ rest. length (far.texts ++ rest)) behind.has ∙ ap length (append-nil far.texts)))
     at_end tape source sink y went (inl end) (Err fault.Sink) broke =
         let behind = ended_rest (s.left now.source) end.0 in
-        unreplied_end tape source sink y behind.rest AtEnd behind.told behind.has went (λ c. refl) (λ c acts is. sym is) broke
+        unreplied_end tape source sink y behind.rest AtEnd behind.told (ended_content (s.left now.source) behind.rest behind.has) behind.has went (λ c. refl) (λ c acts is. sym is) broke
     at_end tape source sink y went (inr stop) (Ok done) wrote =
         let behind = stop_rest (s.left now.source) (s.left source) stop in
-        replied_end tape source sink y behind.rest AtStop behind.told behind.has went (λ c. refl) (λ c acts is. sym is) wrote refl
+        replied_end tape source sink y behind.rest AtStop behind.told (stop_content (s.left now.source) (s.left source) stop) behind.has went (λ c. refl) (λ c acts is. sym is) wrote refl
         (λ read. left_behind (s.left start.source) (s.left source) (far.texts ++ codes "end\n") (items_taken (far.texts ++ behind.rest) far.items AtStop read)
         (Gave-Gave s start.source now.source source far.texts (codes "end\n") far.gave stop)
         (ap (λ (n : ℕ). n + length (codes "end\n")) (place_is far.items far.texts behind.rest 1 0 (far.texts ++ behind.rest) AtStop read refl far.reads ∙ plain_place far.texts) ∙ sym (length-append far.texts (codes "end\n"))))
     at_end tape source sink y went (inr stop) (Err fault.Sink) broke =
         let behind = stop_rest (s.left now.source) (s.left source) stop in
-        unreplied_end tape source sink y behind.rest AtStop behind.told behind.has went (λ c. refl) (λ c acts is. sym is) broke
+        unreplied_end tape source sink y behind.rest AtStop behind.told (stop_content (s.left now.source) (s.left source) stop) behind.has went (λ c. refl) (λ c acts is. sym is) broke
     at_end tape source sink y went (inl end) (Err (fault.Input line at)) never = absurd never
     at_end tape source sink y went (inl end) (Err fault.TableMismatch) never = absurd never
     at_end tape source sink y went (inl end) (Err fault.Source) never = absurd never
@@ -328,16 +335,17 @@ module _ {T S K : Type 0} {t : tapes.Meaning T} {s : sources.Meaning S} {k : sin
     )
 
     faulty : (new : Outside T S K) (rest bytes : List ℕ) (number at : ℕ) (last : List Act) → number ≡ lines + 1 → at ≡ place → IfSome (s.left now.source) (λ bytes. bytes ≡ rest) →
-        IsFault IsItem (lines + 1) rest → Went t s k now new last → Gave s now.source new.source bytes → tape_calls.Tells t now.tape (λ c. FaultDoes c store.words store.entries number rest last) →
+        IfNone (s.left now.source) (AreBytes rest) → IsFault IsItem (lines + 1) rest → Went t s k now new last → Gave s now.source new.source bytes → tape_calls.Tells t now.tape (λ c. FaultDoes c store.words store.entries number rest last) →
         Ended t s k first start new (FaultIn number at)
-    faulty new rest bytes number at last same equal told is went gave does =
-        ended_so both first store store start now new lines place far rest (AtFault number at) (FaultIn number at) last few went told (is, same, equal) refl does (λ done. cc)
+    faulty new rest bytes number at last same equal told content is went gave does =
+        ended_so both first store store start now new lines place far rest (AtFault number at) (FaultIn number at) last few went told content (is, same, equal) refl does (λ done. cc)
         (λ read. behind_fault new.source bytes at equal gave)
 
     at_none : (new : Outside T S K) (number at : ℕ) → number ≡ lines + 1 → at ≡ place → HeardNone t s k now new → Ended t s k first start new (FaultIn number at)
     at_none new number at same equal heard =
         let behind = none_rest (s.left now.source) (s.left new.source) heard.n heard.gave.0 heard.some heard.gave.1 heard.gave.2 heard.no_line in
-        faulty new behind.rest heard.gave.0 number at [] same equal behind.told (no_line_fault (lines + 1) behind.rest behind.has) heard.went heard.gave.2
+        faulty new behind.rest heard.gave.0 number at [] same equal behind.told
+        (none_content (s.left now.source) (s.left new.source) heard.n heard.gave.0 heard.some heard.gave.1 heard.gave.2 heard.no_line) (no_line_fault (lines + 1) behind.rest behind.has) heard.went heard.gave.2
         (tells_always t now.tape (λ c. FaultDoes c store.words store.entries number behind.rest []) (λ c. inr ((λ within. no_line_early behind.rest behind.has), refl)))
 
     at_short : (new : Outside T S K) (number at : ℕ) → lines + 1 ≤ most_items → number ≡ lines + 1 → at ≡ place → HeardShort t s k store now new → Ended t s k first start new (FaultIn number at)
@@ -348,7 +356,7 @@ module _ {T S K : Type 0} {t : tapes.Meaning T} {s : sources.Meaning S} {k : sin
         let whole = whole_told (s.left now.source) (s.left new.source) rest behind.rest heard.gave behind.told in
         let told : IfSome (s.left now.source) (λ bytes. bytes ≡ rest) =
         flip (s.left now.source) rest (subst (λ (l : List ℕ). IfSome (s.left now.source) (λ bytes. l ≡ bytes)) (ap (λ (l : List ℕ). rest ++ l) behind.has ∙ append-nil rest) whole) in
-        faulty new rest rest number at heard.acts same equal told (early_fault (lines + 1) rest early) heard.went heard.gave
+        faulty new rest rest number at heard.acts same equal told heard.content (early_fault (lines + 1) rest early) heard.went heard.gave
         (Tells-map t now.tape (λ c. EarlyDoes c store.words store.entries heard.asked heard.bytes heard.acts) (λ c. FaultDoes c store.words store.entries number rest heard.acts)
         (λ c does. early_does c heard.text heard.bytes heard.asked heard.acts heard.is heard.short number (omega arith) does) heard.told)
       where
@@ -395,11 +403,12 @@ module _ {T S K : Type 0} {t : tapes.Meaning T} {s : sources.Meaning S} {k : sin
         runs.ScriptEnds t s k first start (out now.tape source now.sink) (Err why)
     end_failed source (fault.Input number at) all later (same, equal, on) =
         let behind = on_rest (lines + 1) (s.left now.source) (s.left source) on.n on.gave.0 (omega arith) on.some on.gave.1 on.gave.2 on.no_stop in
-        faulty (out now.tape source now.sink) behind.rest on.gave.0 number at [] (let e = same in omega arith) equal behind.told behind.has
+        faulty (out now.tape source now.sink) behind.rest on.gave.0 number at [] (let e = same in omega arith) equal behind.told
+        (on_content (lines + 1) (s.left now.source) (s.left source) on.n on.gave.0 (omega arith) on.some on.gave.1 on.gave.2 on.no_stop) behind.has
         (record { did = Done-nothing t now.tape; wrote = record { took = none now.sink; later = omega arith }; source_later = later }) on.gave.2
         (tells_always t now.tape (λ c. FaultDoes c store.words store.entries number behind.rest []) (λ c. inr ((λ within. absurd (omega arith)), refl)))
     end_failed source fault.Source all later rose =
-        let rest = any_rest (s.left now.source) in
+        let rest = any_bytes (s.left now.source) in
         let cut : Cut t s k now (out now.tape source now.sink) [] SourceFails = record {
           front = [];
           rest = [];
@@ -412,6 +421,7 @@ module _ {T S K : Type 0} {t : tapes.Meaning T} {s : sources.Meaning S} {k : sin
         cut_so both first store store start now (out now.tape source now.sink) lines place far SourceFails few (record {
           rest = rest.rest;
           is_told = rest.told;
+          content = rest.content;
           told = tells_always t now.tape (λ c. (acts : List Act) → NextDoes c store.words store.entries (lines + 1) place rest.rest acts → Cut t s k now (out now.tape source now.sink) acts SourceFails)
               (λ c acts next. cut_is_longer t s k now (out now.tape source now.sink) [] acts SourceFails cut);
           acts = [];

@@ -1,5 +1,5 @@
 -- What one line of the input did to the outside, with what follows it (this project's own).
-use Rattle.std.specs.Prelude.{◌≡◌, ◌⊎◌, ℕ, ◌<◌, ◌≤◌, List, [], ◌++◌, length, Option, Some, None, IfSome, Result, Ok, Err}
+use Rattle.std.specs.Prelude.{◌≡◌, ◌⊎◌, ℕ, ◌<◌, ◌≤◌, List, [], ◌++◌, length, All, Option, Some, None, IfSome, IfNone, Result, Ok, Err}
 use Rattle.qic_base.specs.Cartridge.{Cartridge}
 use Rattle.qic_base.specs.Acts.{Act, Outside, Failing, TapeFails, SourceFails, SinkFails, Went, Cut}
 use Rattle.cartridge_spec.specs.Table.{Entry}
@@ -29,6 +29,7 @@ pub record HeardItem {T S K : Type 0} (t : tapes.Meaning T) (s : sources.Meaning
   pub is : IsItem text item
   pub long : n ≡ length text
   pub gave : Gave s old.source new.source text
+  pub content : IfNone (s.left old.source) (All (λ b. b < 256) text)
   pub acts : List Act
   pub went : Went t s k old new acts
   pub told : tape_calls.Tells t old.tape (λ c. ItemDoes c store.words store.entries item (record { acts = acts; entries = after.entries }))
@@ -49,6 +50,7 @@ pub record HeardShort {T S K : Type 0} (t : tapes.Meaning T) (s : sources.Meanin
   pub bytes : List ℕ
   pub short : length bytes < promised asked
   pub gave : Gave s old.source new.source (text ++ bytes)
+  pub content : IfNone (s.left old.source) (All (λ b. b < 256) (text ++ bytes))
   pub ended : HasEnded s new.source
   pub acts : List Act
   pub went : Went t s k old new acts
@@ -65,6 +67,7 @@ NextDoes c words entries number place rest acts =
 pub record HeardCut {T S K : Type 0} (t : tapes.Meaning T) (s : sources.Meaning S) (k : sinks.Meaning K) (store : StoreView) (old new : Outside T S K) (number place : ℕ) (failing : Failing) : Type 0 where
   pub rest : List ℕ
   pub is_told : IfSome (s.left old.source) (λ bytes. bytes ≡ rest)
+  pub content : IfNone (s.left old.source) (All (λ b. b < 256) rest)
   pub told : tape_calls.Tells t old.tape (λ c. (acts : List Act) → NextDoes c store.words store.entries number place rest acts → Cut t s k old new acts failing)
   -- and over any tape
   pub acts : List Act

@@ -1,5 +1,5 @@
 -- What one line of a script did to the outside, with what follows it (this project's own).
-use Rattle.std.specs.Prelude.{◌≡◌, ℕ, List, length, ◌<◌, ◌⊎◌, ◌++◌, IfSome, Result, Ok, Err}
+use Rattle.std.specs.Prelude.{◌≡◌, ℕ, List, length, ◌<◌, ◌⊎◌, ◌++◌, All, IfSome, IfNone, Result, Ok, Err}
 use Rattle.cartridge_spec.specs.Table.{Entry}
 use Rattle.command_laws.specs.ScriptItems.{EarlyDoes}
 use Rattle.command_spec.specs.Input.{promised}
@@ -16,11 +16,12 @@ use Rattle.qic_base.specs.Tape as tapes
 use Rattle.qic_base.specs.TapeCalls as tape_calls
 use Rattle.volume_script.specs.declared.fault.ItemFault.TheVariants as fault
 
--- The line was carried out, with all the bytes that it promises.
+-- The line was carried out, with all the bytes that it promises; bytes they are, too, where the source tells none.
 pub record ItemDone {T S K : Type 0} (t : tapes.Meaning T) (s : sources.Meaning S) (k : sinks.Meaning K) (store after : StoreView) (old new : Outside T S K) (asked : Line) : Type 0 where
   pub bytes : List ℕ
   pub kept : length bytes ≡ promised asked
   pub gave : Gave s old.source new.source bytes
+  pub content : IfNone (s.left old.source) (All (λ b. b < 256) bytes)
   pub acts : List Act
   pub went : Went t s k old new acts
   pub told : tape_calls.Tells t old.tape (λ c. LineDoes c store.words store.entries asked bytes (record { acts = acts; entries = after.entries }))
@@ -30,6 +31,7 @@ pub record ItemShort {T S K : Type 0} (t : tapes.Meaning T) (s : sources.Meaning
   pub bytes : List ℕ
   pub short : length bytes < promised asked
   pub gave : Gave s old.source new.source bytes
+  pub content : IfNone (s.left old.source) (All (λ b. b < 256) bytes)
   pub ended : HasEnded s new.source
   pub acts : List Act
   pub went : Went t s k old new acts
@@ -46,6 +48,7 @@ WouldDo c words entries asked rest acts =
 pub record ItemCut {T S K : Type 0} (t : tapes.Meaning T) (s : sources.Meaning S) (k : sinks.Meaning K) (store : StoreView) (old new : Outside T S K) (asked : Line) (failing : Failing) : Type 0 where
   pub rest : List ℕ
   pub is_told : IfSome (s.left old.source) (λ bytes. bytes ≡ rest)
+  pub content : IfNone (s.left old.source) (All (λ b. b < 256) rest)
   pub told : tape_calls.Tells t old.tape (λ c. (acts : List Act) → WouldDo c store.words store.entries asked rest acts → Cut t s k old new acts failing)
   -- and over any tape
   pub acts : List Act

@@ -10,7 +10,7 @@ use Rattle.qic_base.specs.SourceCalls.{Gave, HasEnded}
 use Rattle.volume_store.specs.Appending.{AppendEnds, FaultsUnread}
 use Rattle.volume_store.specs.Mounting.{StoreView}
 use Rattle.volume_store.specs.declared.appended.Appended.{Appended}
-use Rattle.volume_store.specs.declared.fault.StoreFault.{StoreFault}
+use Rattle.cartridge_front.specs.declared.fault.StoreFault.{StoreFault}
 use Rattle.volume_script.specs.declared.fault.ItemFault.{ItemFault}
 use Rattle.volume_script.specs.declared.fault.ItemFault.TheVariants as fault
 use Rattle.volume_script.specs.declared.limited.Limited.{Limited}

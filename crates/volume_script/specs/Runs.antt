@@ -1,5 +1,5 @@
 -- How a run of a script ended (this project's own).
-use Rattle.std.specs.Prelude.{◌≡◌, ℕ, ◌+◌, ◌++◌, List, drop, IfSome, Result, Ok, Err}
+use Rattle.std.specs.Prelude.{◌≡◌, ℕ, ◌+◌, ◌++◌, ◌<◌, All, List, drop, IfSome, IfNone, Result, Ok, Err}
 use Rattle.std.specs.Option.{option_map}
 use Rattle.qic_base.specs.Acts.{Act, text_of, Outside, Failing, TapeFails, SourceFails, SinkFails, Went, Cut}
 use Rattle.command_spec.specs.Input.{Item, Ending, IsScript}
@@ -21,10 +21,11 @@ Leaves s old new taken AllDone = s.left new ≡ option_map (drop taken) (s.left 
 Leaves s old new taken (FaultIn number place) = (more : ℕ) × (s.left new ≡ option_map (drop (place + more)) (s.left old))
 
 -- It came to its end, with this answer: all acts of the plain machine's outcome went, over the input that the source told,
--- or some input where it tells none.
+-- or some input of bytes where it tells none.
 pub record Ended {T S K : Type 0} (t : tapes.Meaning T) (s : sources.Meaning S) (k : sinks.Meaning K) (store : StoreView) (old new : Outside T S K) (answer : Answer) : Type 0 where
   pub input : List ℕ
   pub is_told : IfSome (s.left old.source) (λ bytes. input ≡ bytes)
+  pub content : IfNone (s.left old.source) (All (λ b. b < 256) input)
   pub outcome : CommandOutcome
   pub told : tape_calls.Tells t old.tape (λ c. ScriptDoes c store.words store.entries input outcome)
   pub answered : outcome.status ≡ script_status answer
@@ -50,6 +51,7 @@ pub record Mismatched {T S K : Type 0} (t : tapes.Meaning T) (s : sources.Meanin
 pub record CutOff {T S K : Type 0} (t : tapes.Meaning T) (s : sources.Meaning S) (k : sinks.Meaning K) (store : StoreView) (old new : Outside T S K) (failing : Failing) : Type 0 where
   pub input : List ℕ
   pub is_told : IfSome (s.left old.source) (λ bytes. input ≡ bytes)
+  pub content : IfNone (s.left old.source) (All (λ b. b < 256) input)
   pub told : tape_calls.Tells t old.tape (λ c. (outcome : CommandOutcome) → ScriptDoes c store.words store.entries input outcome →
       Cut t s k old new outcome.acts failing)
   -- and over any tape

@@ -97,7 +97,16 @@ pub fn append<T: Tape, S: Source, K: Sink>(
 {
     let Promised { answer, left } = take_promised(store, unit, name, promised, date, source);
     match answer {
-        Ok(appended) => replied(write_text(appended_text(&appended).bytes(), sink)),
+        Ok(appended) => replied(write_text(
+            appended_text(
+                appended.number,
+                appended.bytes,
+                appended.start,
+                appended.end,
+            )
+            .bytes(),
+            sink,
+        )),
         Err(StoreFault::Protected) => refuse(left, Refusal::Protected, source, sink),
         Err(StoreFault::Full { need, have }) => {
             refuse(left, Refusal::Full { need, have }, source, sink)
@@ -115,6 +124,6 @@ pub fn append<T: Tape, S: Source, K: Sink>(
             | StoreFault::NoVolume { .. }
             | StoreFault::Mismatch { .. }
             | StoreFault::Sink,
-        ) => Err(ItemFault::Tape),
+        ) => unreachable!("an append reads the table alone, by the header that was mounted"),
     }
 }

@@ -15,8 +15,7 @@ use crate::scrub::scrub;
 use drive_states::Unit;
 use qic_base::{Sink, Source, Tape};
 use tape_script::Line;
-use volume_lines::write_list;
-use volume_store::Store;
+use volume_store::{Store, write_list};
 
 /// Prints the volumes as they are listed now.
 fn list<T: Tape, S: Source, K: Sink>(

@@ -50,6 +50,6 @@ pub fn restore<T: Tape, S: Source, K: Sink>(
             | StoreFault::Protected
             | StoreFault::Short { .. }
             | StoreFault::Source,
-        ) => Err(ItemFault::Tape),
+        ) => unreachable!("a restore only reads segments, and writes to the sink"),
     }
 }

@@ -42,6 +42,6 @@ pub fn scrub<T: Tape, S: Source, K: Sink>(
             | StoreFault::Mismatch { .. }
             | StoreFault::Short { .. }
             | StoreFault::Source,
-        ) => Err(ItemFault::Tape),
+        ) => unreachable!("a scrub counts what doesn't read, and refuses nothing else"),
     }
 }

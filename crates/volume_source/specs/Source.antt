@@ -16,9 +16,9 @@ use Rattle.qic_base.specs.Step.{effects}
 use Rattle.qic_base.specs.TapeCalls.{Tells}
 use Rattle.volume_source.specs.Given.{given_bytes}
 use Rattle.volume_store.specs.Mounting.{StoreView, StoreFits, KeepsStore}
-use Rattle.volume_store.specs.declared.fault.StoreFault.{StoreFault}
+use Rattle.cartridge_front.specs.declared.fault.StoreFault.{StoreFault}
 use Rattle.qic_base.specs.Source as sources
-use Rattle.volume_store.specs.declared.fault.StoreFault.TheVariants as fault
+use Rattle.cartridge_front.specs.declared.fault.StoreFault.TheVariants as fault
 
 -- ---- what it is seen as
 

@@ -12,9 +12,9 @@ use Rattle.cartridge_spec.specs.HeaderAndTable.{TableIs}
 use Rattle.cartridge_spec.specs.Settling.{settling_steps}
 use Rattle.segment_io.proofs.Going.{tells_always}
 use Rattle.volume_store.specs.declared.appended.Appended.{Appended}
-use Rattle.volume_store.specs.declared.fault.StoreFault.{StoreFault}
-use Rattle.volume_store.specs.declared.fault.StoreFault.TheVariants as fault
-use Rattle.volume_store.specs.Again.{FaultUnread, IsOfReading}
+use Rattle.cartridge_front.specs.declared.fault.StoreFault.{StoreFault}
+use Rattle.cartridge_front.specs.declared.fault.StoreFault.TheVariants as fault
+use Rattle.cartridge_front.specs.Again.{FaultUnread, IsOfReading}
 use Rattle.volume_store.specs.Appending.{CutUnread, FaultsUnread}
 
 module _ {T S : Type 0} (t : tapes.Meaning T) (s : sources.Meaning S) where

@@ -38,16 +38,16 @@ use Rattle.qic_base.specs.TapeCalls.{Tells, IsToldRight}
 use Rattle.qic_base.specs.Tape.{Done, Broke}
 use Rattle.volume_input.proofs.Inputs.{left_of, whole_told}
 use Rattle.volume_input.specs.declared.written.Written.{Written}
-use Rattle.volume_store.proofs.Copies.{tells_two}
+use Rattle.cartridge_front.proofs.Copies.{tells_two}
 use Rattle.volume_store.proofs.Taking.{untold_content, content_always}
-use Rattle.volume_store.specs.Again.{IsSettledAgain, IsRefused, IsBrokenOff, IsAdded, IsOfReading, SettlesAgain, AddsEntry, entry_writes}
+use Rattle.cartridge_front.specs.Again.{IsSettledAgain, IsRefused, IsBrokenOff, IsAdded, IsOfReading, SettlesAgain, AddsEntry, entry_writes}
 use Rattle.volume_store.specs.Appending.{AppendEnds, kept_by, InputWent, InputWritten, InputBroke, InputIs, AppendRan, HasAppended, AppendCut, TableRefused}
 use Rattle.volume_store.specs.Mounting.{StoreView}
 use Rattle.volume_store.specs.declared.appended.Appended.{Appended}
-use Rattle.volume_store.specs.declared.fault.StoreFault.{StoreFault}
+use Rattle.cartridge_front.specs.declared.fault.StoreFault.{StoreFault}
 use Rattle.qic_base.specs.Tape as tapes
 use Rattle.qic_base.specs.Source as sources
-use Rattle.volume_store.specs.declared.fault.StoreFault.TheVariants as fault
+use Rattle.cartridge_front.specs.declared.fault.StoreFault.TheVariants as fault
 
 pub no_text : TakesBoth no_sink
 no_text a b c xs ys first next = ap (λ (l : List ℕ). l ++ ys) first ∙ next

@@ -30,20 +30,20 @@ use Rattle.host_driver.specs.declared.host.Host.{Host}
 use Rattle.host_driver.specs.Calls.{Keeps}
 use Rattle.host_driver.specs.Fits.{Fits, AgreesWithTape, segments_of}
 use Rattle.cartridge_laws.proofs.MountWhole.{table_is_area}
-use Rattle.volume_store.specs.declared.fault.StoreFault.{StoreFault}
-use Rattle.volume_store.specs.Again.{IsSettledAgain, IsAdded, SettlesAgain, AddsEntry, entry_writes}
+use Rattle.cartridge_front.specs.declared.fault.StoreFault.{StoreFault}
+use Rattle.cartridge_front.specs.Again.{IsSettledAgain, IsAdded, SettlesAgain, AddsEntry, entry_writes}
 use Rattle.command_laws.specs.CommandTerms.{kept_in}
 use Rattle.command_spec.specs.Append.{input_writes}
 use Rattle.volume_store.specs.Appending.{InputIs}
 use Rattle.volume_store.specs.Mounting.{StoreView, StoreFits}
 use Rattle.command_laws.proofs.StoreAgain.{table_one}
 use Rattle.command_laws.proofs.StoreBehind.{input_behind, settled_behind, front_behind}
-use Rattle.volume_store.proofs.Copies.{tells_two}
+use Rattle.cartridge_front.proofs.Copies.{tells_two}
 use Rattle.volume_store.proofs.Ending.{has_list}
 use Rattle.volume_store.proofs.Storing.{one_length, still_primary, still_referenced}
 use Rattle.qic_base.specs.Source as sources
 use Rattle.qic_base.specs.Tape as tapes
-use Rattle.volume_store.specs.declared.fault.StoreFault.TheVariants as fault
+use Rattle.cartridge_front.specs.declared.fault.StoreFault.TheVariants as fault
 
 -- the drive knows of a cartridge, so the tape doesn't tell that there is none
 pub not_empty : {T : Type 0} (m : Meaning T) (h : Host) (u : UnitView T) → Fits m h u → AgreesWithTape m u → m.told u.tape ≡ Some None → ⊥

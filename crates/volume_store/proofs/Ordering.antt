@@ -17,14 +17,14 @@ use Rattle.volume_input.proofs.Inputs.{left_of, whole_told}
 use Rattle.volume_input.specs.declared.written.Written.{Written}
 use Rattle.volume_store.proofs.Ending.{act_went, broke_cut, no_text}
 use Rattle.volume_store.proofs.Taking.{content_always, untold_content}
-use Rattle.volume_store.specs.Again.{IsOfReading, IsSettledAgain, SettlesAgain}
+use Rattle.cartridge_front.specs.Again.{IsOfReading, IsSettledAgain, SettlesAgain}
 use Rattle.volume_store.specs.Appending.{AskedFor, AsksInRoom, CutBeforeEntry, HasGivenAll, HasRoomFor, InOrder, InputBroke, InputIs, InputWritten, ListsLast, MayAsk, acts_before_entry, kept_by}
 use Rattle.volume_store.specs.Mounting.{StoreView}
 use Rattle.volume_store.specs.declared.appended.Appended.{Appended}
-use Rattle.volume_store.specs.declared.fault.StoreFault.{StoreFault}
+use Rattle.cartridge_front.specs.declared.fault.StoreFault.{StoreFault}
 use Rattle.qic_base.specs.Source as sources
 use Rattle.qic_base.specs.Tape as tapes
-use Rattle.volume_store.specs.declared.fault.StoreFault.TheVariants as fault
+use Rattle.cartridge_front.specs.declared.fault.StoreFault.TheVariants as fault
 
 -- what is told of an end, by the store's view, is told of the answer that is that end
 pub ordered : {T S : Type 0} (t : tapes.Meaning T) (s : sources.Meaning S) (old new : Outside T S (Unit {0})) (view store : StoreView) (promised : Option ℕ) (end r : Result Appended StoreFault) →

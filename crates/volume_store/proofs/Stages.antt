@@ -18,19 +18,19 @@ use Rattle.host_driver.specs.Fits.{deck_of}
 use Rattle.host_driver.proofs.Keeping.{keeps_both}
 use Rattle.volume_input.specs.declared.written.Written.{Written}
 use Rattle.volume_store.specs.declared.appended.Appended.{Appended}
-use Rattle.volume_store.specs.declared.fault.StoreFault.{StoreFault}
-use Rattle.volume_store.specs.Again.{IsSettledAgain, IsAdded, IsOfReading, SettlesAgain, AddsEntry}
+use Rattle.cartridge_front.specs.declared.fault.StoreFault.{StoreFault}
+use Rattle.cartridge_front.specs.Again.{IsSettledAgain, IsAdded, IsOfReading, SettlesAgain, AddsEntry}
 use Rattle.volume_store.specs.Appending.{InputIs, InputWritten, HasAppended, AppendEnds}
 use Rattle.command_laws.specs.CommandTerms.{kept_in}
 use Rattle.command_spec.specs.Append.{input_writes}
 use Rattle.volume_store.specs.Mounting.{StoreView, StoreFits}
 use Rattle.command_laws.proofs.StoreBehind.{input_behind}
-use Rattle.volume_store.proofs.Copies.{IsLearnt, told_learnt, tells_two}
+use Rattle.cartridge_front.proofs.Copies.{IsLearnt, told_learnt, tells_two}
 use Rattle.volume_store.proofs.Ending.{right_tells, made}
 use Rattle.volume_store.proofs.Fitting.{DidBehind, Listed, adding_refused, fits_with, input_did, least_end, lists_added, lists_later, not_empty, same_told, settled_later, settling_refused}
 use Rattle.qic_base.specs.Source as sources
 use Rattle.qic_base.specs.Tape as tapes
-use Rattle.volume_store.specs.declared.fault.StoreFault.TheVariants as fault
+use Rattle.cartridge_front.specs.declared.fault.StoreFault.TheVariants as fault
 use Rattle.volume_store.proofs.Ending as ending
 
 -- a store that fits a unit, of whose told cartridge is known that it may be written

@@ -31,16 +31,17 @@ use Rattle.qic117_commands.specs.Views.{is_primary}
 use Rattle.drive_spec.specs.declared.deck.Deck.{Deck}
 use Rattle.qic_base.proofs.Steps.{Tells-read}
 use Rattle.header_segments.specs.Header.{header_of}
-use Rattle.volume_store.specs.declared.learning.Learnt.{Learnt}
-use Rattle.volume_store.specs.Finding.{ShowsVolumes}
-use Rattle.volume_store.specs.Mounting.{HasLearnt, Settles}
+use Rattle.cartridge_front.specs.declared.learning.Learnt.{Learnt}
+use Rattle.cartridge_front.specs.Finding.{ShowsVolumes}
+use Rattle.cartridge_front.specs.Learning.{HasLearnt}
+use Rattle.volume_store.specs.Mounting.{Settles}
 use Rattle.cartridge_laws.proofs.TableOrders.{faultless_is_sound}
 use Rattle.std.proofs.lemmas.Option.{same_Some}
-use Rattle.volume_store.specs.declared.table_reader.Unread.{Unread}
-use Rattle.volume_store.specs.Settling.{mending_steps, mending_places, collected_block}
-use Rattle.volume_store.proofs.Copies.{IsLearnt, told_learnt, tells_two}
-use Rattle.volume_store.proofs.Mending.{range_more}
-use Rattle.volume_store.proofs.Settled.{mending_settles, writes_info}
+use Rattle.cartridge_front.specs.declared.table_reader.Unread.{Unread}
+use Rattle.cartridge_front.specs.Settling.{mending_steps, mending_places, collected_block}
+use Rattle.cartridge_front.proofs.Copies.{IsLearnt, told_learnt, tells_two}
+use Rattle.cartridge_front.proofs.Mending.{range_more}
+use Rattle.cartridge_front.proofs.Settled.{mending_settles, writes_info}
 use Rattle.command_laws.proofs.StoreSettled.{settled_list}
 
 -- ---- sums over segments

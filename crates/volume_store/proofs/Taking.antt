@@ -25,10 +25,10 @@ use Rattle.volume_input.proofs.Inputs.{left_of, whole_told, still_tells, none_le
 use Rattle.volume_input.specs.Input.{HasWritten, EndedShort, InputCut}
 use Rattle.volume_input.specs.declared.written.Written.{Written}
 use Rattle.volume_store.specs.Appending.{InputWent, InputWritten, InputBroke, InputIs, TakesNone}
-use Rattle.volume_store.specs.declared.fault.StoreFault.{StoreFault}
+use Rattle.cartridge_front.specs.declared.fault.StoreFault.{StoreFault}
 use Rattle.qic_base.specs.Source as sources
 use Rattle.qic_base.specs.Tape as tapes
-use Rattle.volume_store.specs.declared.fault.StoreFault.TheVariants as fault
+use Rattle.cartridge_front.specs.declared.fault.StoreFault.TheVariants as fault
 
 -- ---- choices
 

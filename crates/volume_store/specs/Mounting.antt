@@ -1,15 +1,13 @@
 -- How a cartridge is mounted, what a store shows of it, and when a store fits a unit (this project's own).
-use Rattle.std.specs.Prelude.{◌≡◌, ℕ, List, take, Result, Ok, Err, ◌⊎◌, [], ◌-◌, ◌*◌, true, false, length}
+use Rattle.std.specs.Prelude.{◌≡◌, ℕ, List, Result, Ok, Err, ◌⊎◌, [], ◌-◌, ◌*◌, true, false, length}
 use Rattle.cartridge_laws.specs.Table.{IsSoundList}
-use Rattle.cartridge_laws.specs.Terms.{fault_as, HasList}
+use Rattle.cartridge_laws.specs.Terms.{HasList}
 use Rattle.cartridge_spec.specs.Header.{Header}
-use Rattle.cartridge_spec.specs.HeaderAndTable.{table_cells}
 use Rattle.cartridge_spec.specs.Mounting.{Mounts}
 use Rattle.cartridge_spec.specs.Settling.{settling_steps}
 use Rattle.cartridge_spec.specs.Table.{Entry}
 use Rattle.drive_spec.specs.Terms.{is_referenced}
 use Rattle.drive_states.specs.Unit.{UnitView}
-use Rattle.header_segments.specs.Header.{header_of}
 use Rattle.host_driver.specs.Fits.{Fits, IsAtRest, AgreesWithTape, segments_of}
 use Rattle.host_driver.specs.declared.host.Host.{Host}
 use Rattle.qic117_commands.specs.Views.{is_primary}
@@ -17,33 +15,10 @@ use Rattle.qic_base.specs.Cartridge.{Cartridge}
 use Rattle.qic_base.specs.Step.{Step}
 use Rattle.qic_base.specs.Tape.{Meaning, Done, Broke}
 use Rattle.qic_base.specs.TapeCalls.{Tells}
-use Rattle.volume_store.specs.Reading.{IsReadBut}
-use Rattle.volume_store.specs.declared.fault.StoreFault.{StoreFault}
-use Rattle.volume_store.specs.declared.fault.StoreFault.TheVariants.{NotFormatted, Foreign, Lost, TableMismatch, Tape}
-use Rattle.volume_store.specs.declared.learning.Learnt.{Learnt}
+use Rattle.cartridge_front.specs.Learning.{MountRefuses}
+use Rattle.cartridge_front.specs.declared.fault.StoreFault.{StoreFault}
+use Rattle.cartridge_front.specs.declared.fault.StoreFault.TheVariants.{Tape}
 use Rattle.cartridge_spec.specs.Mounting as mounting
-
--- ---- refusals
-
--- the mounting of the cartridge is refused so
-abbrev pub MountRefuses : Cartridge → StoreFault → Type 0
-MountRefuses c NotFormatted = Mounts c mounting.NotFormatted
-MountRefuses c (Foreign field value) = Mounts c (mounting.Foreign (fault_as field value))
-MountRefuses c (Lost segment lost) = (segment ≡ 2) × Mounts c (mounting.TableLost lost)
-MountRefuses c TableMismatch = Mounts c mounting.TableMismatch
-MountRefuses c fault = ⊥
-
--- ---- what was learnt
-
--- the cartridge mounts with this header, these words and these entries, and the sectors of its segment 2 stand as the tape
--- holds them, but for these
-pub record HasLearnt (c : Cartridge) (words : List ℕ) (sectors : List (List ℕ)) (entries : List Entry) (learnt : Learnt) : Type 0 where
-  pub mounts : Mounts c (mounting.Mounted (header_of learnt.header) words (take 29 sectors) entries)
-  pub known : IsReadBut (table_cells c) learnt.unread sectors
-
-abbrev pub Learns : Cartridge → (words : List ℕ) (sectors : List (List ℕ)) (entries : List Entry) → Result Learnt StoreFault → Type 0
-Learns c words sectors entries (Ok learnt) = HasLearnt c words sectors entries learnt
-Learns c words sectors entries (Err fault) = MountRefuses c fault
 
 -- ---- a store
 

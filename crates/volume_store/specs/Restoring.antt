@@ -9,10 +9,10 @@ use Rattle.volume_output.specs.Output.{GaveVolume, VolumeCut}
 use Rattle.volume_output.specs.Part.{OfPiece, ReadsPiece, LosesPiece, MismatchesPiece}
 use Rattle.volume_output.specs.declared.fault.OutputFault.{OutputFault}
 use Rattle.volume_store.specs.Mounting.{StoreView}
-use Rattle.volume_store.specs.declared.fault.StoreFault.{StoreFault}
+use Rattle.cartridge_front.specs.declared.fault.StoreFault.{StoreFault}
 use Rattle.qic_base.specs.Sink as sinks
 use Rattle.qic_base.specs.Tape as tapes
-use Rattle.volume_store.specs.declared.fault.StoreFault.TheVariants as fault
+use Rattle.cartridge_front.specs.declared.fault.StoreFault.TheVariants as fault
 use Rattle.volume_output.specs.declared.fault.OutputFault.TheVariants as output
 
 -- there is a volume of this number, and this is so of it

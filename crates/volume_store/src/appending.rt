@@ -12,9 +12,9 @@ ghost use Rattle.host_driver.specs.Fits.{segments_of};
 ghost use Rattle.qic_base.specs.declared.TheConstants.{LONGEST};
 ghost use Rattle.volume_store.specs.Appending.{InputIs, TakesNone, AskedFor};
 
-use crate::fault::StoreFault;
 use crate::store::capacity_between;
 use bad_sector_map::BadMap;
+use cartridge_front::StoreFault;
 use drive_states::Unit;
 use host_driver::Host;
 use qic_base::{Name, Source, SourceFailed, Tape};
@@ -141,7 +141,8 @@ fn take_all<T: Tape, S: Source>(
     ) {
         Ok(written) => written,
         Err(InputFault::Source) => return Err(StoreFault::Source),
-        Err(InputFault::Short { .. } | InputFault::Tape) => return Err(StoreFault::Tape),
+        Err(InputFault::Tape) => return Err(StoreFault::Tape),
+        Err(InputFault::Short { .. }) => unreachable!("no number of bytes is promised"),
     };
     if written.bytes < have {
         return Ok(written);

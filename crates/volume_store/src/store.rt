@@ -12,19 +12,16 @@ ghost use Rattle.cartridge_spec.specs.Shape.{mask_at, marked_sectors};
 ghost use Rattle.cartridge_spec.specs.Volumes.{capacity_between, volume_length};
 ghost use Rattle.header_segments.specs.Header.{header_of};
 ghost use Rattle.volume_store.specs.Appending.{AppendEnds, FaultsUnread, KeepsFormat, KeepsList, InOrder};
-ghost use Rattle.volume_store.specs.Finding.{NamesCause, RefusesMounting};
 ghost use Rattle.volume_store.specs.Mounting.{MountDoes, StoreFits, KeepsStore};
 ghost use Rattle.volume_store.specs.Restoring.{RestoreEnds, ReadsPart, fault_of_output};
-ghost use Rattle.volume_store.specs.Scrubbing.{MendEnds, MendEndsAs};
+ghost use Rattle.volume_store.specs.Scrubbing.{MendEnds};
 ghost use Rattle.volume_table.specs.Entry.{entry_of};
+ghost use Rattle.cartridge_front.specs.Finding.{NamesCause, RefusesMounting};
 
 use crate::appended::Appended;
 use crate::appending::{is_label, take_input};
-use crate::fault::StoreFault;
-use crate::learning::learn;
-use crate::refreshing::{add_entry, settle_again};
-use crate::settling::settle;
 use bad_sector_map::BadMap;
+use cartridge_front::{StoreFault, add_entry, learn, settle, settle_again};
 use command_spec::Depth;
 use drive_states::{HandFault, Unit};
 use header_segments::Header;
@@ -294,7 +291,7 @@ impl Store {
         sink: &mut K,
     ) -> Result<ScrubReport, StoreFault>
         requires fits { StoreFits T.means self.old unit.old }
-        ensures ends { MendEndsAs T.means K.means depth self.old
+        ensures ends { MendEnds T.means K.means depth self.old
             (around unit.old.tape sink.old) (around unit.new.tape sink.new) result }
         ensures protected { (result ≡ Err StoreFault.Protected) ↔
             (is_protected unit.old.drive.deck ≡ true) }
@@ -329,7 +326,7 @@ impl Store {
         sink: &mut K,
     ) -> Result<ScrubReport, StoreFault>
         requires fits { StoreFits T.means self.old unit.old }
-        ensures ends { MendEnds T.means K.means self.old
+        ensures ends { MendEnds T.means K.means Depth.Shallow self.old
             (around unit.old.tape sink.old) (around unit.new.tape sink.new) result }
         ensures protected { (result ≡ Err StoreFault.Protected) ↔
             (is_protected unit.old.drive.deck ≡ true) }
@@ -348,7 +345,7 @@ impl Store {
         sink: &mut K,
     ) -> Result<ScrubReport, StoreFault>
         requires fits { StoreFits T.means self.old unit.old }
-        ensures ends { MendEndsAs T.means K.means Depth.Deep self.old
+        ensures ends { MendEnds T.means K.means Depth.Deep self.old
             (around unit.old.tape sink.old) (around unit.new.tape sink.new) result }
         ensures protected { (result ≡ Err StoreFault.Protected) ↔
             (is_protected unit.old.drive.deck ≡ true) }

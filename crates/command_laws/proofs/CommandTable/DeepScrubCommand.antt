@@ -1,10 +1,9 @@
 -- The laws of the command `scrub deep`.
-use Rattle.std.proofs.Common.{[], ◌≡◌, ◌∷◌, ◌∙◌, None, Some, ap, refl, ℕ, List, arith, subst, sym}
+use Rattle.std.proofs.Common.{[], ◌≡◌, ◌∷◌, ◌∙◌, Some, ap, refl, ℕ, List, arith, subst, sym}
 use Rattle.cartridge_laws.specs.ChangeSteps.{HasNoRenew}
 use Rattle.cartridge_laws.proofs.MountWhole.{settled_is_cartridge}
 use Rattle.cartridge_spec.specs.Formatting.{HasCleanCopies}
 use Rattle.cartridge_spec.specs.Mounting.{settled}
-use Rattle.cartridge_spec.specs.Says.{Mismatch}
 use Rattle.cartridge_spec.specs.Settling.{changed_by}
 use Rattle.cartridge_spec.specs.Volumes.{Plain, Stands}
 use Rattle.command_laws.proofs.CommandClean.{GoesLeaving, bare_writable, leaves_by, writable_leaves}
@@ -17,7 +16,7 @@ use Rattle.command_laws.proofs.CommandWhole.{some_whole}
 use Rattle.command_laws.proofs.DeepScrubKept.{deep_clean, deep_mounts, deep_stands}
 use Rattle.command_laws.proofs.ScrubForms.{form_steps, stopped_form_is_cartridge}
 use Rattle.command_laws.proofs.ScrubOneWrong.{form_always, form_is_function}
-use Rattle.command_laws.proofs.CommandTable.ScrubCommand.{scrub_reading}
+use Rattle.command_laws.proofs.CommandTable.ScrubCommand.{scrub_reading, unread}
 use Rattle.command_laws.proofs.CommandUnread.{writable_unread}
 use Rattle.command_laws.proofs.TextCommands.{IsRead, named, only, spelled_length, two_words}
 use Rattle.command_laws.proofs.WholeSteps.{behind_leave}
@@ -77,9 +76,6 @@ deep_goes c plain outcome free there does =
     let did = on.did in ap status_of did.is
 
 -- ---- the command
-
-abbrev unread : Finding
-unread = record { saying = Mismatch; wrong = None }
 
 pub deep_scrub_laws : CommandLaws deep_scrub_command
 deep_scrub_laws = record {

@@ -38,7 +38,7 @@ info_laws = record {
   unformatted = λ is c input outcome free bare plain. open_unformatted (Shows telling) c outcome bare plain;
   in_front = λ is c segment input outcome free first plain. absurd (cc);
   done = λ held input outcome whole values. where_some (CanBeMounted) held (λ h. InfoOutcome h outcome → outcome.status ≡ status.Done) (λ c can does. shows_done telling c can.0 outcome can.1 does);
-  texts = plain_texts _ _ (record { format_date = 0; write_date = 0; segments_per_track = 0; label = []; label_date = 0 }, ([], (0, refl)));
+  texts = plain_texts _ _ (record { format_date = 0; write_date = 0; segments_per_track = 0; label = []; label_date = 0 }, ([], ([], refl)));
   blind = λ is. record {
     any = λ held input other outcome plain. plain;
     no_append = refl;

@@ -38,7 +38,7 @@ list_laws = record {
   unformatted = λ is c input outcome free bare plain. open_unformatted (Shows listing) c outcome bare plain;
   in_front = λ is c segment input outcome free first plain. absurd (cc);
   done = λ held input outcome whole values. where_some (CanBeMounted) held (λ h. ListOutcome h outcome → outcome.status ≡ status.Done) (λ c can does. shows_done listing c can.0 outcome can.1 does);
-  texts = plain_texts _ _ ([], ([], refl));
+  texts = plain_texts _ _ (record { format_date = 0; write_date = 0; segments_per_track = 0; label = []; label_date = 0 }, ([], ([], refl)));
   blind = λ is. record {
     any = λ held input other outcome plain. plain;
     no_append = refl;

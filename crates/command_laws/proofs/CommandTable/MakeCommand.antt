@@ -13,8 +13,9 @@ use Rattle.command_laws.proofs.CommandWhole.{making_whole, some_whole}
 use Rattle.command_laws.proofs.TextCommands.{only, three_words, spelled_length, IsNumber-value, IsRead, Reading, word_at, number_value, named}
 use Rattle.command_laws.specs.CommandRecord.{CommandLaws}
 use Rattle.command_spec.specs.Command.{HasForm, IsUnprotected}
-use Rattle.command_spec.specs.Make.{Making, MakeOutcome, CanMake, make_command}
+use Rattle.command_spec.specs.Make.{Making, CanMake, make_command}
 use Rattle.qic_base.specs.Terms.{IsCartridge}
+use Rattle.command_laws.specs.CommandTerms.{MakeOutcome}
 use Rattle.command_spec.specs.declared.status.Status.TheVariants as status
 use Rattle.command_spec.specs.declared.words.Words.TheVariants as words
 

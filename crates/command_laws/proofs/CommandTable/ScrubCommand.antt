@@ -1,5 +1,5 @@
 -- The laws of the command `scrub`.
-use Rattle.std.proofs.Common.{[], ◌≡◌, ◌∷◌, Some, refl, ℕ, List, arith, codes}
+use Rattle.std.proofs.Common.{[], ◌≡◌, ◌∷◌, None, Some, refl, ℕ, List, arith, codes}
 use Rattle.cartridge_spec.specs.Mounting.{Mounted}
 use Rattle.cartridge_spec.specs.Says.{Mismatch}
 use Rattle.command_laws.proofs.CommandClean.{bare_writable, Clean, writable_leaves, mends_leave}
@@ -15,7 +15,7 @@ use Rattle.command_laws.proofs.TextCommands.{only, one_word, spelled_length, IsR
 use Rattle.command_laws.specs.CommandRecord.{CommandLaws}
 use Rattle.command_spec.specs.Command.{HasForm, IsUnprotected, CanBeMounted}
 use Rattle.command_laws.specs.Terms.{Mends, ScrubOutcome}
-use Rattle.command_spec.specs.Scrub.{scrub_command}
+use Rattle.command_spec.specs.Scrub.{Finding, scrub_command}
 use Rattle.qic_base.specs.Terms.{IsCartridge}
 use Rattle.command_spec.specs.declared.words.Words.{Words}
 use Rattle.command_spec.specs.declared.status.Status.TheVariants as status
@@ -33,6 +33,10 @@ scrub_reading = record { name = codes "scrub"; reads = read_form }
 
 pub scrub_read : (ws : List (List ℕ)) → HasForm ws scrub_command.forms → IsRead scrub_reading ws words.Scrub
 scrub_read ws h = let s = one_word ws _ (only ws _ h) in record { behind = []; are = named s.are s.one; is = refl }
+
+-- a segment that doesn't read
+abbrev pub unread : Finding
+unread = record { saying = Mismatch; wrong = None }
 
 pub scrub_laws : CommandLaws scrub_command
 scrub_laws = record {
@@ -53,8 +57,8 @@ scrub_laws = record {
       (
         record { segments = 3; mended = 0; unreadable = 3 },
         record {
-          sayings = Mismatch ∷ Mismatch ∷ Mismatch ∷ [];
-          each = refl;
+          findings = unread ∷ unread ∷ unread ∷ [];
+          may = (tt, (tt, (tt, tt)));
           lines = refl;
           segments = refl;
           unreadable = refl;

@@ -6,8 +6,8 @@ ghost use Rattle.tape_cmd.specs.Make.{run_status};
 ghost use Rattle.command_laws.specs.CommandTerms.{EndsBlind};
 
 use crate::Status;
-use crate::opening::open_writable;
 use drive_states::Unit;
+use host_commands::open_writable;
 use made_volumes::{MakeFault, make_volumes};
 use qic_base::{Sink, Tape};
 use store_opening::Room;

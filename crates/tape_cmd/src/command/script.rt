@@ -6,8 +6,8 @@ ghost use Rattle.command_spec.specs.Machine.{CommandEnds};
 ghost use Rattle.tape_cmd.specs.Script.{run_status};
 
 use crate::Status;
-use crate::opening::open;
 use drive_states::Unit;
+use host_commands::open;
 use qic_base::{Sink, Source, Tape};
 use store_opening::Room;
 use volume_script::{ScriptFault, run_script};

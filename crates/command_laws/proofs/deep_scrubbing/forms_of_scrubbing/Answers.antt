@@ -1,5 +1,6 @@
-use Rattle.command_laws.proofs.ScrubForms.{shallow_is_scrub, found_may_be, finds_at_once_is}
+use Rattle.command_laws.proofs.ScrubForms.{found_may_be, finds_at_once_is}
 use Rattle.command_laws.proofs.ScrubOneWrong.{form_is_function, form_always}
+use Rattle.command_laws.proofs.ScrubPlain.{shallow_is_scrub}
 use Rattle.command_laws.proofs.deep_scrubbing.forms_of_scrubbing.Goals as goal
 
 pub returns-clause-shallow : goal.returns-clause-shallow

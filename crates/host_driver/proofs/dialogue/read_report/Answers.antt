@@ -60,14 +60,13 @@ loop-level-preserved g c =
     (reporting-next c.args.kind c.args.unit.now.drive c.loop-level._level c.requires.no_pulse more) in
     let line : c.sample-in-loop-level.new.unit.drive.line ≡ get_or levels c.loop-level._level false =
     ap (λ (u : UnitView _). u.drive.line) shown ∙ next-level (width_of c.args.kind) word c.loop-level._level in
-    let told = c.in_ok-sample-2.ensures.level in
-    let level : c.in_ok-sample-2.field-0 ≡ get_or levels c.loop-level._level false = cc in
+    let level : c.sample-in-loop-level.result ≡ get_or levels c.loop-level._level false = c.sample-in-loop-level.ensures.level ∙ line in
     let room = taken-room c.loop-level.collector levels c.loop-level._level (width_of c.args.kind) long some c.loop-level.invariant.width c.loop-level.invariant.taken in
     record {
       unit = shown;
       sound = c.sample-in-loop-level.ensures.sound;
       width = c.push.ensures.width ∙ c.loop-level.invariant.width;
-      taken = collected c.loop-level.collector.levels c.push.new.self.levels c.in_ok-sample-2.field-0 levels c.loop-level._level some
+      taken = collected c.loop-level.collector.levels c.push.new.self.levels c.sample-in-loop-level.result levels c.loop-level._level some
           c.loop-level.invariant.taken level (c.push.ensures.room room);
     }
 

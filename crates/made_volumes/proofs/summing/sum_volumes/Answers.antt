@@ -2,10 +2,11 @@ use Rattle.std.proofs.Common.{◌≡◌, ℕ, ◌+◌, ◌-◌, [], ◌∷◌, l
 use Rattle.std.proofs.lemmas.Grind.{common_steps}
 use Rattle.qic_base.specs.Terms.{around}
 use Rattle.made_volumes.specs.declared.fault.MakeFault.{MakeFault}
-use Rattle.command_spec.specs.Make.{SumVolume, summing, Done}
+use Rattle.command_spec.specs.Make.{SumVolume, summing}
 use Rattle.made_volumes.specs.Runs.{HasRun}
 use Rattle.made_volumes.proofs.Going.{sums_begun, sums_next, sums_failed, same_store}
 use Rattle.made_volumes.proofs.summing.sum_volumes.Goals as goal
+use Rattle.command_spec.specs.declared.status.Status.TheVariants as status
 
 pub loop-number-init : goal.loop-number-init
 loop-number-init g c = record {
@@ -48,4 +49,4 @@ pub returns-clause-ends : goal.returns-clause-ends
 returns-clause-ends g c = λ seed.
     let all : c.loop-number.number - (c.args.first + 1) ≡ length c.args.store.now.entries - c.args.first = omega (arith, c.count-end.ensures.count, c.requires.first) in
     subst (λ (n : ℕ). HasRun g.T.Tape.means g.K.Sink.means seed c.args.store.now.words c.args.store.now.entries (summing (c.args.first + 1) n)
-    (around c.args.unit.now.tape c.args.sink.now) (around c.loop-number.unit.tape c.loop-number.sink) Done) all (c.loop-number.invariant.ran seed)
+    (around c.args.unit.now.tape c.args.sink.now) (around c.loop-number.unit.tape c.loop-number.sink) status.Done) all (c.loop-number.invariant.ran seed)

@@ -6,12 +6,14 @@ use Rattle.cartridge_spec.specs.Shape.{mask_at}
 use Rattle.drive_states.specs.Unit.{UnitView}
 use Rattle.volume_store.specs.Mounting.{StoreView}
 use Rattle.made_volumes.specs.declared.fault.MakeFault.{MakeFault}
-use Rattle.command_spec.specs.Make.{WearSector, wearing, Done}
+use Rattle.command_spec.specs.Make.{WearSector}
+use Rattle.command_laws.specs.CommandTerms.{wearing}
 use Rattle.made_volumes.specs.Runs.{HasRun, RunEnds}
 use Rattle.made_volumes.proofs.Going.{two_none, wear_begun, wear_next, wear_failed, two_stay}
 use Rattle.made_volumes.proofs.Loops.{two_below, two_next, two_passed}
 use Rattle.made_volumes.proofs.wearing.wear_first_two.Goals.{then-worn-lt-WORN+then-contains+in_ok-wear_sector, else-worn-lt-WORN, else-worn-lt-WORN-via-then-worn-lt-WORN+else-contains, else-worn-lt-WORN-via-else-worn-lt-WORN}
 use Rattle.made_volumes.proofs.wearing.wear_first_two.Goals as goal
+use Rattle.command_spec.specs.declared.status.Status.TheVariants as status
 
 pub loop-sector-init : goal.loop-sector-init
 loop-sector-init g c = record {
@@ -50,7 +52,7 @@ loop-sector-preserved g c =
           ap length (two_next mask sector usable few) ∙ length-append (two_below mask sector) (sector ∷ []) in
           record {
             ran = λ seed. subst (λ (u : UnitView g.row.T.Denot). HasRun g.T.Tape.means no_sink seed c.args.store.now.words c.args.store.now.entries
-                (wearing c.args.segment (two_below mask (sector + 1))) (around c.args.unit.now.tape tt) (around u.tape tt) Done) (sym w.unit-is)
+                (wearing c.args.segment (two_below mask (sector + 1))) (around c.args.unit.now.tape tt) (around u.tape tt) status.Done) (sym w.unit-is)
                 (wear_next g.T.Tape.means c.args.store.now.words c.args.store.now.entries c.args.segment c.args.unit.now.tape c.loop-sector.unit.tape w.wear_sector.new.unit.tape
                 seed sector (Ok tt) usable few (before.ran seed)
                 (subst (λ (n : ℕ). RunEnds g.T.Tape.means no_sink seed c.args.store.now.words c.args.store.now.entries (WearSector c.args.segment n ∷ [])
@@ -69,9 +71,9 @@ loop-sector-preserved g c =
           ] in
           record {
             ran = λ seed. subst (λ (u : UnitView g.row.T.Denot). HasRun g.T.Tape.means no_sink seed c.args.store.now.words c.args.store.now.entries
-                (wearing c.args.segment (two_below mask (sector + 1))) (around c.args.unit.now.tape tt) (around u.tape tt) Done) (sym w.unit-is)
+                (wearing c.args.segment (two_below mask (sector + 1))) (around c.args.unit.now.tape tt) (around u.tape tt) status.Done) (sym w.unit-is)
                 (subst (λ (xs : List ℕ). HasRun g.T.Tape.means no_sink seed c.args.store.now.words c.args.store.now.entries
-                (wearing c.args.segment xs) (around c.args.unit.now.tape tt) (around c.loop-sector.unit.tape tt) Done) (sym stay) (before.ran seed));
+                (wearing c.args.segment xs) (around c.args.unit.now.tape tt) (around c.loop-sector.unit.tape tt) status.Done) (sym stay) (before.ran seed));
             worn = w.worn-is ∙ before.worn ∙ sym (ap length stay);
             store = w.store-is ∙ before.store;
             fits = rw (w.store-is, w.unit-is) before.fits;

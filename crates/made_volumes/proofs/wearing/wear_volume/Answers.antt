@@ -5,19 +5,20 @@ use Rattle.cartridge_spec.specs.Volumes.{carrying, carrying_segments}
 use Rattle.volume_table.specs.Entry.{entry_of}
 use Rattle.volume_store.specs.Mounting.{StoreView}
 use Rattle.made_volumes.specs.declared.fault.MakeFault.{MakeFault}
-use Rattle.command_spec.specs.Make.{wearing_in, Done}
+use Rattle.command_spec.specs.Make.{wearing_in}
 use Rattle.made_volumes.specs.Runs.{HasRun, RunEnds}
 use Rattle.made_volumes.proofs.Going.{segments_begun, segments_next, segments_failed, of_entry}
 use Rattle.segment_mending.proofs.Looked.{carrying_below}
 use Rattle.made_volumes.proofs.Stores.{lies}
 use Rattle.made_volumes.proofs.wearing.wear_volume.Goals as goal
+use Rattle.command_spec.specs.declared.status.Status.TheVariants as status
 
 pub loop-segment-init : goal.loop-segment-init
 loop-segment-init g c = record {
   from = omega (arith, c.from-segment.ensures);
   ran = λ seed. subst (λ (s : ℕ). HasRun g.T.Tape.means no_sink seed c.args.store.now.words c.args.store.now.entries
       (wearing_in c.args.store.now.words (carrying_below c.args.store.now.words c.entry-entry.result.now.start s))
-      (around c.args.unit.now.tape tt) (around c.args.unit.now.tape tt) Done) (sym c.from-segment.ensures)
+      (around c.args.unit.now.tape tt) (around c.args.unit.now.tape tt) status.Done) (sym c.from-segment.ensures)
       (segments_begun g.T.Tape.means c.args.store.now.words c.args.store.now.entries c.entry-entry.result.now.start c.entry-entry.result.now.start (omega arith)
       c.args.unit.now.tape c.args.unit.now.tape c.args.unit.now.tape seed);
   store = refl;
@@ -67,7 +68,7 @@ returns-clause-ends g c = λ seed.
     let all : c.loop-segment.segment ≡ c.entry-entry.result.now.end + 1 = omega (arith, c.from-segment.ensures, c.from-segment-end.ensures, forwards) in
     of_entry c.args.store.now.entries c.args.index (entry_of c.entry-entry.result.now) c.entry-entry.ensures
     (λ e. HasRun g.T.Tape.means no_sink seed c.args.store.now.words c.args.store.now.entries (wearing_in c.args.store.now.words (carrying_segments c.args.store.now.words e))
-    (around c.args.unit.now.tape tt) (around c.loop-segment.unit.tape tt) Done)
+    (around c.args.unit.now.tape tt) (around c.loop-segment.unit.tape tt) status.Done)
     (subst (λ (s : ℕ). HasRun g.T.Tape.means no_sink seed c.args.store.now.words c.args.store.now.entries
     (wearing_in c.args.store.now.words (carrying_below c.args.store.now.words c.entry-entry.result.now.start s))
-    (around c.args.unit.now.tape tt) (around c.loop-segment.unit.tape tt) Done) all (c.loop-segment.invariant.ran seed))
+    (around c.args.unit.now.tape tt) (around c.loop-segment.unit.tape tt) status.Done) all (c.loop-segment.invariant.ran seed))

@@ -6,10 +6,11 @@ use Rattle.cartridge_spec.specs.Table.{Entry}
 use Rattle.cartridge_spec.specs.Volumes.{carrying_segments}
 use Rattle.volume_store.specs.Mounting.{StoreView}
 use Rattle.made_volumes.specs.declared.fault.MakeFault.{MakeFault}
-use Rattle.command_spec.specs.Make.{wearing_in, wearing_volumes, Done}
+use Rattle.command_spec.specs.Make.{wearing_in, wearing_volumes}
 use Rattle.made_volumes.specs.Runs.{HasRun, RunEnds}
 use Rattle.made_volumes.proofs.Going.{volumes_begun, volume_there, volumes_go_on, volumes_failed}
 use Rattle.made_volumes.proofs.wearing.wear_volumes.Goals as goal
+use Rattle.command_spec.specs.declared.status.Status.TheVariants as status
 
 pub loop-index-init : goal.loop-index-init
 loop-index-init g c = record {
@@ -54,4 +55,4 @@ returns-clause-ends g c = λ seed.
     let size : length rest ≡ length entries - c.args.first = length-drop c.args.first entries in
     let all : take (c.loop-index.index - c.args.first) rest ≡ rest = take_all (c.loop-index.index - c.args.first) rest (omega (arith, size, c.count-index-end.ensures.count)) in
     subst (λ (es : List Entry). HasRun g.T.Tape.means no_sink seed c.args.store.now.words entries (wearing_volumes c.args.store.now.words es)
-    (around c.args.unit.now.tape tt) (around c.loop-index.unit.tape tt) Done) all (c.loop-index.invariant.ran seed)
+    (around c.args.unit.now.tape tt) (around c.loop-index.unit.tape tt) status.Done) all (c.loop-index.invariant.ran seed)

@@ -2,7 +2,7 @@
 use Rattle.std.proofs.Common.{◌≤◌}
 use Rattle.qic_base.specs.Terms.{around}
 use Rattle.host_driver.specs.Calls.{Keeps}
-use Rattle.command_spec.specs.Scrub.{looked_segments}
+use Rattle.command_laws.specs.CommandTerms.{looked_segments}
 use Rattle.segment_mending.specs.Looking.{HasLooked}
 use Rattle.segment_mending.specs.Mending.{reported}
 use Rattle.segment_mending.proofs.Looked.{carrying_below}

@@ -3,7 +3,8 @@ use Rattle.qic_base.specs.Terms.{around}
 use Rattle.cartridge_spec.specs.Shape.{mask_at, usable_count}
 use Rattle.cartridge_laws.specs.Terms.{sectors_of}
 use Rattle.cartridge_spec.specs.Volumes.{carrying}
-use Rattle.command_spec.specs.Scrub.{Looked, looked_segments}
+use Rattle.command_spec.specs.Scrub.{Looked}
+use Rattle.command_laws.specs.CommandTerms.{looked_segments}
 use Rattle.segment_mending.specs.Looking.{HasLooked}
 use Rattle.segment_mending.specs.Mending.{reported}
 use Rattle.segment_mending.proofs.Joining.{looked_none}

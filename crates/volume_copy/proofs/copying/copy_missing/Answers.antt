@@ -20,8 +20,8 @@ returns-in-Err g c =
       });
     }
 
-pub returns-in-Ok-write_text : goal.returns-in-Ok-write_text
-returns-in-Ok-write_text g c = record {
+pub returns : goal.returns
+returns g c = record {
   count = c.loop-store.invariant.count;
   mid = record {
     from = record { store = c.loop-store.from.store; unit = c.loop-store.from.unit };
@@ -33,24 +33,7 @@ returns-in-Ok-write_text g c = record {
     from = refl;
     to = refl;
     all = omega (arith, c.loop-store.invariant.few, c.count.ensures.count, c.count-in-loop-store.ensures.count, c.loop-store-test.false);
-    count = rw (c.bytes-2.ensures, c.number_text-line.ensures, c.from-2.ensures, c.count-2.ensures.count) at c.in-Ok-write_text.ensures;
-  }));
-}
-
-pub returns-in-Err-write_text-2 : goal.returns-in-Err-write_text-2
-returns-in-Err-write_text-2 g c = record {
-  count = c.loop-store.invariant.count;
-  mid = record {
-    from = record { store = c.loop-store.from.store; unit = c.loop-store.from.unit };
-    to = record { store = c.loop-store.store; unit = c.loop-store.unit };
-    sink = c.loop-store.sink;
-  };
-  copied = c.loop-store.invariant.copied;
-  ends = inr (inr (record {
-    from = refl;
-    to = refl;
-    all = omega (arith, c.loop-store.invariant.few, c.count.ensures.count, c.count-in-loop-store.ensures.count, c.loop-store-test.false);
-    count = rw (c.bytes-2.ensures, c.number_text-line.ensures, c.from-2.ensures, c.count-2.ensures.count) at c.in-Err-write_text-2.ensures;
+    count = rw (c.count-2.ensures.count) at c.print_count.ensures;
   }));
 }
 

@@ -19,15 +19,15 @@ returns-in-Err-clause-ends g c =
     c.args.map.now c.args.segment c.args.before c.args.most c.capacity-capacity.result c.args.exact c.requires.segment.carries c.capacity-capacity.ensures
     c.in-Err.ensures.cause.failed c.in-Err.ensures.filled
 
-pub returns-in-Err-write_segment-clause-ends : goal.returns-in-Err-write_segment-clause-ends
-returns-in-Err-write_segment-clause-ends g c =
+pub returns-in-Err-Tape-clause-ends : goal.returns-in-Err-Tape-clause-ends
+returns-in-Err-Tape-clause-ends g c =
     let enough : c.args.exact ≡ true → min c.capacity-capacity.result (c.args.most - c.args.before) ≤ c.in-Ok.read =
     elim c.else-exact.branch [ else-exact-via-then-exact+else-read-min w ↦ λ asked. omega arith | else-exact-via-else-exact w ↦ λ asked. absurd (cc) ] in
     let some : (c.args.before ≡ 0) ⊎ (1 ≤ c.in-Ok.read) =
     elim c.else-read-eq0.branch [ else-read-eq0-via-then-read-eq0+else-before-gt0 w ↦ inl (omega arith) | else-read-eq0-via-else-read-eq0 w ↦ inr (omega arith) ] in
     next_broken g.T.Tape.means g.S.Source.means c.args.unit.now.tape c.write_segment.new.unit.tape c.args.source.now c.fill_work.new.source c.in-Ok.ensures.cause.later
     c.args.map.now c.args.segment c.args.before c.args.most c.capacity-capacity.result c.args.exact c.requires.segment.carries c.capacity-capacity.ensures
-    c.in-Ok.read c.fill_work.new.work (subst (All IsSector) c.sectors.ensures.value c.are_sectors.ensures) c.in-Ok.ensures.filled enough c.usable.result c.usable.ensures some c.in-Err-write_segment.ensures.did
+    c.in-Ok.read c.fill_work.new.work (subst (All IsSector) c.sectors.ensures.value c.are_sectors.ensures) c.in-Ok.ensures.filled enough c.usable.result c.usable.ensures some c.in-Err-Tape.ensures.did
 
 pub returns-in-Ok-write_segment-clause-ends : goal.returns-in-Ok-write_segment-clause-ends
 returns-in-Ok-write_segment-clause-ends g c =

@@ -1,5 +1,5 @@
 use Rattle.std.proofs.Common.{◌≡◌, Err}
-use Rattle.volume_store.specs.declared.fault.StoreFault.TheVariants as store_fault
+use Rattle.cartridge_front.specs.declared.fault.StoreFault.TheVariants as store_fault
 use Rattle.volume_script.proofs.Appended.{is_err, by_ok, by_full, by_lost, by_protected, by_short, by_source, by_tape}
 use Rattle.volume_script.proofs.append.append.Goals as goal
 

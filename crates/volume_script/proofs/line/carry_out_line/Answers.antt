@@ -1,7 +1,7 @@
 use Rattle.std.proofs.Common.{◌∙◌, refl, inr, subst, arith}
 use Rattle.qic_base.specs.Acts.{SourceFails, SinkFails, TapeFails}
 use Rattle.qic_base.specs.SourceCalls.{Gave}
-use Rattle.volume_script.proofs.Hearing.{heard_item, heard_mismatch, heard_cut, unheard}
+use Rattle.volume_script.proofs.Hearing.{heard_item, heard_mismatch, heard_cut, heard_short, unheard}
 use Rattle.volume_script.proofs.Input.{end_text, line_short}
 use Rattle.command_laws.proofs.ScriptLifting.{rested}
 use Rattle.volume_script.proofs.Telling.{gave_tells}
@@ -28,6 +28,24 @@ returns-in-Ok g c =
       format = c.in-Ok.ensures.format;
       kept = g.met.S.Source.keeps_on c.args.source.now c.read_line.new.source c.carry_out.new.source c.in-Ok-Line.ensures.kept c.in-Ok.ensures.kept;
       tells = c.in-Ok.ensures.tells ∙ gave_tells g.S.Source.means c.args.source.now c.read_line.new.source read.0 read.3;
+    }
+
+pub returns-in-Err-Short : goal.returns-in-Err-Short
+returns-in-Err-Short g c =
+    let read = rw c.in-Ok-Line.field-0-is at c.in-Ok-Line.ensures.read in
+    let ends = rw c.in-Err-Short.field-0-is at c.in-Err-Short.ensures.ends in
+    record {
+      hears = (
+        refl,
+        refl,
+        inr (heard_short g.T.Tape.means g.S.Source.means g.K.Sink.means c.args.store.now c.carry_out.new.store c.args.unit.now.tape c.carry_out.new.unit.tape c.args.source.now c.read_line.new.source c.carry_out.new.source
+            c.args.sink.now c.carry_out.new.sink c.in-Ok-Line.ensures.cause.later c.in-Ok-Line.asked read.0 read.1 c.in-Err-Short.ensures.other read.3 ends),
+      );
+      few = tt;
+      fits = λ other. c.in-Err-Short.ensures.fits (λ e. let is = c.in-Err-Short.field-0-is in cc);
+      format = c.in-Err-Short.ensures.format;
+      kept = g.met.S.Source.keeps_on c.args.source.now c.read_line.new.source c.carry_out.new.source c.in-Ok-Line.ensures.kept c.in-Err-Short.ensures.kept;
+      tells = c.in-Err-Short.ensures.tells ∙ gave_tells g.S.Source.means c.args.source.now c.read_line.new.source read.0 read.3;
     }
 
 pub returns-in-Err-TableMismatch : goal.returns-in-Err-TableMismatch

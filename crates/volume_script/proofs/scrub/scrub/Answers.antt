@@ -1,9 +1,16 @@
-use Rattle.std.proofs.Common.{◌≡◌, Err, false, ap}
+use Rattle.std.proofs.Common.{◌≡◌, Err, false, ap, Ok}
 use Rattle.qic_base.specs.Acts.{SinkFails, TapeFails}
 use Rattle.drive_spec.specs.Terms.{is_protected}
-use Rattle.volume_store.specs.declared.fault.StoreFault.TheVariants as store_fault
-use Rattle.volume_script.proofs.Quiet.{mark_told, unmarked, scrub_locked, scrub_cut}
+use Rattle.volume_script.proofs.Quiet.{mark_told, unmarked, scrub_locked, scrub_cut, scrub_done}
+use Rattle.cartridge_front.specs.declared.fault.StoreFault.TheVariants as store_fault
 use Rattle.volume_script.proofs.scrub.scrub.Goals as goal
+
+pub returns-in-Ok-clause-ends : goal.returns-in-Ok-clause-ends
+returns-in-Ok-clause-ends g c =
+    scrub_done
+    g.T.Tape.means g.S.Source.means g.K.Sink.means c.args.store.now c.scrub.new.self c.args.unit.now.tape c.scrub.new.unit.tape c.args.source.now c.args.sink.now c.scrub.new.sink c.in-Ok.ensures.store.entries c.in-Ok.field-0
+    (mark_told g.T.Tape.means c.args.store.now c.args.unit.now c.requires.fits false
+    (unmarked (is_protected c.args.unit.now.drive.deck) (Ok c.in-Ok.field-0 ≡ Err store_fault.Protected) c.in-Ok.ensures.protected (λ e. cc))) c.in-Ok.ensures.ends
 
 pub returns-in-Err-Protected-clause-ends : goal.returns-in-Err-Protected-clause-ends
 returns-in-Err-Protected-clause-ends g c =

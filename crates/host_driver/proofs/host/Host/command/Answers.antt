@@ -1,33 +1,24 @@
-use Rattle.std.proofs.Common.{◌≡◌, ℕ, ap, sym, subst, ◌∙◌}
+use Rattle.std.proofs.Common.{ℕ, ap, sym, subst, ◌∙◌}
 use Rattle.drive_spec.specs.Record.{Record}
 use Rattle.host_driver.specs.Train.{TakesTrain, after_train, train_steps}
 use Rattle.host_driver.proofs.Sending.{commanded, steps-plain, takes-plain}
-use Rattle.host_driver.proofs.Taking.{done}
 use Rattle.host_driver.proofs.host.Host.command.Goals as goal
 
-pub send-requires-clause-taken : goal.send-requires-clause-taken
-send-requires-clause-taken g c =
+pub tell-requires-clause-taken : goal.tell-requires-clause-taken
+tell-requires-clause-taken g c =
     subst (λ (pulses : ℕ). TakesTrain c.args.unit.now.drive pulses) (sym c.number.ensures)
     (takes-plain c.args.command c.args.unit.now.drive c.requires.plain c.requires.ready.rest.still c.requires.ready.rest.idle c.requires.taken c.requires.ready.fits.no_error c.requires.ready.fits.generates)
 
-pub returns-clause-ok : goal.returns-clause-ok
-returns-clause-ok g c =
-    c.send.ensures.ok (ap (train_steps c.args.unit.now.drive) c.number.ensures ∙ steps-plain c.args.command c.args.unit.now.drive c.requires.plain)
+pub tell-requires-clause-reads : goal.tell-requires-clause-reads
+tell-requires-clause-reads g c =
+    ap (train_steps c.args.unit.now.drive) c.number.ensures ∙ steps-plain c.args.command c.args.unit.now.drive c.requires.plain
 
 pub returns-clause-deck : goal.returns-clause-deck
 returns-clause-deck g c =
-    let ok = c.send.ensures.ok (ap (train_steps c.args.unit.now.drive) c.number.ensures ∙ steps-plain c.args.command c.args.unit.now.drive c.requires.plain) in
-    let row = done c.send.result (c.send.new.unit.drive ≡ after_train c.args.unit.now.drive c.number.result) ok c.send.ensures.row in
-    ap (λ (r : Record). r.deck) (row ∙ ap (after_train c.args.unit.now.drive) c.number.ensures
+    ap (λ (r : Record). r.deck) (c.tell.ensures.row ∙ ap (after_train c.args.unit.now.drive) c.number.ensures
     ∙ commanded c.args.command c.args.unit.now.drive c.requires.plain c.requires.ready.rest.still c.requires.ready.rest.idle c.requires.taken)
 
 pub returns-clause-under_way : goal.returns-clause-under_way
 returns-clause-under_way g c =
-    let ok = c.send.ensures.ok (ap (train_steps c.args.unit.now.drive) c.number.ensures ∙ steps-plain c.args.command c.args.unit.now.drive c.requires.plain) in
-    let row = done c.send.result (c.send.new.unit.drive ≡ after_train c.args.unit.now.drive c.number.result) ok c.send.ensures.row in
-    ap (λ (r : Record). r.under_way) (row ∙ ap (after_train c.args.unit.now.drive) c.number.ensures
+    ap (λ (r : Record). r.under_way) (c.tell.ensures.row ∙ ap (after_train c.args.unit.now.drive) c.number.ensures
     ∙ commanded c.args.command c.args.unit.now.drive c.requires.plain c.requires.ready.rest.still c.requires.ready.rest.idle c.requires.taken)
-
-pub returns-clause-tape : goal.returns-clause-tape
-returns-clause-tape g c =
-    c.send.ensures.untouched (ap (train_steps c.args.unit.now.drive) c.number.ensures ∙ steps-plain c.args.command c.args.unit.now.drive c.requires.plain)

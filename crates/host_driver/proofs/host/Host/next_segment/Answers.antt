@@ -5,42 +5,37 @@ use Rattle.drive_spec.specs.Record.{Record}
 use Rattle.drive_states.specs.Typed.{is_seeking}
 use Rattle.host_driver.specs.Fits.{IsAtRest}
 use Rattle.host_driver.specs.Place.{KeepsMode, RunsOn, idled_deck}
-use Rattle.host_driver.specs.Train.{after_train}
 use Rattle.host_driver.proofs.Keeping.{keeps_tape}
 use Rattle.host_driver.proofs.Running.{idles, idle_still, idle_keeps, runs_on_idle}
-use Rattle.host_driver.proofs.Taking.{done}
 use Rattle.host_driver.proofs.host.Host.next_segment.Goals as goal
 
-pub send-requires-clause-taken : goal.send-requires-clause-taken
-send-requires-clause-taken g c = (idles c.args.unit.now.drive c.requires.ready.rest.still c.requires.ready.fits.no_error c.requires.ready.fits.generates).takes
+pub tell-requires-clause-taken : goal.tell-requires-clause-taken
+tell-requires-clause-taken g c = (idles c.args.unit.now.drive c.requires.ready.rest.still c.requires.ready.fits.no_error c.requires.ready.fits.generates).takes
 
-pub returns-clause-ok : goal.returns-clause-ok
-returns-clause-ok g c = c.send.ensures.ok (idles c.args.unit.now.drive c.requires.ready.rest.still c.requires.ready.fits.no_error c.requires.ready.fits.generates).steps
+pub tell-requires-clause-reads : goal.tell-requires-clause-reads
+tell-requires-clause-reads g c = (idles c.args.unit.now.drive c.requires.ready.rest.still c.requires.ready.fits.no_error c.requires.ready.fits.generates).steps
 
 pub returns-clause-deck : goal.returns-clause-deck
 returns-clause-deck g c =
     let i = idles c.args.unit.now.drive c.requires.ready.rest.still c.requires.ready.fits.no_error c.requires.ready.fits.generates in
-    ap (λ (r : Record). r.deck) (done c.send.result (c.send.new.unit.drive ≡ after_train c.args.unit.now.drive 0) (c.send.ensures.ok i.steps) c.send.ensures.row) ∙ i.deck
+    ap (λ (r : Record). r.deck) c.tell.ensures.row ∙ i.deck
 
 pub returns-clause-next : goal.returns-clause-next
 returns-clause-next g c running =
     let i = idles c.args.unit.now.drive c.requires.ready.rest.still c.requires.ready.fits.no_error c.requires.ready.fits.generates in
-    let deck : c.send.new.unit.drive.deck ≡ idled_deck c.args.unit.now.drive.deck =
-    ap (λ (r : Record). r.deck) (done c.send.result (c.send.new.unit.drive ≡ after_train c.args.unit.now.drive 0) (c.send.ensures.ok i.steps) c.send.ensures.row) ∙ i.deck in
+    let deck : c.tell.new.unit.drive.deck ≡ idled_deck c.args.unit.now.drive.deck =
+    ap (λ (r : Record). r.deck) c.tell.ensures.row ∙ i.deck in
     subst (λ (d : Deck). RunsOn c.args.unit.now.drive.deck d) (sym deck) (runs_on_idle c.args.unit.now.drive.deck c.requires.ready.fits.generates running)
-
-pub returns-clause-tape : goal.returns-clause-tape
-returns-clause-tape g c = c.send.ensures.untouched (idles c.args.unit.now.drive c.requires.ready.rest.still c.requires.ready.fits.no_error c.requires.ready.fits.generates).steps
 
 pub returns-clause-keeps : goal.returns-clause-keeps
 returns-clause-keeps g c =
     let i = idles c.args.unit.now.drive c.requires.ready.rest.still c.requires.ready.fits.no_error c.requires.ready.fits.generates in
-    let row = done c.send.result (c.send.new.unit.drive ≡ after_train c.args.unit.now.drive 0) (c.send.ensures.ok i.steps) c.send.ensures.row in
-    let deck : c.send.new.unit.drive.deck ≡ idled_deck c.args.unit.now.drive.deck = ap (λ (r : Record). r.deck) row ∙ i.deck in
-    let rest : IsAtRest c.send.new.unit.drive = record {
+    let row = c.tell.ensures.row in
+    let deck : c.tell.new.unit.drive.deck ≡ idled_deck c.args.unit.now.drive.deck = ap (λ (r : Record). r.deck) row ∙ i.deck in
+    let rest : IsAtRest c.tell.new.unit.drive = record {
       still = ap (λ (d : Deck). is_seeking d.motion) deck
           ∙ idle_still c.args.unit.now.drive.deck (is_streaming c.args.unit.now.drive.deck.motion) refl c.requires.ready.rest.still;
       idle = ap (λ (r : Record). r.under_way) row ∙ i.under_way ∙ c.requires.ready.rest.idle;
     } in
-    keeps_tape (record { fits = c.send.ensures.fits; rest = rest })
-    (subst (λ (d : Deck). KeepsMode c.args.unit.now.drive.deck d) (sym deck) (idle_keeps c.args.unit.now.drive.deck)) (c.send.ensures.untouched i.steps)
+    keeps_tape (record { fits = c.tell.ensures.fits; rest = rest })
+    (subst (λ (d : Deck). KeepsMode c.args.unit.now.drive.deck d) (sym deck) (idle_keeps c.args.unit.now.drive.deck)) c.tell.ensures.tape

@@ -51,8 +51,8 @@ returns-in_err-send-clause-mode g c =
     c.in_err-send.ensures.failed ∙ ap without_reference (ap (after_train c.args.unit.now.drive) c.number.ensures ∙ refs.after) in
     ap (λ (r : Record). r.deck.mode) failed
 
-pub wait_ready-requires-clause-idle : goal.wait_ready-requires-clause-idle
-wait_ready-requires-clause-idle g c =
+pub wait-requires-clause-idle : goal.wait-requires-clause-idle
+wait-requires-clause-idle g c =
     let d : Deck = c.args.unit.now.drive.deck in
     let refs = references c.args.unit.now.drive c.requires.ready.rest.still c.requires.ready.rest.idle
     (reference_of d c.requires.ready.fits.sound.drive.deck (format_mode d.mode c.requires.format) c.requires.stopped) c.requires.ready.fits.no_error c.requires.ready.fits.generates in
@@ -60,8 +60,8 @@ wait_ready-requires-clause-idle g c =
     c.in_ok-send.ensures.row ∙ ap (after_train c.args.unit.now.drive) c.number.ensures ∙ refs.after in
     ap (λ (r : Record). r.under_way) row
 
-pub wait_ready-requires-clause-still : goal.wait_ready-requires-clause-still
-wait_ready-requires-clause-still g c =
+pub wait-requires-clause-still : goal.wait-requires-clause-still
+wait-requires-clause-still g c =
     let d : Deck = c.args.unit.now.drive.deck in
     let refs = references c.args.unit.now.drive c.requires.ready.rest.still c.requires.ready.rest.idle
     (reference_of d c.requires.ready.fits.sound.drive.deck (format_mode d.mode c.requires.format) c.requires.stopped) c.requires.ready.fits.no_error c.requires.ready.fits.generates in
@@ -77,8 +77,8 @@ returns-clause-did g c =
     let steps : train_steps c.args.unit.now.drive c.number.result ≡ SetReferenced ∷ [] = ap (train_steps c.args.unit.now.drive) c.number.ensures ∙ refs.steps in
     let wrote : Done g.T.Tape.means c.args.unit.now.tape c.send.new.unit.tape (SetReferenced ∷ []) =
     subst (λ (ss : List Step). Done g.T.Tape.means c.args.unit.now.tape c.send.new.unit.tape ss) steps c.in_ok-send.ensures.did in
-    let all : Done g.T.Tape.means c.args.unit.now.tape c.wait_ready.new.unit.tape (SetReferenced ∷ []) =
-    subst (λ (t : _). Done g.T.Tape.means c.args.unit.now.tape t (SetReferenced ∷ [])) (sym c.in_ok-wait_ready.ensures.tape) wrote in
+    let all : Done g.T.Tape.means c.args.unit.now.tape c.wait.new.unit.tape (SetReferenced ∷ []) =
+    subst (λ (t : _). Done g.T.Tape.means c.args.unit.now.tape t (SetReferenced ∷ [])) (sym c.wait.ensures.tape) wrote in
     all
 
 pub returns-clause-marks : goal.returns-clause-marks
@@ -88,7 +88,7 @@ returns-clause-marks g c =
     (reference_of d c.requires.ready.fits.sound.drive.deck (format_mode d.mode c.requires.format) c.requires.stopped) c.requires.ready.fits.no_error c.requires.ready.fits.generates in
     let row : c.send.new.unit.drive ≡ obeying (record c.args.unit.now.drive { line = false; train = 0 }) WriteReference =
     c.in_ok-send.ensures.row ∙ ap (after_train c.args.unit.now.drive) c.number.ensures ∙ refs.after in
-    ap (λ (e : Deck). e.cartridge) c.in_ok-wait_ready.ensures.deck ∙ ap (λ (r : Record). r.deck.cartridge) row
+    ap (λ (e : Deck). e.cartridge) c.wait.ensures.deck ∙ ap (λ (r : Record). r.deck.cartridge) row
 
 pub returns-clause-place : goal.returns-clause-place
 returns-clause-place g c =
@@ -97,7 +97,7 @@ returns-clause-place g c =
     (reference_of d c.requires.ready.fits.sound.drive.deck (format_mode d.mode c.requires.format) c.requires.stopped) c.requires.ready.fits.no_error c.requires.ready.fits.generates in
     let row : c.send.new.unit.drive ≡ obeying (record c.args.unit.now.drive { line = false; train = 0 }) WriteReference =
     c.in_ok-send.ensures.row ∙ ap (after_train c.args.unit.now.drive) c.number.ensures ∙ refs.after in
-    subst (λ (e : Deck). StandsAt 0 0 e) (sym (c.in_ok-wait_ready.ensures.deck ∙ ap (λ (r : Record). ready_deck r.deck) row)) record { motion = refl; on_track = refl; at_offset = refl }
+    subst (λ (e : Deck). StandsAt 0 0 e) (sym (c.wait.ensures.deck ∙ ap (λ (r : Record). ready_deck r.deck) row)) record { motion = refl; on_track = refl; at_offset = refl }
 
 pub returns-clause-mode : goal.returns-clause-mode
 returns-clause-mode g c =
@@ -106,7 +106,7 @@ returns-clause-mode g c =
     (reference_of d c.requires.ready.fits.sound.drive.deck (format_mode d.mode c.requires.format) c.requires.stopped) c.requires.ready.fits.no_error c.requires.ready.fits.generates in
     let row : c.send.new.unit.drive ≡ obeying (record c.args.unit.now.drive { line = false; train = 0 }) WriteReference =
     c.in_ok-send.ensures.row ∙ ap (after_train c.args.unit.now.drive) c.number.ensures ∙ refs.after in
-    ap (λ (e : Deck). e.mode) c.in_ok-wait_ready.ensures.deck ∙ ap (λ (r : Record). r.deck.mode) row
+    ap (λ (e : Deck). e.mode) c.wait.ensures.deck ∙ ap (λ (r : Record). r.deck.mode) row
 
 pub returns-clause-agrees : goal.returns-clause-agrees
 returns-clause-agrees g c =
@@ -118,7 +118,7 @@ returns-clause-agrees g c =
     c.in_ok-send.ensures.row ∙ ap (after_train c.args.unit.now.drive) c.number.ensures ∙ refs.after in
     let wrote : Done g.T.Tape.means c.args.unit.now.tape c.send.new.unit.tape (SetReferenced ∷ []) =
     subst (λ (ss : List Step). Done g.T.Tape.means c.args.unit.now.tape c.send.new.unit.tape ss) steps c.in_ok-send.ensures.did in
-    let all : Done g.T.Tape.means c.args.unit.now.tape c.wait_ready.new.unit.tape (SetReferenced ∷ []) =
-    subst (λ (t : _). Done g.T.Tape.means c.args.unit.now.tape t (SetReferenced ∷ [])) (sym c.in_ok-wait_ready.ensures.tape) wrote in
-    reference_agrees g.T.Tape.means c.args.unit.now c.wait_ready.new.unit
-    (ap (λ (e : Deck). e.cartridge) c.in_ok-wait_ready.ensures.deck ∙ ap (λ (r : Record). r.deck.cartridge) row) all
+    let all : Done g.T.Tape.means c.args.unit.now.tape c.wait.new.unit.tape (SetReferenced ∷ []) =
+    subst (λ (t : _). Done g.T.Tape.means c.args.unit.now.tape t (SetReferenced ∷ [])) (sym c.wait.ensures.tape) wrote in
+    reference_agrees g.T.Tape.means c.args.unit.now c.wait.new.unit
+    (ap (λ (e : Deck). e.cartridge) c.wait.ensures.deck ∙ ap (λ (r : Record). r.deck.cartridge) row) all

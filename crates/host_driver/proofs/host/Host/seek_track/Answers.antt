@@ -16,16 +16,16 @@ pub give-requires-clause-awaited : goal.give-requires-clause-awaited
 give-requires-clause-awaited g c =
     takes_track c.command.new.unit.drive.under_way c.args.unit.now.drive.deck c.args.track c.command.ensures.under_way c.requires.track
 
-pub wait_ready-requires-clause-idle : goal.wait_ready-requires-clause-idle
-wait_ready-requires-clause-idle g c =
+pub wait-requires-clause-idle : goal.wait-requires-clause-idle
+wait-requires-clause-idle g c =
     (given_track c.command.new.unit.drive c.give.new.unit.drive c.args.unit.now.drive.deck c.args.track c.command.ensures.deck c.command.ensures.under_way c.give.ensures.given).under_way
 
-pub wait_ready-requires-clause-still : goal.wait_ready-requires-clause-still
-wait_ready-requires-clause-still g c =
+pub wait-requires-clause-still : goal.wait-requires-clause-still
+wait-requires-clause-still g c =
     ap (λ (d : Deck). is_streaming d.motion)
     (given_track c.command.new.unit.drive c.give.new.unit.drive c.args.unit.now.drive.deck c.args.track c.command.ensures.deck c.command.ensures.under_way c.give.ensures.given).deck
 
 pub returns-clause-deck : goal.returns-clause-deck
 returns-clause-deck g c =
-    c.wait_ready.ensures.deck ∙ ap ready_deck
+    c.wait.ensures.deck ∙ ap ready_deck
     (given_track c.command.new.unit.drive c.give.new.unit.drive c.args.unit.now.drive.deck c.args.track c.command.ensures.deck c.command.ensures.under_way c.give.ensures.given).deck

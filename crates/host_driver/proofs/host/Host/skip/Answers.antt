@@ -45,8 +45,8 @@ give-requires-2-clause-awaited g c =
     (c.command.ensures.under_way ∙ ap (λ (k : Command). begun k d) c.skip_command.ensures) c.give.ensures.given in
     takes_high c.args.forward c.give.new.unit.drive d (c.args.count % 16) (c.args.count / 16) half (omega arith)
 
-pub wait_ready-requires-clause-idle : goal.wait_ready-requires-clause-idle
-wait_ready-requires-clause-idle g c =
+pub wait-requires-clause-idle : goal.wait-requires-clause-idle
+wait-requires-clause-idle g c =
     let d : Deck = c.args.unit.now.drive.deck in
     let deck : c.command.new.unit.drive.deck ≡ d =
     c.command.ensures.deck ∙ ap (λ (k : Command). accepted k d) c.skip_command.ensures ∙ skip_awaits c.args.forward d in
@@ -55,8 +55,8 @@ wait_ready-requires-clause-idle g c =
     let given = given_high c.args.forward c.give.new.unit.drive c.give-2.new.unit.drive d (c.args.count % 16) (c.args.count / 16) c.args.count (omega arith) half c.give-2.ensures.given in
     given.under_way
 
-pub wait_ready-requires-clause-still : goal.wait_ready-requires-clause-still
-wait_ready-requires-clause-still g c =
+pub wait-requires-clause-still : goal.wait-requires-clause-still
+wait-requires-clause-still g c =
     let d : Deck = c.args.unit.now.drive.deck in
     let deck : c.command.new.unit.drive.deck ≡ d =
     c.command.ensures.deck ∙ ap (λ (k : Command). accepted k d) c.skip_command.ensures ∙ skip_awaits c.args.forward d in
@@ -73,4 +73,4 @@ returns-clause-deck g c =
     let half = given_low c.args.forward c.command.new.unit.drive c.give.new.unit.drive d (c.args.count % 16) deck
     (c.command.ensures.under_way ∙ ap (λ (k : Command). begun k d) c.skip_command.ensures) c.give.ensures.given in
     let given = given_high c.args.forward c.give.new.unit.drive c.give-2.new.unit.drive d (c.args.count % 16) (c.args.count / 16) c.args.count (omega arith) half c.give-2.ensures.given in
-    c.wait_ready.ensures.deck ∙ ap ready_deck given.deck
+    c.wait.ensures.deck ∙ ap ready_deck given.deck

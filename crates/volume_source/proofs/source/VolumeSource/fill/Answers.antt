@@ -3,7 +3,7 @@ use Rattle.cartridge_spec.specs.Appending.{bytes_in}
 use Rattle.drive_states.specs.Unit.{UnitView}
 use Rattle.volume_store.specs.Mounting.{StoreView}
 use Rattle.volume_store.specs.Restoring.{ReadsPart}
-use Rattle.volume_store.specs.declared.fault.StoreFault.{StoreFault}
+use Rattle.cartridge_front.specs.declared.fault.StoreFault.{StoreFault}
 use Rattle.volume_source.proofs.Bytes.{none_unread, none_held, some_unread}
 use Rattle.volume_source.proofs.Filling.{after, part_reads, part_held, part_some, some_sound, some_kept, some_left, none_sound, none_kept, none_ended, refused_sound, refused_kept, left_still}
 use Rattle.volume_source.specs.Source.{SourceView, KeepsVolume, first_refusal, left_where, unread_in}

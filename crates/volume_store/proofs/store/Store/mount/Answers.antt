@@ -6,11 +6,11 @@ use Rattle.drive_spec.specs.Terms.{is_protected}
 use Rattle.header_segments.specs.Header.{header_of}
 use Rattle.host_driver.specs.declared.host.Host.{Host}
 use Rattle.host_driver.specs.Fits.{segments_of}
-use Rattle.volume_store.specs.declared.fault.StoreFault.{StoreFault}
-use Rattle.volume_store.specs.declared.fault.StoreFault.TheVariants.{Tape}
+use Rattle.cartridge_front.specs.declared.fault.StoreFault.{StoreFault}
+use Rattle.cartridge_front.specs.declared.fault.StoreFault.TheVariants.{Tape}
 use Rattle.volume_store.specs.Mounting.{StoreView, Settles, IsSettling, MountBreaks, MountDoes}
-use Rattle.volume_store.specs.Settling.{mending_steps}
-use Rattle.volume_store.proofs.Passing.{passed}
+use Rattle.cartridge_front.specs.Settling.{mending_steps}
+use Rattle.cartridge_front.proofs.Passing.{passed}
 use Rattle.volume_store.proofs.Storing.{sound_volumes, told_settles, told_lists, none_mended, one_length, still_primary, still_referenced}
 use Rattle.volume_store.proofs.store.Store.mount.Goals as goal
 

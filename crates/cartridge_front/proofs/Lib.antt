@@ -1,0 +1,13 @@
+pub mod Adding
+pub mod Again
+pub mod Collected
+pub mod Copies
+pub mod Mending
+pub mod Mounts
+pub mod Passing
+pub mod Settled
+pub mod Slots
+pub mod Stale
+pub mod TableSegment
+pub mod Trials
+pub mod Tried

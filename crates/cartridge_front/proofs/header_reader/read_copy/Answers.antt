@@ -1,0 +1,35 @@
+use Rattle.std.proofs.Common.{ℕ, List, take, refl, ◌∙◌, arith}
+use Rattle.qic_base.proofs.Steps.{Tells-map}
+use Rattle.cartridge_spec.specs.HeaderAndTable.{copy_cells}
+use Rattle.host_driver.specs.Fits.{segments_of}
+use Rattle.segment_io.proofs.Going.{front_segment}
+use Rattle.segment_io.specs.Reading.{HasSolved}
+use Rattle.cartridge_front.specs.Finding.{FindsCopy, TakesHeader}
+use Rattle.cartridge_front.proofs.Copies.{finds_copy, taken_map, takes_at}
+use Rattle.cartridge_front.proofs.header_reader.read_copy.Goals as goal
+
+pub read_segment-requires-clause-segment : goal.read_segment-requires-clause-segment
+read_segment-requires-clause-segment g c = front_segment c.args.copy c.requires.ready.fits c.requires.referenced (omega arith)
+
+pub returns-in-Ok-clause-found : goal.returns-in-Ok-clause-found
+returns-in-Ok-clause-found g c = λ sound.
+    let n : ℕ = segments_of c.args.host.now in
+    let words : List ℕ = c.decode_copy.new.map in
+    let sectors : List (List ℕ) = c.read_segment.new.work in
+    let copy : ℕ = c.args.copy in
+    let taken : TakesHeader (take 29 sectors) n words c.decode_copy.result =
+    takes_at c.data_sectors.result.now (take 29 sectors) c.segments_per_track-segments_per_track.result n words c.decode_copy.result
+    c.data_sectors.ensures.value (c.segments_per_track-segments_per_track.ensures.value ∙ c.geometry.ensures) c.decode_copy.ensures.taken in
+    Tells-map g.T.Tape.means c.args.unit.now.tape (λ c'. HasSolved (copy_cells c' copy) sectors) (λ c'. FindsCopy c' copy n words c.decode_copy.result)
+    (λ c' solved. finds_copy c' copy n words sectors c.decode_copy.result c.in-Ok.ensures.room solved taken)
+    (c.in-Ok.ensures.solves (λ same. cc))
+
+pub returns-in-Ok-clause-map : goal.returns-in-Ok-clause-map
+returns-in-Ok-clause-map g c =
+    let n : ℕ = segments_of c.args.host.now in
+    let area : List (List ℕ) = c.data_sectors.result.now in
+    let words : List ℕ = c.decode_copy.new.map in
+    let taken : TakesHeader area n words c.decode_copy.result =
+    takes_at area area c.segments_per_track-segments_per_track.result n words c.decode_copy.result
+    refl (c.segments_per_track-segments_per_track.ensures.value ∙ c.geometry.ensures) c.decode_copy.ensures.taken in
+    taken_map area n words c.decode_copy.result taken

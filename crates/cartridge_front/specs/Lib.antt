@@ -1,0 +1,5 @@
+pub mod Again
+pub mod Finding
+pub mod Learning
+pub mod Reading
+pub mod Settling

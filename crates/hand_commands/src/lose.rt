@@ -1,0 +1,31 @@
+//! A sector lost.
+
+ghost use Rattle.command_spec.specs.declared.words.Words.TheVariants.{Lose};
+ghost use Rattle.command_laws.specs.CommandTerms.{EndsBlind};
+
+use crate::lines::printed;
+use command_spec::Status;
+use drive_states::{HandFault, Unit};
+use qic_base::{Sink, Tape, TapeFailed};
+use tape_script::write_text;
+use volume_lines::place_text;
+
+/// Makes a readable sector unreadable, until it is written again.
+pub fn lose<T: Tape, K: Sink>(unit: &mut Unit<T>, segment: u32, sector: u32, sink: &mut K) -> Status
+    ensures { EndsBlind T.means K.means (Lose segment sector)
+        unit.old.tape unit.new.tape sink.old sink.new result }
+{
+    if let Err(TapeFailed) = unit.insert() {
+        return Status::TapeFault;
+    }
+    match unit.wear(segment, sector) {
+        Ok(()) => printed(write_text(
+            place_text(b"lost", u64::from(segment), u64::from(sector)).bytes(),
+            sink,
+        )),
+        Err(HandFault::NoCartridge) => Status::NoCartridge,
+        Err(HandFault::BadPlace) => Status::BadPlace,
+        Err(HandFault::Tape) => Status::TapeFault,
+        Err(HandFault::NotBlank) => unreachable!("a sector is worn whatever it holds"),
+    }
+}

@@ -1,0 +1,27 @@
+//! A new cartridge put in.
+
+ghost use Rattle.qic_base.specs.Cartridge.{IsLength};
+ghost use Rattle.command_spec.specs.declared.words.Words.TheVariants.{New};
+ghost use Rattle.command_laws.specs.CommandTerms.{EndsBlind};
+
+use crate::lines::printed;
+use command_spec::Status;
+use drive_states::{HandFault, Unit};
+use qic_base::{Sink, Tape};
+use tape_script::write_text;
+use volume_lines::number_text;
+
+/// Puts in a new cartridge, never formatted.
+pub fn put_in_new<T: Tape, K: Sink>(unit: &mut Unit<T>, segments: u16, sink: &mut K) -> Status
+    requires { IsLength segments }
+    ensures { EndsBlind T.means K.means (New segments)
+        unit.old.tape unit.new.tape sink.old sink.new result }
+{
+    match unit.load_blank(segments) {
+        Ok(()) => printed(write_text(number_text(b"blank", u64::from(segments)).bytes(), sink)),
+        Err(HandFault::Tape) => Status::TapeFault,
+        Err(HandFault::NoCartridge | HandFault::BadPlace | HandFault::NotBlank) => {
+            unreachable!("a new cartridge needs none before it")
+        }
+    }
+}

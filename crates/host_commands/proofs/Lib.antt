@@ -1,0 +1,5 @@
+pub mod Added
+pub mod Formats
+pub mod Mounted
+pub mod Restored
+pub mod Scrubbed
