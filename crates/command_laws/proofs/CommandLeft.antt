@@ -1,6 +1,5 @@
 -- What is left of a command is a whole cartridge or none.
-use Rattle.std.proofs.Common.{◌≡◌, ◌≢◌, ℕ, List, [], ◌∷◌, All, ◌<◌, Option, Some, None, IfSome, inl, inr, sym, subst}
-use Rattle.cartridge_laws.specs.ChangeSteps.{HasNoRenew}
+use Rattle.std.proofs.Common.{◌≢◌, ℕ, List, Option, Some, None, IfSome, sym, subst}
 use Rattle.command_laws.proofs.CommandTable.{laws_of, only_new_renews}
 use Rattle.command_laws.proofs.CommandWhole.{renewed_whole}
 use Rattle.command_laws.proofs.LifeRuns.{none_of_none, others_keep_live}

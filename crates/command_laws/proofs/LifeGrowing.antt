@@ -1,5 +1,5 @@
 -- Which runs are runs of a life, how a life begins, and that it keeps its volumes and gives them back.
-use Rattle.std.proofs.Common.{IsSomeAnd, ◌-◌, ◌<◌, arith, min, slice_get, ◌≡◌, ◌++◌, ◌+◌, ◌==◌, ◌∙◌, ℕ, zero, suc, append-nil, append_assoc, ap, sym, subst, refl, inl, inr, Bool, true, false, cond, List, [], ◌∷◌, Option, Some, None, IfSome, length, take}
+use Rattle.std.proofs.Common.{IsSomeAnd, ◌<◌, arith, min, slice_get, ◌≡◌, ◌++◌, ◌+◌, ◌∙◌, ℕ, suc, append-nil, append_assoc, ap, sym, subst, refl, inl, inr, Bool, true, false, List, [], ◌∷◌, Option, Some, None, IfSome, length, take}
 use Rattle.std.proofs.lemmas.List.{get_or_append_left, length-append}
 use Rattle.std.proofs.lemmas.Option.{slice_get-get_or, slice_get_within}
 use Rattle.std.proofs.Math.Seq.{get_or-append_seam}

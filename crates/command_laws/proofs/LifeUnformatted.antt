@@ -1,36 +1,10 @@
 -- A formatting that has begun leaves the reference bursts.
-use Rattle.std.proofs.Common.{◌≡◌, ◌⊎◌, ℕ, inl, inr, List, [], ◌∷◌, ap, ◌∙◌, sym, subst, refl, ◌<◌, arith, Option, Some, None, IsSomeAnd, true, false}
-use Rattle.cartridge_laws.proofs.ChangeClean.{no_header_less, referenced_is_bare}
-use Rattle.cartridge_laws.proofs.ChangeStanding.{CellsAlike, same_alike, says_alike, spoiled_cells, turned}
-use Rattle.cartridge_laws.proofs.ChangeViews.{view_of_other, worn_reads_no_more}
-use Rattle.cartridge_laws.proofs.FormatCopies.{unformatted_from_bare}
-use Rattle.cartridge_laws.proofs.FormatStanding.{same_cells}
+use Rattle.std.proofs.Common.{◌≡◌, ◌⊎◌, ℕ, inl, inr, List, [], ◌∷◌, ap, ◌∙◌, refl, Option, Some, None, IsSomeAnd, true}
 use Rattle.cartridge_laws.proofs.FormatWriting.{some_and}
-use Rattle.cartridge_laws.proofs.MountOnce.{mounts_is_function}
 use Rattle.cartridge_laws.specs.ChangeSteps.{HasNoRenew, IsNoRenew}
-use Rattle.cartridge_spec.specs.Formatting.{HasNoHeader}
-use Rattle.cartridge_spec.specs.HeaderAndTable.{CopyDoesNotRead, IsUnformatted, copy_cells}
-use Rattle.cartridge_spec.specs.Mounting.{Mounting, Mounts}
-use Rattle.cartridge_spec.specs.Says.{whole_mask}
-use Rattle.command_laws.proofs.CommandPlainLaws.{SectorLeaves, defect_leaves, lose_leaves, sent_leaves}
-use Rattle.command_laws.proofs.CommandStep.{step_leaves}
-use Rattle.command_laws.proofs.CommandTable.ProtectCommand.{mark_keeps}
-use Rattle.command_laws.proofs.CommandTable.UpgradeCommand.{version_keeps}
-use Rattle.command_laws.specs.Life.{LossSpares}
-use Rattle.command_laws.specs.Terms.{telling, listing, Mends}
-use Rattle.command_laws.specs.CommandTerms.{Appends, Yields}
-use Rattle.command_spec.specs.Lines.{protected_line, upgraded_line}
-use Rattle.command_spec.specs.Make.{Making}
-use Rattle.command_spec.specs.Outcome.{CommandOutcome, Going, HasPlace, OpenOutcome, Opened, Shows, WritableOutcome}
-use Rattle.command_spec.specs.Restore.{Gives}
-use Rattle.command_spec.specs.Script.{Scripting}
-use Rattle.command_spec.specs.declared.words.Words.{Words}
-use Rattle.qic_base.specs.Acts.{steps_of}
-use Rattle.qic_base.specs.Cartridge.{Cartridge, view_at}
-use Rattle.qic_base.specs.Step.{Step, WriteSector, FormatSegment, SetReferenced, SetProtected, Renew, Wear, Spoil, Upgrade, changed, worn_view, Halfway, Torn}
+use Rattle.qic_base.specs.Cartridge.{Cartridge}
+use Rattle.qic_base.specs.Step.{Step, WriteSector, FormatSegment, SetReferenced, SetProtected, Renew, Wear, Spoil, Upgrade, changed, Halfway, Torn}
 use Rattle.qic_base.specs.Terms.{HalfFormatted}
-use Rattle.cartridge_spec.specs.Mounting as mounting
-use Rattle.command_spec.specs.declared.words.Words.TheVariants as words
 
 -- ---- the reference bursts
 

@@ -1,10 +1,9 @@
 -- An append to a mounted cartridge, done or stopped, where one sector more of its table's segment is lost.
-use Rattle.std.proofs.Common.{◌≡◌, ℕ, List, Option, Some, inl, inr, subst, ◌⊎◌, ap, ◌∙◌, true, length}
+use Rattle.std.proofs.Common.{Option, Some, inl, inr, subst, ap, ◌∙◌}
 use Rattle.cartridge_laws.proofs.FormatWriting.{changed_by-append}
 use Rattle.cartridge_laws.proofs.MountSettles.{settling_settles}
 use Rattle.cartridge_laws.proofs.MountWhole.{settling_effects}
-use Rattle.cartridge_spec.specs.Appending.{with_bytes}
-use Rattle.cartridge_spec.specs.Mounting.{settled, ComesBackAs, LosesOneAlone}
+use Rattle.cartridge_spec.specs.Mounting.{LosesOneAlone}
 use Rattle.cartridge_spec.specs.Settling.{changed_by, settling_steps}
 use Rattle.command_laws.proofs.CommandOneLoss.{append_survives, done_survives}
 use Rattle.command_laws.specs.MountedKept.{AppendedSurvive, AppendsSurvive}

@@ -34,7 +34,7 @@ use Rattle.command_laws.specs.CommandTerms.{entry_for, free_in, most_written}
 use Rattle.qic_base.proofs.Joins.{steps_of-append}
 use Rattle.qic_base.specs.Acts.{Act, steps_of}
 use Rattle.qic_base.specs.Cartridge.{Cartridge, IsLength, IsSector, new_cartridge, view_at, zero_sector}
-use Rattle.qic_base.specs.Terms.{IsVersion, IsCartridge, IsView, place_of, with_segment, HalfFormatted}
+use Rattle.qic_base.specs.Terms.{IsVersion, IsCartridge, IsView, with_segment, HalfFormatted}
 use Rattle.qic_base.specs.Step.{FormatSegment, SetProtected, SetReferenced, Spoil, Step, Upgrade, Wear, changed, formatted_view, spoiled_view, worn_view, ClosingView, OpeningView, SegmentBecame}
 use Rattle.qic_base.specs.declared.tape.TapeInfo.{TapeInfo}
 use Rattle.qic_base.specs.declared.tape.SectorView.{SectorView}

@@ -16,7 +16,7 @@ use Rattle.command_laws.proofs.CommandWhole.{some_whole}
 use Rattle.command_laws.proofs.DeepScrubKept.{deep_clean, deep_mounts, deep_stands}
 use Rattle.command_laws.proofs.ScrubForms.{form_steps, stopped_form_is_cartridge}
 use Rattle.command_laws.proofs.ScrubOneWrong.{form_always, form_is_function}
-use Rattle.command_laws.proofs.CommandTable.ScrubCommand.{scrub_reading, unread}
+use Rattle.command_laws.proofs.CommandTable.ScrubCommand.{scrub_reading, text_of_none}
 use Rattle.command_laws.proofs.CommandUnread.{writable_unread}
 use Rattle.command_laws.proofs.TextCommands.{IsRead, named, only, spelled_length, two_words}
 use Rattle.command_laws.proofs.WholeSteps.{behind_leave}
@@ -88,23 +88,7 @@ deep_scrub_laws = record {
   unformatted = λ is c input outcome free bare plain. writable_unformatted MendsDeep c outcome free bare plain;
   in_front = λ is c segment input outcome free first plain. absurd (cc);
   done = λ held input outcome whole values. where_some (λ c. IsUnprotected c × CanBeMounted c) held (λ h. DeepScrubOutcome h outcome → outcome.status ≡ status.Done) (λ c can does. deep_goes c can.1.0 outcome can.0 can.1.1 does);
-  -- a scrub of no volume that reads nothing
-  texts = plain_texts _ _ (
-    [],
-    (
-      [],
-      (
-        record { segments = 3; mended = 0; unreadable = 3 },
-        record {
-          findings = unread ∷ unread ∷ unread ∷ [];
-          may = (tt, (tt, (tt, tt)));
-          lines = refl;
-          segments = refl;
-          unreadable = refl;
-        },
-      ),
-    ),
-  );
+  texts = plain_texts _ _ (text_of_none Deep);
   blind = λ is. record {
     any = λ held input other outcome plain. plain;
     no_append = refl;

@@ -1,5 +1,5 @@
 -- The laws of the command `new`.
-use Rattle.std.proofs.Common.{Some, [], ◌∙◌, ℕ, List, ◌∷◌, ap, refl, sym, inl, inr, ◌≡◌, arith, codes}
+use Rattle.std.proofs.Common.{Some, [], ◌∙◌, ℕ, List, ◌∷◌, ap, refl, sym, inl, inr, arith, codes}
 use Rattle.command_laws.proofs.CommandComplete.{status_of}
 use Rattle.command_laws.proofs.CommandTexts.{plain_texts}
 use Rattle.command_laws.proofs.CommandWhole.{renewed_whole}

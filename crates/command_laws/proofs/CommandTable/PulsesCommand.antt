@@ -1,5 +1,5 @@
 -- The laws of the command `pulses`.
-use Rattle.std.proofs.Common.{[], Some, None, refl, sym, subst, append-nil, ◌≡◌, ℕ, List, arith, codes}
+use Rattle.std.proofs.Common.{[], Some, None, refl, sym, subst, append-nil, ℕ, List, arith, codes}
 use Rattle.cartridge_laws.proofs.ChangeStanding.{marks_read_no_more}
 use Rattle.cartridge_spec.specs.Formatting.{HasNoHeader}
 use Rattle.command_laws.proofs.CommandClean.{bare_from_less, clean_from_less, Clean, sent_leaving}

@@ -1,5 +1,5 @@
 -- The laws of the command `scrub`.
-use Rattle.std.proofs.Common.{[], ◌≡◌, ◌∷◌, None, Some, refl, ℕ, List, arith, codes}
+use Rattle.std.proofs.Common.{[], ◌≡◌, ◌∷◌, ◌++◌, None, Some, refl, ℕ, List, arith, codes}
 use Rattle.cartridge_spec.specs.Mounting.{Mounted}
 use Rattle.cartridge_spec.specs.Says.{Mismatch}
 use Rattle.command_laws.proofs.CommandClean.{bare_writable, Clean, writable_leaves, mends_leave}
@@ -15,7 +15,10 @@ use Rattle.command_laws.proofs.TextCommands.{only, one_word, spelled_length, IsR
 use Rattle.command_laws.specs.CommandRecord.{CommandLaws}
 use Rattle.command_spec.specs.Command.{HasForm, IsUnprotected, CanBeMounted}
 use Rattle.command_laws.specs.Terms.{Mends, ScrubOutcome}
-use Rattle.command_spec.specs.Scrub.{Finding, scrub_command}
+use Rattle.command_spec.specs.Scrub.{Counts, Finding, IsTextFor, counts_line, lines_for, looked_at, scrub_command}
+use Rattle.command_spec.specs.declared.depth.Depth.{Depth}
+use Rattle.command_spec.specs.declared.depth.Depth.TheVariants.{Shallow}
+use Rattle.cartridge_spec.specs.Table.{Entry}
 use Rattle.qic_base.specs.Terms.{IsCartridge}
 use Rattle.command_spec.specs.declared.words.Words.{Words}
 use Rattle.command_spec.specs.declared.status.Status.TheVariants as status
@@ -35,8 +38,24 @@ pub scrub_read : (ws : List (List ℕ)) → HasForm ws scrub_command.forms → I
 scrub_read ws h = let s = one_word ws _ (only ws _ h) in record { behind = []; are = named s.are s.one; is = refl }
 
 -- a segment that doesn't read
-abbrev pub unread : Finding
+abbrev unread : Finding
 unread = record { saying = Mismatch; wrong = None }
+
+abbrev none_read : Counts
+none_read = record { segments = 3; mended = 0; unreadable = 3 }
+
+-- a scrub of no volume that reads nothing prints a text, in each form
+pub text_of_none : (depth : Depth) → (words : List ℕ) × ((entries : List Entry) × ((counts : Counts) × IsTextFor depth (looked_at words entries) counts
+    (lines_for (looked_at [] []) (unread ∷ unread ∷ unread ∷ []) ++ counts_line none_read)))
+text_of_none depth =
+    let is : IsTextFor depth (looked_at [] []) none_read (lines_for (looked_at [] []) (unread ∷ unread ∷ unread ∷ []) ++ counts_line none_read) = record {
+      findings = unread ∷ unread ∷ unread ∷ [];
+      may = (tt, (tt, (tt, tt)));
+      lines = refl;
+      segments = refl;
+      unreadable = refl;
+    } in
+    ([], ([], (none_read, is)))
 
 pub scrub_laws : CommandLaws scrub_command
 scrub_laws = record {
@@ -49,23 +68,7 @@ scrub_laws = record {
   unformatted = λ is c input outcome free bare plain. writable_unformatted Mends c outcome free bare plain;
   in_front = λ is c segment input outcome free first plain. absurd (cc);
   done = λ held input outcome whole values. where_some (λ c. IsUnprotected c × CanBeMounted c) held (λ h. ScrubOutcome h outcome → outcome.status ≡ status.Done) (λ c can does. scrub_goes c can.1.0 outcome can.0 can.1.1 does);
-  -- a scrub of no volume that reads nothing
-  texts = plain_texts _ _ (
-    [],
-    (
-      [],
-      (
-        record { segments = 3; mended = 0; unreadable = 3 },
-        record {
-          findings = unread ∷ unread ∷ unread ∷ [];
-          may = (tt, (tt, (tt, tt)));
-          lines = refl;
-          segments = refl;
-          unreadable = refl;
-        },
-      ),
-    ),
-  );
+  texts = plain_texts _ _ (text_of_none Shallow);
   blind = λ is. record {
     any = λ held input other outcome plain. plain;
     no_append = refl;
