@@ -1,4 +1,4 @@
-//! The entry of a new volume written into the volume table.
+//! Sectors of the volume table's segment written, and the entry of a new volume.
 
 ghost use Rattle.std.specs.Prelude.{◌≡◌, ◌<◌, ◌^◌, ◌++◌, ◌∷◌, [], true, length, take, IsOkUnless};
 ghost use Rattle.qic_base.specs.TapeCalls.{Does};

@@ -1,4 +1,5 @@
--- The ways in which a command ends that reads no input: refused, cut off, or with one text printed once all is done.
+-- The ways in which a command ends that reads no input: refused, cut off, or with one text printed once all is done; and the
+-- outcomes of the commands of a hand.
 use Rattle.std.proofs.Common.{◌≡◌, false, List, [], ◌∷◌, ℕ, None, refl, Option, Some, IfSome, ◌≢◌, true, ◌++◌, Result, Ok, Err, sym, subst, inl, inr, arith, append-nil, Bool, ap}
 use Rattle.std.specs.Option.{option_map}
 use Rattle.command_laws.proofs.CommandEndings.{Rules, appends_none, any_input, nothing_front, text_front, none_printed}

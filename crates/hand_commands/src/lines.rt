@@ -1,4 +1,4 @@
-//! The lines of single commands, and how a command ends that has written its text.
+//! The line of `protect`, and how a command ends that has written its text.
 
 ghost use Rattle.std.specs.Prelude.{◌≡◌};
 ghost use Rattle.command_spec.specs.Lines.{protected_line};

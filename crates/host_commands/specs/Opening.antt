@@ -1,4 +1,5 @@
--- How the opening of a cartridge ends: refused, or with its table settled and what was found (this project's own).
+-- How the opening of a cartridge ends: refused, or with its table settled and what was found; and the answer that each fault of
+-- a store makes (this project's own).
 use Rattle.std.specs.Prelude.{◌≡◌, Option, Some, None, ◌&&◌, ◌==◌, nat_lt, Bool, true, false, [], ◌⊎◌, IfSome, Result, Ok, Err, ℕ, List, IsSomeAnd}
 use Rattle.cartridge_spec.specs.Mounting.{Mounting, Mounts}
 use Rattle.command_laws.specs.Terms.{foreign}

@@ -1,4 +1,4 @@
--- The lines that the commands print, and those that a status prints (this project's own).
+-- The exit status of each answer, and the lines that a status prints (this project's own).
 use Rattle.std.specs.Prelude.{ℕ, List, codes, [], ◌++◌, decimal}
 use Rattle.command_spec.specs.declared.status.Status.{Status}
 use Rattle.qic_base.specs.declared.foreign.ForeignField.{ForeignField}

@@ -1,5 +1,5 @@
 //! The commands of `tape` by their words: the way to each, and the answers of a run with their lines. The contract of `run`
-//! is the headline, over the plain machine of specs/Machine.
+//! is the headline, over the plain machine of `command_spec` (Machine).
 #![tactic(auto)]
 
 mod command;

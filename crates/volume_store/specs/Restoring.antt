@@ -1,4 +1,4 @@
--- How the restoring of a volume ended, by the answer of the call (this project's own).
+-- How the restoring of a volume ended, or the reading of one piece of it, by the answer of the call (this project's own).
 use Rattle.std.specs.Prelude.{◌≡◌, ℕ, [], Option, Some, length, slice_get, None, Bool, Result, Ok, Err}
 use Rattle.cartridge_spec.specs.Table.{Entry}
 use Rattle.cartridge_spec.specs.Volumes.{volume_length}

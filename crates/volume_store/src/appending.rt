@@ -1,4 +1,4 @@
-//! A volume appended.
+//! The input of an append taken, and written into the free segments.
 
 ghost use Rattle.std.specs.Prelude.{◌≡◌, ◌-◌, ◌+◌, ◌*◌, ◌≤◌, Some, None, true, length, IfSome};
 ghost use Rattle.cartridge_laws.specs.Terms.{last_end};

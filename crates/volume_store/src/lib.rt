@@ -1,5 +1,5 @@
 //! A formatted cartridge mounted: its header in force, its map of bad sectors and its list of volumes, read through the
-//! host; and its volumes appended, restored, read by parts and scrubbed.
+//! host; and its volumes listed, appended, restored, read by parts and scrubbed.
 #![tactic(auto)]
 
 mod appended;
