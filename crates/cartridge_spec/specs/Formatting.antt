@@ -76,7 +76,7 @@ fresh_plain c label date words area =
 abbrev pub clearing_steps : ℕ → List Step
 clearing_steps n = SetReferenced ∷ map (λ s. FormatSegment s) (range_with_len 0 (28 * n))
 
--- a header copy: sectors 1 to 31, ascending, and then sector 0, without which it can't be read
+-- a header copy: sectors 1 to 31, ascending, and then sector 0: as long as that holds zero bytes the copy doesn't read
 abbrev pub copy_writes : (copy : ℕ) → (block : List (List ℕ)) → List Step
 copy_writes copy block = writes_of copy (range_with_len 1 31) (drop 1 block) ++ writes_of copy (0 ∷ []) (take 1 block)
 

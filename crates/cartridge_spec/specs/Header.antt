@@ -30,8 +30,8 @@ pub data Value : Type 0 where
   Number : ℕ → Value
   Text : List ℕ → Value
 
--- a field: its offset, its width in bytes, its value, and the name under which another value is refused; None where the
--- field passes unread
+-- a field: its offset, its width in bytes, its value, and the name under which another value is refused; None where none
+-- is refused
 pub record Field : Type 0 where
   pub offset : ℕ
   pub width : ℕ

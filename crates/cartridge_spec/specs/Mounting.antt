@@ -66,7 +66,8 @@ settled area c = if c.info.protected then c else changed_by (writes_of 2 (usable
 abbrev pub mounted_as : Plain → Mounting
 mounted_as plain = Mounted plain.header plain.words plain.table_area (entries_of plain)
 
--- the data of its table can be read, or be found by the code
+-- none of the data sectors of its table is unreadable, or at most three sectors of its segment are: on a cartridge that stands for
+-- a plain one its data can then be read, or be found by the code
 abbrev pub CanBeRead : Cartridge → Type 0
 CanBeRead c = (unreadable_count (take 29 (table_cells c)) ≡ 0) ⊎ (unreadable_count (table_cells c) ≤ 3)
 

@@ -71,8 +71,8 @@ pub record IsPlain (plain : Plain) : Type 0 where
   pub table_area : IsArea plain.table_area
   pub areas : All (λ volume. All IsSector volume.area) plain.volumes
 
--- A cartridge stands for a plain one. Its header copy 0 was written with the header data, whatever copy 1 holds; or
--- copy 0 holds zero bytes and copy 1 was written with them.
+-- A cartridge stands for a plain one, whose header is in force. Its header copy 0 was written with the header data, whatever
+-- copy 1 holds where copy 0 reads; or copy 0 holds zero bytes and copy 1 was written with them.
 pub record Stands (c : Cartridge) (plain : Plain) : Type 0 where
   pub whole : IsPlain plain
   pub header : HasHeader c plain.header_area

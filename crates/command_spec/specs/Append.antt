@@ -82,7 +82,7 @@ kept_over c words entries table = record { words = words; entries = entries; tab
 abbrev pub room_in : Kept → ℕ
 room_in kept = room kept.words kept.entries
 
--- the segments that the bytes of the input fill, where there is room: one act for each
+-- the segments that the bytes of the input take, where there is room: one act for each
 abbrev pub input_writes : Kept → (promised : Option ℕ) → (input : List ℕ) → List Act
 input_writes kept promised input =
     let free : List ℕ = free_segments kept.words kept.entries in
@@ -111,7 +111,7 @@ append_acts kept name date promised reply input =
 -- ---- the outcome
 
 -- The table is settled, and the whole input appended: a sector of the table that takes no write is written again. The
--- cartridge is full where there is no room for all of the input, or for no byte.
+-- cartridge is full where there is no room for all of the input, or none for a byte.
 abbrev pub appended : (name : List ℕ) → (date : ℕ) → (input : List ℕ) → Cartridge → (words : List ℕ) → (table : List (List ℕ)) → List Entry → CommandOutcome
 appended name date input c words table entries =
     let have : ℕ = room words entries in

@@ -72,7 +72,7 @@ pub record Traits : Type 0 where
   pub writable : Bool
   pub sector : Bool
   pub blank : Bool
-  -- it formats; mounts the cartridge; appends volumes, of bytes of its input; gives volumes back, so it reads their segments
+  -- it formats; mounts the cartridge; appends volumes, of bytes of its input; is refused by a volume's segment that doesn't read
   pub formats : Bool
   pub mounts : Bool
   pub appends : Bool

@@ -96,7 +96,7 @@ is_from_fault (fault.Lost segment lost) = nat_lt 3 lost
 is_from_fault (fault.Mismatch segment) = true
 is_from_fault other = is_mount_fault other
 
--- the target is mounted, and volumes are appended; there is no room for a volume, but where no room at all is left
+-- the target is mounted, and volumes are appended: where it is full, a volume needs more than the room, or there is none
 abbrev pub is_to_fault : CopyFault → Bool
 is_to_fault fault.Protected = true
 is_to_fault (fault.Full need have) = have == 0 || nat_lt have need
@@ -110,7 +110,7 @@ HasKind (status.To found) = is_to_fault found ≡ true
 HasKind (status.Differs number) = 0 < number
 HasKind answer = Unit {0}
 
--- the object whose fault the answer is counted one
+-- the count of the object whose fault is answered rose
 abbrev pub HasRisen : {A B K : Type 0} (a : tapes.Meaning A) (b : tapes.Meaning B) (k : sinks.Meaning K) (old new : Decks A B K) → CopyStatus → Type 0
 HasRisen a b k old new (status.From fault.Tape) = Rose (a.faults old.from) (a.faults new.from)
 HasRisen a b k old new (status.To fault.Tape) = Rose (b.faults old.to) (b.faults new.to)

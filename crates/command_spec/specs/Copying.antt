@@ -119,7 +119,7 @@ pub record IsFull (from : Side) (e : Entry) (to : Side) (table : List (List ℕ)
   pub does : acts ≡ copy_acts from e to table []
   pub answered : answer ≡ status.To (fault.Full (length_on from e) (room_in (kept_on to table)))
 
--- some first acts of an append of these bytes: the table was settled and segments were written, but no entry
+-- some first acts of an append of these bytes: the settling of the table and segments, but no entry
 pub record IsBegun (from : Side) (e : Entry) (to : Side) (table : List (List ℕ)) (bytes : List ℕ) (acts : List Act) : Type 0 where
   pub rest : List Act
   pub parts : acts ++ rest ≡ record { steps = (kept_on to table).settling; text = [] } ∷ input_writes (kept_on to table) (Some (length_on from e)) bytes

@@ -73,8 +73,8 @@ is_outcome status.NoMemory = false
 is_outcome answer = not (is_fault answer)
 
 -- the commands that such an answer may come from, and with which numbers, whatever the tape and the source tell: a segment
--- that doesn't read lost more than three sectors, and is that of the volume table but for commands that give volumes back; a foreign
--- value is not the one that its field has to have
+-- that doesn't read lost more than three sectors, and is that of the volume table but for commands that a volume's segment may end; a
+-- foreign value is not the one that its field has to have
 abbrev pub may_come_from : Status → Words → Bool
 may_come_from status.Done command = true
 may_come_from (status.ScriptFault line place) command = (traits_of command).lines

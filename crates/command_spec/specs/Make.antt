@@ -222,8 +222,8 @@ pub record CanMake (c : Cartridge) (seed count : ℕ) : Type 0 where
   pub room : (n : ℕ) → n < count → made_answer seed plain.words (made_list seed n plain.words (entries_of plain)) (1 + n) ≡ status.Done
   pub few : LoseFewBehind seed count (settled plain.table_area c) plain
 
--- Where it is refused, the lines before the step that was refused are printed; where it is cut off, they may be any. A volume is
--- full that is longer than the room that there is. Volumes are added, but to a protected cartridge.
+-- Where it is refused, the lines before the step that was refused are printed; where it is cut off, they may be any. `Full` is
+-- answered of a volume that is longer than the room that there is. Volumes are added, but to a protected cartridge.
 abbrev pub make_command : (seed count : ℕ) → Command
 make_command seed count =
     record (plain_command ((Word (codes "make") ∷ AnyNumber seed ∷ Number 1 200 count ∷ []) ∷ [])

@@ -26,7 +26,7 @@ abbrev pub ComesBackAsOneOf : Plain → Plain → Cartridge → Type 0
 ComesBackAsOneOf one other d = (f : Cartridge) (lost : ℕ) → LosesOneAlone d f lost → ComesBackAs f one ⊎ ComesBackAs f other
 
 -- Of plain cartridges, each with one volume or none more than the one before it, it comes back as one or as the next
--- one: from so many volumes on, up to so many.
+-- one: from so many volumes, or lines of a script, on, up to so many.
 pub record SomeComeBack (standing : ℕ → Plain) (least most : ℕ) (left : Option Cartridge) : Type 0 where
   pub one : ℕ
   pub other : ℕ

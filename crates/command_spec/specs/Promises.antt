@@ -50,7 +50,7 @@ pub record Promises {T S K : Type 0} (t : tapes.Meaning T) (s : sources.Meaning 
   pub stops : EachLeft t old.tape new.tape (WordsLeave (s.left old.source) words)
   -- The volumes: each cartridge so left stands for what the old one stood for, but for `new` and `script`, for `format`, `append`
   -- and `make` of a cartridge that is not protected, and a `lose` that doesn't spare header and table; and likewise it has the old
-  -- one's list, but also for a `scrub deep` where a sector of the first header copy is wrong.
+  -- one's list, but for any `lose` in front of segment 3, too, and a `scrub deep` where a sector of the first header copy is wrong.
   pub volumes : (plain : Plain) →
       EachLeft t old.tape new.tape (StillHolds words (λ command c. command.keeps_volumes c plain) (λ c. Stands c plain))
   pub lists : (header : Header) (map_words : List ℕ) (table : List (List ℕ)) (entries : List Entry) →

@@ -26,7 +26,7 @@ use Rattle.command_spec.specs.declared.refusal.Refusal.TheVariants as why
 use Rattle.command_spec.specs.declared.line.Line.TheVariants as line
 use Rattle.command_spec.specs.declared.status.Status.TheVariants as status
 
--- what is there of what was asked for
+-- the reply that no volume has this number, of so many
 unfoldable pub no_volume_line : (number count : ℕ) → List ℕ
 no_volume_line number count = codes "refused no volume " ++ decimal number ++ codes " of " ++ decimal count ++ codes "\n"
 

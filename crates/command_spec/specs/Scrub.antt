@@ -151,8 +151,8 @@ abbrev pub unread_count : List Looked → List Saying → ℕ
 unread_count (l ∷ ls) (s ∷ ss) = (if reads l s then 0 else 1) + unread_count ls ss
 unread_count ls ss = 0
 
--- what is counted: segments that were looked at, sectors for which a write was sent (whether they took it or not), and
--- segments that do not read
+-- what is counted: segments that were looked at, sectors in them for which a write was sent behind the settling of the table (whether
+-- they took it or not), and segments that do not read
 pub record Counts : Type 0 where
   pub segments : ℕ
   pub mended : ℕ
@@ -224,9 +224,9 @@ scrubbing_command depth form =
 abbrev pub scrub_command : Command
 scrub_command = scrubbing_command Shallow (Word (codes "scrub") ∷ [])
 
--- It keeps the list where no sector of the first header copy is wrong. Two header copies may hold different headers: where the first
--- doesn't read for a wrong sector, the second is in force, and once that sector is mended the first is. On a cartridge that stands for
--- a plain one no sector of the first is wrong.
+-- It keeps the list of a protected cartridge, and where no sector of the first header copy is wrong. Two header copies may hold
+-- different headers: where the first doesn't read for a wrong sector, the second is in force, and once that sector is mended the
+-- first is. On a cartridge that stands for a plain one no sector of the first is wrong.
 abbrev pub deep_scrub_command : Command
 deep_scrub_command = record (scrubbing_command Deep (Word (codes "scrub") ∷ Word (codes "deep") ∷ [])) {
   keeps_list = λ c. (c.info.protected ≡ true) ⊎ ((sector : ℕ) (sectors : List (List ℕ)) → ¬ (IsWrong c (whole_segment 0) sector sectors));

@@ -46,7 +46,8 @@ abbrev pub LoseOutcome : (segment sector : ℕ) → Option Cartridge → Command
 LoseOutcome segment sector = HeldOutcome (λ c outcome. (¬ (HasPlace c segment sector) × (outcome ≡ refused status.BadPlace))
     ⊎ (HasPlace c segment sector × (outcome ≡ carried_out (Wear segment sector) (lost_line segment sector))))
 
--- A sector that is worn has to spare the header and the table, and header copies that can't be read, unless both are bare.
+-- A sector that is worn has to spare the header and the table, and header copies that can't be read, unless both are bare; and for the
+-- list it has to lie behind segment 2.
 abbrev pub lose_command : (segment sector : ℕ) → Command
 lose_command segment sector =
     record (plain_command ((Word (codes "lose") ∷ AnyNumber segment ∷ AnyNumber sector ∷ []) ∷ [])
