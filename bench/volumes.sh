@@ -172,7 +172,8 @@ for folder in "${folders[@]}"; do
         round
     done
     echo
-    echo "$folder:"
+    ahead=$(cat "/sys/class/bdi/$(stat -c '%Hd:%Ld' "$folder")/read_ahead_kb" 2>/dev/null || true)
+    echo "$folder${ahead:+, where the system reads ahead by $ahead kB}:"
     of_bare format
     of_bare append
     of_bare upgrade
