@@ -140,5 +140,5 @@ append_command name date =
           × ((plain : Plain) × ReadsAs c plain × (has_room plain (length input) ≡ true)));
       keeps_volumes = λ c plain. c.info.protected ≡ true;
       keeps_list = λ c. c.info.protected ≡ true;
-      is_full = λ need have. nat_le need (have + 1);
+      is_full = λ need have. (need == have + 1) || ((need == 0) && (have == 0));
     }

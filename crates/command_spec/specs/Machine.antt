@@ -1,8 +1,9 @@
 -- The plain machine over words, and how a command ended: all acts of its outcome went, or a fault of the outside cut
 -- them off (this project's own).
-use Rattle.std.specs.Prelude.{ℕ, List, Option, not, ◌≡◌, ◌⊎◌, [], IfSome, ◌+◌, drop, Bool, true, false, ◌&&◌, ◌==◌, nat_lt, ◌||◌, ◌<◌, All, IfNone, ◌≢◌, is_some}
+use Rattle.std.specs.Prelude.{ℕ, List, Option, not, ◌≡◌, ◌⊎◌, [], IfSome, ◌+◌, drop, Bool, true, false, ◌&&◌, ◌==◌, nat_lt, nat_le, ◌≤◌, ◌||◌, ◌<◌, All, IfNone, ◌≢◌, is_some}
 use Rattle.command_spec.specs.Command.{HasForm}
 use Rattle.command_spec.specs.Commands.{command_of, traits_of}
+use Rattle.command_spec.specs.Input.{most_items}
 use Rattle.command_spec.specs.Outcome.{CommandOutcome, output_of, is_refused}
 use Rattle.command_spec.specs.declared.status.Status.{Status}
 use Rattle.command_spec.specs.declared.words.Words.{Words}
@@ -46,9 +47,10 @@ OverTold t s old P =
     IfSome (t.told old.tape) (λ held. (input : List ℕ) × IfSome (s.left old.source) (λ bytes. input ≡ bytes) × P held input)
 
 -- What is left of the input: what stands behind the bytes taken; or, where a line is at fault, an end of the bytes from
--- its place on.
+-- its place on, of which at most 128 were taken, or all.
 abbrev pub InputLeft : Status → (taken : ℕ) → (before after : Option (List ℕ)) → Type 0
-InputLeft (status.ScriptFault line place) taken before after = (more : ℕ) × (after ≡ option_map (drop (place + more)) before)
+InputLeft (status.ScriptFault line place) taken before after =
+    (more : ℕ) × (after ≡ option_map (drop (place + more)) before) × ((more ≤ 128) ⊎ IfSome after (λ end. end ≡ []))
 InputLeft answer taken before after = after ≡ option_map (drop taken) before
 
 -- ---- answers
@@ -72,12 +74,13 @@ is_outcome status.Usage = false
 is_outcome status.NoMemory = false
 is_outcome answer = not (is_fault answer)
 
--- the commands that such an answer may come from, and with which numbers, whatever the tape and the source tell: a segment
--- that doesn't read lost more than three sectors, and is that of the volume table but for commands that a volume's segment may end; a
--- foreign value is not the one that its field has to have
+-- the commands that such an answer may come from, and with which numbers, whatever the tape and the source tell: a line at
+-- fault is one of the first 65,537; a segment that doesn't read lost more than three sectors, and is that of the volume table,
+-- or one behind it where the command may end in a volume's; a defect in front is in one of the segments 0 to 2; a foreign
+-- value is not the one that its field has to have
 abbrev pub may_come_from : Status → Words → Bool
 may_come_from status.Done command = true
-may_come_from (status.ScriptFault line place) command = (traits_of command).lines
+may_come_from (status.ScriptFault line place) command = (traits_of command).lines && (nat_le 1 line && nat_le line (most_items + 1))
 may_come_from status.NoCartridge command = (traits_of command).cartridge
 may_come_from status.NotFormatted command = (traits_of command).mounts
 may_come_from status.Protected command = (traits_of command).writable
@@ -85,12 +88,12 @@ may_come_from status.BadPlace command = (traits_of command).sector
 may_come_from status.NotBlank command = (traits_of command).blank
 may_come_from (status.Foreign field value) command = (traits_of command).mounts && is_refused field value
 may_come_from (status.Lost segment lost) command =
-    (traits_of command).mounts && (nat_lt 3 lost && ((traits_of command).restores || segment == 2))
-may_come_from (status.DefectInFront segment) command = (traits_of command).formats
+    (traits_of command).mounts && (nat_lt 3 lost && (nat_le 2 segment && ((traits_of command).restores || segment == 2)))
+may_come_from (status.DefectInFront segment) command = (traits_of command).formats && nat_lt segment 3
 may_come_from status.TableMismatch command = (traits_of command).mounts
 may_come_from (status.Full need have) command = (command_of command).is_full need have
 may_come_from (status.NoVolume number count) command = (command_of command).is_no_volume number count
-may_come_from (status.Mismatch segment) command = (traits_of command).restores
+may_come_from (status.Mismatch segment) command = (traits_of command).restores && nat_le 3 segment
 may_come_from answer command = false
 
 -- where the source tells nothing, an input that gives volumes their bytes is one of bytes
