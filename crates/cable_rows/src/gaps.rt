@@ -1,9 +1,9 @@
 //! Words of the command line of `pulse_trace`, and the dialogue at the gap that they give.
 
 use crate::recordings::is_told;
+use program_words::{BadWords, read_gap};
 use std::alloc::{AllocError, Global};
 use std::test::Fail;
-use trace_words::{BadWords, read_gap};
 
 /// The words of the command line, and the dialogue of two pulses 100 microseconds apart, or why there is none.
 const RUNS: [(&str, Result<&str, BadWords>); 11] = [

@@ -2,11 +2,11 @@
 
 use crate::memory::{sink, source};
 use drive_states::Unit;
+use hand_commands::{PulseFault, run_pulses};
 use qic_base::{Tape, TapeFailed};
 use qic_mem::{MemSink, MemSource, MemTape};
 use std::alloc::Global;
 use std::test::Fail;
-use tape_pulses::{PulseFault, run_pulses};
 
 /// Puts in a cartridge of 3 segments per track that has its reference bursts.
 fn put_in(tape: &mut MemTape) -> Result<(), TapeFailed> {

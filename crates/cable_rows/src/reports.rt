@@ -1,6 +1,6 @@
 //! Words of a drive's reports and the levels that show them, read off QIC-117's form by hand.
 
-use report_bits::{Collector, Shifter, Shown};
+use qic117_commands::{Collector, Shifter, Shown};
 
 /// A word, its width, and the levels between the acknowledgement and the final 1.
 const REPORTS: [(u16, u8, &str); 6] = [

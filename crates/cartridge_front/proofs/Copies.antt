@@ -13,7 +13,7 @@ use Rattle.host_driver.specs.Fits.{Fits, AgreesWithTape, segments_of, deck_of}
 use Rattle.qic_base.proofs.Steps.{Done-after_reads, Broke-after_reads}
 use Rattle.cartridge_spec.specs.Header.{number, header_fault, has_signature, number_in}
 use Rattle.cartridge_spec.specs.Says.{Saying, Says, Data}
-use Rattle.cartridge_spec.specs.HeaderAndTable.{copy_cells, CopyReads, CopyDoesNotRead}
+use Rattle.cartridge_spec.specs.HeaderCopies.{copy_cells, CopyReads, CopyDoesNotRead}
 use Rattle.cartridge_laws.specs.Terms.{IsInForce}
 use Rattle.cartridge_laws.proofs.Sayings.{says_is_function}
 use Rattle.cartridge_laws.proofs.Segments.{length-whole_cells}

@@ -4,7 +4,7 @@ use Rattle.qic_base.specs.Cartridge.{Cartridge}
 use Rattle.cartridge_laws.specs.Terms.{fault_as}
 use Rattle.cartridge_spec.specs.Table.{Entry, IsFirstFault}
 use Rattle.cartridge_spec.specs.Mounting.{IsSoundlyFormatted}
-use Rattle.cartridge_spec.specs.HeaderAndTable.{last_segment}
+use Rattle.cartridge_spec.specs.HeaderCopies.{last_segment}
 use Rattle.host_driver.specs.declared.host.Host.{Host}
 use Rattle.host_driver.specs.Fits.{segments_of}
 use Rattle.header_segments.specs.declared.header.Header.{Header}

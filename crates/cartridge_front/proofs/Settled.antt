@@ -10,7 +10,7 @@ use Rattle.cartridge_laws.proofs.MountParts.{sector_there}
 use Rattle.cartridge_laws.proofs.Segments.{cells_of_whole}
 use Rattle.cartridge_laws.specs.Segment.{IsUnreadable}
 use Rattle.cartridge_spec.specs.Code.{parity_sectors}
-use Rattle.cartridge_spec.specs.HeaderAndTable.{table_cells}
+use Rattle.cartridge_spec.specs.TableSegment.{table_cells}
 use Rattle.cartridge_spec.specs.Settling.{holds, holds_other, block_writes, settling_places, settling_steps, writes_of, changed_by}
 use Rattle.cartridge_laws.specs.Terms.{places_where, is_unsettled, is_left_out}
 use Rattle.cartridge_spec.specs.Shape.{is_unreadable, sector_at}

@@ -16,7 +16,7 @@ use Rattle.cartridge_spec.specs.Shape.{is_unreadable}
 use Rattle.cartridge_spec.specs.Says.{unreadable_count, ReadsAll, TableSays, ByCode, LostSectors}
 use Rattle.cartridge_laws.specs.Terms.{unreadable_data, data_of}
 use Rattle.cartridge_laws.specs.Says.{LosesData}
-use Rattle.cartridge_spec.specs.HeaderAndTable.{table_cells, TableIs}
+use Rattle.cartridge_spec.specs.TableSegment.{table_cells, TableIs}
 use Rattle.cartridge_laws.proofs.Cells.{unreadable_count-first}
 use Rattle.cartridge_laws.specs.Shape.{Carries}
 use Rattle.cartridge_laws.proofs.Segments.{length-whole_cells, count_of_whole}

@@ -6,7 +6,7 @@ use Rattle.qic_base.specs.Cartridge.{Cartridge}
 use Rattle.qic_base.specs.Step.{Step}
 use Rattle.qic_base.specs.Tape.{Meaning, Done, Broke}
 use Rattle.qic_base.specs.TapeCalls.{Tells}
-use Rattle.cartridge_spec.specs.HeaderAndTable.{table_cells, TableIs}
+use Rattle.cartridge_spec.specs.TableSegment.{table_cells, TableIs}
 use Rattle.cartridge_spec.specs.Says.{TableSays, LostSectors, ByCode}
 use Rattle.cartridge_spec.specs.Table.{table_with, Entry, Shows}
 use Rattle.cartridge_spec.specs.Appending.{table_writes}

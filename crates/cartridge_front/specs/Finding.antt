@@ -12,7 +12,8 @@ use Rattle.cartridge_spec.specs.Says.{TableSays}
 use Rattle.cartridge_spec.specs.Says as says
 use Rattle.cartridge_spec.specs.Table.{Entry, HasNoFault, IsFirstFault}
 use Rattle.cartridge_spec.specs.Table as tables
-use Rattle.cartridge_spec.specs.HeaderAndTable.{table_cells, TableIs, CopyReads, CopyDoesNotRead, IsFormatted, IsUnformatted}
+use Rattle.cartridge_spec.specs.TableSegment.{table_cells, TableIs}
+use Rattle.cartridge_spec.specs.HeaderCopies.{CopyReads, CopyDoesNotRead, IsFormatted, IsUnformatted}
 use Rattle.cartridge_spec.specs.Mounting.{RefusesHeader}
 use Rattle.header_segments.specs.declared.header.Header.{Header}
 use Rattle.header_segments.specs.Header.{header_of}

@@ -5,7 +5,7 @@ ghost use Rattle.qic_base.specs.Terms.{IsLost};
 ghost use Rattle.qic_base.specs.Cartridge.{lost_places};
 ghost use Rattle.qic_base.specs.TapeCalls.{Tells};
 ghost use Rattle.qic_base.specs.declared.tape.SectorView.{SectorView};
-ghost use Rattle.cartridge_spec.specs.HeaderAndTable.{table_cells};
+ghost use Rattle.cartridge_spec.specs.TableSegment.{table_cells};
 ghost use Rattle.cartridge_laws.specs.Says.{LosesData};
 ghost use Rattle.drive_spec.specs.Terms.{is_referenced};
 ghost use Rattle.drive_states.specs.Reach.{reads_in};

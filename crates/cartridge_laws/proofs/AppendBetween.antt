@@ -10,9 +10,9 @@ use Rattle.cartridge_laws.proofs.MountStops.{block_written}
 use Rattle.cartridge_laws.proofs.Segments.{length-whole_cells}
 use Rattle.cartridge_laws.specs.AppendBetween.{IsBegun}
 use Rattle.cartridge_laws.specs.AppendLaws.{BeforeReadsOld, TurnedReadsNew}
-use Rattle.cartridge_spec.specs.HeaderAndTable.{IsArea, table_cells}
+use Rattle.cartridge_spec.specs.Shape.{IsArea, is_unreadable, sector_at}
+use Rattle.cartridge_spec.specs.TableSegment.{table_cells}
 use Rattle.cartridge_spec.specs.Says.{unreadable_count, Written, with_parity}
-use Rattle.cartridge_spec.specs.Shape.{is_unreadable, sector_at}
 use Rattle.qic_base.specs.Cartridge.{Cartridge, view_at}
 use Rattle.qic_base.specs.declared.tape.SectorView.{SectorView}
 use Rattle.qic_base.specs.declared.tape.SectorView.TheVariants.{Lost, Holds}

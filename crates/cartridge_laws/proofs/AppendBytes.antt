@@ -13,12 +13,12 @@ use Rattle.cartridge_laws.proofs.MountWriting.{places_that, places_none, places_
 use Rattle.cartridge_laws.specs.AppendLaws.{AppendedBytes}
 use Rattle.cartridge_laws.specs.AppendSettled.{DoneBytes}
 use Rattle.cartridge_laws.specs.Shape.{Carries}
-use Rattle.cartridge_spec.specs.Appending.{taken_by, in_sectors, bytes_in, appended_volume, free_segments}
+use Rattle.cartridge_spec.specs.Appending.{taken_by, in_sectors, appended_volume, free_segments}
+use Rattle.cartridge_spec.specs.Volumes.{bytes_in, carrying, capacity_between, Volume, entries_of, volume_length}
 use Rattle.cartridge_laws.specs.Terms.{filled_up, new_segments, last_end, sectors_in}
-use Rattle.cartridge_spec.specs.HeaderAndTable.{last_segment}
+use Rattle.cartridge_spec.specs.HeaderCopies.{last_segment}
 use Rattle.cartridge_spec.specs.Shape.{mask_at, capacity, data_count, usable_count}
 use Rattle.cartridge_spec.specs.Table.{Entry}
-use Rattle.cartridge_spec.specs.Volumes.{carrying, capacity_between, Volume, entries_of, volume_length}
 
 -- ---- what segments carry
 

@@ -17,11 +17,11 @@ use Rattle.cartridge_laws.specs.AppendBetween.{IsWhole}
 use Rattle.cartridge_laws.specs.AppendLaws.{IsReadyFor}
 use Rattle.cartridge_laws.specs.AppendSettled.{IsSettledFor, SettledIsSettledFor}
 use Rattle.cartridge_spec.specs.Appending.{table_writes}
-use Rattle.cartridge_spec.specs.HeaderAndTable.{IsArea, table_cells}
-use Rattle.cartridge_spec.specs.Mounting.{settled, CanBeRead}
+use Rattle.cartridge_spec.specs.Shape.{IsArea, IsLive, sector_at, usable_places, is_unreadable}
+use Rattle.cartridge_spec.specs.TableSegment.{table_cells, CanBeRead}
+use Rattle.cartridge_spec.specs.Mounting.{settled}
 use Rattle.cartridge_spec.specs.Says.{whole_mask, Data, AsRead, ByCode, TableSays, with_parity, Written, unreadable_count}
 use Rattle.cartridge_spec.specs.Settling.{writes_of, changed_by}
-use Rattle.cartridge_spec.specs.Shape.{IsLive, sector_at, usable_places, is_unreadable}
 use Rattle.cartridge_spec.specs.Volumes.{Plain}
 use Rattle.qic_base.specs.Cartridge.{Cartridge, view_at}
 use Rattle.qic_base.specs.Step.{written_view}

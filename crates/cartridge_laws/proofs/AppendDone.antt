@@ -23,10 +23,11 @@ use Rattle.cartridge_laws.specs.AppendSteps.{volume_writes, list_writes, append_
 use Rattle.cartridge_laws.specs.Shape.{Carries}
 use Rattle.cartridge_laws.specs.Terms.{new_segments, last_end, slot_sector, PartStands, sectors_in}
 use Rattle.cartridge_spec.specs.Appending.{appended_volume, with_bytes}
-use Rattle.cartridge_spec.specs.HeaderAndTable.{last_segment, table_cells, TableIs, IsArea}
+use Rattle.cartridge_spec.specs.HeaderCopies.{last_segment}
+use Rattle.cartridge_spec.specs.TableSegment.{table_cells, TableIs}
+use Rattle.cartridge_spec.specs.Shape.{IsArea, mask_at}
 use Rattle.cartridge_spec.specs.Says.{Written, ReadsAll}
 use Rattle.cartridge_spec.specs.Settling.{changed_by}
-use Rattle.cartridge_spec.specs.Shape.{mask_at}
 use Rattle.cartridge_spec.specs.Table.{slot_bytes}
 use Rattle.cartridge_spec.specs.Volumes.{carrying, Plain, Volume, VolumeStands, entries_of, parts_of, carrying_segments, Stands}
 use Rattle.qic_base.proofs.Steps.{Torn-append}

@@ -17,7 +17,7 @@ use Rattle.cartridge_laws.specs.AppendWrites.{KeepsTo, AreWrites, IsFree, IsOfSe
 use Rattle.cartridge_spec.specs.Appending.{appended_volume, with_bytes}
 use Rattle.cartridge_laws.specs.Terms.{new_segments, last_end, table_places, slot_sector, IsCleanCopy}
 use Rattle.cartridge_spec.specs.Formatting.{StandsCleanly}
-use Rattle.cartridge_spec.specs.HeaderAndTable.{last_segment, copy_cells}
+use Rattle.cartridge_spec.specs.HeaderCopies.{last_segment, copy_cells}
 use Rattle.cartridge_spec.specs.Mounting.{Mounts, mounted_as}
 use Rattle.cartridge_spec.specs.Says.{whole_mask, Written, Zero}
 use Rattle.cartridge_spec.specs.Settling.{changed_by}

@@ -6,9 +6,10 @@ use Rattle.cartridge_laws.proofs.AppendOrders.{LiesWithin}
 use Rattle.cartridge_laws.proofs.FormatStanding.{same_cells}
 use Rattle.cartridge_laws.proofs.MountKeeping.{in_force, copies_are}
 use Rattle.cartridge_spec.specs.Header.{header_fault}
-use Rattle.cartridge_spec.specs.HeaderAndTable.{IsArea, table_cells, copy_cells, last_segment}
+use Rattle.cartridge_spec.specs.Shape.{IsArea, mask_at, data_count, usable_count}
+use Rattle.cartridge_spec.specs.TableSegment.{table_cells}
+use Rattle.cartridge_spec.specs.HeaderCopies.{copy_cells, last_segment}
 use Rattle.cartridge_spec.specs.Says.{Written, ReadsAll, whole_mask}
-use Rattle.cartridge_spec.specs.Shape.{mask_at, data_count, usable_count}
 use Rattle.cartridge_spec.specs.Table.{Shows, HasNoFault, slot_fault}
 use Rattle.cartridge_spec.specs.Volumes.{Part, parts_of, Volume, VolumeStands, carrying, Plain, Stands}
 use Rattle.cartridge_laws.specs.Terms.{PartStands}

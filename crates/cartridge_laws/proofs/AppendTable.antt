@@ -16,8 +16,8 @@ use Rattle.cartridge_laws.specs.Slots.{FitsSlot}
 use Rattle.cartridge_laws.specs.Table.{IsSoundList}
 use Rattle.cartridge_laws.specs.Terms.{new_segments, last_end, slot_sector, with_slot}
 use Rattle.cartridge_spec.specs.Appending.{appended_volume}
-use Rattle.cartridge_spec.specs.HeaderAndTable.{IsArea, last_segment}
-use Rattle.cartridge_spec.specs.Shape.{sector_at}
+use Rattle.cartridge_spec.specs.Shape.{IsArea, sector_at}
+use Rattle.cartridge_spec.specs.HeaderCopies.{last_segment}
 use Rattle.cartridge_spec.specs.Table.{Entry, Shows, slot_bytes}
 use Rattle.cartridge_spec.specs.Volumes.{Volume, Plain, entries_of, capacity_between}
 use Rattle.qic_base.specs.Cartridge.{Cartridge}

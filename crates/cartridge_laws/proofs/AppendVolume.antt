@@ -16,7 +16,8 @@ use Rattle.cartridge_laws.specs.AppendSteps.{volume_writes}
 use Rattle.cartridge_laws.specs.Table.{LieBehind}
 use Rattle.cartridge_laws.specs.Terms.{last_end, new_segments}
 use Rattle.cartridge_spec.specs.Appending.{appended_volume, has_room}
-use Rattle.cartridge_spec.specs.HeaderAndTable.{last_segment, table_cells}
+use Rattle.cartridge_spec.specs.HeaderCopies.{last_segment}
+use Rattle.cartridge_spec.specs.TableSegment.{table_cells}
 use Rattle.cartridge_spec.specs.Says.{whole_mask, Written, ReadsAll}
 use Rattle.cartridge_spec.specs.Volumes.{Plain, Stands, entries_of, carrying, Volume, VolumeStands}
 use Rattle.qic_base.specs.Cartridge.{Cartridge}

@@ -16,10 +16,10 @@ use Rattle.cartridge_laws.specs.AppendWrites.{AreWrites, IsOfSector, IsWrite}
 use Rattle.cartridge_spec.specs.Appending.{part_writes, appended_volume}
 use Rattle.cartridge_laws.specs.Terms.{new_segments, slot_sector, sectors_in}
 use Rattle.cartridge_spec.specs.Code.{parity_sectors}
-use Rattle.cartridge_spec.specs.HeaderAndTable.{IsArea, last_segment}
+use Rattle.cartridge_spec.specs.Shape.{IsArea, mask_at, usable_places, data_count, sector_at}
+use Rattle.cartridge_spec.specs.HeaderCopies.{last_segment}
 use Rattle.cartridge_spec.specs.Says.{with_parity}
 use Rattle.cartridge_spec.specs.Settling.{writes_of}
-use Rattle.cartridge_spec.specs.Shape.{mask_at, usable_places, data_count, sector_at}
 use Rattle.cartridge_spec.specs.Volumes.{Part, parts_of, Plain, Volume}
 use Rattle.gf256_qic.proofs.Parities.{parity_sectors-are_sectors}
 use Rattle.qic_base.proofs.Steps.{Torn-all}

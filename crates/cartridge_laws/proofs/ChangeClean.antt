@@ -5,7 +5,7 @@ use Rattle.cartridge_laws.proofs.ChangeViews.{ReadsNoMore, worn_reads_no_more, s
 use Rattle.cartridge_laws.specs.ChangeLaws.{WornIsClean, WornIsBare, SpoiledIsClean, SpoiledIsBare, ProtectedIsClean, ProtectedIsBare, ReferencedIsClean, ReferencedIsBare}
 use Rattle.cartridge_spec.specs.Formatting.{StandsCleanly, HasNoHeader}
 use Rattle.cartridge_laws.specs.Terms.{IsBareCopy, IsCleanCopy}
-use Rattle.cartridge_spec.specs.HeaderAndTable.{copy_cells}
+use Rattle.cartridge_spec.specs.HeaderCopies.{copy_cells}
 use Rattle.cartridge_spec.specs.Says.{whole_mask, unreadable_count}
 use Rattle.cartridge_spec.specs.Volumes.{Plain, Stands, worn}
 use Rattle.qic_base.specs.Cartridge.{Cartridge}

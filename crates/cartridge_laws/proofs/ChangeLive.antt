@@ -9,7 +9,7 @@ use Rattle.cartridge_laws.proofs.FormatViews.{view_of_other_stopped}
 use Rattle.cartridge_laws.proofs.FormatWriting.{some_and}
 use Rattle.cartridge_laws.specs.ChangeLaws.{StepsKeepLive}
 use Rattle.cartridge_laws.specs.ChangeSteps.{IsNoRenew}
-use Rattle.cartridge_spec.specs.Mounting.{IsTableLive}
+use Rattle.cartridge_spec.specs.TableSegment.{IsTableLive}
 use Rattle.cartridge_spec.specs.Shape.{IsLive}
 use Rattle.qic_base.specs.Cartridge.{Cartridge, view_at, with_view}
 use Rattle.qic_base.specs.Terms.{with_segment, HalfFormatted}

@@ -5,7 +5,8 @@ use Rattle.cartridge_laws.proofs.ChangeTable.{table_alike}
 use Rattle.cartridge_laws.proofs.ChangeViews.{spoiled_alike}
 use Rattle.cartridge_laws.specs.ChangeLaws.{WornMounts, SpoiledMounts, ProtectedMounts, ReferencedMounts}
 use Rattle.cartridge_spec.specs.Header.{Header}
-use Rattle.cartridge_spec.specs.HeaderAndTable.{HasHeader, TableIs}
+use Rattle.cartridge_spec.specs.HeaderCopies.{HasHeader}
+use Rattle.cartridge_spec.specs.TableSegment.{TableIs}
 use Rattle.cartridge_spec.specs.Mounting.{IsMounted}
 use Rattle.cartridge_spec.specs.Says.{TableSays, AsRead, ByCode, Data}
 use Rattle.cartridge_spec.specs.Table.{Entry}

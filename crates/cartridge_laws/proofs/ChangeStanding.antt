@@ -11,10 +11,11 @@ use Rattle.cartridge_laws.proofs.Segments.{count_of_cells, zero_does_not_read}
 use Rattle.cartridge_laws.specs.ChangeLaws.{WornStands, FewLostIsInForce, SpoiledStands, ProtectedStands, ReferencedStands}
 use Rattle.cartridge_laws.specs.ChangeWear.{FewLost}
 use Rattle.cartridge_spec.specs.Header.{has_signature}
-use Rattle.cartridge_spec.specs.HeaderAndTable.{CopyReads, copy_cells, table_cells, HasHeader, IsArea, CopyDoesNotRead}
+use Rattle.cartridge_spec.specs.HeaderCopies.{CopyReads, copy_cells, HasHeader, CopyDoesNotRead}
+use Rattle.cartridge_spec.specs.TableSegment.{table_cells}
+use Rattle.cartridge_spec.specs.Shape.{IsArea, mask_at, usable_places}
 use Rattle.cartridge_laws.specs.Terms.{IsInForce, CopiesAre, PartStands}
 use Rattle.cartridge_spec.specs.Says.{cells_of, Written, Zero, whole_mask, unreadable_count, Says, Data, ReadsAll}
-use Rattle.cartridge_spec.specs.Shape.{mask_at, usable_places}
 use Rattle.cartridge_spec.specs.Volumes.{Volume, VolumeStands, parts_of, carrying_segments, Plain, Stands, worn, WearSpares}
 use Rattle.qic_base.specs.Cartridge.{Cartridge, view_at}
 use Rattle.qic_base.specs.Terms.{place_of}

@@ -6,7 +6,7 @@ use Rattle.std.proofs.lemmas.Option.{slice_get-map}
 use Rattle.cartridge_laws.proofs.ChangeStanding.{CellsAlike, turned}
 use Rattle.cartridge_laws.proofs.ChangeViews.{ReadsAlike, same_count_front}
 use Rattle.cartridge_laws.proofs.Sets.{length-hidden, held_outside, seen_outside}
-use Rattle.cartridge_spec.specs.HeaderAndTable.{table_cells, TableIs}
+use Rattle.cartridge_spec.specs.TableSegment.{table_cells, TableIs}
 use Rattle.cartridge_spec.specs.Says.{whole_mask, Agrees, HasBlock, HasNoBlock, HasFirstBlock, ReadsAll, shows_used_slot, last_used_below, unreadable_from, sets_by}
 use Rattle.cartridge_laws.specs.Terms.{hidden, unreadable_data, last_used, unreadable_places, table_sets}
 use Rattle.cartridge_spec.specs.Shape.{is_unreadable, usable_places}

@@ -10,9 +10,9 @@ use Rattle.cartridge_laws.specs.FormatLaws.{NewHasNoHeader}
 use Rattle.cartridge_laws.specs.Terms.{IsBareCopy}
 use Rattle.cartridge_spec.specs.Formatting.{HasNoHeader}
 use Rattle.cartridge_spec.specs.Header.{has_signature}
-use Rattle.cartridge_spec.specs.HeaderAndTable.{IsArea, copy_cells, CopyReads, CopyDoesNotRead, IsUnformatted}
+use Rattle.cartridge_spec.specs.Shape.{IsArea, is_unreadable, sector_at}
+use Rattle.cartridge_spec.specs.HeaderCopies.{copy_cells, CopyReads, CopyDoesNotRead, IsUnformatted}
 use Rattle.cartridge_spec.specs.Says.{whole_mask, cells_of, Zero, Written, unreadable_count, with_parity, HasBlock}
-use Rattle.cartridge_spec.specs.Shape.{is_unreadable, sector_at}
 use Rattle.qic_base.specs.Cartridge.{Cartridge, view_at, zero_sector, new_cartridge}
 use Rattle.qic_base.specs.Field.{number_at}
 use Rattle.qic_base.specs.declared.tape.SectorView.{SectorView}

@@ -11,10 +11,9 @@ use Rattle.cartridge_laws.specs.FormatLaws.{FormattingFormats, FormattedStands, 
 use Rattle.cartridge_laws.specs.FormatMarks.{IsFormattedFrom}
 use Rattle.cartridge_spec.specs.Code.{parity_sectors}
 use Rattle.cartridge_spec.specs.Formatting.{IsDefect, clearing_steps, copy_writes, HasNoDefectInFront, format_steps, IsFreshFor, fresh_plain}
-use Rattle.cartridge_spec.specs.HeaderAndTable.{IsArea}
+use Rattle.cartridge_spec.specs.Shape.{IsArea, sector_at, IsLive}
 use Rattle.cartridge_spec.specs.Says.{with_parity}
 use Rattle.cartridge_spec.specs.Settling.{changed_by}
-use Rattle.cartridge_spec.specs.Shape.{sector_at, IsLive}
 use Rattle.cartridge_spec.specs.Volumes.{Stands}
 use Rattle.gf256_qic.proofs.Parities.{length-parity_sectors}
 use Rattle.qic_base.specs.Cartridge.{zero_sector, Cartridge, view_at}

@@ -9,7 +9,7 @@ use Rattle.cartridge_laws.proofs.Segments.{length-whole_cells}
 use Rattle.cartridge_laws.proofs.Zeros.{zero_sector-is_sector, zero_is_written}
 use Rattle.cartridge_spec.specs.Formatting.{IsFreshFor, fresh_plain}
 use Rattle.cartridge_spec.specs.Header.{header_fault}
-use Rattle.cartridge_spec.specs.HeaderAndTable.{CopyReads, copy_cells}
+use Rattle.cartridge_spec.specs.HeaderCopies.{CopyReads, copy_cells}
 use Rattle.cartridge_spec.specs.Says.{whole_mask, cells_of, Written}
 use Rattle.cartridge_spec.specs.Shape.{sector_at}
 use Rattle.cartridge_spec.specs.Table.{slot, is_free, slot_fault, HasNoFault}

@@ -11,9 +11,9 @@ use Rattle.cartridge_laws.proofs.Segments.{zero_does_not_read}
 use Rattle.cartridge_spec.specs.Formatting.{HasNoHeader, StandsCleanly}
 use Rattle.cartridge_laws.specs.Terms.{IsBareCopy, IsInForce, overlaps_before, PartStands, CopiesAre, ForeignSlot, BadRange, IsCleanCopy}
 use Rattle.cartridge_spec.specs.Header.{has_signature, header_fault}
-use Rattle.cartridge_spec.specs.HeaderAndTable.{CopyDoesNotRead, IsArea, CopyReads, copy_cells, last_segment}
+use Rattle.cartridge_spec.specs.HeaderCopies.{CopyDoesNotRead, CopyReads, copy_cells, last_segment}
+use Rattle.cartridge_spec.specs.Shape.{IsArea, usable_places, mask_at, data_count, usable_count}
 use Rattle.cartridge_spec.specs.Says.{cells_of, Written, unreadable_count, ReadsAll, whole_mask}
-use Rattle.cartridge_spec.specs.Shape.{usable_places, mask_at, data_count, usable_count}
 use Rattle.cartridge_spec.specs.Table.{is_used, is_free, slot, slot_fault, some_free_below, has_bad_range, entry_in, Entry, HasNoFault}
 use Rattle.cartridge_spec.specs.Volumes.{Volume, Part, parts_of, VolumeStands, carrying, Plain, Stands, entries_of}
 use Rattle.qic_base.specs.Cartridge.{Cartridge, view_at, lost_places}

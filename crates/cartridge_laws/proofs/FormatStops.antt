@@ -10,8 +10,8 @@ use Rattle.cartridge_laws.proofs.Segments.{zero_does_not_read}
 use Rattle.cartridge_laws.specs.FormatLaws.{StoppedClearing, StoppedClearingNew, StoppedFormat, StoppedFormatNew}
 use Rattle.cartridge_spec.specs.Formatting.{StandsCleanly, HasNoHeader, HasNoDefectInFront, IsFreshFor, fresh_plain, clearing_steps, copy_writes, format_steps}
 use Rattle.cartridge_laws.specs.Terms.{IsBareCopy}
-use Rattle.cartridge_spec.specs.HeaderAndTable.{IsUnformatted}
-use Rattle.cartridge_spec.specs.Mounting.{IsTableLive}
+use Rattle.cartridge_spec.specs.HeaderCopies.{IsUnformatted}
+use Rattle.cartridge_spec.specs.TableSegment.{IsTableLive}
 use Rattle.cartridge_spec.specs.Says.{with_parity}
 use Rattle.cartridge_spec.specs.Shape.{IsLive}
 use Rattle.cartridge_spec.specs.Volumes.{Plain, Stands}

@@ -13,7 +13,7 @@ use Rattle.cartridge_laws.specs.HeaderWriting.{with_fields, FieldFits, told_fiel
 use Rattle.cartridge_spec.specs.Formatting.{IsDefect, MarksDefects, IsLabel, fresh_header}
 use Rattle.cartridge_laws.specs.Terms.{IsFreshArea, words_in}
 use Rattle.cartridge_spec.specs.Header.{Header, word_in}
-use Rattle.cartridge_spec.specs.HeaderAndTable.{IsArea}
+use Rattle.cartridge_spec.specs.Shape.{IsArea}
 use Rattle.qic_base.specs.Cartridge.{Cartridge, view_at, IsSector}
 use Rattle.qic_base.specs.Terms.{IsCartridge}
 use Rattle.qic_base.specs.declared.tape.SectorView.{SectorView}

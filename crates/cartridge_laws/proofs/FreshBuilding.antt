@@ -9,7 +9,7 @@ use Rattle.cartridge_laws.proofs.MapAreaLaws.{byte_in-other_word, word_in-others
 use Rattle.cartridge_laws.specs.HeaderWriting.{value_bytes, with_fields}
 use Rattle.cartridge_laws.specs.Terms.{byte_in, IsInMap}
 use Rattle.cartridge_spec.specs.Header.{word_in, Value, Number, Text, Field}
-use Rattle.cartridge_spec.specs.HeaderAndTable.{IsArea}
+use Rattle.cartridge_spec.specs.Shape.{IsArea}
 use Rattle.qic_base.proofs.FieldLaws.{length-overwritten, length-little_endian_bytes, number_at-overwritten}
 use Rattle.qic_base.specs.Cartridge.{IsSector, zero_sector}
 use Rattle.qic_base.specs.Field.{overwritten, little_endian_bytes, number_at}

@@ -12,8 +12,7 @@ use Rattle.cartridge_laws.specs.FreshLaws.{AreWords, ShownAreWords, MarksAreOne,
 use Rattle.cartridge_spec.specs.Formatting.{MarksDefects, fresh_header, IsFreshWith}
 use Rattle.cartridge_laws.specs.Terms.{IsFreshArea, words_in}
 use Rattle.cartridge_spec.specs.Header.{word_in}
-use Rattle.cartridge_spec.specs.HeaderAndTable.{IsArea}
-use Rattle.cartridge_spec.specs.Shape.{sector_at}
+use Rattle.cartridge_spec.specs.Shape.{IsArea, sector_at}
 use Rattle.qic_base.specs.Cartridge.{Cartridge}
 use Rattle.qic_base.specs.Field.{little_endian, number_at}
 

@@ -11,8 +11,7 @@ use Rattle.cartridge_laws.proofs.FreshFields.{are_first, first-head, first-tail}
 use Rattle.cartridge_laws.specs.FreshLaws.{SpelledIsOne}
 use Rattle.cartridge_spec.specs.Header.{Value, Number, Text, HoldsValue, Field, Holds, word_in, Header, SpellsHeader, profile_fields, header_fields}
 use Rattle.cartridge_laws.specs.Terms.{byte_in, IsInField, IsInMap, words_in}
-use Rattle.cartridge_spec.specs.HeaderAndTable.{IsArea}
-use Rattle.cartridge_spec.specs.Shape.{sector_at}
+use Rattle.cartridge_spec.specs.Shape.{IsArea, sector_at}
 use Rattle.qic_base.specs.Cartridge.{IsSector}
 use Rattle.qic_base.specs.Field.{little_endian, number_at}
 

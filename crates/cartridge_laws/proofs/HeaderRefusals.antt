@@ -7,7 +7,7 @@ use Rattle.std.proofs.lemmas.Bool.{eqb-true}
 use Rattle.std.proofs.lemmas.List.FromFn.{get_or-map-range_with_len, length-map-range_with_len}
 use Rattle.cartridge_spec.specs.Header.{Value, Number, Text, number_in, HoldsValue, value_fault, Field, HeaderFault, Holds, first_fault, tested, header_fault, number, profile_fields, word_in, Header}
 use Rattle.cartridge_laws.specs.Terms.{field_fault, fault_as, map_fault, words_in}
-use Rattle.cartridge_spec.specs.HeaderAndTable.{IsFormatted, last_segment}
+use Rattle.cartridge_spec.specs.HeaderCopies.{IsFormatted, last_segment}
 use Rattle.cartridge_spec.specs.Volumes.{Plain, Stands}
 use Rattle.qic_base.specs.Cartridge.{Cartridge}
 use Rattle.qic_base.specs.declared.foreign.ForeignField.{ForeignField}

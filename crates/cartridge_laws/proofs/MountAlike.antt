@@ -6,7 +6,7 @@ use Rattle.cartridge_laws.proofs.MountFar.{length-table_block}
 use Rattle.cartridge_laws.proofs.MountSettling.{settling_writes, stopped_way}
 use Rattle.cartridge_laws.proofs.MountStops.{IsOnTheWay, open_alike, some_both}
 use Rattle.cartridge_laws.specs.MountLaws.{StoppedSettlesAlike}
-use Rattle.cartridge_spec.specs.HeaderAndTable.{TableIs}
+use Rattle.cartridge_spec.specs.TableSegment.{TableIs}
 use Rattle.cartridge_spec.specs.Mounting.{settled}
 use Rattle.cartridge_spec.specs.Says.{whole_mask, with_parity}
 use Rattle.cartridge_spec.specs.Settling.{writes_of, changed_by}

@@ -11,9 +11,10 @@ use Rattle.cartridge_laws.specs.MountBlocks.{KeepsTable}
 use Rattle.cartridge_laws.specs.MountLaws.{StoppedMounts, StoppedStands, StoppedIsClean}
 use Rattle.cartridge_spec.specs.Formatting.{StandsCleanly}
 use Rattle.cartridge_spec.specs.Header.{header_fault, Header}
-use Rattle.cartridge_spec.specs.HeaderAndTable.{copy_cells, CopyReads, CopyDoesNotRead, HasHeader, last_segment, table_cells, TableIs}
+use Rattle.cartridge_spec.specs.HeaderCopies.{copy_cells, CopyReads, CopyDoesNotRead, HasHeader, last_segment}
+use Rattle.cartridge_spec.specs.TableSegment.{table_cells, TableIs, ReadsPlainly}
 use Rattle.cartridge_laws.specs.Terms.{IsInForce, CopiesAre}
-use Rattle.cartridge_spec.specs.Mounting.{IsMounted, ReadsPlainly}
+use Rattle.cartridge_spec.specs.Mounting.{IsMounted}
 use Rattle.cartridge_spec.specs.Says.{whole_mask, Data, Says, Written, Zero, ReadsAll}
 use Rattle.cartridge_spec.specs.Settling.{settling_steps}
 use Rattle.cartridge_spec.specs.Table.{HasNoFault, slot_fault, Entry}

@@ -14,7 +14,7 @@ use Rattle.cartridge_laws.proofs.MountWriting.{unsettled_data, unsettled_parity,
 use Rattle.cartridge_laws.proofs.Segments.{cells_of_whole}
 use Rattle.cartridge_laws.specs.MountBlocks.{HoldsPart}
 use Rattle.cartridge_laws.specs.Segment.{IsUnreadable}
-use Rattle.cartridge_spec.specs.Mounting.{ReadsPlainly}
+use Rattle.cartridge_spec.specs.TableSegment.{ReadsPlainly}
 use Rattle.cartridge_spec.specs.Says.{with_parity}
 use Rattle.cartridge_spec.specs.Settling.{holds_other, settling_places, holds}
 use Rattle.cartridge_laws.specs.Terms.{places_where, is_left_out, is_unsettled}

@@ -11,9 +11,9 @@ use Rattle.cartridge_laws.proofs.MountStops.{block_written}
 use Rattle.cartridge_laws.proofs.Sets.{IsOneOf, IsNoneOf}
 use Rattle.cartridge_laws.specs.MountBlocks.{HoldsPart}
 use Rattle.cartridge_laws.specs.Segment.{IsUnreadable}
-use Rattle.cartridge_spec.specs.HeaderAndTable.{TableIs, table_cells, IsArea}
+use Rattle.cartridge_spec.specs.TableSegment.{TableIs, table_cells}
+use Rattle.cartridge_spec.specs.Shape.{IsArea, is_unreadable, sector_at}
 use Rattle.cartridge_spec.specs.Says.{whole_mask, TableSays, AsRead, ByCode, Data, unreadable_count, with_parity, sets_by, set_of}
-use Rattle.cartridge_spec.specs.Shape.{is_unreadable, sector_at}
 use Rattle.cartridge_laws.specs.Terms.{sets_by_one, last_used}
 use Rattle.qic_base.specs.Cartridge.{Cartridge, view_at}
 use Rattle.qic_base.specs.declared.tape.SectorView.{SectorView}

@@ -11,7 +11,8 @@ use Rattle.cartridge_laws.proofs.TableTotals.{sound_data_show_volumes, data_are_
 use Rattle.cartridge_laws.specs.MountLaws.{MountsIsFunction, MountsAlways}
 use Rattle.cartridge_spec.specs.Header.{HeaderFault, header_fault, Header, number_in, Field, Holds, number, has_signature}
 use Rattle.cartridge_laws.specs.Terms.{text_in, words_in, text, IsInForce, TableFault}
-use Rattle.cartridge_spec.specs.HeaderAndTable.{CopyReads, copy_cells, HasHeader, CopyDoesNotRead, IsUnformatted, table_cells, TableIs, last_segment, IsFormatted}
+use Rattle.cartridge_spec.specs.HeaderCopies.{CopyReads, copy_cells, HasHeader, CopyDoesNotRead, IsUnformatted, last_segment, IsFormatted}
+use Rattle.cartridge_spec.specs.TableSegment.{table_cells, TableIs}
 use Rattle.cartridge_spec.specs.Mounting.{IsSoundlyFormatted, RefusesHeader, RefusesTable, Mounting, NotFormatted, Foreign, TableLost, TableMismatch, Mounted, Mounts, IsMounted}
 use Rattle.cartridge_spec.specs.Says.{Data, AsRead, ByCode, Saying, TableSays, LostSectors, Mismatch, Says, whole_mask, TableSaying}
 use Rattle.cartridge_spec.specs.Table.{IsFirstFault, slot_fault, HasNoFault, Entry}

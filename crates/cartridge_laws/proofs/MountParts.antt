@@ -7,9 +7,9 @@ use Rattle.cartridge_laws.proofs.FormatCopies.{view_held}
 use Rattle.cartridge_laws.proofs.Sets.{names, named_is_one, few_lost, IsNoneOf, unnamed_is_none}
 use Rattle.cartridge_laws.specs.MountBlocks.{HoldsPart}
 use Rattle.cartridge_spec.specs.Code.{parity_sectors, IsCodeBlock}
-use Rattle.cartridge_spec.specs.HeaderAndTable.{IsArea, table_cells}
+use Rattle.cartridge_spec.specs.Shape.{IsArea, sector_at, is_unreadable}
+use Rattle.cartridge_spec.specs.TableSegment.{table_cells}
 use Rattle.cartridge_spec.specs.Says.{with_parity, ReadsAll, set_of}
-use Rattle.cartridge_spec.specs.Shape.{sector_at, is_unreadable}
 use Rattle.gf256_qic.proofs.Agreement.{one_block}
 use Rattle.gf256_qic.proofs.Parities.{length-parity_sectors, parity_block}
 use Rattle.gf256_qic.specs.Code.{lost_below}

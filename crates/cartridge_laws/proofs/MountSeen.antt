@@ -11,10 +11,10 @@ use Rattle.cartridge_laws.proofs.Segments.{length-whole_cells, cells_of_whole}
 use Rattle.cartridge_laws.proofs.Sets.{IsOneOf, IsNoneOf, few_unreadable, unnamed_is_none, held_outside, length-hidden, none_is_unnamed, seen_outside}
 use Rattle.cartridge_laws.specs.MountBlocks.{HoldsPart}
 use Rattle.cartridge_laws.specs.Segment.{IsUnreadable}
-use Rattle.cartridge_spec.specs.HeaderAndTable.{table_cells, IsArea, TableIs}
+use Rattle.cartridge_spec.specs.TableSegment.{table_cells, TableIs}
+use Rattle.cartridge_spec.specs.Shape.{IsArea, is_unreadable, sector_at}
 use Rattle.cartridge_spec.specs.Says.{unreadable_count, HasBlock, with_parity, HasNoBlock, HasFirstBlock, unreadable_from, shows_used_slot, last_used_below, set_of, sets_by}
 use Rattle.cartridge_laws.specs.Terms.{unreadable_data, hidden, unreadable_places, sets_by_one, sets_by_two, last_used}
-use Rattle.cartridge_spec.specs.Shape.{is_unreadable, sector_at}
 use Rattle.qic_base.specs.Cartridge.{Cartridge, view_at}
 use Rattle.qic_base.specs.declared.tape.SectorView.{SectorView}
 use Rattle.qic_base.specs.declared.tape.SectorView.TheVariants.{Holds, Lost}

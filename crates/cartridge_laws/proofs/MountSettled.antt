@@ -14,8 +14,8 @@ use Rattle.cartridge_laws.proofs.MountWhole.{settling_effects}
 use Rattle.cartridge_laws.proofs.MountWriting.{IsAllWritten, all_written, unsettled_data, unsettled_parity}
 use Rattle.cartridge_laws.specs.MountBlocks.{KeepsTable, HoldsPart}
 use Rattle.cartridge_laws.specs.MountLaws.{SettledKeepsTable, SettledMounts, SettledStands, SettledIsClean, SettledTwice, SettledIsWritten, SettledReadsPlainly, SettledIsWhole, SettledNeedsNoSteps}
-use Rattle.cartridge_spec.specs.HeaderAndTable.{TableIs}
-use Rattle.cartridge_spec.specs.Mounting.{settled, ReadsPlainly, IsTableLive}
+use Rattle.cartridge_spec.specs.TableSegment.{TableIs, ReadsPlainly, IsTableLive}
+use Rattle.cartridge_spec.specs.Mounting.{settled}
 use Rattle.cartridge_spec.specs.Says.{whole_mask, with_parity}
 use Rattle.cartridge_spec.specs.Settling.{settling_steps, writes_of, changed_by, holds, block_writes}
 use Rattle.cartridge_laws.specs.Terms.{places_where, is_unsettled, is_left_out}

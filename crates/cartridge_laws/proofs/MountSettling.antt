@@ -14,8 +14,7 @@ use Rattle.cartridge_laws.proofs.MountWriting.{places_that, places_are, unsettle
 use Rattle.cartridge_laws.specs.MountBlocks.{HoldsPart}
 use Rattle.cartridge_laws.specs.MountLaws.{StoppedSettling}
 use Rattle.cartridge_laws.specs.Segment.{IsUnreadable}
-use Rattle.cartridge_spec.specs.HeaderAndTable.{TableIs}
-use Rattle.cartridge_spec.specs.Mounting.{ReadsPlainly}
+use Rattle.cartridge_spec.specs.TableSegment.{TableIs, ReadsPlainly}
 use Rattle.cartridge_spec.specs.Says.{with_parity}
 use Rattle.cartridge_spec.specs.Settling.{block_writes, settling_places, settling_steps}
 use Rattle.cartridge_laws.specs.Terms.{places_where, is_unsettled, is_left_out}

@@ -7,9 +7,9 @@ use Rattle.cartridge_laws.proofs.MountNear.{IsRead, AllBut, gone_not_read, PartO
 use Rattle.cartridge_laws.proofs.MountWriting.{steps_that, steps_none, steps_passes, steps_fails}
 use Rattle.cartridge_laws.specs.MountBlocks.{HoldsPart}
 use Rattle.cartridge_laws.specs.Segment.{IsUnreadable}
-use Rattle.cartridge_spec.specs.HeaderAndTable.{IsArea, TableIs}
+use Rattle.cartridge_spec.specs.Shape.{IsArea, sector_at, is_unreadable}
+use Rattle.cartridge_spec.specs.TableSegment.{TableIs}
 use Rattle.cartridge_spec.specs.Says.{with_parity}
-use Rattle.cartridge_spec.specs.Shape.{sector_at, is_unreadable}
 use Rattle.qic_base.specs.Cartridge.{Cartridge, view_at}
 use Rattle.qic_base.specs.Step.{WriteSector, changed, written_view, Wear, worn_view, Step, Torn}
 use Rattle.qic_base.specs.declared.tape.SectorView.{SectorView}

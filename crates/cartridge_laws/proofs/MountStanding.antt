@@ -10,8 +10,9 @@ use Rattle.cartridge_laws.proofs.Segments.{length-whole_cells}
 use Rattle.cartridge_laws.proofs.TableSayings.{says_data}
 use Rattle.cartridge_laws.specs.MountLaws.{StandingMounts, StandingMountsOnlySo}
 use Rattle.cartridge_spec.specs.Code.{parity_sectors}
-use Rattle.cartridge_spec.specs.HeaderAndTable.{IsArea, table_cells, TableIs}
-use Rattle.cartridge_spec.specs.Mounting.{CanBeRead, ReadsPlainly, IsSoundlyFormatted, TableLost, mounted_as}
+use Rattle.cartridge_spec.specs.Shape.{IsArea}
+use Rattle.cartridge_spec.specs.TableSegment.{table_cells, TableIs, CanBeRead, ReadsPlainly}
+use Rattle.cartridge_spec.specs.Mounting.{IsSoundlyFormatted, TableLost, mounted_as}
 use Rattle.cartridge_spec.specs.Says.{Says, Data, Written, ReadsAll, unreadable_count}
 use Rattle.cartridge_laws.specs.Terms.{unreadable_data}
 use Rattle.cartridge_spec.specs.Volumes.{Plain, Stands}

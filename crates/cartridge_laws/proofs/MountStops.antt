@@ -12,12 +12,11 @@ use Rattle.cartridge_laws.proofs.MountStanding.{said_area}
 use Rattle.cartridge_laws.proofs.MountWriting.{steps_that, steps_none, steps_passes, steps_fails, table_block, unsettled_data, unsettled_parity, solved_agree, IsAllWritten, all_written, same_written}
 use Rattle.cartridge_laws.proofs.Sayings.{written_is_said}
 use Rattle.cartridge_laws.proofs.Segments.{cells_of_whole, length-whole_cells}
-use Rattle.cartridge_spec.specs.HeaderAndTable.{table_cells, IsArea}
-use Rattle.cartridge_spec.specs.Mounting.{ReadsPlainly}
+use Rattle.cartridge_spec.specs.TableSegment.{table_cells, ReadsPlainly}
+use Rattle.cartridge_spec.specs.Shape.{IsArea, sector_at, is_unreadable, usable_places}
 use Rattle.cartridge_spec.specs.Says.{ReadsAll, Says, Data, Written, unreadable_count, whole_mask}
 use Rattle.cartridge_spec.specs.Settling.{holds, writes_of, changed_by}
 use Rattle.cartridge_laws.specs.Terms.{is_unsettled}
-use Rattle.cartridge_spec.specs.Shape.{sector_at, is_unreadable, usable_places}
 use Rattle.qic_base.specs.Cartridge.{Cartridge, view_at, with_view}
 use Rattle.qic_base.specs.Step.{WriteSector, Wear, changed, Step, written_view, worn_view, Torn}
 use Rattle.qic_base.specs.declared.tape.SectorView.{SectorView}

@@ -11,11 +11,10 @@ use Rattle.cartridge_laws.proofs.Segments.{cells_are_views, view_of_cartridge}
 use Rattle.cartridge_laws.proofs.TableSayings.{read_are_sectors}
 use Rattle.cartridge_laws.proofs.Whole.{with_view_whole, written_is_view, worn_is_view}
 use Rattle.cartridge_laws.specs.MountLaws.{TableIsArea, StoppedIsCartridge, SettlingEffects, SettledIsCartridge}
-use Rattle.cartridge_spec.specs.HeaderAndTable.{IsArea, table_cells, TableIs}
-use Rattle.cartridge_spec.specs.Mounting.{ReadsPlainly}
+use Rattle.cartridge_spec.specs.Shape.{IsArea, sector_at}
+use Rattle.cartridge_spec.specs.TableSegment.{table_cells, TableIs, ReadsPlainly}
 use Rattle.cartridge_spec.specs.Says.{whole_mask, with_parity}
 use Rattle.cartridge_spec.specs.Settling.{settling_steps}
-use Rattle.cartridge_spec.specs.Shape.{sector_at}
 use Rattle.gf256_qic.proofs.Parities.{parity_block}
 use Rattle.qic_base.proofs.Steps.{Torn-all}
 use Rattle.qic_base.specs.Cartridge.{Cartridge, IsSector, view_at}

@@ -10,7 +10,7 @@ use Rattle.cartridge_laws.proofs.FormatCopies.{view_held}
 use Rattle.cartridge_laws.proofs.FormatWriting.{writes_untouched, view_written}
 use Rattle.cartridge_laws.proofs.Sayings.{said_is_written}
 use Rattle.cartridge_laws.proofs.Segments.{places_of_whole}
-use Rattle.cartridge_spec.specs.HeaderAndTable.{table_cells}
+use Rattle.cartridge_spec.specs.TableSegment.{table_cells}
 use Rattle.cartridge_spec.specs.Says.{with_parity, whole_mask, Written, Says, Data}
 use Rattle.cartridge_spec.specs.Settling.{block_writes, writes_of, changed_by, holds}
 use Rattle.cartridge_laws.specs.Terms.{places_where, is_unsettled}

@@ -18,8 +18,10 @@ use Rattle.cartridge_laws.specs.AppendSteps.{list_writes}
 use Rattle.cartridge_laws.specs.OneLossLaws.{TableAloneComesBack, TableAloneIsClean, StoppedAppendComesBack, DoneAppendReadsNew, DoneAppendComesBack, SettledComesBack}
 use Rattle.cartridge_spec.specs.Appending.{with_bytes, appended_volume}
 use Rattle.cartridge_spec.specs.Header.{header_fault}
-use Rattle.cartridge_spec.specs.HeaderAndTable.{TableIs, copy_cells, HasHeader, last_segment, table_cells, IsArea}
-use Rattle.cartridge_spec.specs.Mounting.{settled, IsMounted, ChangesTableAlone, LosesOne, LosesOneAlone, ComesBackAs}
+use Rattle.cartridge_spec.specs.TableSegment.{TableIs, table_cells, ChangesTableAlone, LosesOne, LosesOneAlone}
+use Rattle.cartridge_spec.specs.HeaderCopies.{copy_cells, HasHeader, last_segment}
+use Rattle.cartridge_spec.specs.Shape.{IsArea}
+use Rattle.cartridge_spec.specs.Mounting.{settled, IsMounted, ComesBackAs}
 use Rattle.cartridge_spec.specs.Says.{whole_mask, Written, Zero}
 use Rattle.cartridge_spec.specs.Settling.{changed_by}
 use Rattle.cartridge_spec.specs.Table.{HasNoFault, slot_fault}

@@ -9,9 +9,9 @@ use Rattle.cartridge_laws.proofs.Segments.{cells_of_whole}
 use Rattle.cartridge_laws.proofs.Sets.{IsNoneOf, IsOneOf}
 use Rattle.cartridge_laws.specs.MountBlocks.{HoldsPart}
 use Rattle.cartridge_laws.specs.OneLossTables.{DifferInOne, IsLastInUse}
-use Rattle.cartridge_spec.specs.HeaderAndTable.{IsArea, table_cells, TableIs}
+use Rattle.cartridge_spec.specs.Shape.{IsArea, sector_at, is_unreadable}
+use Rattle.cartridge_spec.specs.TableSegment.{table_cells, TableIs}
 use Rattle.cartridge_spec.specs.Says.{with_parity, HasFirstBlock, unreadable_count, shows_used_slot, sets_by, with_used, set_of}
-use Rattle.cartridge_spec.specs.Shape.{sector_at, is_unreadable}
 use Rattle.cartridge_laws.specs.Terms.{has_used_slot, last_used, unreadable_places, sets_by_one, sets_by_two}
 use Rattle.qic_base.specs.Cartridge.{Cartridge, view_at}
 use Rattle.qic_base.specs.declared.tape.SectorView.{SectorView}

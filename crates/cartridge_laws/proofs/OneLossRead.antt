@@ -10,8 +10,7 @@ use Rattle.cartridge_laws.specs.AppendBetween.{IsWhole, IsBegun, IsTurned}
 use Rattle.cartridge_laws.specs.MountBlocks.{HoldsPart}
 use Rattle.cartridge_laws.specs.OneLossLaws.{BeforeReadsOldStill, LostParityReadsNew, LostDataReadsOld, LostDataReadsNew, OneLossReadsEither}
 use Rattle.cartridge_laws.specs.OneLossTables.{DifferInOne, IsLastInUse}
-use Rattle.cartridge_spec.specs.HeaderAndTable.{table_cells, TableIs}
-use Rattle.cartridge_spec.specs.Mounting.{LosesOne}
+use Rattle.cartridge_spec.specs.TableSegment.{table_cells, TableIs, LosesOne}
 use Rattle.cartridge_spec.specs.Says.{unreadable_count, with_parity}
 use Rattle.cartridge_spec.specs.Shape.{sector_at}
 use Rattle.qic_base.specs.Cartridge.{Cartridge, view_at}

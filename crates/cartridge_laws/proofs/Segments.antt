@@ -8,7 +8,7 @@ use Rattle.std.proofs.lemmas.Bool.{cases_lt, false≢true}
 use Rattle.std.proofs.lemmas.List.Elements.{All-get_or, All-map}
 use Rattle.cartridge_laws.proofs.Zeros.{zero_has_no_signature}
 use Rattle.cartridge_laws.specs.SayingLaws.{PlacesOfWhole, CountOfCells, CellsOfWhole, CellsAreViews, ZeroDoesNotRead}
-use Rattle.cartridge_spec.specs.HeaderAndTable.{copy_cells}
+use Rattle.cartridge_spec.specs.HeaderCopies.{copy_cells}
 use Rattle.cartridge_spec.specs.Says.{whole_mask, cells_of}
 use Rattle.cartridge_spec.specs.Shape.{usable_places, usable_count}
 use Rattle.qic_base.specs.Cartridge.{view_at, Cartridge, lost_places}

@@ -8,8 +8,7 @@ use Rattle.std.proofs.lemmas.List.{length-set, length_push, get_or_append_left, 
 use Rattle.std.specs.List.{slice_range}
 use Rattle.std.proofs.lemmas.Bool.{cases_lt, cases_eq}
 use Rattle.cartridge_laws.proofs.Writing.{slice_get-set_same, slice_get-set_other}
-use Rattle.cartridge_spec.specs.HeaderAndTable.{IsArea}
-use Rattle.cartridge_spec.specs.Shape.{sector_at}
+use Rattle.cartridge_spec.specs.Shape.{IsArea, sector_at}
 use Rattle.cartridge_laws.specs.Terms.{slot_sector, with_slot}
 use Rattle.cartridge_spec.specs.Table.{slot, Entry, Shows, entry_in, is_used, is_free}
 use Rattle.qic_base.proofs.FieldLaws.{length-overwritten, slice_range-overwritten, slice_range-overwritten_below, slice_range-overwritten_above}

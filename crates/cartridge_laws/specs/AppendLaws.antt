@@ -5,15 +5,16 @@ use Rattle.cartridge_laws.specs.AppendSteps.{volume_writes, list_writes, append_
 use Rattle.cartridge_laws.specs.AppendWrites.{AreWrites, IsFree, KeepsTo, IsOfSector}
 use Rattle.cartridge_laws.specs.Shape.{Carries}
 use Rattle.cartridge_laws.specs.Table.{IsSoundList}
-use Rattle.cartridge_spec.specs.Appending.{has_room, volume_bytes, free_segments, part_writes, in_sectors, with_bytes, appended_volume}
+use Rattle.cartridge_spec.specs.Appending.{has_room, free_segments, part_writes, in_sectors, with_bytes, appended_volume}
+use Rattle.cartridge_spec.specs.Volumes.{volume_bytes, Plain, Stands, entries_of, volume_length}
 use Rattle.cartridge_laws.specs.Terms.{last_end, slot_sector}
 use Rattle.cartridge_spec.specs.Formatting.{IsLabel, StandsCleanly}
-use Rattle.cartridge_spec.specs.HeaderAndTable.{last_segment, TableIs, IsArea}
-use Rattle.cartridge_spec.specs.Mounting.{IsTableLive, settled, Mounts, mounted_as}
+use Rattle.cartridge_spec.specs.HeaderCopies.{last_segment}
+use Rattle.cartridge_spec.specs.TableSegment.{TableIs, IsTableLive}
+use Rattle.cartridge_spec.specs.Shape.{IsArea, mask_at, data_count, capacity}
+use Rattle.cartridge_spec.specs.Mounting.{settled, Mounts, mounted_as}
 use Rattle.cartridge_spec.specs.Settling.{changed_by, settling_steps}
-use Rattle.cartridge_spec.specs.Shape.{mask_at, data_count, capacity}
 use Rattle.cartridge_spec.specs.Table.{Shows}
-use Rattle.cartridge_spec.specs.Volumes.{Plain, Stands, entries_of, volume_length}
 use Rattle.qic_base.specs.Cartridge.{Cartridge, view_at}
 use Rattle.qic_base.specs.Terms.{IsCartridge}
 use Rattle.qic_base.specs.Step.{Step, Torn}

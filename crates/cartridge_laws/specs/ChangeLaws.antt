@@ -5,8 +5,9 @@ use Rattle.cartridge_laws.specs.ChangeSteps.{HasNoRenew}
 use Rattle.cartridge_laws.specs.ChangeWear.{FewLost}
 use Rattle.cartridge_spec.specs.Formatting.{StandsCleanly, HasNoHeader}
 use Rattle.cartridge_spec.specs.Header.{Header}
-use Rattle.cartridge_spec.specs.HeaderAndTable.{HasHeader}
-use Rattle.cartridge_spec.specs.Mounting.{Mounted, Mounts, IsTableLive}
+use Rattle.cartridge_spec.specs.HeaderCopies.{HasHeader}
+use Rattle.cartridge_spec.specs.Mounting.{Mounted, Mounts}
+use Rattle.cartridge_spec.specs.TableSegment.{IsTableLive}
 use Rattle.cartridge_spec.specs.Table.{Entry}
 use Rattle.cartridge_spec.specs.Volumes.{Plain, Stands, worn, WearSpares}
 use Rattle.qic_base.specs.Cartridge.{Cartridge}

@@ -1,6 +1,6 @@
 -- A header copy that was in force and has lost few sectors (this project's profile).
 use Rattle.std.specs.Prelude.{◌⊎◌, ℕ, ◌≤◌, List}
-use Rattle.cartridge_spec.specs.HeaderAndTable.{CopyReads, CopyDoesNotRead, copy_cells}
+use Rattle.cartridge_spec.specs.HeaderCopies.{CopyReads, CopyDoesNotRead, copy_cells}
 use Rattle.cartridge_spec.specs.Says.{unreadable_count}
 use Rattle.qic_base.specs.Cartridge.{Cartridge}
 

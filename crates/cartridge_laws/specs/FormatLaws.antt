@@ -4,8 +4,9 @@ use Rattle.cartridge_laws.specs.FormatMarks.{IsClearedFrom, IsFormattedFrom}
 use Rattle.cartridge_laws.specs.Segment.{IsUnreadable}
 use Rattle.cartridge_laws.specs.Writes.{named_writes}
 use Rattle.cartridge_spec.specs.Formatting.{HasNoHeader, copy_writes, clearing_steps, IsDefect, format_steps, HasNoDefectInFront, StandsCleanly, IsFreshFor, fresh_plain, MarksDefects}
-use Rattle.cartridge_spec.specs.HeaderAndTable.{copy_cells, IsUnformatted, IsArea}
-use Rattle.cartridge_spec.specs.Mounting.{IsTableLive}
+use Rattle.cartridge_spec.specs.HeaderCopies.{copy_cells, IsUnformatted}
+use Rattle.cartridge_spec.specs.Shape.{IsArea}
+use Rattle.cartridge_spec.specs.TableSegment.{IsTableLive}
 use Rattle.cartridge_spec.specs.Says.{whole_mask, Zero}
 use Rattle.cartridge_spec.specs.Settling.{changed_by}
 use Rattle.cartridge_spec.specs.Volumes.{Plain, Stands}

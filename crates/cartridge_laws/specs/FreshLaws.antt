@@ -2,7 +2,7 @@
 use Rattle.std.specs.Prelude.{ℕ, ◌⊎◌, ◌≡◌, List, ◌^◌, ◌<◌, All}
 use Rattle.cartridge_spec.specs.Formatting.{IsFirstDefectInFront, HasNoDefectInFront, MarksDefects, IsFreshWith, IsLabel}
 use Rattle.cartridge_spec.specs.Header.{Header, SpellsHeader, Shows}
-use Rattle.cartridge_spec.specs.HeaderAndTable.{IsArea}
+use Rattle.cartridge_spec.specs.Shape.{IsArea}
 use Rattle.qic_base.specs.Cartridge.{Cartridge}
 use Rattle.qic_base.specs.Terms.{IsCartridge}
 

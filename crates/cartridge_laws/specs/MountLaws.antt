@@ -3,11 +3,11 @@ use Rattle.std.specs.Prelude.{◌≡◌, ℕ, List, ◌⊎◌, Some, Option, IsS
 use Rattle.cartridge_laws.specs.MountBlocks.{KeepsTable}
 use Rattle.cartridge_spec.specs.Formatting.{StandsCleanly}
 use Rattle.cartridge_spec.specs.Header.{Header}
-use Rattle.cartridge_spec.specs.HeaderAndTable.{IsArea, TableIs, table_cells}
-use Rattle.cartridge_spec.specs.Mounting.{Mounting, Mounts, mounted_as, CanBeRead, TableLost, settled, Mounted, ReadsPlainly, IsTableLive}
+use Rattle.cartridge_spec.specs.Shape.{IsArea, sector_at}
+use Rattle.cartridge_spec.specs.TableSegment.{TableIs, table_cells, CanBeRead, ReadsPlainly, IsTableLive}
+use Rattle.cartridge_spec.specs.Mounting.{Mounting, Mounts, mounted_as, TableLost, settled, Mounted}
 use Rattle.cartridge_spec.specs.Says.{Written, with_parity}
 use Rattle.cartridge_spec.specs.Settling.{changed_by, settling_steps}
-use Rattle.cartridge_spec.specs.Shape.{sector_at}
 use Rattle.cartridge_spec.specs.Table.{Entry}
 use Rattle.cartridge_spec.specs.Volumes.{Plain, Stands}
 use Rattle.qic_base.specs.Cartridge.{Cartridge, view_at}

@@ -2,7 +2,7 @@
 use Rattle.std.specs.Prelude.{◌≡◌, List, All, ◌≤◌, length, ◌≢◌, ◌<◌, ℕ, Some, slice_get, ◌+◌, replicate, false}
 use Rattle.std.specs.List.{range_with_len}
 use Rattle.cartridge_spec.specs.Header.{has_signature}
-use Rattle.cartridge_spec.specs.HeaderAndTable.{copy_cells, CopyDoesNotRead}
+use Rattle.cartridge_spec.specs.HeaderCopies.{copy_cells, CopyDoesNotRead}
 use Rattle.cartridge_spec.specs.Says.{Saying, Says, TableSaying, TableSays, Mismatch, ByCode, ReadsAll, cells_of, whole_mask, Data, Written, unreadable_count, LostSectors, Zero}
 use Rattle.cartridge_laws.specs.Terms.{unreadable_data}
 use Rattle.cartridge_spec.specs.Shape.{usable_count, usable_places}

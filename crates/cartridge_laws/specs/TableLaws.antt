@@ -2,7 +2,7 @@
 use Rattle.std.specs.Prelude.{◌≡◌, ℕ, List, ◌⊎◌, ◌<◌, [], ◌∷◌, ◌++◌, length}
 use Rattle.cartridge_laws.specs.Slots.{FitsSlot}
 use Rattle.cartridge_laws.specs.Table.{IsSoundList}
-use Rattle.cartridge_spec.specs.HeaderAndTable.{IsArea}
+use Rattle.cartridge_spec.specs.Shape.{IsArea}
 use Rattle.cartridge_spec.specs.Table.{Entry, Shows, HasNoFault, IsFirstFault, slot_bytes}
 use Rattle.cartridge_laws.specs.Terms.{TableFault, with_slot}
 

@@ -5,10 +5,11 @@ use Rattle.cartridge_spec.specs.Appending.{end_behind, taken_by, free_segments}
 use Rattle.cartridge_spec.specs.Code.{IsCodeBlock}
 use Rattle.cartridge_spec.specs.Formatting.{fresh_header}
 use Rattle.cartridge_spec.specs.Header.{Field, Text, HeaderFault, SpellsHeader, value_fault, word_in}
-use Rattle.cartridge_spec.specs.HeaderAndTable.{IsArea, copy_cells, table_cells, CopyReads, CopyDoesNotRead}
+use Rattle.cartridge_spec.specs.Shape.{IsArea, sector_at, mask_at, data_count, is_unreadable}
+use Rattle.cartridge_spec.specs.HeaderCopies.{copy_cells, CopyReads, CopyDoesNotRead}
+use Rattle.cartridge_spec.specs.TableSegment.{table_cells}
 use Rattle.cartridge_spec.specs.Says.{Agrees, HasNoBlock, Written, Zero, cells_of, hidden_from, unreadable_count, last_used_below, set_of, sets_by, some_used_below, unreadable_from, with_used}
 use Rattle.cartridge_spec.specs.Settling.{holds, holds_other}
-use Rattle.cartridge_spec.specs.Shape.{sector_at, mask_at, data_count, is_unreadable}
 use Rattle.cartridge_spec.specs.Table.{Entry, slot, entry_in}
 use Rattle.cartridge_spec.specs.Volumes.{Part, Plain, entries_of}
 use Rattle.qic_base.specs.Cartridge.{Cartridge, view_at, lost_places}

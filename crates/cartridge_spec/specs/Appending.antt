@@ -5,7 +5,7 @@ use Rattle.cartridge_spec.specs.Says.{with_parity}
 use Rattle.cartridge_spec.specs.Settling.{block_writes, writes_of}
 use Rattle.cartridge_spec.specs.Shape.{mask_at, capacity, data_count, usable_places}
 use Rattle.cartridge_spec.specs.Table.{Entry, table_with}
-use Rattle.cartridge_spec.specs.Volumes.{carrying, capacity_between, Volume, volume_length, Part, Plain, entries_of}
+use Rattle.cartridge_spec.specs.Volumes.{carrying, capacity_between, Volume, Part, Plain, entries_of}
 use Rattle.qic_base.specs.Step.{Step}
 
 -- the end of the last of some volumes behind a segment, or that segment where there is none
@@ -40,15 +40,6 @@ abbrev pub new_entry : (segments : List ℕ) → (name : List ℕ) → (date byt
 new_entry segments name date bytes =
     let last : ℕ = slice_index segments (length segments - 1) in
     record { start = slice_index segments 0; end = last; name = name; date = date; flags = 1; sequence = 1; directory = 0; size = bytes }
-
--- the bytes of some sectors, one after the other
-abbrev pub bytes_in : List (List ℕ) → List ℕ
-bytes_in [] = []
-bytes_in (sector ∷ sectors) = sector ++ bytes_in sectors
-
--- the first ones of its area, as many as its length says
-abbrev pub volume_bytes : (words : List ℕ) → Volume → List ℕ
-volume_bytes words volume = take (volume_length words volume.entry) (bytes_in volume.area)
 
 -- the writes of the table's new data: the changed sector of data, and those of parity
 abbrev pub table_writes : (changed : ℕ) → (new : List (List ℕ)) → List Step

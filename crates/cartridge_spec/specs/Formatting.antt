@@ -3,7 +3,8 @@
 use Rattle.std.specs.Prelude.{ℕ, List, slice_index, ◌≡◌, ◌↔◌, ◌*◌, ◌/◌, ◌%◌, ◌^◌, ◌<◌, length, ◌⊎◌, All, map, ◌∷◌, [], ◌++◌, take, drop, replicate}
 use Rattle.std.specs.List.{range_with_len}
 use Rattle.cartridge_spec.specs.Header.{Header, SpellsHeader}
-use Rattle.cartridge_spec.specs.HeaderAndTable.{copy_cells, IsArea}
+use Rattle.cartridge_spec.specs.HeaderCopies.{copy_cells}
+use Rattle.cartridge_spec.specs.Shape.{IsArea}
 use Rattle.cartridge_spec.specs.Says.{Written, Zero, unreadable_count, with_parity}
 use Rattle.cartridge_spec.specs.Settling.{writes_of}
 use Rattle.cartridge_spec.specs.Volumes.{Plain, Stands}

@@ -2,10 +2,11 @@ pub mod Appending
 pub mod Code
 pub mod Formatting
 pub mod Header
-pub mod HeaderAndTable
+pub mod HeaderCopies
 pub mod Mounting
 pub mod Says
 pub mod Settling
 pub mod Shape
 pub mod Table
+pub mod TableSegment
 pub mod Volumes

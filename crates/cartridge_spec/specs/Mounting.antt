@@ -1,15 +1,15 @@
 -- What the mounting of a cartridge gives, and the cartridge as it leaves it (this project's profile).
-use Rattle.std.specs.Prelude.{ℕ, List, ◌≡◌, Some, ◌⊎◌, if◌then◌else◌, take, ◌≤◌, ◌<◌, ◌≢◌, false, Option, IsSomeAnd}
+use Rattle.std.specs.Prelude.{ℕ, List, ◌≡◌, Some, ◌⊎◌, if◌then◌else◌, false, Option, IsSomeAnd}
 use Rattle.cartridge_spec.specs.Header.{Header, HeaderFault, header_fault}
-use Rattle.cartridge_spec.specs.HeaderAndTable.{IsFormatted, HasHeader, TableIs, last_segment, IsUnformatted, table_cells}
-use Rattle.cartridge_spec.specs.Says.{LostSectors, Mismatch, TableSays, ByCode, whole_mask, with_parity, unreadable_count, Says, Data, ReadsAll}
+use Rattle.cartridge_spec.specs.HeaderCopies.{IsFormatted, HasHeader, last_segment, IsUnformatted}
+use Rattle.cartridge_spec.specs.Says.{LostSectors, Mismatch, TableSays, ByCode, whole_mask, with_parity}
 use Rattle.cartridge_spec.specs.Settling.{writes_of, changed_by, settling_steps}
-use Rattle.cartridge_spec.specs.Shape.{usable_places, IsLive}
+use Rattle.cartridge_spec.specs.Shape.{usable_places}
 use Rattle.cartridge_spec.specs.Table.{Entry, IsFirstFault, HasNoFault}
+use Rattle.cartridge_spec.specs.TableSegment.{TableIs, table_cells, ReadsPlainly}
 use Rattle.cartridge_spec.specs.Volumes.{Plain, entries_of, Stands}
-use Rattle.qic_base.specs.Cartridge.{Cartridge, view_at}
+use Rattle.qic_base.specs.Cartridge.{Cartridge}
 use Rattle.qic_base.specs.Step.{Torn}
-use Rattle.qic_base.specs.declared.tape.SectorView.TheVariants.{Lost}
 use Rattle.cartridge_spec.specs.Table as tables
 
 -- what the mounting of a cartridge gives: its first refusal, or the header in force, the words of its map, the table's
@@ -66,41 +66,11 @@ settled area c = if c.info.protected then c else changed_by (writes_of 2 (usable
 abbrev pub mounted_as : Plain → Mounting
 mounted_as plain = Mounted plain.header plain.words plain.table_area (entries_of plain)
 
--- none of the data sectors of its table is unreadable, or at most three sectors of its segment are: on a cartridge that stands for
--- a plain one its data can then be read, or be found by the code
-abbrev pub CanBeRead : Cartridge → Type 0
-CanBeRead c = (unreadable_count (take 29 (table_cells c)) ≡ 0) ⊎ (unreadable_count (table_cells c) ≤ 3)
-
--- no readable sector is left out of account: the data are read as they are, or are those of the code block that agrees
--- with all readable sectors
-abbrev pub ReadsPlainly : Cartridge → (area : List (List ℕ)) → Type 0
-ReadsPlainly c area = ReadsAll (table_cells c) area ⊎ Says (table_cells c) (Data area)
-
--- each sector of the table's segment takes what is written to it
-abbrev pub IsTableLive : Cartridge → Type 0
-IsTableLive c = (i : ℕ) → i < 32 → IsLive (view_at c 2 i)
-
 -- a cartridge is mounted with this header, these words and this list, whatever the data of its table
 abbrev pub Lists : Cartridge → Header → (words : List ℕ) → List Entry → Type 0
 Lists d header words entries = (table : List (List ℕ)) × Mounts d (Mounted header words table entries)
 
 -- ---- a table's segment of which one sector more is lost, where an append wrote it
-
--- one sector of the table's segment is lost, and the others are as they were
-pub record LosesOne (c d : Cartridge) (lost : ℕ) : Type 0 where
-  pub within : lost < 32
-  pub here : view_at d 2 lost ≡ Lost
-  pub others : (i : ℕ) → i < 32 → i ≢ lost → view_at d 2 i ≡ view_at c 2 i
-
--- nothing but the table's segment has changed: neither a mark nor a sector of another segment
-pub record ChangesTableAlone (c d : Cartridge) : Type 0 where
-  pub info : d.info ≡ c.info
-  pub others : (segment sector : ℕ) → sector < 32 → segment ≢ 2 → view_at d segment sector ≡ view_at c segment sector
-
--- one sector of the table's segment is lost, and nothing else has changed
-pub record LosesOneAlone (c d : Cartridge) (lost : ℕ) : Type 0 where
-  pub loses : LosesOne c d lost
-  pub alone : ChangesTableAlone c d
 
 -- ---- mounting and settling
 

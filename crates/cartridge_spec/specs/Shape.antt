@@ -1,7 +1,7 @@
 -- The shape of a segment: which of its sectors are usable, and which of these are parity (QIC-80-MC); the views of
 -- sectors.
-use Rattle.std.specs.Prelude.{ℕ, List, ◌-◌, ◌^◌, slice_index, length, ◌*◌, nat_le, if◌then◌else◌, sum_by, Bool, true, false, [], slice_get, unwrap_or}
-use Rattle.qic_base.specs.Cartridge.{lost_places}
+use Rattle.std.specs.Prelude.{ℕ, List, ◌-◌, ◌^◌, slice_index, length, ◌*◌, nat_le, if◌then◌else◌, sum_by, Bool, true, false, [], slice_get, unwrap_or, ◌≡◌, All}
+use Rattle.qic_base.specs.Cartridge.{lost_places, IsSector}
 use Rattle.qic_base.specs.declared.tape.SectorView.{SectorView}
 use Rattle.qic_base.specs.declared.tape.SectorView.TheVariants.{Blank, Defect, Holds}
 
@@ -42,3 +42,8 @@ IsLive view = Unit {0}
 -- the bytes of a sector in a list of sectors
 abbrev pub sector_at : List (List ℕ) → ℕ → List ℕ
 sector_at sectors i = unwrap_or (slice_get sectors i) []
+
+-- the data sectors of a full segment
+pub record IsArea (area : List (List ℕ)) : Type 0 where
+  pub size : length area ≡ 29
+  pub sectors : All IsSector area

@@ -1,12 +1,13 @@
 -- Volumes, and the plain cartridge that a cartridge stands for: its header, its table and its volumes (the rules of a
 -- volume's segments and of its length are this project's profile).
-use Rattle.std.specs.Prelude.{ℕ, ◌+◌, ◌-◌, List, filter, nat_le, sum_by, ◌==◌, ◌&&◌, if◌then◌else◌, [], ◌∷◌, take, drop, ◌≡◌, length, All, map, ◌⊎◌, None, ◌<◌, ◌≤◌}
+use Rattle.std.specs.Prelude.{ℕ, ◌+◌, ◌-◌, List, filter, nat_le, sum_by, ◌==◌, ◌&&◌, if◌then◌else◌, [], ◌∷◌, take, drop, ◌≡◌, length, All, map, ◌⊎◌, None, ◌<◌, ◌≤◌, ◌++◌}
 use Rattle.std.specs.List.{range_with_len}
 use Rattle.cartridge_spec.specs.Header.{Header, header_fault}
-use Rattle.cartridge_spec.specs.HeaderAndTable.{IsArea, copy_cells, HasHeader, table_cells, last_segment}
+use Rattle.cartridge_spec.specs.HeaderCopies.{copy_cells, HasHeader, last_segment}
 use Rattle.cartridge_spec.specs.Says.{cells_of, Written, Zero, ReadsAll}
-use Rattle.cartridge_spec.specs.Shape.{mask_at, usable_count, capacity, data_count}
+use Rattle.cartridge_spec.specs.Shape.{IsArea, mask_at, usable_count, capacity, data_count}
 use Rattle.cartridge_spec.specs.Table.{Entry, HasNoFault}
+use Rattle.cartridge_spec.specs.TableSegment.{table_cells}
 use Rattle.qic_base.specs.Cartridge.{Cartridge, IsSector}
 use Rattle.qic_base.specs.Step.{Wear, changed}
 use Rattle.cartridge_spec.specs.Header as headers
@@ -97,3 +98,12 @@ WearSpares c plain segment sector =
     (3 ≤ segment)
     ⊎ ((segment < 2) × HasHeader (worn segment sector c) plain.header_area)
     ⊎ ((segment ≡ 2) × Written (table_cells c) plain.table_area)
+
+-- the bytes of some sectors, one after the other
+abbrev pub bytes_in : List (List ℕ) → List ℕ
+bytes_in [] = []
+bytes_in (sector ∷ sectors) = sector ++ bytes_in sectors
+
+-- the first ones of its area, as many as its length says
+abbrev pub volume_bytes : (words : List ℕ) → Volume → List ℕ
+volume_bytes words volume = take (volume_length words volume.entry) (bytes_in volume.area)

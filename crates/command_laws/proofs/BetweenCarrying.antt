@@ -11,8 +11,8 @@ use Rattle.cartridge_laws.proofs.FormatViews.{view_of_other_sector, view_of_sect
 use Rattle.cartridge_laws.proofs.MountSettled.{settled_keeps_table}
 use Rattle.cartridge_laws.proofs.MountWriting.{length-writes_of}
 use Rattle.cartridge_laws.proofs.OneLossComesBack.{table_alone_comes_back}
-use Rattle.cartridge_spec.specs.HeaderAndTable.{TableIs}
-use Rattle.cartridge_spec.specs.Mounting.{IsTableLive, Mounts, mounted_as, settled, ComesBackAs, LosesOneAlone}
+use Rattle.cartridge_spec.specs.TableSegment.{TableIs, IsTableLive, LosesOneAlone}
+use Rattle.cartridge_spec.specs.Mounting.{Mounts, mounted_as, settled, ComesBackAs}
 use Rattle.cartridge_spec.specs.Says.{AsRead, ByCode, Data, TableSays, whole_mask, with_parity}
 use Rattle.cartridge_spec.specs.Settling.{changed_by, writes_of}
 use Rattle.cartridge_spec.specs.Shape.{IsLive, usable_places}

@@ -21,8 +21,8 @@ use Rattle.cartridge_laws.specs.Shape.{Carries}
 use Rattle.cartridge_spec.specs.Appending.{has_room, table_writes, with_bytes}
 use Rattle.cartridge_laws.specs.Terms.{last_end, slot_sector, with_slot}
 use Rattle.cartridge_spec.specs.Formatting.{IsLabel}
-use Rattle.cartridge_spec.specs.HeaderAndTable.{TableIs}
-use Rattle.cartridge_spec.specs.Mounting.{Mounting, Mounts, settled, IsTableLive}
+use Rattle.cartridge_spec.specs.TableSegment.{TableIs, IsTableLive}
+use Rattle.cartridge_spec.specs.Mounting.{Mounting, Mounts, settled}
 use Rattle.cartridge_spec.specs.Settling.{settling_steps, changed_by}
 use Rattle.cartridge_spec.specs.Shape.{mask_at}
 use Rattle.cartridge_spec.specs.Table.{slot_bytes, Entry}

@@ -21,7 +21,8 @@ use Rattle.cartridge_laws.specs.Terms.{last_end, slot_sector, IsCleanCopy}
 use Rattle.cartridge_spec.specs.Appending.{room, table_writes}
 use Rattle.cartridge_spec.specs.Formatting.{HasCleanCopies, HasNoHeader}
 use Rattle.cartridge_spec.specs.Header.{Header}
-use Rattle.cartridge_spec.specs.HeaderAndTable.{IsArea, last_segment}
+use Rattle.cartridge_spec.specs.Shape.{IsArea}
+use Rattle.cartridge_spec.specs.HeaderCopies.{last_segment}
 use Rattle.cartridge_spec.specs.Mounting.{Mounts, settled}
 use Rattle.cartridge_spec.specs.Says.{Written, Zero, with_parity, whole_mask}
 use Rattle.cartridge_spec.specs.Settling.{block_writes, changed_by, settling_places, settling_steps}

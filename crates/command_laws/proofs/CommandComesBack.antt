@@ -1,7 +1,8 @@
 -- What a generated run and a script leave comes back where one sector more of the table's segment is lost.
 use Rattle.std.proofs.Common.{◌≡◌, ◌∙◌, ◌⊎◌, ◌≤◌, ℕ, List, ◌∷◌, Option, Some, inl, inr, ap, sym, subst, false, length, take, ◌≢◌, ◌<◌, zero, suc, [], refl, arith}
 use Rattle.cartridge_laws.proofs.MountWhole.{settling_effects}
-use Rattle.cartridge_spec.specs.Mounting.{IsTableLive, Mounts, mounted_as, settled}
+use Rattle.cartridge_spec.specs.TableSegment.{IsTableLive}
+use Rattle.cartridge_spec.specs.Mounting.{Mounts, mounted_as, settled}
 use Rattle.cartridge_spec.specs.Settling.{changed_by, settling_steps}
 use Rattle.cartridge_spec.specs.Volumes.{Plain, Stands, entries_of}
 use Rattle.command_laws.proofs.CommandOneLoss.{nothing_torn}

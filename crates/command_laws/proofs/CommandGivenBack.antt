@@ -1,7 +1,6 @@
 -- A volume is given back byte for byte by words of restoring.
 use Rattle.std.proofs.Common.{◌≡◌, ◌≢◌, ℕ, List, Some, subst, ap, ◌∙◌, sym, inl, inr, ◌++◌, ◌⊎◌, Option, IfSome, append_assoc, false}
-use Rattle.cartridge_spec.specs.Appending.{volume_bytes}
-use Rattle.cartridge_spec.specs.Volumes.{Plain, Volume}
+use Rattle.cartridge_spec.specs.Volumes.{volume_bytes, Plain, Volume}
 use Rattle.command_laws.proofs.RestoreGivenBack.{given, given_whole, given_lost, given_front}
 use Rattle.command_laws.proofs.TextWords.{one_command}
 use Rattle.command_laws.specs.Terms.{Answers}

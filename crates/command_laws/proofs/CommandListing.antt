@@ -7,7 +7,7 @@ use Rattle.cartridge_laws.proofs.MountSettled.{settled_keeps_table}
 use Rattle.cartridge_laws.proofs.MountWhole.{settling_effects}
 use Rattle.cartridge_spec.specs.Formatting.{IsLabel}
 use Rattle.cartridge_spec.specs.Header.{Header}
-use Rattle.cartridge_spec.specs.HeaderAndTable.{TableIs}
+use Rattle.cartridge_spec.specs.TableSegment.{TableIs}
 use Rattle.cartridge_spec.specs.Mounting.{Mounting, Mounted, Mounts, settled, Lists}
 use Rattle.cartridge_spec.specs.Settling.{changed_by, settling_steps}
 use Rattle.cartridge_spec.specs.Table.{Entry}

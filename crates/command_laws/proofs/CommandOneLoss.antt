@@ -13,8 +13,9 @@ use Rattle.cartridge_laws.specs.AppendWrites.{KeepsTo}
 use Rattle.cartridge_laws.specs.Terms.{last_end}
 use Rattle.cartridge_spec.specs.Appending.{with_bytes}
 use Rattle.cartridge_spec.specs.Formatting.{IsLabel}
-use Rattle.cartridge_spec.specs.HeaderAndTable.{IsArea, TableIs}
-use Rattle.cartridge_spec.specs.Mounting.{settled, IsTableLive, ComesBackAs, LosesOneAlone}
+use Rattle.cartridge_spec.specs.Shape.{IsArea}
+use Rattle.cartridge_spec.specs.TableSegment.{TableIs, IsTableLive, LosesOneAlone}
+use Rattle.cartridge_spec.specs.Mounting.{settled, ComesBackAs}
 use Rattle.cartridge_spec.specs.Settling.{settling_steps, changed_by}
 use Rattle.cartridge_spec.specs.Volumes.{Plain, Stands, entries_of}
 use Rattle.command_laws.proofs.CommandAppends.{behind_settling, segments_acts, table_acts, fits, segments_are_free, no_table, steps_are, course, kept_of, done_behind, done_fits}

@@ -6,7 +6,7 @@ use Rattle.cartridge_laws.proofs.MountOnce.{mounts_is_function}
 use Rattle.cartridge_laws.proofs.MountWhole.{settling_effects}
 use Rattle.cartridge_spec.specs.Formatting.{IsFirstDefectInFront, clearing_steps, format_steps, HasNoDefectInFront, IsFreshWith}
 use Rattle.cartridge_spec.specs.Header.{Header}
-use Rattle.cartridge_spec.specs.HeaderAndTable.{IsUnformatted}
+use Rattle.cartridge_spec.specs.HeaderCopies.{IsUnformatted}
 use Rattle.cartridge_spec.specs.Mounting.{Mounting, settled, Mounts}
 use Rattle.cartridge_spec.specs.Settling.{settling_steps}
 use Rattle.cartridge_spec.specs.Table.{Entry}

@@ -6,7 +6,8 @@ use Rattle.cartridge_laws.proofs.MountKeeping.{stopped_stands}
 use Rattle.cartridge_laws.proofs.MountStanding.{standing_mounts_only_so}
 use Rattle.cartridge_laws.proofs.MountWhole.{settling_effects}
 use Rattle.cartridge_spec.specs.Appending.{with_all}
-use Rattle.cartridge_spec.specs.Mounting.{Mounts, mounted_as, Mounting, settled, IsTableLive}
+use Rattle.cartridge_spec.specs.Mounting.{Mounts, mounted_as, Mounting, settled}
+use Rattle.cartridge_spec.specs.TableSegment.{IsTableLive}
 use Rattle.cartridge_spec.specs.Settling.{changed_by, settling_steps}
 use Rattle.cartridge_spec.specs.Table.{Entry}
 use Rattle.cartridge_spec.specs.Volumes.{Plain, entries_of, Stands}

@@ -9,7 +9,7 @@ use Rattle.cartridge_laws.proofs.FormatStanding.{same_cells}
 use Rattle.cartridge_laws.proofs.FormatWriting.{some_and}
 use Rattle.cartridge_laws.proofs.MountOnce.{mounts_is_function}
 use Rattle.cartridge_spec.specs.Formatting.{HasNoHeader}
-use Rattle.cartridge_spec.specs.HeaderAndTable.{CopyDoesNotRead, IsUnformatted, copy_cells}
+use Rattle.cartridge_spec.specs.HeaderCopies.{CopyDoesNotRead, IsUnformatted, copy_cells}
 use Rattle.cartridge_spec.specs.Mounting.{Mounting}
 use Rattle.cartridge_spec.specs.Says.{whole_mask}
 use Rattle.command_laws.specs.CommandRecord.{NeitherReads}

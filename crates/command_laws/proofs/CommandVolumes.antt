@@ -9,8 +9,10 @@ use Rattle.cartridge_laws.proofs.FormatWriting.{some_and, some_weaker, effects-s
 use Rattle.cartridge_spec.specs.Appending.{with_bytes}
 use Rattle.cartridge_spec.specs.Formatting.{HasNoDefectInFront, IsFreshFor, IsFreshWith, StandsCleanly, HasNoHeader, HasCleanCopies, format_steps, clearing_steps}
 use Rattle.cartridge_spec.specs.Header.{Header}
-use Rattle.cartridge_spec.specs.HeaderAndTable.{IsUnformatted, IsArea}
-use Rattle.cartridge_spec.specs.Mounting.{Mounts, Mounted, IsTableLive}
+use Rattle.cartridge_spec.specs.HeaderCopies.{IsUnformatted}
+use Rattle.cartridge_spec.specs.Shape.{IsArea}
+use Rattle.cartridge_spec.specs.Mounting.{Mounts, Mounted}
+use Rattle.cartridge_spec.specs.TableSegment.{IsTableLive}
 use Rattle.cartridge_spec.specs.Settling.{changed_by}
 use Rattle.cartridge_spec.specs.Table.{Entry}
 use Rattle.cartridge_spec.specs.Volumes.{Plain, Stands}

@@ -5,9 +5,9 @@ use Rattle.std.proofs.lemmas.List.{drop-map, length-map, length-take-le, map-app
 use Rattle.std.proofs.lemmas.Slice.Eq.{bytes_eq-Decides}
 use Rattle.cartridge_laws.proofs.AppendBytes.{done_bytes}
 use Rattle.cartridge_laws.specs.AppendSettled.{MayAppendTo}
-use Rattle.cartridge_spec.specs.Appending.{Content, appended_volume, has_room, volume_bytes, with_all, with_bytes}
+use Rattle.cartridge_spec.specs.Appending.{Content, appended_volume, has_room, with_all, with_bytes}
+use Rattle.cartridge_spec.specs.Volumes.{volume_bytes, Plain, Stands, Volume, entries_of, volume_length}
 use Rattle.cartridge_spec.specs.Table.{Entry}
-use Rattle.cartridge_spec.specs.Volumes.{Plain, Stands, Volume, entries_of, volume_length}
 use Rattle.command_laws.proofs.CopyValues.{IsOriginal}
 use Rattle.command_laws.proofs.RestoreStanding.{volume_is_long}
 use Rattle.command_laws.specs.CopyLaws.{CopyGoesOn}

@@ -9,7 +9,8 @@ use Rattle.cartridge_laws.proofs.MountSettles.{settling_settles}
 use Rattle.cartridge_laws.proofs.MountStanding.{standing_mounts_only_so}
 use Rattle.cartridge_laws.proofs.MountWhole.{settling_effects}
 use Rattle.cartridge_spec.specs.Appending.{with_all}
-use Rattle.cartridge_spec.specs.Mounting.{IsTableLive, Mounting, Mounts, TableLost, mounted_as, settled}
+use Rattle.cartridge_spec.specs.TableSegment.{IsTableLive}
+use Rattle.cartridge_spec.specs.Mounting.{Mounting, Mounts, TableLost, mounted_as, settled}
 use Rattle.cartridge_spec.specs.Settling.{changed_by, settling_steps}
 use Rattle.cartridge_spec.specs.Table.{Entry}
 use Rattle.cartridge_spec.specs.Volumes.{Plain, Stands, Volume, entries_of}

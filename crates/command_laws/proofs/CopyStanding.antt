@@ -11,12 +11,12 @@ use Rattle.cartridge_laws.proofs.MountSettled.{settled_stands}
 use Rattle.cartridge_laws.proofs.MountStanding.{standing_data}
 use Rattle.cartridge_laws.proofs.MountWhole.{settling_effects}
 use Rattle.cartridge_laws.specs.AppendWrites.{AreWrites, IsFree}
-use Rattle.cartridge_spec.specs.Appending.{appended_volume, free_segments, has_room, new_entry, taken_by, volume_bytes, with_all, with_bytes}
+use Rattle.cartridge_spec.specs.Appending.{appended_volume, free_segments, has_room, new_entry, taken_by, with_all, with_bytes}
+use Rattle.cartridge_spec.specs.Volumes.{volume_bytes, Plain, Stands, Volume, entries_of, volume_length}
 use Rattle.cartridge_laws.specs.Terms.{last_end}
 use Rattle.cartridge_spec.specs.Mounting.{settled}
 use Rattle.cartridge_spec.specs.Settling.{changed_by, settling_steps}
 use Rattle.cartridge_spec.specs.Table.{Entry}
-use Rattle.cartridge_spec.specs.Volumes.{Plain, Stands, Volume, entries_of, volume_length}
 use Rattle.command_laws.proofs.CopyGoing.{behind, next_behind, next_like}
 use Rattle.command_laws.proofs.CopyValues.{IsOriginal, given_whole}
 use Rattle.command_laws.proofs.InputActLaws.{input_is_free}

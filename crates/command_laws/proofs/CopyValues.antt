@@ -5,12 +5,10 @@ use Rattle.std.proofs.Math.Nat.{pow-suc}
 use Rattle.std.proofs.lemmas.List.{append-nil, length-drop, length-map, length-take-le}
 use Rattle.std.proofs.lemmas.List.Elements.{All-append, All-contains_itself, All-drop, All-from_get_or, All-get_or, All-head, All-tail, All-take, All-contains}
 use Rattle.std.proofs.lemmas.Option.{slice_get-get_or, slice_get-map, get_or_from_slice_get, unwrap_or-slice_get}
-use Rattle.cartridge_spec.specs.Appending.{bytes_in, volume_bytes}
+use Rattle.cartridge_spec.specs.Volumes.{bytes_in, volume_bytes, Plain, Stands, Volume, entries_of, volume_length}
 use Rattle.cartridge_spec.specs.Formatting.{IsLabel}
-use Rattle.cartridge_spec.specs.HeaderAndTable.{IsArea}
-use Rattle.cartridge_spec.specs.Shape.{sector_at}
+use Rattle.cartridge_spec.specs.Shape.{IsArea, sector_at}
 use Rattle.cartridge_spec.specs.Table.{Entry, Shows, entry_in, slot}
-use Rattle.cartridge_spec.specs.Volumes.{Plain, Stands, Volume, entries_of, volume_length}
 use Rattle.command_laws.proofs.RestoreGiven.{given_begins_restored}
 use Rattle.command_laws.proofs.RestoreStanding.{few_or_first_lost, restores_byte_for_byte, restores_front}
 use Rattle.command_laws.specs.MountedKept.{IsAppendable}

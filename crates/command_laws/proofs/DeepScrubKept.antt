@@ -11,7 +11,9 @@ use Rattle.cartridge_laws.proofs.Sayings.{says_is_function}
 use Rattle.cartridge_laws.specs.Table.{IsSoundList}
 use Rattle.cartridge_spec.specs.Formatting.{HasCleanCopies}
 use Rattle.cartridge_spec.specs.Header.{Header, header_fault}
-use Rattle.cartridge_spec.specs.HeaderAndTable.{CopyDoesNotRead, CopyReads, IsArea, TableIs, copy_cells, last_segment}
+use Rattle.cartridge_spec.specs.HeaderCopies.{CopyDoesNotRead, CopyReads, copy_cells, last_segment}
+use Rattle.cartridge_spec.specs.Shape.{IsArea}
+use Rattle.cartridge_spec.specs.TableSegment.{TableIs}
 use Rattle.cartridge_laws.specs.Terms.{IsInForce, IsCleanCopy}
 use Rattle.cartridge_spec.specs.Mounting.{IsMounted, Mounted, Mounting, Mounts, TableLost, mounted_as, settled}
 use Rattle.cartridge_spec.specs.Says.{Data, Mismatch, Says, Written, Zero, whole_mask}

@@ -11,7 +11,7 @@ use Rattle.cartridge_laws.proofs.MountWhole.{settled_is_cartridge}
 use Rattle.cartridge_laws.proofs.OneLossComesBack.{whole_comes_back}
 use Rattle.cartridge_laws.specs.AppendBetween.{IsWhole}
 use Rattle.cartridge_spec.specs.Appending.{with_bytes}
-use Rattle.cartridge_spec.specs.HeaderAndTable.{last_segment}
+use Rattle.cartridge_spec.specs.HeaderCopies.{last_segment}
 use Rattle.cartridge_spec.specs.Says.{with_parity}
 use Rattle.cartridge_spec.specs.Settling.{block_writes, changed_by, settling_places, settling_steps}
 use Rattle.cartridge_laws.specs.Terms.{places_where, is_left_out, is_unsettled}

@@ -5,8 +5,8 @@ use Rattle.cartridge_laws.proofs.FormatCopies.{new_has_no_header}
 use Rattle.cartridge_laws.specs.ChangeSteps.{HasNoRenew}
 use Rattle.cartridge_spec.specs.Formatting.{HasNoHeader, StandsCleanly, copy_writes, fresh_plain}
 use Rattle.cartridge_laws.specs.Terms.{segment_formats}
-use Rattle.cartridge_spec.specs.HeaderAndTable.{IsUnformatted}
-use Rattle.cartridge_spec.specs.Mounting.{IsTableLive}
+use Rattle.cartridge_spec.specs.HeaderCopies.{IsUnformatted}
+use Rattle.cartridge_spec.specs.TableSegment.{IsTableLive}
 use Rattle.cartridge_spec.specs.Says.{with_parity}
 use Rattle.cartridge_spec.specs.Volumes.{Plain, Stands}
 use Rattle.command_laws.proofs.CommandPlainLaws.{format_leaves}

@@ -5,9 +5,9 @@ use Rattle.std.proofs.lemmas.Option.{slice_get-get_or, slice_get_within}
 use Rattle.std.proofs.Math.Seq.{get_or-append_seam}
 use Rattle.cartridge_laws.proofs.AppendBytes.{done_bytes}
 use Rattle.cartridge_laws.specs.AppendSettled.{MayAppendTo}
-use Rattle.cartridge_spec.specs.Appending.{Content, appended_volume, volume_bytes, with_all, with_bytes}
+use Rattle.cartridge_spec.specs.Appending.{Content, appended_volume, with_all, with_bytes}
+use Rattle.cartridge_spec.specs.Volumes.{volume_bytes, Plain, Stands, Volume, entries_of}
 use Rattle.cartridge_spec.specs.Formatting.{fresh_plain, StandsCleanly}
-use Rattle.cartridge_spec.specs.Volumes.{Plain, Stands, Volume, entries_of}
 use Rattle.command_laws.proofs.CommandLeft.{leaves_whole}
 use Rattle.command_laws.proofs.CommandAppends.{course, done_fits, fits, kept_of}
 use Rattle.command_laws.proofs.RestoreGivenBack.{given, given_whole}

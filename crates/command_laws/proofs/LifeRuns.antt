@@ -7,7 +7,8 @@ use Rattle.cartridge_laws.proofs.FormatWriting.{some_and}
 use Rattle.cartridge_laws.specs.ChangeSteps.{HasNoRenew, IsNoRenew}
 use Rattle.cartridge_spec.specs.Appending.{Content, with_all, with_bytes}
 use Rattle.cartridge_spec.specs.Formatting.{HasCleanCopies, HasNoHeader}
-use Rattle.cartridge_spec.specs.Mounting.{IsTableLive, settled}
+use Rattle.cartridge_spec.specs.TableSegment.{IsTableLive}
+use Rattle.cartridge_spec.specs.Mounting.{settled}
 use Rattle.cartridge_spec.specs.Settling.{changed_by}
 use Rattle.cartridge_spec.specs.Volumes.{Plain, Stands, entries_of}
 use Rattle.command_laws.proofs.CommandAppends.{append_done, append_refused, append_stopped}

@@ -2,7 +2,7 @@
 use Rattle.std.proofs.Common.{◌≡◌, List, sym, ◌∙◌, true, false, inl, inr, ℕ, ◌⊎◌, [], ap, Some, subst, ◌∷◌, ◌++◌, refl, append_assoc, append-nil, ◌≢◌}
 use Rattle.cartridge_laws.proofs.MountOnce.{one_table}
 use Rattle.cartridge_laws.proofs.TableSayings.{table_says_is_function}
-use Rattle.cartridge_spec.specs.HeaderAndTable.{table_cells, TableIs}
+use Rattle.cartridge_spec.specs.TableSegment.{table_cells, TableIs}
 use Rattle.cartridge_spec.specs.Says.{AsRead, ByCode, Data, LostSectors, TableSays}
 use Rattle.cartridge_spec.specs.Settling.{changed_by}
 use Rattle.cartridge_spec.specs.Table.{Entry}

@@ -14,7 +14,8 @@ use Rattle.cartridge_laws.proofs.Places.{usable_small}
 use Rattle.cartridge_laws.specs.Table.{LieBehind}
 use Rattle.cartridge_spec.specs.Appending.{has_room, with_all, with_bytes, appended_volume}
 use Rattle.cartridge_spec.specs.Formatting.{IsLabel}
-use Rattle.cartridge_spec.specs.HeaderAndTable.{TableIs, last_segment}
+use Rattle.cartridge_spec.specs.TableSegment.{TableIs}
+use Rattle.cartridge_spec.specs.HeaderCopies.{last_segment}
 use Rattle.cartridge_spec.specs.Settling.{settling_steps, changed_by}
 use Rattle.cartridge_spec.specs.Shape.{mask_at, usable_places}
 use Rattle.cartridge_spec.specs.Table.{Entry}

@@ -14,8 +14,9 @@ use Rattle.cartridge_laws.proofs.MountWhole.{settled_is_cartridge}
 use Rattle.cartridge_laws.proofs.Segments.{view_of_cartridge}
 use Rattle.cartridge_laws.proofs.Whole.{with_view_whole, worn_is_view}
 use Rattle.cartridge_laws.specs.Table.{IsSoundList}
-use Rattle.cartridge_spec.specs.HeaderAndTable.{TableIs, last_segment}
-use Rattle.cartridge_spec.specs.Mounting.{settled, IsTableLive, Mounts, mounted_as}
+use Rattle.cartridge_spec.specs.TableSegment.{TableIs, IsTableLive}
+use Rattle.cartridge_spec.specs.HeaderCopies.{last_segment}
+use Rattle.cartridge_spec.specs.Mounting.{settled, Mounts, mounted_as}
 use Rattle.cartridge_spec.specs.Says.{whole_mask, with_parity}
 use Rattle.cartridge_spec.specs.Settling.{changed_by, settling_steps, writes_of}
 use Rattle.cartridge_spec.specs.Shape.{IsLive, usable_places}

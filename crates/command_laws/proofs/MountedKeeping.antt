@@ -7,8 +7,8 @@ use Rattle.cartridge_laws.proofs.FormatWriting.{changed_by-append, effects-some}
 use Rattle.cartridge_laws.proofs.Segments.{view_of_cartridge}
 use Rattle.cartridge_laws.proofs.Whole.{with_view_whole, worn_is_view}
 use Rattle.cartridge_laws.specs.Table.{IsSoundList}
-use Rattle.cartridge_spec.specs.HeaderAndTable.{last_segment}
-use Rattle.cartridge_spec.specs.Mounting.{IsTableLive}
+use Rattle.cartridge_spec.specs.HeaderCopies.{last_segment}
+use Rattle.cartridge_spec.specs.TableSegment.{IsTableLive}
 use Rattle.cartridge_spec.specs.Says.{Data, AsRead, ByCode, TableSays}
 use Rattle.cartridge_spec.specs.Settling.{changed_by}
 use Rattle.cartridge_spec.specs.Shape.{IsLive}

@@ -29,7 +29,9 @@ use Rattle.cartridge_laws.specs.Terms.{last_end, IsInForce, HasList, data_of, un
 use Rattle.qic_base.specs.Cartridge.{IsSector, Cartridge, IsLength, view_at}
 use Rattle.cartridge_spec.specs.Formatting.{IsLabel}
 use Rattle.cartridge_spec.specs.Header.{has_signature}
-use Rattle.cartridge_spec.specs.HeaderAndTable.{IsArea, table_cells, last_segment, TableIs}
+use Rattle.cartridge_spec.specs.Shape.{IsArea}
+use Rattle.cartridge_spec.specs.TableSegment.{table_cells, TableIs}
+use Rattle.cartridge_spec.specs.HeaderCopies.{last_segment}
 use Rattle.cartridge_spec.specs.Mounting.{settled}
 use Rattle.cartridge_spec.specs.Says.{Agrees, Written, unreadable_count, with_parity}
 use Rattle.cartridge_spec.specs.Settling.{changed_by, settling_steps}

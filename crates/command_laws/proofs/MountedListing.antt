@@ -8,7 +8,8 @@ use Rattle.cartridge_laws.proofs.MountSettled.{settled_mounts}
 use Rattle.cartridge_laws.proofs.TableOrders.{sound_is_faultless}
 use Rattle.cartridge_laws.specs.Table.{IsSoundList}
 use Rattle.cartridge_spec.specs.Header.{Header, header_fault}
-use Rattle.cartridge_spec.specs.HeaderAndTable.{last_segment, TableIs}
+use Rattle.cartridge_spec.specs.HeaderCopies.{last_segment}
+use Rattle.cartridge_spec.specs.TableSegment.{TableIs}
 use Rattle.cartridge_spec.specs.Mounting.{IsMounted, Lists}
 use Rattle.cartridge_spec.specs.Says.{whole_mask}
 use Rattle.cartridge_spec.specs.Settling.{changed_by, settling_steps}

@@ -3,7 +3,7 @@ use Rattle.std.proofs.Common.{Option, Some, inl, inr, subst, ap, ◌∙◌}
 use Rattle.cartridge_laws.proofs.FormatWriting.{changed_by-append}
 use Rattle.cartridge_laws.proofs.MountSettles.{settling_settles}
 use Rattle.cartridge_laws.proofs.MountWhole.{settling_effects}
-use Rattle.cartridge_spec.specs.Mounting.{LosesOneAlone}
+use Rattle.cartridge_spec.specs.TableSegment.{LosesOneAlone}
 use Rattle.cartridge_spec.specs.Settling.{changed_by, settling_steps}
 use Rattle.command_laws.proofs.CommandOneLoss.{append_survives, done_survives}
 use Rattle.command_laws.specs.MountedKept.{AppendedSurvive, AppendsSurvive}

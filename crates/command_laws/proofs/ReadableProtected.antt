@@ -3,7 +3,8 @@ use Rattle.std.proofs.Common.{◌≡◌, ◌≢◌, ◌⊎◌, ◌∙◌, ◌<�
 use Rattle.cartridge_laws.proofs.ChangeStanding.{other_cells}
 use Rattle.cartridge_laws.proofs.FormatWriting.{some_and}
 use Rattle.cartridge_laws.proofs.MountWhole.{settling_effects}
-use Rattle.cartridge_spec.specs.Mounting.{CanBeRead, settled}
+use Rattle.cartridge_spec.specs.TableSegment.{CanBeRead}
+use Rattle.cartridge_spec.specs.Mounting.{settled}
 use Rattle.cartridge_spec.specs.Says.{unreadable_count, with_parity}
 use Rattle.cartridge_spec.specs.Settling.{block_writes, changed_by, settling_places, settling_steps}
 use Rattle.cartridge_spec.specs.Table.{Entry}

@@ -15,8 +15,10 @@ use Rattle.cartridge_laws.proofs.Segments.{length-whole_cells}
 use Rattle.cartridge_laws.specs.FormatMarks.{IsFormattedFrom}
 use Rattle.cartridge_spec.specs.Formatting.{HasNoDefectInFront, format_steps, HasNoHeader, clearing_steps, copy_writes}
 use Rattle.cartridge_laws.specs.Terms.{IsBareCopy, unreadable_data}
-use Rattle.cartridge_spec.specs.HeaderAndTable.{IsArea, table_cells, IsUnformatted}
-use Rattle.cartridge_spec.specs.Mounting.{CanBeRead, IsTableLive, Mounted, Mounts}
+use Rattle.cartridge_spec.specs.Shape.{IsArea}
+use Rattle.cartridge_spec.specs.TableSegment.{table_cells, CanBeRead, IsTableLive}
+use Rattle.cartridge_spec.specs.HeaderCopies.{IsUnformatted}
+use Rattle.cartridge_spec.specs.Mounting.{Mounted, Mounts}
 use Rattle.cartridge_spec.specs.Says.{whole_mask, unreadable_count, with_parity}
 use Rattle.cartridge_spec.specs.Settling.{changed_by}
 use Rattle.cartridge_spec.specs.Volumes.{Plain, entries_of, worn}

@@ -4,8 +4,8 @@ use Rattle.std.proofs.lemmas.List.Elements.{Contains-append_right, All-contains_
 use Rattle.std.specs.Prelude.{Contains}
 use Rattle.cartridge_laws.proofs.AppendBytes.{done_bytes}
 use Rattle.cartridge_laws.proofs.AppendDone.{done_stands}
-use Rattle.cartridge_spec.specs.Appending.{volume_bytes, appended_volume}
-use Rattle.cartridge_spec.specs.Volumes.{Volume}
+use Rattle.cartridge_spec.specs.Volumes.{volume_bytes, Volume}
+use Rattle.cartridge_spec.specs.Appending.{appended_volume}
 use Rattle.command_laws.proofs.RestoreStanding.{restores_byte_for_byte}
 use Rattle.command_laws.specs.RestoreLaws.{AppendedIsAmong, AppendedIsRestored}
 

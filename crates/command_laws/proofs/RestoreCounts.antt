@@ -12,10 +12,9 @@ use Rattle.cartridge_laws.proofs.Sayings.{said_are_sectors}
 use Rattle.cartridge_laws.proofs.Segments.{count_of_cells}
 use Rattle.cartridge_laws.specs.SayingLaws.{AreDataSectors}
 use Rattle.cartridge_laws.specs.Shape.{Carries}
-use Rattle.cartridge_spec.specs.Appending.{bytes_in}
+use Rattle.cartridge_spec.specs.Volumes.{bytes_in, capacity_between, carrying_segments, volume_length}
 use Rattle.cartridge_spec.specs.Shape.{mask_at, capacity, usable_count, data_count}
 use Rattle.cartridge_spec.specs.Table.{Entry}
-use Rattle.cartridge_spec.specs.Volumes.{capacity_between, carrying_segments, volume_length}
 use Rattle.command_laws.specs.RestoreLaws.{RestoresInNoStep, FramedInNoStep, PiecesHoldAll, TextHoldsPieces, RestoredIsLong}
 use Rattle.command_spec.specs.Restore.{framed, Piece, pieces_of, IsRead, piece_cells, GivingEnd, Restores, pieces, Restored}
 use Rattle.command_laws.specs.CommandTerms.{bytes_held}

@@ -11,13 +11,13 @@ use Rattle.cartridge_laws.proofs.MountSettled.{settled_keeps_table, settled_stan
 use Rattle.cartridge_laws.proofs.MountStanding.{standing_mounts}
 use Rattle.cartridge_laws.proofs.TableOrders.{faultless_is_sound}
 use Rattle.cartridge_laws.specs.Table.{LieBehind}
-use Rattle.cartridge_spec.specs.Appending.{volume_bytes}
-use Rattle.cartridge_spec.specs.HeaderAndTable.{TableIs, last_segment}
+use Rattle.cartridge_spec.specs.Volumes.{volume_bytes, Plain, Volume, entries_of, carrying_segments, volume_length}
+use Rattle.cartridge_spec.specs.TableSegment.{TableIs}
+use Rattle.cartridge_spec.specs.HeaderCopies.{last_segment}
 use Rattle.cartridge_spec.specs.Mounting.{settled, Mounting, mounted_as}
 use Rattle.cartridge_spec.specs.Says.{unreadable_count}
 use Rattle.cartridge_spec.specs.Shape.{mask_at}
 use Rattle.cartridge_spec.specs.Table.{Entry}
-use Rattle.cartridge_spec.specs.Volumes.{Plain, Volume, entries_of, carrying_segments, volume_length}
 use Rattle.command_laws.proofs.RestoreStanding.{restores_byte_for_byte, restores_front, few_or_first_lost}
 use Rattle.command_laws.specs.RestoreLaws.{HasVolume, GivesFront}
 use Rattle.command_spec.specs.Outcome.{settling_act, CommandOutcome, Opened, output_of}

@@ -11,11 +11,10 @@ use Rattle.cartridge_laws.proofs.AppendSegments.{carrying_carry}
 use Rattle.cartridge_laws.proofs.Places.{count_below}
 use Rattle.cartridge_laws.proofs.Sayings.{written_is_said, written_is_lost}
 use Rattle.cartridge_laws.specs.Shape.{Carries}
-use Rattle.cartridge_spec.specs.Appending.{bytes_in, volume_bytes}
+use Rattle.cartridge_spec.specs.Volumes.{bytes_in, volume_bytes, parts_of, Part, Plain, Volume, VolumeStands, carrying_segments, volume_length}
 use Rattle.cartridge_spec.specs.Says.{cells_of, Written, unreadable_count, Says, Data, LostSectors}
 use Rattle.cartridge_spec.specs.Shape.{mask_at, data_count, capacity, usable_count}
 use Rattle.cartridge_laws.specs.Terms.{PartStands, sectors_in}
-use Rattle.cartridge_spec.specs.Volumes.{parts_of, Part, Plain, Volume, VolumeStands, carrying_segments, volume_length}
 use Rattle.command_laws.proofs.RestoreCounts.{length-bytes_in, length_within}
 use Rattle.command_laws.proofs.RestoreEndings.{restores_is_function}
 use Rattle.command_laws.specs.RestoreLaws.{HasVolume, VolumeIsLong, RestoresByteForByte, FewOrFirstLost, RestoresFront, NeverMismatch, StandingRestores}

@@ -1,7 +1,7 @@
 -- What a line does is one thing.
 use Rattle.std.proofs.Common.{◌≡◌, ℕ, List, inl, inr, true, refl, false, ap, ◌∙◌, sym, Some, subst, None}
 use Rattle.cartridge_laws.proofs.TableSayings.{table_says_is_function}
-use Rattle.cartridge_spec.specs.HeaderAndTable.{table_cells, TableIs}
+use Rattle.cartridge_spec.specs.TableSegment.{table_cells, TableIs}
 use Rattle.cartridge_spec.specs.Says.{AsRead, ByCode, Data, LostSectors, TableSays}
 use Rattle.cartridge_spec.specs.Table.{Entry}
 use Rattle.command_laws.proofs.RestoreEndings.{restores_is_function}

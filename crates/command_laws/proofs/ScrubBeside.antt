@@ -16,9 +16,10 @@ use Rattle.cartridge_laws.specs.Shape.{Carries}
 use Rattle.cartridge_laws.specs.Terms.{last_end, CopiesAre, PartStands}
 use Rattle.cartridge_spec.specs.Code.{parity_sectors}
 use Rattle.cartridge_spec.specs.Header.{header_fault}
-use Rattle.cartridge_spec.specs.HeaderAndTable.{CopyReads, copy_cells, table_cells, IsArea}
+use Rattle.cartridge_spec.specs.HeaderCopies.{CopyReads, copy_cells}
+use Rattle.cartridge_spec.specs.TableSegment.{table_cells}
+use Rattle.cartridge_spec.specs.Shape.{IsArea, usable_places, usable_count, mask_at, data_count}
 use Rattle.cartridge_spec.specs.Says.{cells_of, Says, Data, Mismatch, Written, Zero, ReadsAll, with_parity}
-use Rattle.cartridge_spec.specs.Shape.{usable_places, usable_count, mask_at, data_count}
 use Rattle.cartridge_spec.specs.Table.{slot_fault}
 use Rattle.cartridge_spec.specs.Volumes.{Part, parts_of, Volume, VolumeStands, carrying_segments, Plain, Stands, entries_of, worn}
 use Rattle.command_laws.proofs.ScrubApart.{contains_cases}

@@ -4,7 +4,8 @@ use Rattle.cartridge_laws.proofs.FormatStanding.{same_cells}
 use Rattle.cartridge_laws.proofs.FormatWriting.{some_weaker, effects-some}
 use Rattle.cartridge_laws.proofs.Sayings.{says_is_function}
 use Rattle.cartridge_spec.specs.Formatting.{StandsCleanly}
-use Rattle.cartridge_spec.specs.HeaderAndTable.{CopyReads, last_segment, IsArea}
+use Rattle.cartridge_spec.specs.HeaderCopies.{CopyReads, last_segment}
+use Rattle.cartridge_spec.specs.Shape.{IsArea}
 use Rattle.cartridge_laws.specs.Terms.{IsInForce, IsCleanCopy}
 use Rattle.cartridge_spec.specs.Says.{Says, Data, Mismatch}
 use Rattle.cartridge_spec.specs.Volumes.{Plain, Stands, entries_of}

@@ -3,7 +3,7 @@ use Rattle.std.proofs.Common.{◌⊎◌, ℕ, inl, inr, List, sym, ◌∙◌, su
 use Rattle.cartridge_laws.proofs.FormatStanding.{same_cells}
 use Rattle.cartridge_laws.proofs.FormatWriting.{some_weaker, effects-some}
 use Rattle.cartridge_laws.specs.AppendSettled.{IsSettledFor}
-use Rattle.cartridge_spec.specs.HeaderAndTable.{TableIs}
+use Rattle.cartridge_spec.specs.TableSegment.{TableIs}
 use Rattle.cartridge_spec.specs.Says.{Data, TableSays, AsRead, ByCode}
 use Rattle.cartridge_spec.specs.Shape.{IsLive}
 use Rattle.command_laws.proofs.ScrubBeside.{not_the_table}

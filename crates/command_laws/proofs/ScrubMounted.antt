@@ -7,7 +7,8 @@ use Rattle.cartridge_laws.specs.Table.{IsSoundList}
 use Rattle.cartridge_spec.specs.Formatting.{StandsCleanly}
 use Rattle.cartridge_laws.specs.Terms.{IsCleanCopy}
 use Rattle.cartridge_spec.specs.Header.{Header, header_fault}
-use Rattle.cartridge_spec.specs.HeaderAndTable.{last_segment, IsArea}
+use Rattle.cartridge_spec.specs.HeaderCopies.{last_segment}
+use Rattle.cartridge_spec.specs.Shape.{IsArea}
 use Rattle.cartridge_spec.specs.Mounting.{IsMounted}
 use Rattle.cartridge_spec.specs.Settling.{changed_by}
 use Rattle.cartridge_spec.specs.Table.{Entry, slot_fault}

@@ -11,11 +11,11 @@ use Rattle.cartridge_laws.proofs.MountStanding.{can_be_read}
 use Rattle.cartridge_laws.proofs.Sayings.{written_is_said}
 use Rattle.cartridge_laws.proofs.Segments.{length-whole_cells}
 use Rattle.cartridge_laws.specs.AppendSettled.{IsSettledFor}
-use Rattle.cartridge_spec.specs.HeaderAndTable.{IsArea, table_cells}
+use Rattle.cartridge_spec.specs.Shape.{IsArea, is_unreadable, sector_at, IsLive}
+use Rattle.cartridge_spec.specs.TableSegment.{table_cells}
 use Rattle.cartridge_spec.specs.Says.{unreadable_count, Written, with_parity}
 use Rattle.cartridge_laws.specs.Terms.{unreadable_data}
 use Rattle.cartridge_spec.specs.Settling.{changed_by}
-use Rattle.cartridge_spec.specs.Shape.{is_unreadable, sector_at, IsLive}
 use Rattle.command_laws.proofs.ScrubApart.{looked_rise}
 use Rattle.command_laws.proofs.ScrubDone.{done_being_mended}
 use Rattle.command_laws.proofs.ScrubMending.{stopped_scrub}

@@ -14,10 +14,11 @@ use Rattle.cartridge_laws.proofs.Sayings.{says_is_function, written_is_said, sai
 use Rattle.cartridge_laws.proofs.Segments.{count_of_cells, length-whole_cells, zero_does_not_read}
 use Rattle.cartridge_spec.specs.Code.{parity_sectors}
 use Rattle.cartridge_spec.specs.Header.{header_fault}
-use Rattle.cartridge_spec.specs.HeaderAndTable.{IsArea, CopyReads, copy_cells, CopyDoesNotRead, table_cells, TableIs}
+use Rattle.cartridge_spec.specs.Shape.{IsArea, usable_places, usable_count, mask_at, data_count}
+use Rattle.cartridge_spec.specs.HeaderCopies.{CopyReads, copy_cells, CopyDoesNotRead}
+use Rattle.cartridge_spec.specs.TableSegment.{table_cells, TableIs}
 use Rattle.cartridge_laws.specs.Terms.{IsInForce, CopiesAre, PartStands}
 use Rattle.cartridge_spec.specs.Says.{cells_of, Data, Says, Written, with_parity, unreadable_count, whole_mask, Zero, ReadsAll, HasBlock, HasNoBlock, TableSays, AsRead, ByCode}
-use Rattle.cartridge_spec.specs.Shape.{usable_places, usable_count, mask_at, data_count}
 use Rattle.cartridge_spec.specs.Table.{Entry, slot_fault}
 use Rattle.cartridge_spec.specs.Volumes.{Part, parts_of, Volume, VolumeStands, carrying_segments, Plain, Stands, entries_of}
 use Rattle.command_laws.proofs.ScrubApart.{one_looked, contains_first, contains_more}

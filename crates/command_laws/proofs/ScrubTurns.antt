@@ -10,7 +10,7 @@ use Rattle.cartridge_laws.proofs.Segments.{cells_are_views}
 use Rattle.cartridge_laws.specs.AppendWrites.{AreWrites, IsOfSector}
 use Rattle.cartridge_spec.specs.Code.{parity_sectors}
 use Rattle.cartridge_spec.specs.Header.{has_signature}
-use Rattle.cartridge_spec.specs.HeaderAndTable.{copy_cells, CopyReads}
+use Rattle.cartridge_spec.specs.HeaderCopies.{copy_cells, CopyReads}
 use Rattle.cartridge_spec.specs.Says.{Saying, Data, Says, with_parity, LostSectors, Mismatch}
 use Rattle.cartridge_spec.specs.Settling.{changed_by}
 use Rattle.cartridge_spec.specs.Shape.{is_unreadable, usable_places}

@@ -13,7 +13,8 @@ use Rattle.cartridge_laws.proofs.Sayings.{says_is_function, written_is_said}
 use Rattle.cartridge_laws.proofs.Segments.{count_of_cells, count_of_whole}
 use Rattle.cartridge_spec.specs.Code.{parity_sectors, IsCodeBlock}
 use Rattle.cartridge_spec.specs.Header.{has_signature, header_fault}
-use Rattle.cartridge_spec.specs.HeaderAndTable.{CopyReads, copy_cells, last_segment, TableIs}
+use Rattle.cartridge_spec.specs.HeaderCopies.{CopyReads, copy_cells, last_segment}
+use Rattle.cartridge_spec.specs.TableSegment.{TableIs}
 use Rattle.cartridge_laws.specs.Terms.{IsInForce}
 use Rattle.cartridge_spec.specs.Says.{Saying, Says, Data, Mismatch, TableSays, AsRead, ByCode, Written, with_parity, unreadable_count, Agrees, HasNoBlock}
 use Rattle.cartridge_spec.specs.Settling.{changed_by}

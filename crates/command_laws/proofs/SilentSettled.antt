@@ -9,7 +9,7 @@ use Rattle.cartridge_laws.proofs.MountSettles.{settling_settles}
 use Rattle.cartridge_laws.proofs.MountWriting.{IsAllWritten, all_written}
 use Rattle.cartridge_laws.proofs.Places.{usable_small}
 use Rattle.cartridge_laws.specs.AppendSettled.{IsSettledFor}
-use Rattle.cartridge_spec.specs.HeaderAndTable.{TableIs}
+use Rattle.cartridge_spec.specs.TableSegment.{TableIs}
 use Rattle.cartridge_spec.specs.Mounting.{settled}
 use Rattle.cartridge_spec.specs.Says.{unreadable_count, with_parity, whole_mask}
 use Rattle.cartridge_spec.specs.Settling.{changed_by, settling_steps, writes_of}

@@ -6,7 +6,7 @@ use Rattle.cartridge_laws.proofs.MountSettled.{settled_is_written}
 use Rattle.cartridge_laws.proofs.MountWhole.{table_is_area}
 use Rattle.cartridge_laws.proofs.Sayings.{data_of-parity}
 use Rattle.cartridge_spec.specs.Code.{parity_sectors}
-use Rattle.cartridge_spec.specs.HeaderAndTable.{TableIs}
+use Rattle.cartridge_spec.specs.TableSegment.{TableIs}
 use Rattle.cartridge_spec.specs.Mounting.{settled}
 use Rattle.cartridge_laws.specs.Terms.{HasList}
 use Rattle.cartridge_spec.specs.Says.{with_parity}

@@ -18,11 +18,11 @@ use Rattle.cartridge_spec.specs.Appending.{table_writes}
 use Rattle.cartridge_spec.specs.Code.{parity_sectors}
 use Rattle.gf256_qic.proofs.Parities.{parity_sectors-are_sectors}
 use Rattle.cartridge_spec.specs.Formatting.{IsLabel, clearing_steps, copy_writes, format_steps}
-use Rattle.cartridge_spec.specs.HeaderAndTable.{IsArea, TableIs}
+use Rattle.cartridge_spec.specs.Shape.{IsArea, sector_at}
+use Rattle.cartridge_spec.specs.TableSegment.{TableIs}
 use Rattle.cartridge_spec.specs.Mounting.{settled}
 use Rattle.cartridge_spec.specs.Says.{with_parity}
 use Rattle.cartridge_spec.specs.Settling.{changed_by, settling_steps, writes_of}
-use Rattle.cartridge_spec.specs.Shape.{sector_at}
 use Rattle.cartridge_spec.specs.Table.{Entry, slot_bytes}
 use Rattle.cartridge_laws.specs.Terms.{slot_sector, with_slot}
 use Rattle.command_laws.proofs.CommandClean.{Leaves, both_leave, leaves_done}

@@ -1,7 +1,8 @@
 -- What comes between an append and the loss of one sector more of the table's segment, and doesn't mount the cartridge without its
 -- protect mark: what would come back, comes back, as facts (this project's own).
 use Rattle.std.specs.Prelude.{◌≡◌, ◌⊎◌, ◌<◌, ◌≤◌, ℕ, true, false}
-use Rattle.cartridge_spec.specs.Mounting.{IsTableLive, Mounts, mounted_as, LosesOneAlone}
+use Rattle.cartridge_spec.specs.TableSegment.{IsTableLive, LosesOneAlone}
+use Rattle.cartridge_spec.specs.Mounting.{Mounts, mounted_as}
 use Rattle.cartridge_spec.specs.Volumes.{Plain}
 use Rattle.command_spec.specs.OneLoss.{ComesBackAsOneOf}
 use Rattle.qic_base.specs.Cartridge.{Cartridge}

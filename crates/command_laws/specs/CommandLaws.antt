@@ -2,7 +2,7 @@
 use Rattle.std.specs.Prelude.{All, ◌<◌, ◌≡◌, ℕ, List, Option, Some, IfSome, IsSomeAnd}
 use Rattle.cartridge_laws.specs.ChangeSteps.{HasNoRenew}
 use Rattle.cartridge_spec.specs.Formatting.{HasCleanCopies, HasNoHeader}
-use Rattle.cartridge_spec.specs.HeaderAndTable.{IsArea}
+use Rattle.cartridge_spec.specs.Shape.{IsArea}
 use Rattle.command_spec.specs.Machine.{Step, HasValues}
 use Rattle.command_laws.specs.CommandTerms.{Yields, CanBeDone}
 use Rattle.command_spec.specs.Outcome.{CommandOutcome}

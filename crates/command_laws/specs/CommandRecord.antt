@@ -3,7 +3,8 @@ use Rattle.std.specs.Prelude.{All, ◌<◌, length, ◌≤◌, true, None, ◌�
 use Rattle.cartridge_laws.specs.ChangeSteps.{HasNoRenew}
 use Rattle.cartridge_spec.specs.Formatting.{IsFirstDefectInFront, HasCleanCopies, HasNoHeader}
 use Rattle.cartridge_spec.specs.Header.{Header}
-use Rattle.cartridge_spec.specs.HeaderAndTable.{CopyDoesNotRead, IsUnformatted, IsArea}
+use Rattle.cartridge_spec.specs.HeaderCopies.{CopyDoesNotRead, IsUnformatted}
+use Rattle.cartridge_spec.specs.Shape.{IsArea}
 use Rattle.cartridge_spec.specs.Mounting.{Mounted, Mounts}
 use Rattle.cartridge_spec.specs.Table.{Entry}
 use Rattle.cartridge_spec.specs.Volumes.{Plain, Stands}

@@ -2,10 +2,10 @@
 -- project's own).
 use Rattle.std.specs.Prelude.{ℕ, ◌+◌, ◌*◌, ◌%◌, List, [], ◌∷◌, ◌++◌, codes, decimal, length, take, drop, min, Option, None, Some, unwrap_or, Bool, nat_le, ◌==◌, ◌&&◌, ◌||◌, if◌then◌else◌, ◌≡◌, ◌≢◌, ◌<◌, ◌≤◌, ◌⊎◌, slice_get, IsSomeAnd, fold, map, sum_by}
 use Rattle.std.specs.List.{slice_split}
-use Rattle.cartridge_spec.specs.Appending.{bytes_in, free_segments}
+use Rattle.cartridge_spec.specs.Volumes.{bytes_in, WearSpares, Plain, entries_of, volume_length}
+use Rattle.cartridge_spec.specs.Appending.{free_segments}
 use Rattle.cartridge_spec.specs.Shape.{mask_at, usable_places}
 use Rattle.cartridge_spec.specs.Table.{Entry}
-use Rattle.cartridge_spec.specs.Volumes.{WearSpares, Plain, entries_of, volume_length}
 use Rattle.command_spec.specs.declared.words.Words.{Words}
 use Rattle.command_spec.specs.Commands.{command_of}
 use Rattle.command_spec.specs.Append.{Kept, Taking, Fits, TooLong, TooShort, append_acts, appended, entry_behind, kept_over}

@@ -3,7 +3,8 @@
 use Rattle.std.specs.Prelude.{◌≡◌, ◌⊎◌, ◌<◌, ◌≤◌, ℕ, List, All, Option, Some, IsSomeAnd, length, take, true, ◌≢◌, ◌++◌, []}
 use Rattle.cartridge_laws.specs.AppendBetween.{IsWhole}
 use Rattle.cartridge_spec.specs.Appending.{has_room, with_bytes}
-use Rattle.cartridge_spec.specs.Mounting.{settled, ComesBackAs, LosesOneAlone}
+use Rattle.cartridge_spec.specs.Mounting.{settled, ComesBackAs}
+use Rattle.cartridge_spec.specs.TableSegment.{LosesOneAlone}
 use Rattle.cartridge_spec.specs.Settling.{changed_by}
 use Rattle.cartridge_spec.specs.Volumes.{Plain, entries_of, worn, WearSpares}
 use Rattle.command_laws.specs.ActStops.{IsLeftBy}

@@ -3,8 +3,9 @@
 use Rattle.std.specs.Prelude.{◌≡◌, ◌≢◌, ◌⊎◌, ◌≤◌, ◌<◌, ℕ, Bool, true, false, All, IfSome, List, [], ◌∷◌, Option, Some, None, length, suc, take}
 use Rattle.cartridge_spec.specs.Appending.{with_all, with_bytes}
 use Rattle.cartridge_spec.specs.Formatting.{HasCleanCopies, HasNoHeader, IsFreshFor, fresh_plain}
-use Rattle.cartridge_spec.specs.HeaderAndTable.{CopyDoesNotRead}
-use Rattle.cartridge_spec.specs.Mounting.{IsTableLive, settled}
+use Rattle.cartridge_spec.specs.HeaderCopies.{CopyDoesNotRead}
+use Rattle.cartridge_spec.specs.TableSegment.{IsTableLive}
+use Rattle.cartridge_spec.specs.Mounting.{settled}
 use Rattle.cartridge_spec.specs.Volumes.{Plain, Stands, entries_of, WearSpares}
 use Rattle.command_laws.specs.ActStops.{IsLeftBy}
 use Rattle.command_spec.specs.Input.{Item}

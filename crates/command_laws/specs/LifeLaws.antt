@@ -1,8 +1,8 @@
 -- What follows of lives, and which runs are runs of a life (this project's own).
 use Rattle.std.specs.Prelude.{◌≡◌, ◌⊎◌, ◌++◌, ℕ, suc, All, Bool, false, IfSome, List, [], ◌∷◌, Option, Some, None, length, slice_get}
-use Rattle.cartridge_spec.specs.Appending.{appended_volume, volume_bytes, with_bytes}
-use Rattle.cartridge_spec.specs.Mounting.{CanBeRead}
-use Rattle.cartridge_spec.specs.Volumes.{Plain, Volume}
+use Rattle.cartridge_spec.specs.Appending.{appended_volume, with_bytes}
+use Rattle.cartridge_spec.specs.Volumes.{volume_bytes, Plain, Volume}
+use Rattle.cartridge_spec.specs.TableSegment.{CanBeRead}
 use Rattle.command_laws.specs.Life.{Answered, Ended, Event, HasRun, IsEmptied, IsSound, Lives, Loses, Run, Runs, Stopped, begun_behind_all}
 use Rattle.command_spec.specs.Headline.{WordsLeave}
 use Rattle.command_spec.specs.Machine.{Spells, SpellsNone, Step}

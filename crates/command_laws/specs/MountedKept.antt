@@ -2,8 +2,8 @@
 use Rattle.std.specs.Prelude.{◌≡◌, false, length, ℕ, ◌^◌, ◌<◌, List, All, ◌++◌, ◌⊎◌, Option, Some, IsSomeAnd, true, ◌≤◌}
 use Rattle.cartridge_spec.specs.Appending.{with_bytes, has_room}
 use Rattle.cartridge_spec.specs.Formatting.{IsLabel}
-use Rattle.cartridge_spec.specs.HeaderAndTable.{TableIs}
-use Rattle.cartridge_spec.specs.Mounting.{IsTableLive, ComesBackAs, LosesOneAlone}
+use Rattle.cartridge_spec.specs.TableSegment.{TableIs, IsTableLive, LosesOneAlone}
+use Rattle.cartridge_spec.specs.Mounting.{ComesBackAs}
 use Rattle.cartridge_spec.specs.Settling.{settling_steps, changed_by}
 use Rattle.cartridge_spec.specs.Volumes.{Plain, Stands, entries_of, worn}
 use Rattle.command_spec.specs.Scrub.{ScrubsAs}

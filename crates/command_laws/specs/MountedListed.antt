@@ -4,7 +4,8 @@ use Rattle.std.specs.Prelude.{◌≡◌, ℕ, ◌-◌, false, List, length, ◌�
 use Rattle.cartridge_laws.specs.Table.{IsSoundList}
 use Rattle.cartridge_spec.specs.Formatting.{IsLabel}
 use Rattle.cartridge_spec.specs.Header.{Header}
-use Rattle.cartridge_spec.specs.HeaderAndTable.{last_segment, TableIs, table_cells}
+use Rattle.cartridge_spec.specs.HeaderCopies.{last_segment}
+use Rattle.cartridge_spec.specs.TableSegment.{TableIs, table_cells}
 use Rattle.cartridge_spec.specs.Mounting.{Mounted, Mounts, settled}
 use Rattle.cartridge_laws.specs.Terms.{HasList}
 use Rattle.cartridge_spec.specs.Says.{ByCode, LostSectors, TableSays}

@@ -3,7 +3,7 @@
 use Rattle.std.specs.Prelude.{ℕ, List, ◌≡◌, ◌^◌, ◌<◌, false, Option, ◌≢◌, ◌⊎◌, [], ◌++◌, ◌≤◌}
 use Rattle.cartridge_spec.specs.Formatting.{IsLabel}
 use Rattle.cartridge_spec.specs.Header.{Header}
-use Rattle.cartridge_spec.specs.HeaderAndTable.{TableIs}
+use Rattle.cartridge_spec.specs.TableSegment.{TableIs}
 use Rattle.cartridge_spec.specs.Mounting.{Mounted, Mounts, settled, Lists}
 use Rattle.cartridge_spec.specs.Settling.{changed_by}
 use Rattle.cartridge_spec.specs.Table.{Entry}

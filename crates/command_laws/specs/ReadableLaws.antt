@@ -2,8 +2,8 @@
 -- own).
 use Rattle.std.specs.Prelude.{◌≡◌, ◌⊎◌, ◌<◌, ℕ, All, IfNone, List, length, Option, Some, IsSomeAnd}
 use Rattle.cartridge_spec.specs.Formatting.{HasNoHeader}
-use Rattle.cartridge_spec.specs.HeaderAndTable.{IsUnformatted}
-use Rattle.cartridge_spec.specs.Mounting.{CanBeRead, IsTableLive}
+use Rattle.cartridge_spec.specs.HeaderCopies.{IsUnformatted}
+use Rattle.cartridge_spec.specs.TableSegment.{CanBeRead, IsTableLive}
 use Rattle.cartridge_spec.specs.Volumes.{Plain}
 use Rattle.command_spec.specs.Command.{ReadsAs}
 use Rattle.command_spec.specs.Commands.{command_of}

@@ -1,11 +1,11 @@
 -- What the restoring of a volume gives, as facts.
 use Rattle.std.specs.Prelude.{◌≡◌, ℕ, List, [], ◌++◌, length, ◌≤◌, All, take, Contains, ◌⊎◌, Option, Some, None, slice_get}
 use Rattle.cartridge_laws.specs.AppendSettled.{MayAppendTo, IsSettledFor}
-use Rattle.cartridge_spec.specs.Appending.{volume_bytes, with_bytes, appended_volume}
+use Rattle.cartridge_spec.specs.Volumes.{volume_bytes, volume_length, Plain, Volume, Stands}
+use Rattle.cartridge_spec.specs.Appending.{with_bytes, appended_volume}
 use Rattle.cartridge_spec.specs.Says.{unreadable_count}
 use Rattle.cartridge_spec.specs.Settling.{changed_by}
 use Rattle.cartridge_spec.specs.Table.{Entry}
-use Rattle.cartridge_spec.specs.Volumes.{volume_length, Plain, Volume, Stands}
 use Rattle.command_spec.specs.Restore.{Piece, GivingEnd, Restores, framed, pieces, Restored, LosesFew, pieces_in, FirstLost, LostIn, piece_cells, MismatchIn, IsRead, PieceEnds}
 use Rattle.command_laws.specs.CommandTerms.{bytes_held}
 use Rattle.command_spec.specs.Copying.{GivenBytes}

@@ -1,7 +1,7 @@
 -- What a script, done or stopped, leaves of a cartridge that stands for a plain one, as facts (this project's own).
 use Rattle.std.specs.Prelude.{◌≡◌, ℕ, List, length, [], ◌∷◌, ◌<◌, All, ◌⊎◌, Option, Some, IsSomeAnd, ◌≤◌, take, ◌+◌, ◌++◌}
 use Rattle.cartridge_spec.specs.Appending.{with_all}
-use Rattle.cartridge_spec.specs.Mounting.{IsTableLive}
+use Rattle.cartridge_spec.specs.TableSegment.{IsTableLive}
 use Rattle.cartridge_spec.specs.Settling.{changed_by}
 use Rattle.cartridge_spec.specs.Volumes.{Plain, entries_of, Stands}
 use Rattle.command_laws.specs.MountedHeld.{IsHeld}

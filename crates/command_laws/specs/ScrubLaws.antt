@@ -8,12 +8,13 @@ use Rattle.cartridge_laws.specs.Writes.{named_writes}
 use Rattle.cartridge_spec.specs.Code.{IsCodeBlock}
 use Rattle.cartridge_spec.specs.Formatting.{StandsCleanly}
 use Rattle.cartridge_spec.specs.Header.{Header}
-use Rattle.cartridge_spec.specs.HeaderAndTable.{IsArea, table_cells, copy_cells, CopyReads, TableIs}
+use Rattle.cartridge_spec.specs.Shape.{IsArea, usable_count, IsLive}
+use Rattle.cartridge_spec.specs.TableSegment.{table_cells, TableIs}
+use Rattle.cartridge_spec.specs.HeaderCopies.{copy_cells, CopyReads}
 use Rattle.cartridge_spec.specs.Mounting.{Mounted, Mounts}
 use Rattle.cartridge_spec.specs.Says.{Data, Says, Saying}
 use Rattle.cartridge_laws.specs.Terms.{data_of, sectors_of}
 use Rattle.cartridge_spec.specs.Settling.{changed_by}
-use Rattle.cartridge_spec.specs.Shape.{usable_count, IsLive}
 use Rattle.cartridge_spec.specs.Table.{Entry}
 use Rattle.cartridge_spec.specs.Volumes.{Plain, Stands, entries_of}
 use Rattle.command_laws.specs.ScrubMended.{IsScrubbed, IsBeingMended}

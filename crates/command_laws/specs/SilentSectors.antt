@@ -1,7 +1,7 @@
 -- A cartridge on which sectors can be read and silently hold other bytes than what was written, as far as a deep scrub finds
 -- them (this project's profile).
 use Rattle.std.specs.Prelude.{◌≡◌, ◌≢◌, ◌⊎◌, ℕ, ◌<◌, ◌≤◌, List, Contains, slice_index}
-use Rattle.cartridge_spec.specs.HeaderAndTable.{copy_cells}
+use Rattle.cartridge_spec.specs.HeaderCopies.{copy_cells}
 use Rattle.cartridge_spec.specs.Says.{Written, unreadable_count}
 use Rattle.cartridge_spec.specs.Shape.{usable_places, usable_count}
 use Rattle.cartridge_spec.specs.Volumes.{Plain, entries_of}

@@ -3,7 +3,7 @@ use Rattle.std.specs.Prelude.{ℕ, codes, decimal, ◌*◌, All, true, List, [],
 use Rattle.cartridge_spec.specs.Appending.{has_room}
 use Rattle.cartridge_spec.specs.Formatting.{HasNoHeader, clearing_steps, format_steps}
 use Rattle.cartridge_spec.specs.Header.{Header, HeaderFault}
-use Rattle.cartridge_spec.specs.HeaderAndTable.{IsUnformatted}
+use Rattle.cartridge_spec.specs.HeaderCopies.{IsUnformatted}
 use Rattle.cartridge_spec.specs.Says.{Saying}
 use Rattle.cartridge_spec.specs.Shape.{marked_sectors}
 use Rattle.cartridge_spec.specs.Table.{Entry}

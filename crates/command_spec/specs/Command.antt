@@ -4,7 +4,7 @@ use Rattle.std.specs.Prelude.{◌≡◌, ℕ, ◌≤◌, List, decimal, [], ◌�
 use Rattle.std.specs.List.{AllZip}
 use Rattle.command_spec.specs.Lines.{date_form}
 use Rattle.qic_base.specs.Field.{IsDate, date_word, IsNameText, filled}
-use Rattle.cartridge_spec.specs.Mounting.{CanBeRead}
+use Rattle.cartridge_spec.specs.TableSegment.{CanBeRead}
 use Rattle.cartridge_spec.specs.Volumes.{Plain, Stands}
 use Rattle.command_spec.specs.Outcome.{CommandOutcome}
 use Rattle.command_spec.specs.declared.status.Status.{Status}

@@ -1,9 +1,9 @@
 -- The plain cartridge with the volumes of another one behind its own; what a copy needs, and what it leaves (this project's own).
 use Rattle.std.specs.Prelude.{ℕ, ◌+◌, ◌<◌, ◌≤◌, List, [], ◌∷◌, ◌++◌, ◌≡◌, true, length, take, drop, map, slice_get, All, Option, None, Some, IsSomeAnd}
-use Rattle.cartridge_spec.specs.Appending.{Content, has_room, volume_bytes, with_all}
-use Rattle.cartridge_spec.specs.Mounting.{IsTableLive}
+use Rattle.cartridge_spec.specs.Appending.{Content, has_room, with_all}
+use Rattle.cartridge_spec.specs.Volumes.{volume_bytes, Plain, Stands, Volume, entries_of, volume_length}
+use Rattle.cartridge_spec.specs.TableSegment.{IsTableLive}
 use Rattle.cartridge_spec.specs.Table.{Entry}
-use Rattle.cartridge_spec.specs.Volumes.{Plain, Stands, Volume, entries_of, volume_length}
 use Rattle.command_spec.specs.Command.{IsUnprotected, ReadsAs}
 use Rattle.command_spec.specs.Copying.{copied_line, difference}
 use Rattle.command_spec.specs.Restore.{LosesFew, pieces_in}

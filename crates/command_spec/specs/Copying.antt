@@ -2,14 +2,14 @@
 -- project's own).
 use Rattle.std.specs.Prelude.{ℕ, ◌+◌, List, [], ◌∷◌, ◌++◌, codes, length, drop, take, replicate, ◌≡◌, ◌≢◌, ◌⊎◌, ◌==◌, ◌&&◌, Bool, true, false, if◌then◌else◌, Option, Some, None}
 use Rattle.std.specs.Str.{bytes_eq}
-use Rattle.cartridge_spec.specs.Appending.{bytes_in, new_entry, taken_by, free_segments}
+use Rattle.cartridge_spec.specs.Volumes.{bytes_in, volume_length}
+use Rattle.cartridge_spec.specs.Appending.{new_entry, taken_by, free_segments}
 use Rattle.cartridge_spec.specs.Header.{HeaderFault}
-use Rattle.cartridge_spec.specs.HeaderAndTable.{TableIs, table_cells}
+use Rattle.cartridge_spec.specs.TableSegment.{TableIs, table_cells}
 use Rattle.cartridge_spec.specs.Mounting.{Mounting, Mounts, settled}
 use Rattle.cartridge_spec.specs.Says.{Saying, Says, Data, LostSectors, Mismatch, ByCode, TableSays}
 use Rattle.cartridge_spec.specs.Settling.{changed_by, settling_steps}
 use Rattle.cartridge_spec.specs.Table.{Entry}
-use Rattle.cartridge_spec.specs.Volumes.{volume_length}
 use Rattle.command_spec.specs.Append.{Kept, append_acts, has_promised_room, input_writes, kept_over, room_in}
 use Rattle.command_spec.specs.Lines.{place_line, count_line}
 use Rattle.command_spec.specs.Outcome.{settling_act}

@@ -4,7 +4,7 @@ use Rattle.std.specs.Prelude.{flat_map, fold, ℕ, ◌+◌, ◌*◌, ◌%◌, Li
 use Rattle.std.specs.List.{range_with_len}
 use Rattle.cartridge_spec.specs.Appending.{room, Content}
 use Rattle.cartridge_spec.specs.Header.{Header}
-use Rattle.cartridge_spec.specs.HeaderAndTable.{TableIs, table_cells}
+use Rattle.cartridge_spec.specs.TableSegment.{TableIs, table_cells}
 use Rattle.cartridge_spec.specs.Mounting.{settled}
 use Rattle.cartridge_spec.specs.Says.{LostSectors, ByCode, TableSays}
 use Rattle.cartridge_spec.specs.Settling.{changed_by}

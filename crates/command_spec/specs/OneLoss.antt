@@ -2,7 +2,8 @@
 -- more of its table's segment is lost (this project's own).
 use Rattle.std.specs.Prelude.{◌⊎◌, ℕ, List, Option, ◌≡◌, ◌≢◌, ◌≤◌, ◌+◌, Some, IsSomeAnd, [], ◌∷◌, length, take, false}
 use Rattle.cartridge_spec.specs.Appending.{with_all}
-use Rattle.cartridge_spec.specs.Mounting.{IsTableLive, settled, ComesBackAs, LosesOneAlone}
+use Rattle.cartridge_spec.specs.TableSegment.{IsTableLive, LosesOneAlone}
+use Rattle.cartridge_spec.specs.Mounting.{settled, ComesBackAs}
 use Rattle.cartridge_spec.specs.Settling.{settling_steps}
 use Rattle.cartridge_spec.specs.Volumes.{Plain, Stands, entries_of}
 use Rattle.command_spec.specs.Headline.{EachLeft, ToldNow}

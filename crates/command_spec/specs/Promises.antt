@@ -2,8 +2,9 @@
 use Rattle.std.specs.Prelude.{◌≡◌, ◌≢◌, ◌⊎◌, ◌↔◌, ℕ, true, false, List, Some, IfSome}
 use Rattle.cartridge_spec.specs.Formatting.{HasNoHeader, HasCleanCopies}
 use Rattle.cartridge_spec.specs.Header.{Header}
-use Rattle.cartridge_spec.specs.HeaderAndTable.{IsArea}
-use Rattle.cartridge_spec.specs.Mounting.{Mounted, Mounts, IsTableLive}
+use Rattle.cartridge_spec.specs.Shape.{IsArea}
+use Rattle.cartridge_spec.specs.Mounting.{Mounted, Mounts}
+use Rattle.cartridge_spec.specs.TableSegment.{IsTableLive}
 use Rattle.cartridge_spec.specs.Table.{Entry}
 use Rattle.cartridge_spec.specs.Volumes.{Plain, Stands, Volume}
 use Rattle.command_spec.specs.Commands.{command_of, traits_of}

@@ -1,12 +1,12 @@
 -- The plain machine of `restore`: a volume's bytes, segment by segment, and how their giving ends (this project's own).
 use Rattle.std.specs.Prelude.{ℕ, zero, suc, ◌-◌, List, [], ◌∷◌, min, ◌≤◌, take, ◌≡◌, ◌++◌, codes, decimal, ◌<◌, All, length, slice_get, Option, None, Some, ◌⊎◌, ◌==◌, ◌&&◌, true, IsSomeAnd, ◌||◌, nat_lt}
-use Rattle.cartridge_spec.specs.Appending.{bytes_in}
-use Rattle.cartridge_spec.specs.Mounting.{settled, CanBeRead}
+use Rattle.cartridge_spec.specs.Volumes.{bytes_in, carrying_segments, volume_length, Plain, Volume, Stands}
+use Rattle.cartridge_spec.specs.Mounting.{settled}
+use Rattle.cartridge_spec.specs.TableSegment.{CanBeRead}
 use Rattle.cartridge_spec.specs.Says.{cells_of, unreadable_count, Says, Data, LostSectors, Mismatch}
 use Rattle.cartridge_spec.specs.Settling.{settling_steps}
 use Rattle.cartridge_spec.specs.Shape.{mask_at, capacity}
 use Rattle.cartridge_spec.specs.Table.{Entry}
-use Rattle.cartridge_spec.specs.Volumes.{carrying_segments, volume_length, Plain, Volume, Stands}
 use Rattle.command_spec.specs.Outcome.{settling_act, Going, refused_behind, OpenOutcome}
 use Rattle.command_spec.specs.declared.status.Status.{Status}
 use Rattle.qic_base.specs.Acts.{Act}

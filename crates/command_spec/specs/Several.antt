@@ -2,7 +2,8 @@
 -- plain cartridge (this project's own).
 use Rattle.std.specs.Prelude.{◌≡◌, ℕ, List, IsSomeAnd, [], ◌∷◌, ◌++◌, Option, ◌≢◌, ◌⊎◌, ◌≤◌, length, false, Some, ◌<◌, All, IfNone, take}
 use Rattle.cartridge_spec.specs.Header.{Header}
-use Rattle.cartridge_spec.specs.Mounting.{Lists, settled, IsTableLive}
+use Rattle.cartridge_spec.specs.Mounting.{Lists, settled}
+use Rattle.cartridge_spec.specs.TableSegment.{IsTableLive}
 use Rattle.cartridge_spec.specs.Table.{Entry}
 use Rattle.command_spec.specs.Append.{entry_behind}
 use Rattle.command_spec.specs.Headline.{ToldNow}

@@ -1,12 +1,12 @@
 -- What a run leaves of the plain cartridge that a cartridge stands for, with its header and its volumes, of the list that it
 -- is mounted with, and of the sectors of its table's segment (this project's own).
 use Rattle.std.specs.Prelude.{sum_by, ◌≡◌, ℕ, List, Option, Some, IsSomeAnd, ◌⊎◌, IfSome, ◌<◌, All, ◌≢◌, false, take}
-use Rattle.cartridge_spec.specs.Appending.{volume_bytes, with_bytes}
+use Rattle.cartridge_spec.specs.Volumes.{volume_bytes, Plain, Stands, Volume}
+use Rattle.cartridge_spec.specs.Appending.{with_bytes}
 use Rattle.cartridge_spec.specs.Formatting.{IsFreshFor, fresh_plain, StandsCleanly, HasNoHeader}
-use Rattle.cartridge_spec.specs.HeaderAndTable.{IsUnformatted}
-use Rattle.cartridge_spec.specs.Mounting.{IsTableLive}
+use Rattle.cartridge_spec.specs.HeaderCopies.{IsUnformatted}
+use Rattle.cartridge_spec.specs.TableSegment.{IsTableLive}
 use Rattle.cartridge_spec.specs.Says.{unreadable_count}
-use Rattle.cartridge_spec.specs.Volumes.{Plain, Stands, Volume}
 use Rattle.command_spec.specs.Command.{Command}
 use Rattle.command_spec.specs.Commands.{command_of}
 use Rattle.command_spec.specs.Headline.{ToldNow}

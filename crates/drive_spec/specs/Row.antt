@@ -6,7 +6,7 @@ use Rattle.qic117_commands.specs.declared.command.Command.TheVariants.{Reset, Re
 use Rattle.qic117_commands.specs.declared.error_code.ErrorCode.{ErrorCode}
 use Rattle.qic117_commands.specs.declared.error_code.ErrorCode.TheVariants.{UndefinedCommand, IllegalInReport, LogicalEot}
 use Rattle.qic117_commands.specs.Refusals.{first_refusal}
-use Rattle.report_bits.specs.Digits.{digits}
+use Rattle.qic117_commands.specs.Digits.{digits}
 use Rattle.drive_spec.specs.declared.deck.Deck.{Deck}
 use Rattle.drive_spec.specs.declared.deck.Motion.{Motion}
 use Rattle.drive_spec.specs.declared.deck.Motion.TheVariants.{Stopped, Streaming}

@@ -12,7 +12,7 @@ use Rattle.qic117_commands.specs.declared.command.Command.TheVariants.{Reset, Lo
 use Rattle.qic117_commands.specs.declared.error_code.ErrorCode.{ErrorCode}
 use Rattle.qic117_commands.specs.declared.error_code.ErrorCode.TheVariants.{LogicalEot}
 use Rattle.qic117_commands.specs.declared.view.Mode.{Mode}
-use Rattle.report_bits.specs.Digits.{digits}
+use Rattle.qic117_commands.specs.Digits.{digits}
 use Rattle.drive_spec.specs.declared.deck.Deck.{Deck}
 use Rattle.drive_spec.specs.declared.deck.Motion.TheVariants.{Stopped, Streaming, Seeking}
 use Rattle.drive_spec.specs.declared.under_way.Parameter.{Parameter}

@@ -1,7 +1,6 @@
 //! What the drive's end of the cable is in the middle of.
 
-use qic117_commands::Command;
-use report_bits::Shifter;
+use qic117_commands::{Command, Shifter};
 
 /// A parameter awaited: the command that awaits it, the values that came, 0 to 2, and the number that they make so
 /// far, the first of them lowest (QIC-117).

@@ -6,8 +6,8 @@ use Rattle.qic117_commands.specs.declared.command.Command.{Command}
 use Rattle.qic117_commands.specs.declared.command.Command.TheVariants.{Reset, ReportNextBit, SeekTrack, SkipReverse, SkipForward, SetFormatSegments}
 use Rattle.qic117_commands.specs.declared.error_code.ErrorCode.{ErrorCode}
 use Rattle.qic117_commands.specs.declared.error_code.ErrorCode.TheVariants.{UndefinedCommand, IllegalInReport}
-use Rattle.report_bits.specs.Digits.{digits}
-use Rattle.report_bits.specs.Report.{levels_of}
+use Rattle.qic117_commands.specs.Digits.{digits}
+use Rattle.qic117_commands.specs.Report.{levels_of}
 use Rattle.drive_spec.specs.declared.deck.Deck.{Deck}
 use Rattle.drive_spec.specs.declared.deck.Motion.{Motion}
 use Rattle.drive_spec.specs.declared.deck.Motion.TheVariants.{Stopped}

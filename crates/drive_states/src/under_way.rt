@@ -7,8 +7,7 @@ ghost use Rattle.drive_spec.specs.Parameters.{parameter_trains, parameter_values
 
 use crate::deck::{segments_per_track, status_word, told_segments};
 use drive_spec::{Deck, Parameter, UnderWay};
-use qic117_commands::{Command, ErrorCode};
-use report_bits::Shifter;
+use qic117_commands::{Command, ErrorCode, Shifter};
 
 /// How many bits the report of a command has, 8 or 16; 0 where the command asks for none (QIC-117).
 pub fn report_width(command: Command) -> u8

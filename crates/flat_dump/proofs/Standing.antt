@@ -7,7 +7,7 @@ use Rattle.std.specs.Option.{option_map}
 use Rattle.cartridge_laws.proofs.ChangeStanding.{CellsAlike, written_less, zero_less, in_force}
 use Rattle.cartridge_laws.proofs.ChangeViews.{ReadsNoMore, ReadsAlike, held_before, same_count}
 use Rattle.cartridge_laws.proofs.Segments.{count_of_cells}
-use Rattle.cartridge_spec.specs.HeaderAndTable.{table_cells}
+use Rattle.cartridge_spec.specs.TableSegment.{table_cells}
 use Rattle.cartridge_spec.specs.Says.{cells_of, whole_mask, Written, ReadsAll}
 use Rattle.cartridge_spec.specs.Shape.{is_unreadable, mask_at, usable_places}
 use Rattle.cartridge_laws.specs.Terms.{CopiesAre, PartStands}

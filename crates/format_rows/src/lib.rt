@@ -12,6 +12,10 @@ mod locating;
 #[cfg(test)]
 mod maps;
 #[cfg(test)]
+mod maps_read;
+#[cfg(test)]
+mod maps_written;
+#[cfg(test)]
 mod parity;
 #[cfg(test)]
 mod solving;

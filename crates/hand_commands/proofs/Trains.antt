@@ -11,10 +11,10 @@ use Rattle.drive_spec.specs.Record.{Record}
 use Rattle.command_spec.specs.declared.words.Words.TheVariants as words
 use Rattle.command_spec.specs.Input.{IsPulse, Ending, AtEnd, AtStop, AtFault, IsPulses}
 use Rattle.command_laws.proofs.TextInputs as inputs
-use Rattle.tape_pulses.specs.declared.fault.PulseFault.{PulseFault}
-use Rattle.tape_pulses.specs.declared.fault.PulseFault.TheVariants as fault
+use Rattle.hand_commands.specs.declared.pulses.fault.PulseFault.{PulseFault}
+use Rattle.hand_commands.specs.declared.pulses.fault.PulseFault.TheVariants as fault
 use Rattle.command_laws.specs.PulseRuns.{PulseRun, PulsesOutcome, Answer, AllSent, ScriptFault, pulses_answer, sent_status, sent, info_of}
-use Rattle.tape_pulses.specs.Runs as runs
+use Rattle.hand_commands.specs.PulseRuns as runs
 use Rattle.command_laws.proofs.PulseMachineLaws.{one_outcome, run_of, sends_of}
 use Rattle.command_spec.specs.declared.status.Status.{Status}
 use Rattle.command_spec.specs.declared.status.Status.TheVariants as status

@@ -1,2 +1,4 @@
 pub mod Outcome
+pub mod PulseLines
+pub mod PulseRuns
 pub mod Writing

@@ -11,3 +11,4 @@ pub mod pulses;
 pub mod upgrade;
 
 pub use lines::printed;
+pub use pulses::{PulseFault, run_pulses};

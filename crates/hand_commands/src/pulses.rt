@@ -3,10 +3,18 @@
 ghost use Rattle.command_spec.specs.declared.words.Words.TheVariants.{Pulses};
 ghost use Rattle.command_spec.specs.Machine.{CommandEnds};
 
+mod ending;
+mod fault;
+mod lines;
+mod run;
+mod sending;
+
+pub use fault::PulseFault;
+pub use run::run_pulses;
+
 use command_spec::Status;
 use drive_states::Unit;
 use qic_base::{Sink, Source, Tape};
-use tape_pulses::{PulseFault, run_pulses};
 
 /// Sends the trains of the source, and prints the level that each leaves as it goes.
 pub fn pulses<T: Tape, S: Source, K: Sink>(

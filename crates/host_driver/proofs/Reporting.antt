@@ -4,10 +4,10 @@ use Rattle.std.proofs.Math.Seq.{drop-cons, drop-length}
 use Rattle.std.proofs.lemmas.List.{take_more, take_all, length-take}
 use Rattle.std.specs.Option.{option_map_or}
 use Rattle.qic_base.specs.declared.tape.TapeInfo.{TapeInfo}
-use Rattle.report_bits.specs.Digits.{digits}
-use Rattle.report_bits.specs.Report.{Collected, IsWidth, levels_of, report_of, word_of}
-use Rattle.report_bits.proofs.DigitFacts.{length-digits}
-use Rattle.report_bits.proofs.ReportFacts.{word_of-levels_of}
+use Rattle.qic117_commands.specs.Digits.{digits}
+use Rattle.qic117_commands.specs.Report.{Collected, IsWidth, levels_of, report_of, word_of}
+use Rattle.qic117_commands.proofs.DigitFacts.{length-digits}
+use Rattle.qic117_commands.proofs.ReportFacts.{word_of-levels_of}
 use Rattle.qic117_commands.specs.Commands.{number_of, command_at, commands}
 use Rattle.qic117_commands.specs.StatusWord.{status_of}
 use Rattle.qic117_commands.specs.Terms.{bit_where}

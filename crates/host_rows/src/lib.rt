@@ -8,6 +8,8 @@ mod drive;
 #[cfg(test)]
 mod modes;
 #[cfg(test)]
+mod output;
+#[cfg(test)]
 mod places;
 #[cfg(test)]
 mod sectors;

@@ -7,7 +7,7 @@ use Rattle.qic_base.specs.Step.{Step}
 use Rattle.qic_base.proofs.Steps.{Tells-map, Done-nothing}
 use Rattle.qic_base.specs.Acts.{Act, text_of, TapeFails, Went, Cut}
 use Rattle.qic_base.specs.Terms.{no_source, no_sink, around, reading}
-use Rattle.cartridge_spec.specs.HeaderAndTable.{table_cells, TableIs}
+use Rattle.cartridge_spec.specs.TableSegment.{table_cells, TableIs}
 use Rattle.cartridge_spec.specs.Says.{LostSectors, ByCode, TableSays}
 use Rattle.cartridge_spec.specs.Table.{Entry}
 use Rattle.drive_spec.specs.Terms.{is_protected}

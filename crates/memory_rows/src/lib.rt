@@ -9,8 +9,6 @@ mod files;
 #[cfg(test)]
 mod filling;
 #[cfg(test)]
-mod output;
-#[cfg(test)]
 mod streams;
 #[cfg(test)]
 mod tapes;

@@ -4,8 +4,7 @@ ghost use Rattle.std.specs.Prelude.{◌≡◌, ◌++◌, ◌+◌, ◌-◌, ◌�
 ghost use Rattle.qic117_commands.specs.Commands.{command_at};
 ghost use Rattle.pulse_dialogue.specs.Dialogue.{IsSound, begun_by, given_up, one_fewer, said_of, said_in, said_by_train};
 
-use qic117_commands::{Command, command_of};
-use report_bits::Collector;
+use qic117_commands::{Collector, Command, command_of};
 use tape_script::TextLine;
 
 /// What is awaited where a train comes, or a sample.

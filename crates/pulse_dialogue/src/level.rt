@@ -4,7 +4,7 @@ ghost use Rattle.std.specs.Prelude.{◌≡◌, ◌++◌, ◌+◌, ◌≤◌, len
 ghost use Rattle.pulse_dialogue.specs.Dialogue.{IsSound, hex_digit, hex_digits, sample_line, heard_in_report, heard_level};
 
 use crate::context::Context;
-use report_bits::Collector;
+use qic117_commands::Collector;
 use tape_script::TextLine;
 
 fn hex_digit(n: u16) -> u8

@@ -5,9 +5,9 @@ use Rattle.qic_base.specs.Source as sources
 use Rattle.pulse_dialogue.specs.declared.fault.TraceFault.{TraceFault as Fault}
 use Rattle.pulse_dialogue.specs.declared.fault.TraceFault.TheVariants as fault
 use Rattle.pulse_dialogue.specs.Runs.{Streams, Tells}
-use Rattle.trace_words.specs.Words.{HasGap, IsRefusedBy}
-use Rattle.trace_words.specs.declared.gap.BadWords.{BadWords}
-use Rattle.trace_words.specs.declared.gap.BadWords.TheVariants as bad
+use Rattle.program_words.specs.TraceWords.{HasGap, IsRefusedBy}
+use Rattle.program_words.specs.declared.gap.BadWords.{BadWords}
+use Rattle.program_words.specs.declared.gap.BadWords.TheVariants as bad
 use Rattle.pulse_trace.specs.declared.status.TraceStatus.TheVariants.{SourceFault, SinkFault}
 use Rattle.pulse_trace.specs.Runs.{Runs, status_told, status_refused}
 

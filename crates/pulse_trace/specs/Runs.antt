@@ -6,9 +6,9 @@ use Rattle.pulse_dialogue.specs.declared.fault.TraceFault.{TraceFault as Fault}
 use Rattle.pulse_dialogue.specs.declared.fault.TraceFault.TheVariants as fault
 use Rattle.pulse_dialogue.specs.Lines.{AtEnd, AtFault}
 use Rattle.pulse_dialogue.specs.Runs.{Streams, Ended, Unread, Unwritten}
-use Rattle.trace_words.specs.Words.{HasGap, IsRefused}
-use Rattle.trace_words.specs.declared.gap.BadWords.{BadWords}
-use Rattle.trace_words.specs.declared.gap.BadWords.TheVariants as bad
+use Rattle.program_words.specs.TraceWords.{HasGap, IsRefused}
+use Rattle.program_words.specs.declared.gap.BadWords.{BadWords}
+use Rattle.program_words.specs.declared.gap.BadWords.TheVariants as bad
 use Rattle.pulse_trace.specs.declared.status.TraceStatus.{TraceStatus}
 use Rattle.pulse_trace.specs.declared.status.TraceStatus.TheVariants.{Done, Usage, TraceFault, SourceFault, SinkFault, NoMemory}
 

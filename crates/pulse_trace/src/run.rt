@@ -5,11 +5,11 @@ ghost use Rattle.qic_base.specs.Tape.{Rose};
 ghost use Rattle.pulse_trace.specs.Runs.{Runs, status_told, status_refused};
 
 use crate::status::TraceStatus;
+use program_words::{BadWords, read_gap};
 use pulse_dialogue::{TraceFault, tell_recording};
 use qic_base::{Sink, Source};
 use std::alloc::Global;
 use std::io::ErrorKind;
-use trace_words::{BadWords, read_gap};
 
 /// The status of a run whose telling ended so.
 fn told(answer: Result<(), TraceFault>) -> TraceStatus

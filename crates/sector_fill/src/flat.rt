@@ -2,7 +2,7 @@
 
 ghost use Rattle.std.specs.Prelude.{◌≡◌, ◌*◌, ◌≤◌, length, take, drop};
 ghost use Rattle.std.specs.Borrow.{sem};
-ghost use Rattle.cartridge_spec.specs.Appending.{bytes_in};
+ghost use Rattle.cartridge_spec.specs.Volumes.{bytes_in};
 ghost use Rattle.sector_fill.specs.Flat.{LendsBytes};
 
 use std::slice::from_raw_parts_mut;

@@ -10,8 +10,8 @@ mod run;
 mod status;
 
 use cart_image::ImageTape;
-use dump_words::{ExportWords, read_export_words};
 use map_file::{MapFile, require_empty};
+use program_words::{ExportWords, read_export_words};
 use qic_base::{DiskFailed, NoMemory};
 use read_ahead::{MOST, ReadAhead};
 use rescue_map::write_bytes;

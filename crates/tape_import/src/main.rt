@@ -8,8 +8,8 @@ mod map_source;
 mod run;
 mod status;
 
-use dump_words::{ImportWords, read_import_words};
 use map_source::MapSource;
+use program_words::{ImportWords, read_import_words};
 use run::{run_import, unread};
 use status::{ImportStatus, write_status};
 use std::env::Env;

@@ -3,6 +3,7 @@
 
 mod date;
 mod line;
+mod lines;
 mod made;
 mod number;
 mod summed;
@@ -15,6 +16,7 @@ mod write;
 
 pub use command_spec::{Line, Words};
 pub use line::{LineRead, read_line};
+pub use lines::{number_text, place_text};
 pub use made::Made;
 pub use number::read_number;
 pub use summed::Summed;

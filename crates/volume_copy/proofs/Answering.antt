@@ -21,7 +21,7 @@ use Rattle.volume_copy.proofs.Ends.{decks_of}
 use Rattle.volume_copy.proofs.Goes.{Chained, GoesOn, append_kind, append_late, chained, goes_broke, goes_both, goes_done, goes_same, lines_more, missing_goes}
 use Rattle.volume_copy.specs.Faults.{from_status, to_status}
 use Rattle.volume_copy.specs.Runs.{BothRefused, CopiesOne, CopyView, HasRun, IsCounted, IsRefused, IsUnprinted, MissingEnds, PrintsCount, RunEnds, SideView, Units, append_answer, append_status, next_number}
-use Rattle.volume_source.specs.Source.{IsOfPart, new_source, source_means}
+use Rattle.volume_copy.specs.Source.{IsOfPart, new_source, source_means}
 use Rattle.volume_store.specs.Appending.{AppendEnds}
 use Rattle.volume_store.specs.declared.appended.Appended.{Appended}
 use Rattle.cartridge_front.specs.declared.fault.StoreFault.{StoreFault}

@@ -21,7 +21,7 @@ use Rattle.volume_copy.proofs.Goes.{one_done, one_goes}
 use Rattle.volume_copy.proofs.Lists.{from_index}
 use Rattle.volume_copy.proofs.Volume.{IsCopied, IsTurned, IsUngiven, IsUnwritten, is_copied, is_outside, is_refused}
 use Rattle.volume_copy.specs.Runs.{CopyView, HasCopied, HaveCopied, IsCounted, IsRefused, IsUnprinted, MissingEnds, PrintsCount, SideFits, SideView, next_number}
-use Rattle.volume_source.specs.Source.{SourceView, new_source, source_means}
+use Rattle.volume_copy.specs.Source.{SourceView, new_source, source_means}
 use Rattle.command_spec.specs.declared.copy_fault.CopyFault.TheVariants as copy
 use Rattle.command_spec.specs.declared.copy_status.CopyStatus.TheVariants as status
 use Rattle.qic_base.specs.Sink as sinks

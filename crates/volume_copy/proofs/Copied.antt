@@ -12,7 +12,7 @@ use Rattle.store_opening.specs.Opening.{OpenFails}
 use Rattle.store_opening.specs.declared.opening.OpenFault.{OpenFault}
 use Rattle.volume_copy.specs.Faults.{from_status, is_of_cartridge, is_of_opening, to_status}
 use Rattle.volume_copy.specs.Runs.{BothRefused, CopiesOne, CopyRuns, CopyView, HasCopied, HaveCopied, IsCounted, IsRefused, IsUnprinted, MissingEnds, PrintsCount, RunEnds, SideFits, SideView, Units, append_answer, append_status, is_append_fault, is_asked}
-use Rattle.volume_source.specs.Source.{IsOfPart, IsSoundSource, SourceView, new_source, source_means}
+use Rattle.volume_copy.specs.Source.{IsOfPart, IsSoundSource, SourceView, new_source, source_means}
 use Rattle.volume_store.specs.Appending.{AppendEnds, FaultsUnread, InOrder}
 use Rattle.cartridge_front.specs.Finding.{is_of_mounting}
 use Rattle.volume_store.specs.Mounting.{StoreView}

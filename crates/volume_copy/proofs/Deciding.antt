@@ -42,7 +42,7 @@ use Rattle.volume_copy.proofs.Goes.{Chained, chained, missing_goes, too_long, to
 use Rattle.volume_copy.proofs.Openings.{OpenedAt, RefusedAs, opened_at, opened_mark, refused_as}
 use Rattle.volume_copy.specs.Faults.{copy_fault, from_status, to_status}
 use Rattle.volume_copy.specs.Runs.{CopyView, HasCopied, HasRun, HaveCopied, IsCounted, IsRefused, IsUnlike, IsUnprinted, PrintsCount, RunEnds, Units, append_status, next_number}
-use Rattle.volume_source.specs.Source.{IsOfPart, IsRefusal, new_source, source_means}
+use Rattle.volume_copy.specs.Source.{IsOfPart, IsRefusal, new_source, source_means}
 use Rattle.volume_store.specs.Appending.{AppendEnds}
 use Rattle.cartridge_front.specs.Learning.{MountRefuses}
 use Rattle.volume_store.specs.Mounting.{IsSettling, StoreView}

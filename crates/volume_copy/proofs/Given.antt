@@ -18,9 +18,9 @@ use Rattle.command_spec.specs.declared.copy_status.CopyStatus.{CopyStatus}
 use Rattle.qic_base.specs.Acts.{Act}
 use Rattle.qic_base.specs.Cartridge.{Cartridge}
 use Rattle.volume_copy.specs.Runs.{CopiesOne, SideView}
-use Rattle.volume_source.proofs.Bytes.{given_is}
-use Rattle.volume_source.specs.Given.{given_bytes}
-use Rattle.volume_source.specs.Source.{FirstRead, FirstUnread, IsRefusal, Reads, SourceView, bytes_left, left_where, new_source, pieces_at, pieces_of_number, source_means, source_pieces}
+use Rattle.volume_copy.proofs.Bytes.{given_is}
+use Rattle.volume_copy.specs.Given.{given_bytes}
+use Rattle.volume_copy.specs.Source.{FirstRead, FirstUnread, IsRefusal, Reads, SourceView, bytes_left, left_where, new_source, pieces_at, pieces_of_number, source_means, source_pieces}
 use Rattle.qic_base.specs.Tape as tapes
 
 -- ---- pieces that are read

@@ -18,7 +18,7 @@ use Rattle.qic_base.specs.Terms.{reading}
 use Rattle.qic_base.specs.Cartridge.{Cartridge}
 use Rattle.qic_base.specs.Step.{Step as TapeStep, effects}
 use Rattle.volume_copy.specs.Runs.{CopiesOne, CopyView, HasCopied, HaveCopied, IsCounted, IsRefused, IsUnprinted, MissingEnds, PrintsCount, SideFits, SideView, append_answer, append_status, next_number}
-use Rattle.volume_source.specs.Source.{IsOfPart, SourceView, new_source, source_means}
+use Rattle.volume_copy.specs.Source.{IsOfPart, SourceView, new_source, source_means}
 use Rattle.volume_store.specs.Appending.{AppendEnds}
 use Rattle.volume_store.specs.Mounting.{StoreView}
 use Rattle.volume_store.specs.declared.appended.Appended.{Appended}

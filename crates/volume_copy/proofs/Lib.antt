@@ -1,9 +1,11 @@
 pub mod Answering
 pub mod Appended
+pub mod Bytes
 pub mod Carried
 pub mod Copied
 pub mod Deciding
 pub mod Ends
+pub mod Filling
 pub mod Following
 pub mod Given
 pub mod Goes
@@ -11,5 +13,6 @@ pub mod Lengths
 pub mod Lists
 pub mod Openings
 pub mod Promising
+pub mod Starting
 pub mod Text
 pub mod Volume

@@ -5,7 +5,7 @@ use Rattle.std.proofs.lemmas.Bool.{cases_Bool, ltb-false, ltb-true}
 use Rattle.std.proofs.lemmas.List.{length-take-le}
 use Rattle.cartridge_laws.proofs.TableSayings.{table_says_is_function}
 use Rattle.cartridge_spec.specs.Appending.{free_segments, new_entry, table_writes, taken_by}
-use Rattle.cartridge_spec.specs.HeaderAndTable.{TableIs, table_cells}
+use Rattle.cartridge_spec.specs.TableSegment.{TableIs, table_cells}
 use Rattle.cartridge_spec.specs.Says.{AsRead, ByCode, Data, LostSectors, TableSays}
 use Rattle.cartridge_spec.specs.Settling.{changed_by, settling_steps}
 use Rattle.cartridge_spec.specs.Table.{Entry, table_with}
@@ -31,7 +31,7 @@ use Rattle.volume_copy.proofs.Appended.{AddsOne, AppendIs, adds_one, adds_to_tar
 use Rattle.volume_copy.proofs.Given.{bytes, given, left_before, long, refused_so, taken_restored, unread_restored}
 use Rattle.volume_copy.proofs.Goes.{fitting, too_long, too_short}
 use Rattle.volume_copy.specs.Runs.{CopiesOne, SideFits, SideView, append_answer, append_status}
-use Rattle.volume_source.specs.Source.{IsOfPart, IsRefusal, SourceView, new_source, source_means}
+use Rattle.volume_copy.specs.Source.{IsOfPart, IsRefusal, SourceView, new_source, source_means}
 use Rattle.volume_store.specs.Appending.{AppendCut, AppendEnds, CutBeforeEntry, CutUnread, FaultsUnread, HasGivenAll, ListsLast, MayAsk, acts_before_entry, kept_by}
 use Rattle.volume_store.specs.declared.appended.Appended.{Appended}
 use Rattle.cartridge_front.specs.declared.fault.StoreFault.{StoreFault}

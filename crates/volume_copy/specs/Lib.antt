@@ -1,4 +1,6 @@
 pub mod Faults
+pub mod Given
 pub mod Lines
 pub mod Printing
 pub mod Runs
+pub mod Source

@@ -14,7 +14,7 @@ use Rattle.qic_base.specs.Terms.{reading}
 use Rattle.store_opening.specs.Opening.{HasOpened, OpenFails}
 use Rattle.store_opening.specs.declared.opening.OpenFault.{OpenFault}
 use Rattle.volume_copy.specs.Faults.{copy_fault, from_status, is_of_cartridge, to_status}
-use Rattle.volume_source.specs.Source.{IsSoundSource, KeepsVolume, SourceView, new_source, source_means}
+use Rattle.volume_copy.specs.Source.{IsSoundSource, KeepsVolume, SourceView, new_source, source_means}
 use Rattle.volume_store.specs.Appending.{AppendEnds, FaultsUnread, KeepsFormat, KeepsList, InOrder}
 use Rattle.volume_store.specs.Mounting.{StoreView, StoreFits}
 use Rattle.volume_store.specs.declared.appended.Appended.{Appended}

@@ -6,12 +6,11 @@ ghost use Rattle.volume_copy.specs.Runs.{CopiesOne, MissingEnds, PrintsCount, ap
 ghost use Rattle.volume_store.specs.Mounting.{StoreFits};
 
 use crate::fault::copy_fault;
+use crate::source::VolumeSource;
 use command_spec::{CopyFault, CopyStatus};
 use drive_states::Unit;
 use qic_base::{Name, Sink, SinkFailed, Tape};
-use tape_script::write_text;
-use volume_lines::{number_text, place_text};
-use volume_source::VolumeSource;
+use tape_script::{number_text, place_text, write_text};
 use volume_store::{Store, StoreFault};
 
 /// The source of a copy: a mounted cartridge with the unit that drives it.

@@ -10,7 +10,8 @@ use Rattle.cartridge_laws.specs.Shape.{Carries}
 use Rattle.cartridge_spec.specs.Shape.{mask_at, usable_places, data_count, capacity}
 use Rattle.cartridge_spec.specs.Settling.{writes_of}
 use Rattle.cartridge_laws.specs.Writes.{segment_writes}
-use Rattle.cartridge_spec.specs.Appending.{in_sectors, bytes_in}
+use Rattle.cartridge_spec.specs.Appending.{in_sectors}
+use Rattle.cartridge_spec.specs.Volumes.{bytes_in}
 use Rattle.cartridge_laws.proofs.AppendBytes.{carried_all, bytes_of_sectors}
 use Rattle.qic_base.specs.Cartridge.{IsSector}
 use Rattle.sector_fill.specs.Filling.{GaveUpTo, GaveWithin, AreFilled}

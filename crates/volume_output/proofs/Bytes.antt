@@ -9,7 +9,7 @@ use Rattle.cartridge_laws.specs.Terms.{data_of}
 use Rattle.cartridge_laws.specs.Shape.{Carries}
 use Rattle.cartridge_spec.specs.Shape.{usable_count, data_count, capacity}
 use Rattle.cartridge_laws.proofs.Places.{count_below}
-use Rattle.cartridge_spec.specs.Appending.{bytes_in}
+use Rattle.cartridge_spec.specs.Volumes.{bytes_in}
 use Rattle.command_laws.proofs.RestoreCounts.{length-bytes_in}
 
 bytes_in-append : (xs ys : List (List ℕ)) → bytes_in (xs ++ ys) ≡ bytes_in xs ++ bytes_in ys

@@ -10,7 +10,7 @@ use Rattle.cartridge_spec.specs.Says.{cells_of, Says, Data, LostSectors}
 use Rattle.cartridge_laws.specs.Terms.{data_of}
 use Rattle.cartridge_spec.specs.Shape.{mask_at, usable_count}
 use Rattle.cartridge_laws.proofs.Segments.{count_of_cells}
-use Rattle.cartridge_spec.specs.Appending.{bytes_in}
+use Rattle.cartridge_spec.specs.Volumes.{bytes_in}
 use Rattle.segment_io.specs.Reading.{HasSolved}
 use Rattle.segment_io.proofs.Going.{tells_always}
 use Rattle.command_spec.specs.Restore.{Piece, GivingEnd, Restored, LostIn, MismatchIn, IsRead, PieceEnds, Restores}

@@ -11,10 +11,10 @@ ghost use Rattle.volume_output.specs.Output.{OutputEnds};
 ghost use Rattle.volume_output.specs.Piece.{piece_of, part_text};
 
 use crate::fault::OutputFault;
+use crate::sectors::write_bytes;
 use drive_states::Unit;
 use host_driver::Host;
 use qic_base::{Sink, SinkFailed, Tape};
-use sector_output::write_bytes;
 use segment_io::{SegFault, Workspace, read_segment};
 use tape_script::{TextLine, write_text};
 

@@ -15,7 +15,7 @@ use Rattle.cartridge_spec.specs.Appending.{table_writes}
 use Rattle.cartridge_laws.specs.Terms.{slot_sector}
 use Rattle.cartridge_spec.specs.Table.{table_with, Entry}
 use Rattle.qic_base.proofs.Joins.{cut_is_longer, broke_behind}
-use Rattle.cartridge_spec.specs.HeaderAndTable.{table_cells, TableIs}
+use Rattle.cartridge_spec.specs.TableSegment.{table_cells, TableIs}
 use Rattle.cartridge_spec.specs.Says.{ByCode, LostSectors, TableSays}
 use Rattle.cartridge_spec.specs.Settling.{settling_steps}
 use Rattle.command_spec.specs.declared.line.Line.{Line}

@@ -15,8 +15,7 @@ use command_spec::Refusal;
 use drive_states::Unit;
 use qic_base::{Name, Sink, Source, SourceFailed, Tape};
 use tape_script::{skip, write_text};
-use volume_lines::appended_text;
-use volume_store::{Appended, Store, StoreFault};
+use volume_store::{Appended, Store, StoreFault, appended_text};
 
 /// What an append answered, and how many of the promised bytes it left in the source.
 #[derive(Clone, Copy, Debug, PartialEq, Eq)]

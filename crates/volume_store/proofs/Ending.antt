@@ -14,7 +14,7 @@ use Rattle.cartridge_laws.proofs.TableSayings.{table_says_is_function}
 use Rattle.cartridge_laws.specs.AppendSettled.{IsSettledFor}
 use Rattle.cartridge_laws.specs.Table.{IsSoundList}
 use Rattle.cartridge_spec.specs.Appending.{taken_by}
-use Rattle.cartridge_spec.specs.HeaderAndTable.{TableIs, table_cells}
+use Rattle.cartridge_spec.specs.TableSegment.{TableIs, table_cells}
 use Rattle.cartridge_laws.specs.Terms.{HasList}
 use Rattle.cartridge_spec.specs.Says.{TableSays, AsRead, ByCode, LostSectors, Data, with_parity}
 use Rattle.cartridge_spec.specs.Settling.{changed_by, settling_steps}

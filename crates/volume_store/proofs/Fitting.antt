@@ -14,7 +14,8 @@ use Rattle.qic_base.proofs.Steps.{Tells-map, Done-told}
 use Rattle.cartridge_spec.specs.Formatting.{IsLabel}
 use Rattle.cartridge_laws.proofs.FormatWriting.{effects-some}
 use Rattle.qic_base.specs.Acts.{steps_of}
-use Rattle.cartridge_spec.specs.HeaderAndTable.{IsArea, TableIs}
+use Rattle.cartridge_spec.specs.Shape.{IsArea}
+use Rattle.cartridge_spec.specs.TableSegment.{TableIs}
 use Rattle.cartridge_spec.specs.Table.{slot_bytes, table_with, Entry, Shows}
 use Rattle.cartridge_laws.specs.Table.{IsSoundList}
 use Rattle.cartridge_spec.specs.Settling.{changed_by, settling_steps}

@@ -13,7 +13,7 @@ use Rattle.qic_base.proofs.Steps.{Torn-all}
 use Rattle.qic_base.specs.Acts.{Act, Outside, SinkFails, Cut, steps_of}
 use Rattle.qic_base.specs.Terms.{no_source}
 use Rattle.qic_base.proofs.Outcomes.{cut_is_torn}
-use Rattle.cartridge_spec.specs.HeaderAndTable.{table_cells}
+use Rattle.cartridge_spec.specs.TableSegment.{table_cells}
 use Rattle.cartridge_spec.specs.Says.{Agrees, whole_mask}
 use Rattle.cartridge_spec.specs.Table.{Entry}
 use Rattle.cartridge_laws.specs.Table.{IsSoundList}

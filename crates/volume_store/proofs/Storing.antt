@@ -14,7 +14,7 @@ use Rattle.qic_base.specs.declared.tape.TapeInfo.{TapeInfo}
 use Rattle.cartridge_spec.specs.Header.{Header}
 use Rattle.cartridge_spec.specs.Table.{Entry}
 use Rattle.cartridge_laws.specs.Table.{IsSoundList, LieBehind}
-use Rattle.cartridge_spec.specs.HeaderAndTable.{TableIs}
+use Rattle.cartridge_spec.specs.TableSegment.{TableIs}
 use Rattle.cartridge_spec.specs.Mounting.{settled}
 use Rattle.cartridge_laws.specs.Terms.{HasList}
 use Rattle.cartridge_spec.specs.Settling.{writes_of, changed_by, settling_steps, block_writes, settling_places}

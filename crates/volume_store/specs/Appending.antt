@@ -1,7 +1,7 @@
 -- What an append does, by the map, the list, the table's data and the input; and how the call ended (this project's own).
 use Rattle.std.specs.Prelude.{◌≡◌, ℕ, ◌<◌, List, drop, Option, All, IfSome, IfNone, [], length, is_some, Result, Ok, Err, ◌≤◌, ◌+◌, ◌∷◌, ◌++◌, ◌⊎◌, Some, true}
 use Rattle.std.specs.Option.{option_map}
-use Rattle.cartridge_spec.specs.HeaderAndTable.{TableIs, table_cells}
+use Rattle.cartridge_spec.specs.TableSegment.{TableIs, table_cells}
 use Rattle.cartridge_spec.specs.Says.{LostSectors, ByCode, TableSays}
 use Rattle.cartridge_spec.specs.Settling.{settling_steps}
 use Rattle.cartridge_spec.specs.Table.{Entry, Shows}

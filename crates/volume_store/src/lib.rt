@@ -6,9 +6,11 @@ mod appended;
 mod appending;
 mod listing;
 mod store;
+mod volume_text;
 
 pub use appended::Appended;
 pub use cartridge_front::StoreFault;
 pub use listing::write_list;
 pub use segment_mending::ScrubReport;
 pub use store::Store;
+pub use volume_text::{appended_text, write_count, write_volume};

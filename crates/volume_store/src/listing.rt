@@ -5,8 +5,8 @@ ghost use Rattle.qic_base.specs.SinkCalls.{Writes};
 ghost use Rattle.command_spec.specs.Lines.{list_text};
 
 use crate::store::Store;
+use crate::volume_text::{write_count, write_volume};
 use qic_base::{Sink, SinkFailed};
-use volume_lines::{write_count, write_volume};
 
 /// Writes a line for each volume, and how many there are. A failure leaves a front of them written.
 pub fn write_list<K: Sink>(store: &Store, sink: &mut K) -> Result<(), SinkFailed>

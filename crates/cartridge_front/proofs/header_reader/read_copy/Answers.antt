@@ -1,6 +1,6 @@
 use Rattle.std.proofs.Common.{ℕ, List, take, refl, ◌∙◌, arith}
 use Rattle.qic_base.proofs.Steps.{Tells-map}
-use Rattle.cartridge_spec.specs.HeaderAndTable.{copy_cells}
+use Rattle.cartridge_spec.specs.HeaderCopies.{copy_cells}
 use Rattle.host_driver.specs.Fits.{segments_of}
 use Rattle.segment_io.proofs.Going.{front_segment}
 use Rattle.segment_io.specs.Reading.{HasSolved}

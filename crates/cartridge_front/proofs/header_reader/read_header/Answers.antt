@@ -6,7 +6,7 @@ use Rattle.host_driver.proofs.Keeping.{keeps_both}
 use Rattle.cartridge_front.specs.declared.fault.StoreFault.TheVariants.{Tape}
 use Rattle.qic_base.specs.TapeCalls.{Tells}
 use Rattle.qic_base.proofs.Steps.{Tells-read, Done-after_reads}
-use Rattle.cartridge_spec.specs.HeaderAndTable.{CopyDoesNotRead}
+use Rattle.cartridge_spec.specs.HeaderCopies.{CopyDoesNotRead}
 use Rattle.drive_spec.specs.Terms.{is_referenced}
 use Rattle.host_driver.specs.Fits.{segments_of, deck_of}
 use Rattle.header_segments.specs.declared.header.Header.{Header}

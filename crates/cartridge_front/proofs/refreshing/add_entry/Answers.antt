@@ -3,7 +3,7 @@ use Rattle.std.proofs.lemmas.List.{length-take-le}
 use Rattle.qic_base.specs.TapeCalls.{Tells}
 use Rattle.cartridge_front.specs.declared.table_reader.Unread.{Unread}
 use Rattle.qic_base.proofs.Steps.{Tells-map}
-use Rattle.cartridge_spec.specs.HeaderAndTable.{TableIs}
+use Rattle.cartridge_spec.specs.TableSegment.{TableIs}
 use Rattle.cartridge_spec.specs.Table.{Entry, Shows, table_with}
 use Rattle.volume_table.specs.Entry.{entry_of}
 use Rattle.cartridge_front.specs.declared.fault.StoreFault.{StoreFault}

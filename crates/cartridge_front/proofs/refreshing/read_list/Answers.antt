@@ -2,7 +2,7 @@ use Rattle.std.proofs.Common.{◌≢◌, ◌∙◌, ℕ, List, take, Err, sym, a
 use Rattle.cartridge_laws.specs.Terms.{HasList}
 use Rattle.qic_base.proofs.Steps.{Tells-map}
 use Rattle.qic_base.specs.TapeCalls.{Tells}
-use Rattle.cartridge_spec.specs.HeaderAndTable.{TableIs}
+use Rattle.cartridge_spec.specs.TableSegment.{TableIs}
 use Rattle.cartridge_spec.specs.Table.{Entry, Shows}
 use Rattle.segment_io.specs.declared.fault.SegFault.{SegFault}
 use Rattle.cartridge_front.specs.declared.fault.StoreFault.{StoreFault}

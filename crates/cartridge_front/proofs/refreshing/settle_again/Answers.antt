@@ -1,7 +1,7 @@
 use Rattle.std.proofs.Common.{◌≡◌, ℕ, List, take, Err, inr}
 use Rattle.cartridge_front.specs.declared.table_reader.Unread.{Unread}
 use Rattle.qic_base.proofs.Steps.{Tells-map}
-use Rattle.cartridge_spec.specs.HeaderAndTable.{TableIs}
+use Rattle.cartridge_spec.specs.TableSegment.{TableIs}
 use Rattle.cartridge_front.specs.Again.{HasTable}
 use Rattle.drive_spec.specs.Terms.{is_protected}
 use Rattle.cartridge_front.specs.declared.fault.StoreFault.{StoreFault}

@@ -2,7 +2,7 @@ use Rattle.std.proofs.Common.{◌≡◌, ◌<◌, ℕ, take, refl, sym, subst, a
 use Rattle.qic_base.proofs.Steps.{Tells-map}
 use Rattle.cartridge_laws.specs.Says.{LosesData}
 use Rattle.cartridge_spec.specs.Says.{LostSectors, ByCode, TableSays}
-use Rattle.cartridge_spec.specs.HeaderAndTable.{table_cells, TableIs}
+use Rattle.cartridge_spec.specs.TableSegment.{table_cells, TableIs}
 use Rattle.segment_io.specs.Gathered.{Gathered}
 use Rattle.segment_io.proofs.Going.{front_segment}
 use Rattle.cartridge_front.specs.declared.table_reader.Unread.{Unread}

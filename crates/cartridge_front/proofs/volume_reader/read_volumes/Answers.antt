@@ -2,7 +2,7 @@ use Rattle.std.proofs.Common.{◌≡◌, ℕ, ◌-◌, ◌*◌, List, take, Err,
 use Rattle.host_driver.specs.Fits.{segments_of}
 use Rattle.cartridge_front.specs.declared.fault.StoreFault.{StoreFault}
 use Rattle.qic_base.proofs.Steps.{Tells-map}
-use Rattle.cartridge_spec.specs.HeaderAndTable.{TableIs}
+use Rattle.cartridge_spec.specs.TableSegment.{TableIs}
 use Rattle.cartridge_front.specs.Finding.{NamesCause, FindsVolumes}
 use Rattle.cartridge_front.proofs.Passing.{passed}
 use Rattle.cartridge_front.proofs.TableSegment.{finds_bad}

@@ -1,6 +1,6 @@
 use Rattle.std.proofs.Common.{◌≡◌, ℕ, ◌<◌, true, nat_lt, ap, ◌∙◌, arith}
 use Rattle.std.proofs.lemmas.Bool.Decides.{nat_tests}
-use Rattle.report_bits.specs.Report.{levels_of}
+use Rattle.qic117_commands.specs.Report.{levels_of}
 use Rattle.drive_spec.specs.declared.under_way.UnderWay.TheVariants.{Report}
 use Rattle.drive_spec.specs.Reports.{report_width}
 use Rattle.drive_states.proofs.under_way.begun.Goals as goal

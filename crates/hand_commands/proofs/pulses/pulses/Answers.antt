@@ -1,4 +1,4 @@
-use Rattle.tape_pulses.specs.declared.fault.PulseFault.TheVariants as fault
+use Rattle.hand_commands.specs.declared.pulses.fault.PulseFault.TheVariants as fault
 use Rattle.std.proofs.Common.{Ok}
 use Rattle.hand_commands.proofs.Trains.{pulses_end, pulses_failed}
 use Rattle.hand_commands.proofs.pulses.pulses.Goals as goal

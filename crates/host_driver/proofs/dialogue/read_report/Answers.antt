@@ -1,5 +1,5 @@
 use Rattle.std.proofs.Common.{◌≡◌, ℕ, ◌+◌, ◌<◌, List, Bool, false, length, get_or, ap, sym, subst, ◌∙◌, arith}
-use Rattle.report_bits.specs.Report.{Collected, levels_of}
+use Rattle.qic117_commands.specs.Report.{Collected, levels_of}
 use Rattle.qic117_commands.specs.Commands.{number_of}
 use Rattle.qic117_commands.specs.declared.command.Command.TheVariants.{ReportNextBit}
 use Rattle.drive_spec.specs.Record.{Record}

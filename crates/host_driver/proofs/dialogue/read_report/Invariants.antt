@@ -1,5 +1,5 @@
 use Rattle.std.proofs.Common.{◌≡◌, take}
-use Rattle.report_bits.specs.Report.{levels_of}
+use Rattle.qic117_commands.specs.Report.{levels_of}
 use Rattle.drive_states.specs.Unit.{IsSoundUnit}
 use Rattle.host_driver.specs.Reports.{width_of, reported_word}
 use Rattle.host_driver.proofs.Reporting.{reporting}

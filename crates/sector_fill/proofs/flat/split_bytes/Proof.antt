@@ -38,7 +38,7 @@ use denote.Triple.Table.{entered}
 use denote.Triple.Walked.{needs, Stays, stay_dropped, walk_of, ends_at, walked, Goes-dropped, Goes-spent_slice, walk_Meets}
 use borrow.Table.Elements.{at, at_mul}
 use Rattle.core.proofs.mem.Facts.{says_three}
-use Rattle.cartridge_spec.specs.Appending.{bytes_in}
+use Rattle.cartridge_spec.specs.Volumes.{bytes_in}
 use Rattle.sector_fill.proofs.Lending.{parts_lent, lends_parts}
 use Rattle.sector_fill.specs.contracts.flat.split_bytes.Key.{name as #split_bytes}
 use Rattle.sector_fill.specs.contracts.flat.split_bytes as F

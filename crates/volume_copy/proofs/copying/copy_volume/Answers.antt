@@ -6,7 +6,7 @@ use Rattle.volume_copy.proofs.Lengths.{length_of_fits}
 use Rattle.volume_copy.proofs.copying.copy_volume.Goals as goal
 use Rattle.volume_copy.proofs.copying.copy_volume.Goals.{in-Ok, in-Err}
 use Rattle.volume_copy.specs.Runs.{append_answer, append_status}
-use Rattle.volume_source.specs.Source.{KeepsVolume, new_source}
+use Rattle.volume_copy.specs.Source.{KeepsVolume, new_source}
 use Rattle.volume_store.proofs.Restored.{length_there, volume_there}
 use Rattle.volume_table.specs.Entry.{entry_of}
 

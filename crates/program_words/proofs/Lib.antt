@@ -1,0 +1,4 @@
+pub mod Asking
+pub mod Defaults
+pub mod Gaps
+pub mod Optional

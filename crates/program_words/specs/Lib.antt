@@ -1,0 +1,4 @@
+pub mod DumpOptions
+pub mod DumpWords
+pub mod GapOption
+pub mod TraceWords

@@ -1,0 +1,48 @@
+//! The gap that the words of a command line give.
+
+ghost use Rattle.std.specs.Prelude.{◌≡◌, ◌↔◌, IsTrue, map, string_bytes, MatchResult};
+ghost use Rattle.program_words.specs.TraceWords.{HasGap, IsRefusedBy};
+
+use crate::option::trace_command;
+use clap::error::ErrorKind;
+use std::alloc::Global;
+
+/// Why words gave no gap.
+#[derive(Clone, Copy, Debug, PartialEq, Eq)]
+pub enum BadWords {
+    /// They are not among those that the command takes.
+    Refused,
+    /// There was no memory to read them.
+    NoMemory,
+}
+
+fn is_memory(kind: ErrorKind) -> bool
+    ensures { IsTrue result ↔ (kind ≡ ErrorKind.OutOfMemory) }
+{
+    matches!(kind, ErrorKind::OutOfMemory)
+}
+
+/// The gap that the words of the command line give, the program's name the first of them. Memory is taken for the
+/// reading alone.
+pub fn read_gap(alloc: Global, words: &Vec<String>) -> Result<u32, BadWords>
+    ensures { MatchResult result
+        (HasGap (map string_bytes words.now.items))
+        (IsRefusedBy (map string_bytes words.now.items)) }
+{
+    let Ok(command) = trace_command(alloc) else {
+        return Err(BadWords::NoMemory);
+    };
+    match command.try_get_matches_from(words.as_slice()) {
+        Ok(matches) => match matches.get_one::<u32>("gap") {
+            Some(gap) => Ok(gap),
+            None => unreachable!("the gap has a default"),
+        },
+        Err(error) => {
+            if is_memory(error.kind()) {
+                Err(BadWords::NoMemory)
+            } else {
+                Err(BadWords::Refused)
+            }
+        }
+    }
+}

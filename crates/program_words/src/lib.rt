@@ -1,0 +1,14 @@
+//! The words of the command lines of `pulse_trace`, `tape_export` and `tape_import`: commands of `clap`, the first with one option,
+//! the gap; the others with an image, an option for the map of its dump, and one for the segments per track of a cartridge
+//! that is imported.
+#![tactic(auto)]
+
+mod command;
+mod export_words;
+mod gap;
+mod import_words;
+mod option;
+
+pub use export_words::{ExportWords, read_export_words};
+pub use gap::{BadWords, read_gap};
+pub use import_words::{ImportWords, read_import_words};

@@ -1,8 +1,0 @@
-use Rattle.std.proofs.Common.{◌≡◌, true, ◌∷◌, ap, sym, ◌∙◌}
-use Rattle.report_bits.specs.Report.{levels_of, word_of}
-use Rattle.report_bits.proofs.ReportFacts.{word_of-levels_of, levels_of-word_of}
-use Rattle.report_bits.proofs.laws.round_trip.Goals as goal
-
-pub returns : goal.returns
-returns c width word levels small =
-    (λ shown. let same : levels ≡ levels_of width word = cc in ap (word_of width) same ∙ word_of-levels_of width word small, λ collected. ap (λ ls. true ∷ ls) (sym (levels_of-word_of width word levels collected)))

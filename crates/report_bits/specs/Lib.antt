@@ -1,4 +1,0 @@
-pub mod Digits
-pub mod Left
-pub mod Report
-pub mod Shows

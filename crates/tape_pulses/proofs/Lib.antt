@@ -1,3 +1,0 @@
-pub mod Hearing
-pub mod Inputs
-pub mod Running

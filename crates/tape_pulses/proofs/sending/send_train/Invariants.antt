@@ -1,6 +1,0 @@
-use Rattle.std.proofs.Common.{◌≡◌}
-use Rattle.tape_pulses.proofs.sending.send_train.Given as goal
-
-abbrev pub invariant-loop-pulse : goal.invariant-loop-pulse
-invariant-loop-pulse g l =
-    l.unit ≡ record l.initial.unit { drive = record l.initial.unit.drive { train = l._pulse } }
