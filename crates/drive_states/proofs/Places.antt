@@ -1,5 +1,5 @@
 -- Which typed state a command leads to.
-use Rattle.std.proofs.Common.{◌≡◌, ℕ, ◌+◌, ◌*◌, ◌<◌, ◌≤◌, Bool, true, false, ◌&&◌, List, Option, Some, None, Err, is_some, IsSomeAnd, if◌then◌else◌, nat_lt, refl, sym, ◌∙◌, arith, subst}
+use Rattle.std.proofs.Common.{◌≡◌, ℕ, ◌+◌, ◌*◌, ◌<◌, ◌≤◌, Bool, true, false, ◌&&◌, List, Option, Some, None, Result, is_some, IsSomeAnd, if◌then◌else◌, nat_lt, refl, sym, ◌∙◌, arith, subst}
 use Rattle.std.proofs.lemmas.Bool.Decides.{nat_tests}
 use Rattle.std.proofs.lemmas.Nat.{mul-add-lt}
 use Rattle.std.specs.Option.{option_map_or}
@@ -18,7 +18,7 @@ use Rattle.drive_spec.specs.Deck.{segments_per_track, limit, is_stopped, is_stre
 use Rattle.drive_spec.specs.Terms.{refusal_of, run_on}
 use Rattle.drive_spec.specs.Effects.{accepted, ticked}
 use Rattle.drive_states.specs.Typed.{is_seeking, TypedState, IsIn, moved, seeking}
-use Rattle.drive_states.specs.Reach.{passed, StreamsTo, segment_of, Writes}
+use Rattle.drive_states.specs.Reach.{passed, StreamsTo, segment_of, Finds, Writes}
 use Rattle.drive_states.specs.Sound.{HasLength, IsSound}
 use Rattle.drive_states.specs.Unit.{Knows, DeckAndTape}
 use Rattle.drive_states.proofs.Bounds.{with_cartridge, before_limit, limit_within, IsSound-passed}
@@ -91,13 +91,20 @@ IsPlaceOf-here d size s streams known =
     on (Some info) size track offset t o known =
         rw known record { on_tape = omega (arith, mul-add-lt track info.segments_per_track offset 28 t o); in_segment = omega arith }
 
--- what a protected sector was refused for, said of its place
-pub Writes-protected : {T : Type 0} (m : Meaning T) (old new : DeckAndTape T) (s i segment index : ℕ) (bytes : List ℕ) (protected : Bool) (fault : FdcFault) →
-    protected ≡ true → s ≡ segment → i ≡ index → Writes m old new s i bytes true (Err fault) → Writes m old new segment index bytes protected (Err fault)
-Writes-protected m old new s i segment index bytes protected fault marked here at refused =
-    subst (λ (b : Bool). Writes m old new segment index bytes b (Err fault)) (sym marked)
-    (subst (λ (n : ℕ). Writes m old new n index bytes true (Err fault)) here
-    (subst (λ (n : ℕ). Writes m old new s n bytes true (Err fault)) at refused))
+-- what a write came to, said of its place
+pub Writes-at : {T : Type 0} (m : Meaning T) (old new : DeckAndTape T) (s i segment index : ℕ) (bytes : List ℕ) (b protected : Bool) (result : Result (Unit {0}) FdcFault) →
+    protected ≡ b → s ≡ segment → i ≡ index → Writes m old new s i bytes b result → Writes m old new segment index bytes protected result
+Writes-at m old new s i segment index bytes b protected result marked here at wrote =
+    subst (λ (p : Bool). Writes m old new segment index bytes p result) (sym marked)
+    (subst (λ (n : ℕ). Writes m old new n index bytes b result) here
+    (subst (λ (n : ℕ). Writes m old new s n bytes b result) at wrote))
+
+-- what a read came to, said of its place
+pub Finds-at : {T : Type 0} (m : Meaning T) (old new : DeckAndTape T) (s i segment index : ℕ) (into now : List ℕ) (result : Result (Unit {0}) FdcFault) →
+    s ≡ segment → i ≡ index → Finds m old new s i into now result → Finds m old new segment index into now result
+Finds-at m old new s i segment index into now result here at found =
+    subst (λ (n : ℕ). Finds m old new n index into now result) here
+    (subst (λ (n : ℕ). Finds m old new s n into now result) at found)
 
 streams_still : (m : Motion) → is_streaming m ≡ true → is_seeking m ≡ false
 streams_still Stopped e = cc

@@ -1,7 +1,14 @@
 -- What the calls of a unit keep true of it.
-use Rattle.std.proofs.Common.{◌≡◌, Bool, true, false, Result, Ok, Err, OnOk, OnErr, refl, sym, subst}
-use Rattle.qic_base.specs.Tape.{Meaning}
+use Rattle.std.proofs.Common.{◌≡◌, ℕ, Bool, true, false, [], ◌∷◌, Option, Some, None, IfSome, IfOk, Result, Ok, Err, OnOk, OnErr, refl, sym, subst, arith}
+use Rattle.qic_base.specs.declared.tape.TapeFailed.{TapeFailed}
+use Rattle.qic_base.specs.declared.tape.TapeInfo.{TapeInfo}
+use Rattle.qic_base.specs.Cartridge.{Cartridge, IsPlace, view_at}
+use Rattle.qic_base.specs.Step.{Wear, Spoil}
+use Rattle.qic_base.specs.Tape.{Meaning, spoil_answer}
+use Rattle.qic_base.specs.TapeCalls.{Does, Tells}
+use Rattle.qic_base.proofs.Steps.{Tells-map}
 use Rattle.qic117_commands.specs.declared.view.Mode.{Mode}
+use Rattle.qic117_commands.specs.Views.{is_format}
 use Rattle.tape_geometry.specs.declared.geometry.FloppyAddr.{FloppyAddr}
 use Rattle.drive_spec.specs.declared.deck.Deck.{Deck}
 use Rattle.drive_spec.specs.declared.deck.Motion.{Motion}
@@ -10,6 +17,11 @@ use Rattle.drive_spec.specs.declared.under_way.UnderWay.TheVariants.{Nothing}
 use Rattle.drive_spec.specs.Deck.{is_streaming}
 use Rattle.drive_spec.specs.Record.{Record}
 use Rattle.drive_spec.specs.Row.{after_gap, moved_on}
+use Rattle.drive_states.specs.declared.fault.FdcFault.{FdcFault}
+use Rattle.drive_states.specs.declared.fault.FdcFault.TheVariants.{NoAddress}
+use Rattle.drive_states.specs.declared.fault.HandFault.{HandFault}
+use Rattle.drive_states.specs.declared.fault.HandFault.TheVariants.{Tape, NotBlank}
+use Rattle.drive_states.specs.Hand.{Wears, Spoils, IsPlaced, IsNotReached}
 use Rattle.drive_states.specs.Reach.{StreamsTo, ReachesNone, IsFormatting}
 use Rattle.drive_states.specs.Unreferenced.{without_reference}
 use Rattle.drive_states.specs.Sound.{IsSound, IsSoundRecord}
@@ -71,3 +83,60 @@ IsSoundUnit-formatted {E = E} m old new result s unreached moved failed known = 
     by_motion false stands =
         let none : ¬ (IsFormatting old.drive.deck) = λ formats. let yes = formats.streams in cc in
         record { drive = subst IsSoundRecord (sym (unreached none)) s; known = known }
+
+-- what a call answers whose tape answered that
+abbrev pub IsAnswerOf : Result (Unit {0}) TapeFailed → Result (Unit {0}) HandFault → Type 0
+IsAnswerOf (Ok done) result = result ≡ Ok done
+IsAnswerOf (Err failed) result = result ≡ Err Tape
+
+-- a call that came to its sector
+pub reached : (tape : Result (Unit {0}) TapeFailed) (result : Result (Unit {0}) HandFault) → IsAnswerOf tape result → ¬ (IsNotReached result)
+reached (Ok done) result e = λ none. grind arith
+reached (Err failed) result e = λ none. grind arith
+
+-- what a call that wears a sector came to, said of its place
+pub Wears-at : {T : Type 0} (m : Meaning T) (old new : UnitView T) (c : Option TapeInfo) (segment sector index : ℕ) (tape : Result (Unit {0}) TapeFailed)
+    (result : Result (Unit {0}) HandFault) → IsPlaced c segment sector (Ok index) → Does m old.tape new.tape (Wear segment index ∷ []) tape →
+    IsAnswerOf tape result → IfSome c (λ info. IsPlace info.segments_per_track segment sector → Wears m old new segment sector result)
+Wears-at m old new None segment sector index tape result placed did e = tt
+Wears-at m old new (Some info) segment sector index (Ok done) result placed did e = λ place. rw (e, ← placed.0) did
+Wears-at m old new (Some info) segment sector index (Err failed) result placed did e = λ place. rw (e, ← placed.0) did
+
+-- the same of a call that tells whether the sector is a defect now
+abbrev pub IsSpoilAnswerOf : Result Bool TapeFailed → Result (Unit {0}) HandFault → Type 0
+IsSpoilAnswerOf (Ok true) result = result ≡ Ok tt
+IsSpoilAnswerOf (Ok false) result = result ≡ Err NotBlank
+IsSpoilAnswerOf (Err failed) result = result ≡ Err Tape
+
+-- such a call, too, came to its sector
+pub reached_to_spoil : (tape : Result Bool TapeFailed) (result : Result (Unit {0}) HandFault) → IsSpoilAnswerOf tape result → ¬ (IsNotReached result)
+reached_to_spoil (Ok true) result e = λ none. grind arith
+reached_to_spoil (Ok false) result e = λ none. grind arith
+reached_to_spoil (Err failed) result e = λ none. grind arith
+
+-- what a call that spoils a sector came to, said of its place
+pub Spoils-at : {T : Type 0} (m : Meaning T) (old new : UnitView T) (c : Option TapeInfo) (segment sector index : ℕ) (tape : Result Bool TapeFailed)
+    (result : Result (Unit {0}) HandFault) → IsPlaced c segment sector (Ok index) → Does m old.tape new.tape (Spoil segment index ∷ []) tape →
+    IfOk tape (λ answer. Tells m old.tape (λ c. answer ≡ spoil_answer (view_at c segment index))) → IsSpoilAnswerOf tape result →
+    IfSome c (λ info. IsPlace info.segments_per_track segment sector → Spoils m old new segment sector result)
+Spoils-at m old new None segment sector index tape result placed did told e = tt
+Spoils-at m old new (Some info) segment sector index (Ok true) result placed did told e = λ place.
+    rw (e, ← placed.0) (did, Tells-map m old.tape _ _ (λ (c : Cartridge) (is : true ≡ spoil_answer (view_at c segment index)). sym is) told)
+Spoils-at m old new (Some info) segment sector index (Ok false) result placed did told e = λ place.
+    rw (e, ← placed.0) (did, Tells-map m old.tape _ _ (λ (c : Cartridge) (is : false ≡ spoil_answer (view_at c segment index)). sym is) told)
+Spoils-at m old new (Some info) segment sector index (Err failed) result placed did told e = λ place. rw (e, ← placed.0) did
+
+-- a fact that speaks of no value that is there
+pub either_way : {A : Type 0} {P : Type 0} (o : Option A) → P → IfSome o (λ here. P)
+either_way None p = tt
+either_way (Some a) p = p
+
+-- a format that was answered Ok was one that the drive has
+pub formats_if_ok : {P : Type 0} {done : Unit {0}} (d : Deck) (result : Result (Unit {0}) FdcFault) → (¬ (IsFormatting d) → (result ≡ Err NoAddress) × P) →
+    result ≡ Ok done → IsFormatting d
+formats_if_ok d result unreached ok = by_tests (is_format d.mode) (is_streaming d.motion) refl refl
+  where
+    by_tests : (a b : Bool) → is_format d.mode ≡ a → is_streaming d.motion ≡ b → IsFormatting d
+    by_tests true true mode streams = record { mode = mode; streams = streams }
+    by_tests false b mode streams = let none : ¬ (IsFormatting d) = λ formats. let yes = formats.mode in cc in let e = (unreached none).0 in cc
+    by_tests true false mode streams = let none : ¬ (IsFormatting d) = λ formats. let yes = formats.streams in cc in let e = (unreached none).0 in cc

@@ -21,8 +21,8 @@ use crate::drive::{Drive, Ticked};
 use crate::fault::FdcFault;
 use crate::states::{Format, LoadPoint, Primary, Seeking, Verify};
 use drive_spec::Deck;
-use qic117_commands::Mode;
 use qic_base::{Tape, TapeFailed};
+use qic117_commands::Mode;
 use tape_geometry::FloppyAddr;
 
 /// A typed drive.

@@ -9,8 +9,8 @@ ghost use Rattle.drive_states.specs.Sound.{IsSound};
 ghost use Rattle.drive_states.specs.Typed.{is_seeking};
 
 use drive_spec::{Deck, Motion};
-use qic117_commands::{Command, DriveView, ErrorCode, Mode, Motion as SeenMotion};
 use qic_base::TapeInfo;
+use qic117_commands::{Command, DriveView, ErrorCode, Mode, Motion as SeenMotion};
 
 fn seen_motion(motion: Motion) -> SeenMotion
     ensures { result ≡ seen_motion motion }

@@ -23,8 +23,8 @@ use crate::fault::FdcFault;
 use crate::under_way::{admits, begun, fault, is_whole, longer, report_width};
 use core::mem::{replace, replace_with};
 use drive_spec::{Parameter, UnderWay};
-use qic117_commands::{Command, ErrorCode, Shifter, Shown, command_of};
 use qic_base::{Tape, TapeFailed};
+use qic117_commands::{Command, ErrorCode, Shifter, Shown, command_of};
 
 /// A drive and its end of the cable.
 #[derive(Drop)]

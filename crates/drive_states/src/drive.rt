@@ -15,8 +15,8 @@ ghost use Rattle.drive_states.specs.Unit.{Knows};
 use crate::effects::run_on;
 use crate::states::{Format, Seeking, State};
 use drive_spec::Deck;
-use qic117_commands::ErrorCode;
 use qic_base::{Tape, TapeFailed};
+use qic117_commands::ErrorCode;
 use std::marker::{Model, PhantomData};
 
 /// A drive in a known state, with the tape that it owns.

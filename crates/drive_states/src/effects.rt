@@ -9,8 +9,8 @@ ghost use Rattle.drive_states.specs.Unreferenced.{unreferenced};
 
 use crate::deck::{ends_early, is_stopped, limit, segments_per_track};
 use drive_spec::{Deck, Motion};
-use qic117_commands::{Command, ErrorCode, Mode};
 use qic_base::TapeInfo;
+use qic117_commands::{Command, ErrorCode, Mode};
 
 /// The gaps that a seek takes: to the start of track 0, to a track, and of a skip.
 const GAPS_TO_START: u8 = 160;

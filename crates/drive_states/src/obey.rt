@@ -15,8 +15,8 @@ ghost use Rattle.drive_states.specs.Typed.{skip_command};
 
 use crate::any_drive::AnyDrive;
 use crate::drive::ReferenceFailed;
-use qic117_commands::Command;
 use qic_base::{Tape, TapeFailed};
+use qic117_commands::Command;
 
 /// The drive after a call that its state has and that no row refuses: the state, and that to which the call leads.
 macro_rules! obeyed {

@@ -1,17 +1,17 @@
 //! The sector calls of the typed drive (this project's profile of QIC-117).
 
-ghost use Rattle.std.specs.Prelude.{◌≡◌, ℕ, List, true, IfNone, IfSome};
+ghost use Rattle.std.specs.Prelude.{◌≡◌, ◌<◌, ℕ, List, true, false, IfNone, IfSome};
 ghost use Rattle.qic117_commands.specs.Views.{is_primary};
 ghost use Rattle.qic_base.specs.TapeCalls.{IsPlaceOf};
 ghost use Rattle.drive_spec.specs.Terms.{is_protected};
-ghost use Rattle.drive_states.specs.Reach.{reads_in, Reaches, ReachesNone, IsFormatting, Finds, Writes, Formats, HasAddressIn, HasNoAddressIn};
+ghost use Rattle.drive_states.specs.Reach.{reads_in, Reaches, ReachesNone, IsFormatting, Finds, Writes, Formats, HasAddressIn, HasNoAddressIn, StreamsTo, passed};
 ghost use Rattle.drive_states.specs.Sound.{IsSound};
 
 use crate::deck::{is_protected, is_streaming, segment_of};
 use crate::drive::Drive;
 use crate::effects::{passed, run_on};
 use crate::fault::FdcFault;
-use crate::states::{Format, Primary, Reads};
+use crate::states::{Format, Primary, Reads, State};
 use drive_spec::{Deck, Motion};
 use qic_base::{SectorRead, SectorWrite, Tape, TapeFailed};
 use tape_geometry::{FloppyAddr, Geometry};
@@ -35,6 +35,17 @@ fn reach(deck: &Deck, addr: FloppyAddr) -> Option<(u32, u8)>
     (segment == segment_of(deck) && next <= index).then_some((segment, index))
 }
 
+impl<S: State, T: Tape> Drive<S, T> {
+    /// The head has passed a sector of the segment under it.
+    fn pass(&mut self, index: u8)
+        requires fits { index < 32 }
+        requires streams { StreamsTo self.old.deck.motion index }
+        ensures { self.new ≡ record self.old { deck = passed self.old.deck index } }
+    {
+        self.deck = passed(self.deck, index);
+    }
+}
+
 impl<M: Reads, T: Tape> Drive<M, T> {
     /// Reads the sector at an address; where it answers Ok or Unreadable, the head has passed it. `into` is unchanged
     /// unless the answer is Ok.
@@ -48,14 +59,29 @@ impl<M: Reads, T: Tape> Drive<M, T> {
         let Some((segment, index)) = reach(&self.deck, addr) else {
             return Err(FdcFault::NoAddress);
         };
-        let answer = match self.tape.read_sector(segment, index, into) {
-            Ok(SectorRead::Good) => Ok(()),
-            Ok(SectorRead::Lost) => Err(FdcFault::Unreadable),
-            Ok(SectorRead::Blank) => return Err(FdcFault::NoAddress),
-            Err(TapeFailed) => return Err(FdcFault::Tape),
-        };
-        self.deck = passed(self.deck, index);
-        answer
+        self.read_under(segment, index, into)
+    }
+
+    /// Reads a sector of the segment under the head, which has not passed it.
+    fn read_under(&mut self, segment: u32, index: u8, into: &mut [u8; 1024]) -> Result<(), FdcFault>
+        requires place { IsPlaceOf T.means self.old.tape segment index }
+        requires fits { index < 32 }
+        requires streams { StreamsTo self.old.deck.motion index }
+        ensures found { Finds T.means self.old self.new segment index into.old into.new result }
+        ensures size { T.means.size self.new.tape ≡ T.means.size self.old.tape }
+    {
+        match self.tape.read_sector(segment, index, into) {
+            Ok(SectorRead::Good) => {
+                self.pass(index);
+                Ok(())
+            }
+            Ok(SectorRead::Lost) => {
+                self.pass(index);
+                Err(FdcFault::Unreadable)
+            }
+            Ok(SectorRead::Blank) => Err(FdcFault::NoAddress),
+            Err(TapeFailed) => Err(FdcFault::Tape),
+        }
     }
 }
 
@@ -90,9 +116,20 @@ impl<T: Tape> Drive<Primary, T> {
         if is_protected(&self.deck) {
             return Err(self.refuse_write(segment, index));
         }
+        self.write_under(segment, index, from)
+    }
+
+    /// Writes a sector of the segment under the head, which has not passed it; the cartridge is not protected.
+    fn write_under(&mut self, segment: u32, index: u8, from: &[u8; 1024]) -> Result<(), FdcFault>
+        requires place { IsPlaceOf T.means self.old.tape segment index }
+        requires fits { index < 32 }
+        requires streams { StreamsTo self.old.deck.motion index }
+        ensures wrote { Writes T.means self.old self.new segment index from.now false result }
+        ensures size { T.means.size self.new.tape ≡ T.means.size self.old.tape }
+    {
         match self.tape.write_sector(segment, index, from) {
             Ok(SectorWrite::Taken) => {
-                self.deck = passed(self.deck, index);
+                self.pass(index);
                 Ok(())
             }
             Ok(SectorWrite::Blank) => Err(FdcFault::NoAddress),

@@ -17,8 +17,8 @@ use crate::states::{
     EntersFormat, EntersPrimary, EntersVerify, Format, Primary, Resets, Seeking, Skips, Standing,
     State, Verify,
 };
-use qic117_commands::Command;
 use qic_base::{Tape, TapeFailed};
+use qic117_commands::Command;
 
 impl<S: State, T: Tape> Drive<S, T> {
     /// The drive after a command that no row refuses.

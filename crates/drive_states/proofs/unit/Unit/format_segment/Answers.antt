@@ -12,3 +12,15 @@ invariant_of-self g c =
 
 pub returns-clause-sound : goal.returns-clause-sound
 returns-clause-sound g c = invariant_of-self g c
+
+pub returns-clause-reached : goal.returns-clause-reached
+returns-clause-reached g c = rw (← c.self.view_is) c.format_segment-answer.ensures.reached
+
+pub returns-clause-moved : goal.returns-clause-moved
+returns-clause-moved g c = rw (← c.self.view_is) c.format_segment-answer.ensures.moved
+
+pub returns-clause-failed : goal.returns-clause-failed
+returns-clause-failed g c = rw (← c.self.view_is) c.format_segment-answer.ensures.failed
+
+pub returns-clause-size : goal.returns-clause-size
+returns-clause-size g c = rw (← c.self.view_is) c.format_segment-answer.ensures.size

@@ -10,3 +10,18 @@ invariant_of-self g c =
 
 pub returns-clause-sound : goal.returns-clause-sound
 returns-clause-sound g c = invariant_of-self g c
+
+pub returns-clause-row : goal.returns-clause-row
+returns-clause-row g c = rw (← c.self.view_is) c.gap-answer.ensures.ok
+
+pub returns-clause-failed : goal.returns-clause-failed
+returns-clause-failed g c = rw (← c.self.view_is) c.gap-answer.ensures.failed
+
+pub returns-clause-did : goal.returns-clause-did
+returns-clause-did g c = rw (← c.self.view_is) c.gap-answer.ensures.did
+
+pub returns-clause-untouched : goal.returns-clause-untouched
+returns-clause-untouched g c = rw (← c.self.view_is) c.gap-answer.ensures.untouched
+
+pub returns-clause-size : goal.returns-clause-size
+returns-clause-size g c = rw (← c.self.view_is) c.gap-answer.ensures.size

@@ -1,4 +1,4 @@
-use Rattle.std.proofs.Common.{◌∙◌, ap, sym, subst}
+use Rattle.std.proofs.Common.{◌∙◌, refl, ap, sym, subst}
 use Rattle.qic117_commands.specs.Views.{is_primary}
 use Rattle.drive_states.specs.Reach.{ReachesNone}
 use Rattle.drive_states.specs.declared.any_drive.AnyDrive.{AnyDrive}
@@ -25,3 +25,13 @@ returns-clause-unreached g c nowhere =
     subst (λ (u : UnitView g.row.T.Denot). ReachesNone is_primary u.drive.deck c.args.addr) (sym c.self.view_is) nowhere in
     let none = c.write_sector-answer.ensures.unreached here in
     (none.0, ap (λ (x : AnyDrive g.row.T.Denot). unit_of record c.self.inside.dialogue { drive = x }) none.1 ∙ c.self.view_is)
+
+pub returns-clause-reached : goal.returns-clause-reached
+returns-clause-reached g c segment index reaches =
+    rw (← c.self.view_is) (c.write_sector-answer.ensures.reached segment index (rw (← c.self.view_is) at reaches))
+
+pub returns-clause-cable : goal.returns-clause-cable
+returns-clause-cable g c = rw (← c.self.view_is) refl
+
+pub returns-clause-size : goal.returns-clause-size
+returns-clause-size g c = rw (← c.self.view_is) c.write_sector-answer.ensures.size
