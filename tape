@@ -107,11 +107,12 @@ by_longest_way() {
     ' "$([ -r "$top/docs/GATE.md" ] && echo "$top/docs/GATE.md" || echo /dev/null)" - "$room/crates.txt" | sort -k 1,1nr -k 2,2
 }
 
-# Proves one crate in a folder, by so many processors. A library is built as well: the crates above it are proved over it.
+# Proves one crate in a folder, by so many processors, and so far behind others that want one. A library is built as well:
+# the crates above it are proved over it.
 prove() {
-    local place=$1 crate=$2 jobs=$3 how=lib
+    local place=$1 crate=$2 jobs=$3 behind=$4 how=lib
     [ "$crate" != tape ] || how=check
-    cd "$room/$place/crates/$crate" && rt "$how" --jobs "$jobs" > "$room/log.$crate" 2>&1
+    cd "$room/$place/crates/$crate" && nice -n "$behind" rt "$how" --jobs "$jobs" > "$room/log.$crate" 2>&1
 }
 
 # Gives each of the folders the library that was built in one of them.
@@ -127,35 +128,37 @@ share() {
     done
 }
 
-# Proves all crates: as many side by side as there are processors, those with the longest way to the program first. One whose way is
-# longer than what is left for each processor gets two, and where fewer are left to begin with than there are processors, the
-# first of them gets those that are over. A check holds the libraries below its crate, so each works in a folder of its own.
-# Prints a line when a crate is done.
+# Proves all crates: as many side by side as there are processors, those with the longest way to the program first. One whose
+# way is nearly the longest of what is left gets as many processors as that way is longer than what is left for each of them;
+# the others get one each, and stand behind it. Each processor loads first what the crate stands on, so one whose cost is small
+# gets one. A check holds the libraries below its crate, so each works in a folder of its own. Prints a line when a crate is
+# done.
 prove_all() {
-    local -A way=() cost=() below=() is_begun=() is_done=() crate_of=() place_of=() jobs_of=()
-    local order=() places=() free=$at_once left=0 crate low long ready jobs pid status
+    local -A way=() cost=() below=() is_begun=() is_done=() crate_of=() place_of=()
+    local order=() places=() left=0 longest crate low long jobs behind pid status
     while read -r long crate low; do
         order+=("$crate") way[$crate]=$long cost[$crate]=${low%% *} below[$crate]=${low#"${low%% *}"}
         left=$((left + cost[$crate]))
     done < <(by_longest_way)
     for ((pid = at_once; pid >= 1; pid--)); do places+=("$pid"); done
     while [ ${#is_done[@]} -lt ${#order[@]} ]; do
-        ready=()
+        longest=0
         for crate in "${order[@]}"; do
-            [ -z "${is_begun[$crate]-}" ] || continue
+            [ -z "${is_done[$crate]-}" ] || continue
+            [ "$longest" -ge "${way[$crate]}" ] || longest=${way[$crate]}
+            [ -z "${is_begun[$crate]-}" ] && [ ${#places[@]} -gt 0 ] || continue
             for low in ${below[$crate]}; do
                 [ -n "${is_done[$low]-}" ] || continue 2
             done
-            ready+=("$crate")
-        done
-        for crate in "${ready[@]}"; do
-            [ $free -gt 0 ] || break
-            jobs=$((free > ${#ready[@]} ? free - ${#ready[@]} + 1 : 1))
-            [ $jobs -gt 1 ] || [ $free -lt 2 ] || [ $((way[$crate] * at_once)) -lt "$left" ] || jobs=2
-            prove "${places[-1]}" "$crate" $jobs &
-            crate_of[$!]=$crate place_of[$!]=${places[-1]} jobs_of[$!]=$jobs is_begun[$crate]=1
+            jobs=1 behind=5
+            if [ $((way[$crate] * 7)) -ge $((longest * 6)) ]; then
+                behind=0
+                [ "${cost[$crate]}" -lt 25 ] || jobs=$(((longest * at_once + left - 1) / left))
+                [ $jobs -le $at_once ] || jobs=$at_once
+            fi
+            prove "${places[-1]}" "$crate" $jobs $behind &
+            crate_of[$!]=$crate place_of[$!]=${places[-1]} is_begun[$crate]=1
             unset 'places[-1]'
-            free=$((free - jobs)) ready=("${ready[@]:1}")
         done
         status=0
         wait -n -p pid "${!crate_of[@]}" || status=$?
@@ -168,7 +171,7 @@ prove_all() {
         fi
         share "${place_of[$pid]}" "$crate"
         is_done[$crate]=1
-        places+=("${place_of[$pid]}") free=$((free + jobs_of[$pid])) left=$((left - cost[$crate]))
+        places+=("${place_of[$pid]}") left=$((left - cost[$crate]))
         echo "$crate ${cost[$crate]} $left $(grep -c '^logic=proved' "$room/log.$crate")"
         rm -f "$room/log.$crate"
         unset "crate_of[$pid]"
