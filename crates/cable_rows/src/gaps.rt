@@ -1,23 +1,23 @@
 //! Words of the command line of `pulse_trace`, and the dialogue at the gap that they give.
 
 use crate::recordings::is_told;
-use program_words::{BadWords, read_gap};
+use program_words::{BadGap, read_gap};
 use std::alloc::{AllocError, Global};
 use std::test::Fail;
 
 /// The words of the command line, and the dialogue of two pulses 100 microseconds apart, or why there is none.
-const RUNS: [(&str, Result<&str, BadWords>); 11] = [
+const RUNS: [(&str, Result<&str, BadGap>); 11] = [
     ("pulse_trace", Ok("0 2 ReportNextBit\n")),
     ("pulse_trace --gap 50", Ok("0 1 Reset\n100 1 Reset\n")),
     ("pulse_trace --gap=50", Ok("0 1 Reset\n100 1 Reset\n")),
     ("pulse_trace --gap 100", Ok("0 2 ReportNextBit\n")),
     ("pulse_trace --", Ok("0 2 ReportNextBit\n")),
-    ("pulse_trace --gap 0", Err(BadWords::Refused)),
-    ("pulse_trace --gap 1000001", Err(BadWords::Refused)),
-    ("pulse_trace --gap", Err(BadWords::Refused)),
-    ("pulse_trace --gap 50 --gap 60", Err(BadWords::Refused)),
-    ("pulse_trace --help", Err(BadWords::Refused)),
-    ("pulse_trace more", Err(BadWords::Refused)),
+    ("pulse_trace --gap 0", Err(BadGap::Refused)),
+    ("pulse_trace --gap 1000001", Err(BadGap::Refused)),
+    ("pulse_trace --gap", Err(BadGap::Refused)),
+    ("pulse_trace --gap 50 --gap 60", Err(BadGap::Refused)),
+    ("pulse_trace --help", Err(BadGap::Refused)),
+    ("pulse_trace more", Err(BadGap::Refused)),
 ];
 
 /// The words between the spaces of a text.
@@ -30,13 +30,13 @@ fn words(alloc: Global, text: &str) -> Result<Vec<String>, AllocError> {
 }
 
 /// The gap that the words of a text give.
-fn gap(alloc: Global, text: &str) -> Result<Result<u32, BadWords>, AllocError> {
+fn gap(alloc: Global, text: &str) -> Result<Result<u32, BadGap>, AllocError> {
     let words = words(alloc, text)?;
     Ok(read_gap(alloc, &words))
 }
 
 /// Whether words give a gap at which two pulses have this dialogue, or are refused as they have to be.
-fn has_dialogue(alloc: Global, text: &str, dialogue: Result<&str, BadWords>) -> Result<bool, Fail> {
+fn has_dialogue(alloc: Global, text: &str, dialogue: Result<&str, BadGap>) -> Result<bool, Fail> {
     match (gap(alloc, text)?, dialogue) {
         (Ok(gap), Ok(output)) => is_told(alloc, gap, "0\n100\n", output),
         (Err(found), Err(wanted)) => Ok(found == wanted),
@@ -47,7 +47,7 @@ fn has_dialogue(alloc: Global, text: &str, dialogue: Result<&str, BadWords>) -> 
 /// The index of the first words that have another dialogue or answer.
 fn first_that_is_other(
     alloc: Global,
-    rows: &[(&str, Result<&str, BadWords>)],
+    rows: &[(&str, Result<&str, BadGap>)],
 ) -> Result<Option<usize>, Fail> {
     for i in 0..rows.len() {
         let (text, dialogue) = rows[i];

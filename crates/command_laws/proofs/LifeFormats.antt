@@ -18,7 +18,7 @@ use Rattle.command_laws.specs.CommandRecord.{NeitherReads}
 use Rattle.command_laws.proofs.ScriptAnswered.{next_torn}
 use Rattle.command_laws.specs.ActStops.{IsLeftBy}
 use Rattle.command_laws.specs.Terms.{IsBare, NewOutcome}
-use Rattle.command_laws.specs.Life.{Ended, Answered, Stopped, Becomes, IsReady, IsSound, IsWithout, Leaves, MayEnd, begun_by}
+use Rattle.command_laws.specs.Life.{Ended, Answered, Stopped, Becomes, IsSoundWith, IsSound, IsWithout, Leaves, MayEnd, begun_by}
 use Rattle.command_spec.specs.Single.{FormatOutcome}
 use Rattle.command_spec.specs.Outcome.{CommandOutcome}
 use Rattle.command_spec.specs.Volumes.{StandsEmpty}
@@ -172,7 +172,7 @@ module _ (label : List ℕ) (date : ℕ) (c : Cartridge) (input : List ℕ) (beg
   )
 
 -- a stop over a cartridge with a list, whose header copies are clean
-standing_stops : (printed : Option (List ℕ)) (label : List ℕ) (date : ℕ) (c : Cartridge) (input : List ℕ) (plain : Plain) (left : Option Cartridge) (ready : IsReady false c plain) (outcome : CommandOutcome) →
+standing_stops : (printed : Option (List ℕ)) (label : List ℕ) (date : ℕ) (c : Cartridge) (input : List ℕ) (plain : Plain) (left : Option Cartridge) (ready : IsSoundWith false c plain) (outcome : CommandOutcome) →
     FormatOutcome label date (Some c) outcome → Torn (steps_of outcome.acts) (Some c) left → IfSome left IsCartridge →
     Makes (words.Format label date) input (Stopped printed) false (Some c) left (Some plain)
 standing_stops printed label date c input plain left ready outcome yields torn whole_left =

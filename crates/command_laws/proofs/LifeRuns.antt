@@ -21,7 +21,7 @@ use Rattle.command_laws.proofs.MountedHeld.{mounted_held}
 use Rattle.command_laws.proofs.ScriptAnswered.{done_script_stands}
 use Rattle.command_laws.proofs.ScriptSpeaking.{as_many}
 use Rattle.command_laws.specs.ActStops.{IsLeftBy}
-use Rattle.command_laws.specs.Life.{Ended, Answered, Stopped, AnsweredAmong, CommandSpares, HasPrinted, IsReady, IsSound, IsWithout, Leaves, WasDone, WasHeard}
+use Rattle.command_laws.specs.Life.{Ended, Answered, Stopped, AnsweredAmong, CommandSpares, HasPrinted, IsSoundWith, IsSound, IsWithout, Leaves, WasDone, WasHeard}
 use Rattle.command_laws.specs.MountedHeld.{IsHeld}
 use Rattle.command_spec.specs.Commands.{command_of}
 use Rattle.command_spec.specs.Input.{Item}
@@ -72,7 +72,7 @@ ready_now begun (Some d) plain after same whole stands live clean = record {
 
 -- a command other than `new` over a cartridge with a list
 module _ (command : Words) (c : Cartridge) (input : List ℕ) (begun : Bool) (plain : Plain) (left : Option Cartridge) (outcome : CommandOutcome) where
-  ready_after : (after : Plain) → after.header_area ≡ plain.header_area → ((segments : ℕ) → command ≢ words.New segments) → KeepsCopies command c → IsReady begun c plain →
+  ready_after : (after : Plain) → after.header_area ≡ plain.header_area → ((segments : ℕ) → command ≢ words.New segments) → KeepsCopies command c → IsSoundWith begun c plain →
       Yields command (Some c) input outcome → Torn (steps_of outcome.acts) (Some c) left → IfSome left IsCartridge → IsSomeAnd left (λ d. Stands d after) →
       IsSound begun left (Some after)
   ready_after after same other keeps ready yields torn whole stands =
@@ -81,7 +81,7 @@ module _ (command : Words) (c : Cartridge) (input : List ℕ) (begun : Bool) (pl
       (λ is. copies_stay_clean command c input outcome plain.header_area left keeps yields ready.stands.whole.header_area (ready.clean is) torn)
 
   -- one that keeps the volumes
-  pub keeping : ((segments : ℕ) → command ≢ words.New segments) → KeepsVolumes command c plain → KeepsCopies command c → IsReady begun c plain →
+  pub keeping : ((segments : ℕ) → command ≢ words.New segments) → KeepsVolumes command c plain → KeepsCopies command c → IsSoundWith begun c plain →
       Yields command (Some c) input outcome → Torn (steps_of outcome.acts) (Some c) left → IfSome left IsCartridge → IsSound begun left (Some plain)
   keeping other keeps copies ready yields torn whole =
       ready_after plain refl other copies ready yields torn whole
@@ -125,7 +125,7 @@ none_of_none (s ∷ ss) left none (inr (inr torn)) = none_of_none ss left none.1
 
 -- ---- append
 
-module _ (name : List ℕ) (date : ℕ) (c : Cartridge) (input : List ℕ) (begun : Bool) (plain : Plain) (left : Option Cartridge) (outcome : CommandOutcome) (values : HasValues (words.Append name date)) (bytes : All (λ b. b < 256) input) (ready : IsReady begun c plain) (yields : Yields (words.Append name date) (Some c) input outcome) (whole : IfSome left IsCartridge) where
+module _ (name : List ℕ) (date : ℕ) (c : Cartridge) (input : List ℕ) (begun : Bool) (plain : Plain) (left : Option Cartridge) (outcome : CommandOutcome) (values : HasValues (words.Append name date)) (bytes : All (λ b. b < 256) input) (ready : IsSoundWith begun c plain) (yields : Yields (words.Append name date) (Some c) input outcome) (whole : IfSome left IsCartridge) where
   abbrev AppendMakes : Ended → Type 0
   AppendMakes ended = Makes (words.Append name date) input ended begun (Some c) left (Some plain)
 
@@ -171,7 +171,7 @@ all_went c acts left is = inl (record { front = acts; rest = []; parts = append-
 
 -- ---- a generated run
 
-module _ (seed count : ℕ) (c : Cartridge) (input : List ℕ) (begun : Bool) (plain : Plain) (left : Option Cartridge) (outcome : CommandOutcome) (few : HasValues (words.Make seed count)) (ready : IsReady begun c plain) (yields : Yields (words.Make seed count) (Some c) input outcome) (whole : IfSome left IsCartridge) where
+module _ (seed count : ℕ) (c : Cartridge) (input : List ℕ) (begun : Bool) (plain : Plain) (left : Option Cartridge) (outcome : CommandOutcome) (few : HasValues (words.Make seed count)) (ready : IsSoundWith begun c plain) (yields : Yields (words.Make seed count) (Some c) input outcome) (whole : IfSome left IsCartridge) where
   abbrev RunMakes : Ended → Type 0
   RunMakes ended = Makes (words.Make seed count) input ended begun (Some c) left (Some plain)
 
@@ -237,7 +237,7 @@ none_said c acts text left none (inr at) = by_front at.front (at.parts ∙ none)
     by_front [] parts = absurd (cc)
     by_front (x ∷ xs) parts = absurd (cc)
 
-module _ (c : Cartridge) (input : List ℕ) (begun : Bool) (plain : Plain) (left : Option Cartridge) (outcome : CommandOutcome) (bytes : All (λ b. b < 256) input) (ready : IsReady begun c plain) (yields : ScriptOutcome (Some c) input outcome) (whole : IfSome left IsCartridge) where
+module _ (c : Cartridge) (input : List ℕ) (begun : Bool) (plain : Plain) (left : Option Cartridge) (outcome : CommandOutcome) (bytes : All (λ b. b < 256) input) (ready : IsSoundWith begun c plain) (yields : ScriptOutcome (Some c) input outcome) (whole : IfSome left IsCartridge) where
   abbrev ScriptMakes : Ended → Type 0
   ScriptMakes ended = Makes words.Script input ended begun (Some c) left (Some plain)
 

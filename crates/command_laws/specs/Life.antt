@@ -64,7 +64,7 @@ begun_behind_all (event ∷ events) begun = begun_behind_all events (begun_behin
 
 -- The cartridge stands for these volumes, and each sector of its table's segment takes a write; its header copies are clean,
 -- unless a formatting was stopped.
-pub record IsReady (begun : Bool) (c : Cartridge) (plain : Plain) : Type 0 where
+pub record IsSoundWith (begun : Bool) (c : Cartridge) (plain : Plain) : Type 0 where
   pub whole : IsCartridge c
   pub stands : Stands c plain
   pub live : IsTableLive c
@@ -82,7 +82,7 @@ abbrev pub IsSound : (begun : Bool) → (held : Option Cartridge) → Option Pla
 IsSound begun None None = Unit {0}
 IsSound begun None (Some plain) = ⊥
 IsSound begun (Some c) None = IsWithout begun c
-IsSound begun (Some c) (Some plain) = IsReady begun c plain
+IsSound begun (Some c) (Some plain) = IsSoundWith begun c plain
 
 -- ---- the premises on losses
 

@@ -7,8 +7,8 @@ use Rattle.clap.specs.Takes.{takes}
 use Rattle.clap.specs.Faults.{fault_of}
 use Rattle.clap.specs.declared.builder.action.ArgAction.TheVariants.{Set}
 use Rattle.clap.specs.declared.builder.value_parser.ValueParser.TheVariants.{Signed}
-use Rattle.program_words.specs.declared.gap.BadWords.{BadWords}
-use Rattle.program_words.specs.declared.gap.BadWords.TheVariants.{Refused, NoMemory}
+use Rattle.program_words.specs.declared.gap.BadGap.{BadGap}
+use Rattle.program_words.specs.declared.gap.BadGap.TheVariants.{Refused, NoMemory}
 
 -- the option `--gap`: a number from 1 to 1,000,000, and 1000 where it isn't given
 abbrev pub gap_rule : Rule
@@ -42,6 +42,6 @@ pub record IsRefused (words : List Text) : Type 0 where
   pub not_taken : takes trace_command words ≢ true
 
 -- words are refused; want of memory says nothing of them
-abbrev pub IsRefusedBy : List Text → BadWords → Type 0
+abbrev pub IsRefusedBy : List Text → BadGap → Type 0
 IsRefusedBy words Refused = IsRefused words
 IsRefusedBy words NoMemory = Unit {0}

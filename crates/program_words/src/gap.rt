@@ -9,7 +9,7 @@ use std::alloc::Global;
 
 /// Why words gave no gap.
 #[derive(Clone, Copy, Debug, PartialEq, Eq)]
-pub enum BadWords {
+pub enum BadGap {
     /// They are not among those that the command takes.
     Refused,
     /// There was no memory to read them.
@@ -24,13 +24,13 @@ fn is_memory(kind: ErrorKind) -> bool
 
 /// The gap that the words of the command line give, the program's name the first of them. Memory is taken for the
 /// reading alone.
-pub fn read_gap(alloc: Global, words: &Vec<String>) -> Result<u32, BadWords>
+pub fn read_gap(alloc: Global, words: &Vec<String>) -> Result<u32, BadGap>
     ensures { MatchResult result
         (HasGap (map string_bytes words.now.items))
         (IsRefusedBy (map string_bytes words.now.items)) }
 {
     let Ok(command) = trace_command(alloc) else {
-        return Err(BadWords::NoMemory);
+        return Err(BadGap::NoMemory);
     };
     match command.try_get_matches_from(words.as_slice()) {
         Ok(matches) => match matches.get_one::<u32>("gap") {
@@ -39,9 +39,9 @@ pub fn read_gap(alloc: Global, words: &Vec<String>) -> Result<u32, BadWords>
         },
         Err(error) => {
             if is_memory(error.kind()) {
-                Err(BadWords::NoMemory)
+                Err(BadGap::NoMemory)
             } else {
-                Err(BadWords::Refused)
+                Err(BadGap::Refused)
             }
         }
     }

@@ -10,5 +10,5 @@ mod import_words;
 mod option;
 
 pub use export_words::{ExportWords, read_export_words};
-pub use gap::{BadWords, read_gap};
+pub use gap::{BadGap, read_gap};
 pub use import_words::{ImportWords, read_import_words};

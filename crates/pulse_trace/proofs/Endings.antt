@@ -6,8 +6,8 @@ use Rattle.pulse_dialogue.specs.declared.fault.TraceFault.{TraceFault as Fault}
 use Rattle.pulse_dialogue.specs.declared.fault.TraceFault.TheVariants as fault
 use Rattle.pulse_dialogue.specs.Runs.{Streams, Tells}
 use Rattle.program_words.specs.TraceWords.{HasGap, IsRefusedBy}
-use Rattle.program_words.specs.declared.gap.BadWords.{BadWords}
-use Rattle.program_words.specs.declared.gap.BadWords.TheVariants as bad
+use Rattle.program_words.specs.declared.gap.BadGap.{BadGap}
+use Rattle.program_words.specs.declared.gap.BadGap.TheVariants as bad
 use Rattle.pulse_trace.specs.declared.status.TraceStatus.TheVariants.{SourceFault, SinkFault}
 use Rattle.pulse_trace.specs.Runs.{Runs, status_told, status_refused}
 
@@ -18,7 +18,7 @@ Runs-told s k words old new gap (Err (fault.Line line place)) has told = (gap, h
 Runs-told s k words old new gap (Err fault.Source) has told = (gap, has, told)
 Runs-told s k words old new gap (Err fault.Sink) has told = (gap, has, told)
 
-pub Runs-refused : {S K : Type 0} (s : sources.Meaning S) (k : sinks.Meaning K) (words : List (List ℕ)) (streams : Streams S K) (why : BadWords) →
+pub Runs-refused : {S K : Type 0} (s : sources.Meaning S) (k : sinks.Meaning K) (words : List (List ℕ)) (streams : Streams S K) (why : BadGap) →
     IsRefusedBy words why → Runs s k words streams streams (status_refused why)
 Runs-refused s k words streams bad.Refused refused = (refused, refl)
 Runs-refused s k words streams bad.NoMemory refused = refl
@@ -36,10 +36,10 @@ told_sink (Err fault.Source) e = cc
 told_sink (Err fault.Sink) e = refl
 
 -- words refuse before any call of the outside
-pub refused_source : (why : BadWords) → status_refused why ≢ SourceFault
+pub refused_source : (why : BadGap) → status_refused why ≢ SourceFault
 refused_source bad.Refused e = cc
 refused_source bad.NoMemory e = cc
 
-pub refused_sink : (why : BadWords) → status_refused why ≢ SinkFault
+pub refused_sink : (why : BadGap) → status_refused why ≢ SinkFault
 refused_sink bad.Refused e = cc
 refused_sink bad.NoMemory e = cc

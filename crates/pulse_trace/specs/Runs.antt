@@ -7,8 +7,8 @@ use Rattle.pulse_dialogue.specs.declared.fault.TraceFault.TheVariants as fault
 use Rattle.pulse_dialogue.specs.Lines.{AtEnd, AtFault}
 use Rattle.pulse_dialogue.specs.Runs.{Streams, Ended, Unread, Unwritten}
 use Rattle.program_words.specs.TraceWords.{HasGap, IsRefused}
-use Rattle.program_words.specs.declared.gap.BadWords.{BadWords}
-use Rattle.program_words.specs.declared.gap.BadWords.TheVariants as bad
+use Rattle.program_words.specs.declared.gap.BadGap.{BadGap}
+use Rattle.program_words.specs.declared.gap.BadGap.TheVariants as bad
 use Rattle.pulse_trace.specs.declared.status.TraceStatus.{TraceStatus}
 use Rattle.pulse_trace.specs.declared.status.TraceStatus.TheVariants.{Done, Usage, TraceFault, SourceFault, SinkFault, NoMemory}
 
@@ -29,7 +29,7 @@ status_told (Err fault.Source) = SourceFault
 status_told (Err fault.Sink) = SinkFault
 
 -- the status of a run whose words gave no gap
-abbrev pub status_refused : BadWords → TraceStatus
+abbrev pub status_refused : BadGap → TraceStatus
 status_refused bad.Refused = Usage
 status_refused bad.NoMemory = NoMemory
 

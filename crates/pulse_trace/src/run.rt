@@ -5,7 +5,7 @@ ghost use Rattle.qic_base.specs.Tape.{Rose};
 ghost use Rattle.pulse_trace.specs.Runs.{Runs, status_told, status_refused};
 
 use crate::status::TraceStatus;
-use program_words::{BadWords, read_gap};
+use program_words::{BadGap, read_gap};
 use pulse_dialogue::{TraceFault, tell_recording};
 use qic_base::{Sink, Source};
 use std::alloc::Global;
@@ -24,12 +24,12 @@ fn told(answer: Result<(), TraceFault>) -> TraceStatus
 }
 
 /// The status of a run whose words gave no gap.
-fn refused(bad: BadWords) -> TraceStatus
+fn refused(bad: BadGap) -> TraceStatus
     ensures { result ≡ status_refused bad }
 {
     match bad {
-        BadWords::Refused => TraceStatus::Usage,
-        BadWords::NoMemory => TraceStatus::NoMemory,
+        BadGap::Refused => TraceStatus::Usage,
+        BadGap::NoMemory => TraceStatus::NoMemory,
     }
 }
 
