@@ -17,8 +17,8 @@ use bad_sector_map::BadMap;
 use drive_states::Unit;
 use header_segments::Header;
 use host_driver::Host;
-use qic117_commands::Mode;
 use qic_base::Tape;
+use qic117_commands::Mode;
 use segment_io::Workspace;
 use volume_table::Table;
 

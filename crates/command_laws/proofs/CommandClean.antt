@@ -282,7 +282,7 @@ line_order c ws entries (line.Lose segment sector) bytes did order (inl is) = di
 line_order c ws entries (line.Lose segment sector) bytes did order (inr is) = did_order ws did entries (ap (λ (d : Did). d.entries) is.1) order
 line_order c ws entries line.End bytes did order none = absurd none
 
--- .. and behind a step of a generated run that was carried out
+-- a made volume that is appended has room
 made_room : (seed : ℕ) (ws : List ℕ) (entries : List Entry) (volume : ℕ) → made_answer seed ws entries volume ≡ status.Done →
     (1 ≤ room ws entries) × (made_length seed volume ≤ room ws entries)
 made_room seed ws entries volume done = by_room (has_promised_room have (Some n)) refl done
@@ -299,14 +299,20 @@ made_room seed ws entries volume done = by_room (has_promised_room have (Some n)
         (leb-true 1 have parts.0, leb-true n have parts.1)
     by_room false short is = absurd (cc)
 
-step_order : (seed : ℕ) (c : Cartridge) (ws : List ℕ) (entries : List Entry) (item : MakeStep) (acts : List Act) → IsSoundList (length ws - 1) entries →
-    StepDoes seed c ws entries item acts status.Done → IsSoundList (length ws - 1) (after_item seed ws entries item)
-step_order seed c ws entries (AppendMade volume) acts order (inl refused) = let same = refused.2 in absurd (cc)
-step_order seed c ws entries (AppendMade volume) acts order (inr (free, inl appended)) =
-    let fit = made_room seed ws entries volume (sym appended.answered) in
+-- the list with a made volume that has room is in order, ..
+pub made_order : (seed : ℕ) (ws : List ℕ) (entries : List Entry) (volume : ℕ) → IsSoundList (length ws - 1) entries → made_answer seed ws entries volume ≡ status.Done →
+    IsSoundList (length ws - 1) (after_item seed ws entries (AppendMade volume))
+made_order seed ws entries volume order done =
+    let fit = made_room seed ws entries volume done in
     let long : length (made_bytes seed volume) ≡ made_length seed volume = length-made_bytes seed volume in
     let enough : made_length seed volume ≤ room ws entries = fit.1 in
     list_more ws entries (made_name volume) 0 (length (made_bytes seed volume)) order fit.0 (omega arith)
+
+-- .. and so is that behind any step that was carried out
+step_order : (seed : ℕ) (c : Cartridge) (ws : List ℕ) (entries : List Entry) (item : MakeStep) (acts : List Act) → IsSoundList (length ws - 1) entries →
+    StepDoes seed c ws entries item acts status.Done → IsSoundList (length ws - 1) (after_item seed ws entries item)
+step_order seed c ws entries (AppendMade volume) acts order (inl refused) = let same = refused.2 in absurd (cc)
+step_order seed c ws entries (AppendMade volume) acts order (inr (free, inl appended)) = made_order seed ws entries volume order (sym appended.answered)
 step_order seed c ws entries (AppendMade volume) acts order (inr (free, inr lost)) = let same = lost.3 in absurd (cc)
 step_order seed c ws entries (WearSector segment sector) acts order does = order
 step_order seed c ws entries ScrubAll acts order does = order

@@ -1,5 +1,6 @@
 -- What a run promises, by how its command ended.
-use Rattle.std.proofs.Common.{[], ◌≡◌, ℕ, List, Option, Some, None, IfSome, false, refl, true, ap, arith, inl, inr, sym, ◌∙◌, subst, Bool, ◌↔◌, IsSomeAnd}
+use Rattle.std.proofs.Common.{[], ◌≡◌, ℕ, ◌+◌, ◌&&◌, nat_le, List, Option, Some, None, IfSome, false, refl, true, ap, arith, inl, inr, sym, ◌∙◌, subst, Bool, ◌↔◌, IsSomeAnd}
+use Rattle.std.proofs.lemmas.Bool.{and_parts}
 use Rattle.cartridge_spec.specs.Table.{Entry}
 use Rattle.command_laws.proofs.CommandCompleting.{completes}
 use Rattle.command_laws.proofs.CommandEndings.{appends_none, any_input, nothing_front, none_printed}
@@ -16,6 +17,7 @@ use Rattle.command_laws.proofs.TextWords.{one_command, each_words}
 use Rattle.command_laws.specs.CommandLaws.{MachineIsFunction, MachineAnswers}
 use Rattle.command_spec.specs.Commands.{traits_of}
 use Rattle.command_spec.specs.Headline.{WordsLeave, EachLeft, Stepped}
+use Rattle.command_spec.specs.Input.{most_items}
 use Rattle.command_laws.specs.Terms.{Answers}
 use Rattle.command_spec.specs.Several.{IsHeard}
 use Rattle.command_laws.specs.CommandTerms.{AppendedFrom, HasInputFault, FrontPrints, RefusedPrints, EndsBlind}
@@ -48,12 +50,17 @@ over_left : {A : Type 0} (held : Option A) (left : Option (List ℕ)) (P R : A �
 over_left None left P R known follows = tt
 over_left (Some a) left P R known follows = (input_of left, input_told left, follows a known.0 (input_of left) known.2)
 
+-- a fault of the input is named by a command that reads lines of it
+has_lines : (command : Words) (answer : Status) (line place : ℕ) → answer ≡ status.ScriptFault line place → may_come_from answer command ≡ true → (traits_of command).lines ≡ true
+has_lines command answer line place is sound =
+    (and_parts (traits_of command).lines (nat_le 1 line && nat_le line (most_items + 1)) (sym (ap (λ (a : Status). may_come_from a command) is) ∙ sound)).0
+
 no_fault_named : (command : Words) (answer : Status) (left : Option (List ℕ)) → (traits_of command).reads ≡ false → may_come_from answer command ≡ true →
     IfSome left (λ input. NamesFault command input answer)
 no_fault_named command answer None blind sound = tt
 no_fault_named command answer (Some input) blind sound = record {
   named = λ line place is.
-      let no = ap (λ (a : Status). may_come_from a command) is in
+      let lines = has_lines command answer line place is sound in
       let lineless = ((laws_of command).blind blind).no_lines in
       absurd (cc);
   none = λ done line place fault. ((laws_of command).blind blind).no_fault input line place fault;
@@ -65,7 +72,9 @@ all_left (Some bytes) = refl
 
 nothing_taken : (command : Words) (answer : Status) (taken : ℕ) (left : Option (List ℕ)) → (traits_of command).reads ≡ false → may_come_from answer command ≡ true → taken ≡ 0 →
     InputLeft answer taken left left
-nothing_taken command (status.ScriptFault line place) taken left blind sound none = let lineless = ((laws_of command).blind blind).no_lines in absurd (cc)
+nothing_taken command (status.ScriptFault line place) taken left blind sound none =
+    let lines = has_lines command (status.ScriptFault line place) line place refl sound in
+    let lineless = ((laws_of command).blind blind).no_lines in absurd (cc)
 nothing_taken command answer taken left blind sound none = rw none (all_left left)
 
 never_rose : Rose 0 0 → ⊥
@@ -183,7 +192,7 @@ module _ {T S K : Type 0} (t : tapes.Meaning T) (s : sources.Meaning S) (k : sin
         named = λ outcome. (command, spelled, ends_named t s k words command old new answer ends outcome);
         fault = λ line place is.
             let f : Finished t s k command old new answer = finished (ap is_fault is) in
-            (command, spelled, sym (ap (λ (a : Status). may_come_from a command) is) ∙ f.sound, named_at command answer (s.left old.source) line place is f.fault);
+            (command, spelled, has_lines command answer line place is f.sound, named_at command answer (s.left old.source) line place is f.fault);
         no_fault = λ done other spells.
             subst (λ (w : Words). IfSome (s.left old.source) (λ input. (line place : ℕ) → ¬ (HasInputFault w input line place))) (same_command spelled other spells)
             (none_at command answer (s.left old.source) done (finished (ap is_fault done)).fault);

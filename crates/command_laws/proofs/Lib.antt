@@ -76,6 +76,7 @@ pub mod PulseTrains
 pub mod ReadableProtected
 pub mod ReadableRuns
 pub mod RestoreAppended
+pub mod RestoreBehind
 pub mod RestoreCounts
 pub mod RestoreEndings
 pub mod RestoreGiven
@@ -130,6 +131,7 @@ pub mod TextCommands
 pub mod TextDates
 pub mod TextDeciding
 pub mod TextDecimals
+pub mod TextFaults
 pub mod TextInputs
 pub mod TextLined
 pub mod TextLines

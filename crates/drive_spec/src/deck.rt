@@ -1,7 +1,7 @@
 //! What a drive is in, but for its end of the cable (this project's profile of QIC-117).
 
-use qic117_commands::Mode;
 use qic_base::TapeInfo;
+use qic117_commands::Mode;
 
 /// Whether the tape stands, streams past the head, of which it has yet to reach the sectors from `next` on, 0 to 32,
 /// or moves to a place for so many more gaps.

@@ -16,8 +16,8 @@ use crate::fault::FormatFault;
 use crate::track::go_to_track;
 use drive_states::Unit;
 use host_driver::{Host, HostFault};
-use qic117_commands::Mode;
 use qic_base::Tape;
+use qic117_commands::Mode;
 
 /// Writes the reference bursts, and zero bytes into each sector of the cartridge.
 pub(crate) fn clear<T: Tape>(host: &mut Host, unit: &mut Unit<T>) -> Result<(), FormatFault>

@@ -15,8 +15,8 @@ use crate::{SECTOR, SECTORS, TRACKS};
 use bad_sector_map::BadMap;
 use drive_states::Unit;
 use host_driver::{Host, HostFault};
-use qic117_commands::Mode;
 use qic_base::{SectorRead, Tape};
+use qic117_commands::Mode;
 
 /// The segments of the header copies and of the volume table.
 const FRONT: u32 = 3;

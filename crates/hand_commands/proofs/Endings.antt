@@ -44,7 +44,7 @@ first_act outcome = first_of outcome.acts
 
 -- no byte was taken of a source that is never asked
 pub none_taken : (answer : Status) (taken : ℕ) → InputLeft answer taken None None
-none_taken (status.ScriptFault line place) taken = (0, refl)
+none_taken (status.ScriptFault line place) taken = (0, refl, inl (omega arith))
 none_taken answer taken = refl
 
 -- its rule over what is told, with some input

@@ -1,10 +1,7 @@
 -- How a change by hand ends, by what the drive's call answered.
-use Rattle.std.proofs.Common.{◌≡◌, ◌≢◌, ◌⊎◌, ℕ, [], Option, Some, None, IfSome, IfNone, Result, Err, refl, subst, inl, inr}
-use Rattle.std.specs.Option.{option_map}
-use Rattle.qic_base.specs.Cartridge.{Cartridge, IsPlace}
+use Rattle.std.proofs.Common.{◌≡◌, ◌≢◌, ◌⊎◌, ℕ, Option, Some, None, IfSome, IfNone, Result, Err, refl, subst, inl, inr}
+use Rattle.qic_base.specs.Cartridge.{IsPlace}
 use Rattle.qic_base.specs.declared.tape.TapeInfo.{TapeInfo}
-use Rattle.qic_base.specs.Tape as tapes
-use Rattle.qic_base.proofs.Steps.{Done-told}
 use Rattle.drive_states.specs.declared.fault.HandFault.{HandFault}
 use Rattle.drive_states.specs.declared.fault.HandFault.TheVariants.{NoCartridge, BadPlace}
 use Rattle.command_laws.proofs.ScriptPlaces.{place_or_not}

@@ -1,5 +1,5 @@
 -- What one line did.
-use Rattle.std.proofs.Common.{◌≡◌, ℕ, zero, suc, Bool, ◌<◌, ◌≤◌, List, [], ◌∷◌, ◌++◌, length, Option, Some, None, IfSome, codes, refl, sym, ap, ◌∙◌, subst, arith, append-nil}
+use Rattle.std.proofs.Common.{◌≡◌, ℕ, zero, suc, Bool, ◌<◌, ◌≤◌, List, [], ◌∷◌, ◌++◌, length, Option, Some, None, IfSome, codes, refl, sym, ap, ◌∙◌, subst, arith, append-nil, inl}
 use Rattle.std.specs.Option.{option_map}
 use Rattle.std.proofs.lemmas.List.{nil_from_length}
 use Rattle.qic_base.specs.Tape.{Rose}
@@ -44,7 +44,13 @@ gave_on s old new train n read = record {
   n = n;
   some = some_bytes read.0 train n read.1 read.2;
   few = let short = pulse_short read.0 train read.1 in let long = read.2 in omega arith;
-  gave = (read.0, read.2, read.3, IsLined-one_newline (λ before. IsTrain before train) read.0 n read.2 read.1);
+  gave = (
+    read.0,
+    read.2,
+    read.3,
+    IsLined-one_newline (λ before. IsTrain before train) read.0 n read.2 read.1,
+    inl (read.1.before, read.1.whole),
+  );
   no_stop = no_stop_there (s.left old) (s.left new) read.0 train read.1 read.3;
 }
 

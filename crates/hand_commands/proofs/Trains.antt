@@ -10,6 +10,7 @@ use Rattle.qic_base.specs.Acts.{Act, text_of, Outside, Failing, TapeFails, Sourc
 use Rattle.drive_spec.specs.Record.{Record}
 use Rattle.command_spec.specs.declared.words.Words.TheVariants as words
 use Rattle.command_spec.specs.Input.{IsPulse, Ending, AtEnd, AtStop, AtFault, IsPulses}
+use Rattle.command_laws.proofs.TextFaults.{fault_line}
 use Rattle.command_laws.proofs.TextInputs as inputs
 use Rattle.hand_commands.specs.declared.pulses.fault.PulseFault.{PulseFault}
 use Rattle.hand_commands.specs.declared.pulses.fault.PulseFault.TheVariants as fault
@@ -64,9 +65,13 @@ told_input : (left : Option (List ℕ)) (input : List ℕ) (P : List ℕ → Typ
 told_input None input P told is = tt
 told_input (Some bytes) input P told is = subst P told is
 
-sound_answer : (answer : Answer) → may_come_from (sent_status answer) words.Pulses ≡ true
-sound_answer AllSent = refl
-sound_answer (ScriptFault line place) = refl
+-- a line at fault is one of those that an input may have
+sound_answer : (known : Option TapeInfo) (input : List ℕ) (came : PulseRun) (answer : Answer) → PulsesOutcome known input came → came.answer ≡ answer →
+    may_come_from (sent_status answer) words.Pulses ≡ true
+sound_answer known input came AllSent plain is = refl
+sound_answer known input came (ScriptFault line place) plain is =
+    fault_line IsPulse 0 input plain.trains line place
+    (subst (IsPulses input plain.trains) (fault_ended plain.ending line place (sym (ap (λ (o : PulseRun). o.answer) plain.comes) ∙ is)) plain.read)
 
 -- a result with no value
 abbrev of_unit : Result (Unit {0}) PulseFault → Result (Unit {0}) PulseFault
@@ -91,7 +96,7 @@ same_acts known held input came outcome same plain sends =
 module _ {T S K : Type 0} (t : tapes.Meaning T) (s : sources.Meaning S) (k : sinks.Meaning K) (old new : Outside T S K) (r : Record) where
   left_behind : (taken : ℕ) (answer : Answer) → runs.Leaves s old.source new.source taken answer → InputLeft (sent_status answer) taken (s.left old.source) (s.left new.source)
   left_behind taken AllSent left = left
-  left_behind taken (ScriptFault line place) left = (left.0, left.2)
+  left_behind taken (ScriptFault line place) left = (left.0, left.2, inl left.1)
 
   ended : (answer : Answer) → runs.Ended t s k old new r answer → CommandEnds t s k words.Pulses old new (sent_status answer)
   ended answer run =
@@ -105,7 +110,7 @@ module _ {T S K : Type 0} (t : tapes.Meaning T) (s : sources.Meaning S) (k : sin
             (λ held same. (λ is. absurd (cc), sends_of held run.input run.outcome (subst (λ (known : Option TapeInfo). PulsesOutcome known run.input run.outcome) same run.plain)));
         went = run.went;
         left = left_behind run.outcome.taken answer run.left;
-        sound = sound_answer answer;
+        sound = sound_answer run.known run.input run.outcome answer run.plain run.answered;
         none_taken = λ blind. absurd (cc);
         prints = ((λ is. levels), (λ other. levels));
         silent = λ still other. absurd (cc);

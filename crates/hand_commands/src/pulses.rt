@@ -9,12 +9,11 @@ mod lines;
 mod run;
 mod sending;
 
-pub use fault::PulseFault;
-pub use run::run_pulses;
-
 use command_spec::Status;
 use drive_states::Unit;
+pub use fault::PulseFault;
 use qic_base::{Sink, Source, Tape};
+pub use run::run_pulses;
 
 /// Sends the trains of the source, and prints the level that each leaves as it goes.
 pub fn pulses<T: Tape, S: Source, K: Sink>(

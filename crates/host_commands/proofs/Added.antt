@@ -1,9 +1,9 @@
 -- How an append ends.
 use Rattle.std.proofs.Common.{ℕ, List, Option, Some, None, ◌≡◌, drop, refl, ◌≢◌, true, IfSome, length, ap, ◌∙◌, ◌+◌, ◌++◌, sym, ◌∷◌, append-nil, ◌&&◌, nat_le, min, Bool, false, subst, inl, inr, [], Result, Ok, Err, arith, append_assoc}
-use Rattle.std.specs.Prelude.{if◌then◌else◌, ◌≤◌, ◌↔◌, is_some, ◌==◌, nat_lt}
+use Rattle.std.specs.Prelude.{if◌then◌else◌, ◌≤◌, ◌↔◌, is_some, ◌==◌, nat_lt, ◌||◌}
 use Rattle.std.specs.Option.{option_map}
-use Rattle.std.proofs.Math.Nat.{min-eq_left, min-le_right}
-use Rattle.std.proofs.lemmas.Bool.{le-leb, leb-true, lt-ltb}
+use Rattle.std.proofs.Math.Nat.{min-eq_left}
+use Rattle.std.proofs.lemmas.Bool.{leb-true, lt-ltb, cases_lt, or_left, or_right, and_cases, leb-false, eq-eqb}
 use Rattle.cartridge_laws.proofs.MountOnce.{one_table}
 use Rattle.cartridge_laws.proofs.MountSettled.{settled_keeps_table}
 use Rattle.cartridge_laws.proofs.TableSayings.{table_says_is_function}
@@ -45,7 +45,7 @@ use Rattle.volume_store.specs.declared.appended.Appended.{Appended}
 use Rattle.cartridge_front.proofs.Copies.{tells_two}
 use Rattle.cartridge_front.specs.declared.fault.StoreFault.{StoreFault}
 use Rattle.hand_commands.proofs.Endings.{told_map, told_both}
-use Rattle.host_commands.proofs.Mounted.{Settles, locked_is, unlocked_refused_is, writable_begins}
+use Rattle.host_commands.proofs.Mounted.{BeginsSettling, locked_is, unlocked_refused_is, writable_begins, table_lost}
 use Rattle.host_commands.specs.Opening.{is_opening, IsUnlocked, WritableEnds, store_status}
 use Rattle.hand_commands.specs.Outcome.{first_steps}
 use Rattle.hand_commands.specs.Writing.{printed_status}
@@ -121,16 +121,25 @@ taken_is have input = by_flag (nat_le 1 have && nat_le (length input) have) refl
         sym (min-eq_left (omega (arith, fits)))
     by_flag false is = refl
 
--- one byte more than has room is asked for at most
-full_small : (have : ℕ) (input : List ℕ) (need most : ℕ) → taking have None input ≡ TooLong need most → nat_le need (most + 1) ≡ true
-full_small have input need most took = by_flag (nat_le 1 have && nat_le (length input) have) took
+-- one byte more than has room is asked for; or none, where there is no room and no byte
+full_numbers : (have : ℕ) (input : List ℕ) (need most : ℕ) → taking have None input ≡ TooLong need most → ((need == most + 1) || ((need == 0) && (most == 0))) ≡ true
+full_numbers have input need most took = by_flag (nat_le 1 have && nat_le (length input) have) refl took
   where
-    by_flag : (flag : Bool) → (if flag then Fits input else TooLong (min (length input) (have + 1)) have) ≡ TooLong need most → nat_le need (most + 1) ≡ true
-    by_flag true is = absurd (cc)
-    by_flag false is =
+    by_flag : (flag : Bool) → (nat_le 1 have && nat_le (length input) have) ≡ flag → (if flag then Fits input else TooLong (min (length input) (have + 1)) have) ≡ TooLong need most →
+        ((need == most + 1) || ((need == 0) && (most == 0))) ≡ true
+    by_flag true small is = absurd (cc)
+    by_flag false small is =
         let n : min (length input) (have + 1) ≡ need = cc in
         let m : have ≡ most = cc in
-        le-leb need (most + 1) (subst (λ (x : ℕ). need ≤ x + 1) m (subst (λ (x : ℕ). x ≤ have + 1) n (min-le_right (length input) (have + 1))))
+        elim (cases_lt have (length input)) [
+          | inl over ↦ or_left (need == most + 1) ((need == 0) && (most == 0)) (eq-eqb need (most + 1) (omega arith))
+          | inr within ↦ elim (and_cases (nat_le 1 have) (nat_le (length input) have) small) [
+            | inl none ↦
+                let no_room = leb-false 1 have none in
+                or_right (need == most + 1) ((need == 0) && (most == 0)) (both_true (need == 0) (most == 0) (eq-eqb need 0 (omega arith)) (eq-eqb most 0 (omega arith)))
+            | inr long ↦ let more = leb-false (length input) have long in absurd (omega arith)
+          ]
+        ]
 
 -- what a table that can be read says is not that it is lost
 pub not_lost : (lost : ℕ) (d : Cartridge) (table : List (List ℕ)) → TableIs d table → TableSays (table_cells d) (ByCode (LostSectors lost)) → ⊥
@@ -153,7 +162,7 @@ found_by_append : (name : List ℕ) (date : ℕ) (why : Status) → is_opening w
 found_by_append name date status.NoCartridge sound = refl
 found_by_append name date status.NotFormatted sound = refl
 found_by_append name date (status.Foreign field value) sound = sound
-found_by_append name date (status.Lost segment lost) sound = sound
+found_by_append name date (status.Lost segment lost) sound = table_lost segment lost (segment == 2) sound (eq-eqb segment 2)
 found_by_append name date status.TableMismatch sound = refl
 found_by_append name date why sound = cc
 
@@ -167,7 +176,7 @@ left_by_opening : (why : Status) (taken : ℕ) (before after : Option (List ℕ)
 left_by_opening (status.ScriptFault line place) taken before after none left = absurd (none line place refl)
 left_by_opening why taken before after none left = left
 
-appends_first : (name : List ℕ) (date : ℕ) (input : List ℕ) → Settles (Appends name date input)
+appends_first : (name : List ℕ) (date : ℕ) (input : List ℕ) → BeginsSettling (Appends name date input)
 appends_first name date input c header ws table entries outcome is = ap (λ (o : CommandOutcome). first_steps o) is
 
 -- the outcome of acts
@@ -314,7 +323,7 @@ module _ {T S K : Type 0} (t : tapes.Meaning T) (s : sources.Meaning S) (k : sin
         }) in
         let answer : append_status (room_in kept) ran.input ≡ status.Full need have = status_full (room_in kept) ran.input need have ran.took in
         let taken : bytes_taken None (taking (room_in kept) None ran.input) ≡ need = ap (bytes_taken None) ran.took in
-        turned c j (status.Full need have) (quiet opening.steps ∷ acts) need nothing (full_small (room_in kept) ran.input need have ran.took) (λ line place is. cc) (λ is. cc)
+        turned c j (status.Full need have) (quiet opening.steps ∷ acts) need nothing (full_numbers (room_in kept) ran.input need have ran.took) (λ line place is. cc) (λ is. cc)
         (ap (λ (xs : List Act). text_of xs) plain ∙ input_texts kept None ran.input) ran.left
         (told_map (t.told a) _ _ (told_ran j c (TooLong need have) free ran) (λ held o. (
           o.0,
@@ -611,7 +620,7 @@ module _ {T S K : Type 0} (t : tapes.Meaning T) (s : sources.Meaning S) (k : sin
         (subst (λ (w : T). CommandEnds t s k (words.Append name date) (outside a i x) (outside w i x) status.Protected) (sym same.0) (append_locked nothing both free (mark.0 refl)))
     append_failed c j after (fault.Lost segment lost) nothing both free mark refusal =
         append_untabled c j (status.Lost segment lost) (λ d. TableSays (table_cells d) (ByCode (LostSectors lost))) nothing both
-        (both_true (nat_lt 3 lost) (segment == 2) (lt-ltb 3 lost refusal.1) (ap (λ (s : ℕ). s == 2) refusal.0)) (λ line place is. cc) (λ is. cc)
+        (table_lost segment lost (segment == 2) (both_true (nat_lt 3 lost) (segment == 2) (lt-ltb 3 lost refusal.1) (eq-eqb segment 2 refusal.0)) (eq-eqb segment 2)) (λ line place is. cc) (λ is. cc)
         (λ d table is says. not_lost lost d table is says) refusal.2
     append_failed c j after fault.TableMismatch nothing both free mark refusal =
         append_untabled c j status.TableMismatch (λ d. ⊥) nothing both refl (λ line place is. cc) (λ is. cc) (λ d table is says. says) refusal

@@ -1,5 +1,6 @@
 -- How the formatting of a cartridge ends.
-use Rattle.std.proofs.Common.{◌≡◌, ◌↔◌, ℕ, ◌*◌, Bool, true, false, List, [], ◌++◌, Option, Some, None, IfSome, IsSomeAnd, Err, refl, sym, ap, ◌∙◌, subst, inl, inr, Result}
+use Rattle.std.proofs.Common.{◌≡◌, ◌↔◌, ℕ, ◌*◌, Bool, true, false, List, [], ◌++◌, Option, Some, None, IfSome, Err, refl, sym, ap, ◌∙◌, subst, inl, inr, Result}
+use Rattle.std.proofs.lemmas.Bool.{lt-ltb}
 use Rattle.std.proofs.lemmas.List.{append-nil, append_assoc}
 use Rattle.qic_base.specs.Cartridge.{Cartridge}
 use Rattle.qic_base.specs.declared.tape.TapeInfo.{TapeInfo}
@@ -12,8 +13,6 @@ use Rattle.cartridge_spec.specs.Says.{with_parity}
 use Rattle.cartridge_laws.specs.Terms.{IsFreshArea}
 use Rattle.cartridge_laws.proofs.FreshFront.{first_defect_is_none}
 use Rattle.cartridge_laws.proofs.FreshMarks.{fresh_area_is_one}
-use Rattle.drive_states.specs.Unit.{UnitView}
-use Rattle.host_driver.specs.declared.host.Host.{Host}
 use Rattle.formatter.specs.declared.fault.FormatFault.{FormatFault}
 use Rattle.formatter.specs.declared.formatting.FormatReport.{FormatReport}
 use Rattle.formatter.specs.Formats.{Formats, HasFormatted}
@@ -26,12 +25,11 @@ use Rattle.command_laws.specs.Terms.{cleared, formatted}
 use Rattle.command_spec.specs.Single.{FormatOutcome}
 use Rattle.host_commands.specs.Format.{format_status}
 use Rattle.host_commands.specs.Opening.{StartFails}
-use Rattle.store_opening.specs.Opening.{HasStarted}
 use Rattle.hand_commands.specs.Writing.{printed_status}
 use Rattle.command_laws.specs.CommandTerms.{EndsBlind}
 use Rattle.hand_commands.proofs.Endings.{IsBlind, printed, turned_down, turned_behind, cut_off, cut_off_first}
 use Rattle.command_laws.proofs.CommandEndings.{Rules}
-use Rattle.store_opening.proofs.Started.{Present, Knows, known_before, told_known, told_known_beside, told_at_start}
+use Rattle.store_opening.proofs.Started.{Present, Knows, told_known, told_known_beside, told_at_start}
 use Rattle.qic_base.specs.Sink as sinks
 use Rattle.qic_base.specs.SinkCalls as sink_calls
 use Rattle.qic_base.specs.Tape as tapes
@@ -143,7 +141,7 @@ format_faulted t k label date a b c x info words fault.Protected nothing there m
     (λ held known input. protected_is label date info held (marked.0 refl) known)) (Done-Done there.did came)
 format_faulted t k label date a b c x info words (fault.DefectInFront segment) nothing there marked came =
     let unlocked : info.protected ≡ false = not_true info.protected (λ mark. let is = marked.1 mark in cc) in
-    turned_behind t k (Format label date) is_blind a c x (status.DefectInFront segment) (clearing_steps info.segments_per_track) nothing refl (λ is. cc)
+    turned_behind t k (Format label date) is_blind a c x (status.DefectInFront segment) (clearing_steps info.segments_per_track) nothing (lt-ltb segment 3 came.in_front) (λ is. cc)
     (told_known_beside (t.told a) (Some info) (λ d. IsFirstDefectInFront d segment) (λ h. Rules (Format label date) h (cleared info.segments_per_track segment)) there.known
     (told_at_start t a b there.did (λ d. IsFirstDefectInFront d segment) came.first)
     (λ held known first input. cleared_is label date info segment held unlocked known first)) (Done-Done there.did came.did)

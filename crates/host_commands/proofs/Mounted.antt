@@ -1,5 +1,5 @@
 -- How the commands that mount a cartridge end.
-use Rattle.std.proofs.Common.{◌≡◌, ◌≢◌, ◌⊎◌, ℕ, ◌++◌, Bool, true, false, List, [], length, Option, Some, None, IfSome, IsSomeAnd, Result, Err, refl, sym, ap, ◌∙◌, subst, inl, inr, append-nil}
+use Rattle.std.proofs.Common.{◌≡◌, ◌≢◌, ◌⊎◌, ℕ, ◌++◌, Bool, true, false, List, [], length, Option, Some, None, IfSome, IsSomeAnd, Result, Err, refl, sym, ap, ◌∙◌, subst, inl, inr, append-nil, arith, ◌&&◌, nat_le}
 use Rattle.qic_base.specs.Cartridge.{Cartridge}
 use Rattle.qic_base.specs.declared.tape.TapeInfo.{TapeInfo}
 use Rattle.qic_base.specs.declared.sink.SinkFailed.{SinkFailed}
@@ -9,7 +9,7 @@ use Rattle.cartridge_laws.specs.Terms.{fault_as}
 use Rattle.cartridge_spec.specs.Table.{Entry}
 use Rattle.cartridge_laws.proofs.MountOnce.{mounts_is_function}
 use Rattle.command_laws.proofs.StoreTaking.{both_true}
-use Rattle.std.proofs.lemmas.Bool.{lt-ltb}
+use Rattle.std.proofs.lemmas.Bool.{lt-ltb, eqb-true, eq-eqb, le-leb, and_parts}
 use Rattle.std.specs.Prelude.{◌==◌, nat_lt, if◌then◌else◌}
 use Rattle.volume_store.specs.Mounting.{StoreView, IsSettling}
 use Rattle.drive_states.specs.Unit.{UnitView}
@@ -69,12 +69,12 @@ abbrev pub BeginsSteps : List TapeStep → CommandOutcome → Type 0
 BeginsSteps steps outcome = (rest : List TapeStep) × (steps ++ rest ≡ first_steps outcome)
 
 -- what is done on a mounted cartridge begins with its settling
-abbrev pub Settles : Going → Type 0
-Settles goes =
+abbrev pub BeginsSettling : Going → Type 0
+BeginsSettling goes =
     (c : Cartridge) (header : Header) (ws : List ℕ) (table : List (List ℕ)) (entries : List Entry) (outcome : CommandOutcome) →
     goes c header ws table entries outcome → first_steps outcome ≡ settling_steps table c
 
-pub begins_is : (goes : Going) → Settles goes → (steps : List TapeStep) (held : Option Cartridge) → (steps ≡ []) ⊎ IsSomeAnd held (λ c. IsSettling c steps) →
+pub begins_is : (goes : Going) → BeginsSettling goes → (steps : List TapeStep) (held : Option Cartridge) → (steps ≡ []) ⊎ IsSomeAnd held (λ c. IsSettling c steps) →
     (outcome : CommandOutcome) → OpenOutcome goes held outcome → BeginsSteps steps outcome
 begins_is goes first steps held (inl none) outcome plain = (first_steps outcome, ap (λ (ss : List TapeStep). ss ++ first_steps outcome) none)
 begins_is goes first steps None (inr settling) outcome plain = absurd settling
@@ -98,7 +98,7 @@ unlocked_refused_is goes why (Some c) free is = inr (free, refused_is goes why (
 locked_steps : (table : List (List ℕ)) (c : Cartridge) → c.info.protected ≡ true → settling_steps table c ≡ []
 locked_steps table c is = ap (λ (b : Bool). if b then [] else block_writes (with_parity table) (settling_places c table)) is
 
-pub writable_begins : (goes : Going) → Settles goes → (steps : List TapeStep) (held : Option Cartridge) → (steps ≡ []) ⊎ IsSomeAnd held (λ c. IsSettling c steps) →
+pub writable_begins : (goes : Going) → BeginsSettling goes → (steps : List TapeStep) (held : Option Cartridge) → (steps ≡ []) ⊎ IsSomeAnd held (λ c. IsSettling c steps) →
     (outcome : CommandOutcome) → WritableOutcome goes held outcome → BeginsSteps steps outcome
 writable_begins goes first steps None front outcome plain = begins_is goes first steps None front outcome plain
 writable_begins goes first steps (Some c) front outcome (inr (free, plain)) = begins_is goes first steps (Some c) front outcome plain
@@ -199,11 +199,18 @@ writable_failed t a b why free (inr cut) = inr (inr cut)
 pub no_outcome : (why : Status) → is_opening why ≡ true → why ≢ status.Done
 no_outcome why sound same = let no = ap is_opening same in cc
 
+-- a segment that an opening finds lost is that of the volume table
+pub table_lost : (segment lost : ℕ) (b : Bool) → (nat_lt 3 lost && segment == 2) ≡ true → (segment ≡ 2 → b ≡ true) → (nat_lt 3 lost && (nat_le 2 segment && b)) ≡ true
+table_lost segment lost b sound allows =
+    let both = and_parts (nat_lt 3 lost) (segment == 2) sound in
+    let at : segment ≡ 2 = eqb-true segment 2 both.1 in
+    both_true (nat_lt 3 lost) (nat_le 2 segment && b) both.0 (both_true (nat_le 2 segment) b (le-leb 2 segment (omega arith)) (allows at))
+
 found_by_list : (why : Status) → is_opening why ≡ true → may_come_from why words.List ≡ true
 found_by_list status.NoCartridge sound = refl
 found_by_list status.NotFormatted sound = refl
 found_by_list (status.Foreign field value) sound = sound
-found_by_list (status.Lost segment lost) sound = sound
+found_by_list (status.Lost segment lost) sound = table_lost segment lost (segment == 2) sound (eq-eqb segment 2)
 found_by_list status.TableMismatch sound = refl
 found_by_list why sound = cc
 
@@ -211,7 +218,7 @@ found_by_info : (why : Status) → is_opening why ≡ true → may_come_from why
 found_by_info status.NoCartridge sound = refl
 found_by_info status.NotFormatted sound = refl
 found_by_info (status.Foreign field value) sound = sound
-found_by_info (status.Lost segment lost) sound = sound
+found_by_info (status.Lost segment lost) sound = table_lost segment lost (segment == 2) sound (eq-eqb segment 2)
 found_by_info status.TableMismatch sound = refl
 found_by_info why sound = cc
 
@@ -219,11 +226,11 @@ found_by_info why sound = cc
 pub record Follows (command : Words) (goes : Going) : Type 1 where
   pub rules : (held : Option Cartridge) (outcome : CommandOutcome) → OpenOutcome goes held outcome → Rules command held outcome
   pub plain : (held : Option Cartridge) (outcome : CommandOutcome) → Rules command held outcome → OpenOutcome goes held outcome
-  pub first : Settles goes
+  pub first : BeginsSettling goes
   pub blind : IsBlind command
   pub found : (why : Status) → is_opening why ≡ true → may_come_from why command ≡ true
 
-shows_first : (prints : Printing) → Settles (Shows prints)
+shows_first : (prints : Printing) → BeginsSettling (Shows prints)
 shows_first prints c header ws table entries outcome is = ap (λ (o : CommandOutcome). first_steps o) is
 
 list_follows : Follows words.List (Shows listing)

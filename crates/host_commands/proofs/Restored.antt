@@ -1,7 +1,9 @@
 -- How the restoring of a volume ends.
 use Rattle.std.proofs.Common.{◌≡◌, ◌≢◌, ℕ, Bool, false, List, [], ◌∷◌, length, true, Some, None, Ok, Err, refl, sym, ap, ◌∙◌, subst, inl, inr, arith}
-use Rattle.std.specs.Prelude.{◌==◌, ◌&&◌, nat_lt, zero, suc, ◌||◌}
-use Rattle.std.proofs.lemmas.Bool.{lt-ltb, eq-eqb}
+use Rattle.command_laws.proofs.RestoreBehind.{piece_behind}
+use Rattle.cartridge_laws.specs.Table.{IsSoundList}
+use Rattle.std.specs.Prelude.{◌==◌, ◌&&◌, nat_lt, zero, suc, ◌||◌, nat_le, ◌≤◌}
+use Rattle.std.proofs.lemmas.Bool.{lt-ltb, eq-eqb, le-leb}
 use Rattle.std.proofs.lemmas.Option.{slice_get_cases, none-some}
 use Rattle.command_laws.proofs.StoreTaking.{both_true}
 use Rattle.command_laws.specs.CommandTerms.{EndsAt, RefusedPrints, EndsBlind, RestoreOutcome}
@@ -29,7 +31,7 @@ use Rattle.cartridge_front.specs.declared.fault.StoreFault.{StoreFault}
 use Rattle.host_commands.specs.Opening.{OpeningEnds, is_opening, store_status}
 use Rattle.hand_commands.specs.Outcome.{first_steps}
 use Rattle.hand_commands.proofs.Endings.{none_taken, turned_behind, told_map}
-use Rattle.host_commands.proofs.Mounted.{Follows, Settles, opened_is, refuses}
+use Rattle.host_commands.proofs.Mounted.{Follows, BeginsSettling, opened_is, refuses, table_lost}
 use Rattle.qic_base.specs.Sink as sinks
 use Rattle.qic_base.specs.Tape as tapes
 use Rattle.cartridge_spec.specs.Mounting as mounting
@@ -38,13 +40,9 @@ use Rattle.cartridge_front.specs.declared.fault.StoreFault.TheVariants as fault
 use Rattle.command_spec.specs.declared.status.Status.TheVariants as status
 
 -- a restore begins with the settling
-gives_first : (number : ℕ) → Settles (Gives number)
+gives_first : (number : ℕ) → BeginsSettling (Gives number)
 gives_first number c header ws table entries outcome (inl none) = ap (λ (o : CommandOutcome). first_steps o) none.1
 gives_first number c header ws table entries outcome (inr found) = ap (λ (o : CommandOutcome). first_steps o) found.is
-
-left_of : (a b : Bool) → (a && b) ≡ true → a ≡ true
-left_of true b is = refl
-left_of false b is = is
 
 right_of : (a b : Bool) → b ≡ true → (a || b) ≡ true
 right_of true b is = refl
@@ -65,7 +63,7 @@ found_by_restore : (number : ℕ) (why : Status) → is_opening why ≡ true →
 found_by_restore number status.NoCartridge sound = refl
 found_by_restore number status.NotFormatted sound = refl
 found_by_restore number (status.Foreign field value) sound = sound
-found_by_restore number (status.Lost segment lost) sound = both_true (nat_lt 3 lost) true (left_of (nat_lt 3 lost) (segment == 2) sound) refl
+found_by_restore number (status.Lost segment lost) sound = table_lost segment lost true sound (λ at. refl)
 found_by_restore number status.TableMismatch sound = refl
 found_by_restore number why sound = cc
 
@@ -82,10 +80,14 @@ pub restore_refused : {T K : Type 0} (t : tapes.Meaning T) (k : sinks.Meaning K)
     OpeningEnds t a b (Err why) → EndsBlind t k (words.Restore number) a b.tape x x why
 restore_refused t k number a b x why nothing ends = refuses t k (words.Restore number) (Gives number) a b x why (restore_follows number) nothing ends
 
-ending_sound : (number : ℕ) (needed : List Piece) (done : ℕ) (ending : GivingEnd) → EndsAt needed done ending → may_come_from (ending_status ending) (words.Restore number) ≡ true
-ending_sound number needed done Restored at = refl
-ending_sound number needed done (LostIn segment lost) at = both_true (nat_lt 3 lost) true (lt-ltb 3 lost at.0) refl
-ending_sound number needed done (MismatchIn segment) at = refl
+-- a segment that ends a restore is one of the volume's
+ending_sound : (number : ℕ) (ws : List ℕ) (last : ℕ) (entries : List Entry) (e : Entry) (done : ℕ) (ending : GivingEnd) → IsSoundList last entries → volume_at entries number ≡ Some e →
+    EndsAt (pieces ws e) done ending → may_come_from (ending_status ending) (words.Restore number) ≡ true
+ending_sound number ws last entries e done Restored order there at = refl
+ending_sound number ws last entries e done (LostIn segment lost) order there at =
+    let behind : 3 ≤ segment = piece_behind ws last entries number e done segment order there at.1 in
+    both_true (nat_lt 3 lost) (nat_le 2 segment && true) (lt-ltb 3 lost at.0) (both_true (nat_le 2 segment) true (le-leb 2 segment (omega arith)) refl)
+ending_sound number ws last entries e done (MismatchIn segment) order there at = le-leb 3 segment (piece_behind ws last entries number e done segment order there at)
 
 -- some of the bytes, where a segment doesn't read
 refused_prints : (number : ℕ) (ending : GivingEnd) (text : List ℕ) → ending_status ending ≢ status.Done → RefusedPrints (words.Restore number) (ending_status ending) text
@@ -140,7 +142,7 @@ module _ {T K : Type 0} (t : tapes.Meaning T) (k : sinks.Meaning K) (number : �
             ));
         went = went_behind t no_source k both nothing a b.tape tt x (around c y) opening.steps gave.acts opening.did gave.went;
         left = none_taken (ending_status ending) 0;
-        sound = ending_sound number (needed e) (length gave.acts) ending gave.ends;
+        sound = ending_sound number store.words _ store.entries e (length gave.acts) ending opening.fits.list numbered gave.ends;
         none_taken = λ blind. refl;
         prints = ((λ done. tt), (λ other. refused_prints number ending (text_of (quiet opening.steps ∷ gave.acts)) other));
         silent = λ still. absurd (cc);

@@ -1,11 +1,11 @@
 -- How the scrubbing of a cartridge ends, in either form.
 use Rattle.std.proofs.Common.{◌≡◌, ◌≢◌, ◌++◌, true, false, ℕ, List, [], ◌∷◌, Option, Some, Err, refl, sym, ap, ◌∙◌, subst, inl, inr}
+use Rattle.std.proofs.lemmas.Bool.{eq-eqb}
 use Rattle.qic_base.specs.Cartridge.{Cartridge}
 use Rattle.qic_base.specs.Step.{Step as TapeStep}
 use Rattle.qic_base.proofs.Writing.{TakesBoth}
 use Rattle.qic_base.specs.Acts.{Act, Failing, TapeFails, SourceFails, SinkFails, Cut, Went, text_of}
 use Rattle.qic_base.specs.Terms.{no_source, around}
-use Rattle.cartridge_spec.specs.Header.{Header}
 use Rattle.cartridge_spec.specs.Mounting.{Mounting, settled}
 use Rattle.cartridge_spec.specs.Table.{Entry}
 use Rattle.drive_spec.specs.Terms.{is_protected}
@@ -20,7 +20,7 @@ use Rattle.command_spec.specs.declared.depth.Depth.TheVariants.{Shallow, Deep}
 use Rattle.segment_mending.specs.Mending.{HasScrubbed, ScrubCut, reported}
 use Rattle.segment_mending.specs.declared.report.ScrubReport.{ScrubReport}
 use Rattle.command_spec.specs.declared.words.Words.{Words}
-use Rattle.std.specs.Prelude.{◌↔◌}
+use Rattle.std.specs.Prelude.{◌↔◌, ◌==◌}
 use Rattle.volume_store.specs.Mounting.{StoreView}
 use Rattle.volume_store.specs.Scrubbing.{MendEnds}
 use Rattle.command_spec.specs.declared.status.Status.{Status}
@@ -34,7 +34,7 @@ use Rattle.cartridge_front.specs.declared.fault.StoreFault.{StoreFault}
 use Rattle.host_commands.specs.Opening.{IsUnlocked, WritableEnds, is_opening, store_status}
 use Rattle.hand_commands.specs.Outcome.{first_steps}
 use Rattle.hand_commands.proofs.Endings.{IsBlind, turned_behind, turned_down, cut_off, told_map, told_both}
-use Rattle.host_commands.proofs.Mounted.{Settles, no_outcome, locked_is, unlocked_refused_is, writable_begins}
+use Rattle.host_commands.proofs.Mounted.{BeginsSettling, no_outcome, locked_is, unlocked_refused_is, writable_begins, table_lost}
 use Rattle.qic_base.specs.Sink as sinks
 use Rattle.qic_base.specs.Tape as tapes
 use Rattle.qic_base.specs.TapeCalls as tape_calls
@@ -55,7 +55,7 @@ found_by_scrub : (why : Status) → is_opening why ≡ true → may_come_from wh
 found_by_scrub status.NoCartridge sound = refl
 found_by_scrub status.NotFormatted sound = refl
 found_by_scrub (status.Foreign field value) sound = sound
-found_by_scrub (status.Lost segment lost) sound = sound
+found_by_scrub (status.Lost segment lost) sound = table_lost segment lost (segment == 2) sound (eq-eqb segment 2)
 found_by_scrub status.TableMismatch sound = refl
 found_by_scrub why sound = cc
 
@@ -63,7 +63,7 @@ found_by_deep : (why : Status) → is_opening why ≡ true → may_come_from why
 found_by_deep status.NoCartridge sound = refl
 found_by_deep status.NotFormatted sound = refl
 found_by_deep (status.Foreign field value) sound = sound
-found_by_deep (status.Lost segment lost) sound = sound
+found_by_deep (status.Lost segment lost) sound = table_lost segment lost (segment == 2) sound (eq-eqb segment 2)
 found_by_deep status.TableMismatch sound = refl
 found_by_deep why sound = cc
 
@@ -106,7 +106,7 @@ deep_form = record {
   fronts = λ words entries text rest shown. (rest, (words, (entries, shown)));
 }
 
-begins : (depth : Depth) → Settles (ScrubsBy depth)
+begins : (depth : Depth) → BeginsSettling (ScrubsBy depth)
 begins depth c header words table entries outcome on = ap (λ (o : CommandOutcome). first_steps o) on.is
 
 module _ (command : Words) (depth : Depth) (form : IsForm command depth) where

@@ -1,6 +1,6 @@
 -- How the opening of a cartridge ends: refused, or with its table settled and what was found; and the answer that each fault of
 -- a store makes (this project's own).
-use Rattle.std.specs.Prelude.{◌≡◌, Option, Some, None, ◌&&◌, ◌==◌, nat_lt, Bool, true, false, [], ◌⊎◌, IfSome, Result, Ok, Err, ℕ, List, IsSomeAnd}
+use Rattle.std.specs.Prelude.{◌≡◌, Option, Some, None, ◌&&◌, ◌==◌, nat_lt, Bool, true, false, [], ◌⊎◌, IfSome, Result, Ok, Err, List, IsSomeAnd}
 use Rattle.cartridge_spec.specs.Mounting.{Mounting, Mounts}
 use Rattle.command_laws.specs.Terms.{foreign}
 use Rattle.command_spec.specs.Outcome.{is_refused}

@@ -11,8 +11,8 @@ ghost use Rattle.host_driver.specs.Fits.{Fits, parameter_of};
 
 use crate::host::Host;
 use drive_states::Unit;
-use qic117_commands::Command;
 use qic_base::Tape;
+use qic117_commands::Command;
 
 impl Host {
     /// Sends a command that no row refuses.

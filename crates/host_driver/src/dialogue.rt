@@ -13,8 +13,8 @@ ghost use Rattle.drive_states.specs.Unreferenced.{without_reference};
 
 use crate::report::Report;
 use drive_states::Unit;
-use qic117_commands::{Collector, Command};
 use qic_base::{Tape, TapeFailed};
+use qic117_commands::{Collector, Command};
 
 /// Sends a train of pulses, and a gap. Each train of the host is ended here.
 #[tactic(auto, unfolding(crate::specs::Train::after_train, crate::specs::Train::train_steps))]

@@ -16,8 +16,8 @@ use bitflags::Flags;
 use drive_states::deck::{is_protected, power_on_deck};
 use drive_states::effects::unreferenced;
 use drive_states::{Deck, Parameter, Unit};
-use qic117_commands::StatusBits;
 use qic_base::{Tape, TapeInfo};
+use qic117_commands::StatusBits;
 use tape_geometry::Geometry;
 
 /// What a host has learnt of a drive by reports, and what it remembers of the drive's place and mode. It doesn't hold

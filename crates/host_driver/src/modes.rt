@@ -16,8 +16,8 @@ use crate::fault::HostFault;
 use crate::host::Host;
 use drive_states::Unit;
 use drive_states::deck::refusal;
-use qic117_commands::{Command, Mode};
 use qic_base::Tape;
+use qic117_commands::{Command, Mode};
 
 impl Host {
     /// Has the drive enter a mode, where the tape stands. Where the present mode refuses that, it enters Primary first.

@@ -15,8 +15,8 @@ use crate::fault::HostFault;
 use crate::host::Host;
 use drive_states::Unit;
 use drive_states::deck::is_streaming;
-use qic117_commands::{Command, Mode};
 use qic_base::Tape;
+use qic117_commands::{Command, Mode};
 
 impl Host {
     /// Has the tape stream at a segment, before its sector 0, from wherever it stands or streams. The cartridge has its

@@ -19,8 +19,8 @@ use crate::host::Host;
 use crate::report::Report;
 use bitflags::Flags;
 use drive_states::{Motion, Unit};
-use qic117_commands::StatusBits;
 use qic_base::Tape;
+use qic117_commands::StatusBits;
 
 impl Host {
     /// Has the drive report a word, and leaves it as it is. No row may refuse the report: a tape that streams reports

@@ -9,9 +9,9 @@ ghost use Rattle.qic_mem.specs.Tape.{tape_means};
 use crate::trains::{WRITTEN, report, train, write_one};
 use drive_states::{FdcFault, FloppyAddr, HandFault, Unit};
 use host_driver::{Host, HostFault};
-use qic117_commands::Mode;
 use qic_base::Tape;
 use qic_mem::MemTape;
+use qic117_commands::Mode;
 use std::alloc::Global;
 use std::process::Abort;
 

@@ -4,8 +4,8 @@ use crate::cable::{Row, blank, first_wrong, put_away};
 use crate::trains::front;
 use drive_states::{FdcFault, Unit};
 use host_driver::{Host, HostFault};
-use qic117_commands::Mode;
 use qic_mem::MemTape;
+use qic117_commands::Mode;
 
 /// Has a host write the reference bursts. The answer, and whether the host knows the cartridge as referenced then.
 fn reference(unit: &mut Unit<MemTape>) -> Result<(Result<(), HostFault>, bool), HostFault> {

@@ -1,7 +1,8 @@
 //! Sectors written to sinks in memory. The first sector holds the byte 1, the second the byte 2.
 
-use qic_base::{Sink, SinkFailed};
+use qic_base::{NoMemory, Sink, SinkFailed};
 use qic_mem::MemSink;
+use std::alloc::Global;
 use std::test::Fail;
 use volume_output::write_bytes;
 

@@ -1,8 +1,8 @@
 //! Real files as disks, what is no image, and the standard streams of the test.
 
 use qic_base::{Disk, DiskFailed, Sink, Source};
-use std::fs::{File, OpenOptions};
 use std::fs;
+use std::fs::{File, OpenOptions};
 use std::os::unix::fs::FileExt;
 use std::test::Fail;
 use tape_files::{FileDisk, NoImage, StderrSink, StdinSource, StdoutSink, open_image};

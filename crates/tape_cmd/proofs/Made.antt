@@ -1,6 +1,9 @@
 -- How a generated run ends.
-use Rattle.std.proofs.Common.{◌≡◌, ◌≢◌, ℕ, ◌<◌, ◌≤◌, ◌&&◌, nat_le, nat_lt, Bool, true, false, cond, List, [], ◌∷◌, Option, Some, None, IfSome, Result, Ok, Err, refl, sym, ap, ◌∙◌, subst, inl, inr, arith}
-use Rattle.std.proofs.lemmas.Bool.{cases_Bool, leb-false, lt-ltb}
+use Rattle.std.proofs.Common.{◌≡◌, ◌≢◌, ℕ, ◌<◌, ◌≤◌, ◌&&◌, nat_le, nat_lt, Bool, true, false, cond, List, [], ◌∷◌, Option, Some, None, IfSome, Result, Ok, Err, refl, sym, ap, ◌∙◌, subst, inl, inr, arith, length, ◌-◌}
+use Rattle.command_laws.proofs.CommandClean.{made_order}
+use Rattle.command_laws.proofs.RestoreBehind.{piece_behind}
+use Rattle.cartridge_laws.specs.Table.{IsSoundList}
+use Rattle.std.proofs.lemmas.Bool.{cases_Bool, leb-false, lt-ltb, le-leb}
 use Rattle.qic_base.specs.Cartridge.{Cartridge}
 use Rattle.qic_base.specs.Step.{Step as TapeStep}
 use Rattle.qic_base.proofs.Writing.{TakesBoth}
@@ -28,7 +31,7 @@ use Rattle.store_opening.proofs.Opened.{went_behind, cut_behind, settled_told}
 use Rattle.host_commands.specs.Opening.{IsUnlocked, WritableEnds, is_opening}
 use Rattle.hand_commands.specs.Outcome.{first_steps}
 use Rattle.hand_commands.proofs.Endings.{IsBlind, none_taken, turned_down, cut_off, told_map, told_both}
-use Rattle.host_commands.proofs.Mounted.{Settles, no_outcome, locked_is, unlocked_refused_is, writable_begins}
+use Rattle.host_commands.proofs.Mounted.{BeginsSettling, table_lost, no_outcome, locked_is, unlocked_refused_is, writable_begins}
 use Rattle.qic_base.specs.Sink as sinks
 use Rattle.qic_base.specs.Tape as tapes
 use Rattle.cartridge_spec.specs.Mounting as mounting
@@ -66,31 +69,47 @@ append_sound seed count ws es volume answer is = by_room (has_promised_room (roo
         subst (λ (a : Status). may_come_from a (words.Make seed count) ≡ true) same
         (full_more (room_in (kept_in ws es)) (made_length seed volume) (some_bytes seed volume) none)
 
-lost_sound : (seed count segment lost : ℕ) → 3 < lost → may_come_from (status.Lost segment lost) (words.Make seed count) ≡ true
-lost_sound seed count segment lost many = both_true (nat_lt 3 lost) true (lt-ltb 3 lost many) refl
+-- a segment that lost too much is the table's, or one behind it
+lost_sound : (seed count segment lost : ℕ) → 3 < lost → 2 ≤ segment → may_come_from (status.Lost segment lost) (words.Make seed count) ≡ true
+lost_sound seed count segment lost many from =
+    both_true (nat_lt 3 lost) (nat_le 2 segment && true) (lt-ltb 3 lost many) (both_true (nat_le 2 segment) true (le-leb 2 segment from) refl)
 
-do_sound : (seed count : ℕ) (ws : List ℕ) (es : List Entry) (item : MakeStep) (text : List ℕ) (answer : Status) → MayDo seed ws es item text answer →
+-- each step is answered as a run may be, where the list is in order
+do_sound : (seed count : ℕ) (ws : List ℕ) (es : List Entry) (item : MakeStep) (text : List ℕ) (answer : Status) → IsSoundList (length ws - 1) es → MayDo seed ws es item text answer →
     may_come_from answer (words.Make seed count) ≡ true
-do_sound seed count ws es (AppendMade volume) text status.Protected may = refl
-do_sound seed count ws es (AppendMade volume) text status.TableMismatch may = refl
-do_sound seed count ws es (AppendMade volume) text (status.Lost segment lost) may = lost_sound seed count segment lost may.1.1
-do_sound seed count ws es (AppendMade volume) text answer may = append_sound seed count ws es volume answer may.1
-do_sound seed count ws es (WearSector segment sector) text answer may =
+do_sound seed count ws es (AppendMade volume) text status.Protected order may = refl
+do_sound seed count ws es (AppendMade volume) text status.TableMismatch order may = refl
+do_sound seed count ws es (AppendMade volume) text (status.Lost segment lost) order may = let at : segment ≡ 2 = may.1.0 in lost_sound seed count segment lost may.1.1 (omega arith)
+do_sound seed count ws es (AppendMade volume) text answer order may = append_sound seed count ws es volume answer may.1
+do_sound seed count ws es (WearSector segment sector) text answer order may =
     subst (λ (a : Status). may_come_from a (words.Make seed count) ≡ true) (sym may.1) refl
-do_sound seed count ws es ScrubAll text status.Done may = refl
-do_sound seed count ws es ScrubAll text status.Protected may = refl
-do_sound seed count ws es ScrubAll text answer may = absurd may
-do_sound seed count ws es (SumVolume number) text status.Done may = refl
-do_sound seed count ws es (SumVolume number) text (status.Lost segment lost) may = let at = may.2.1.1 in lost_sound seed count segment lost at.0
-do_sound seed count ws es (SumVolume number) text (status.Mismatch segment) may = refl
-do_sound seed count ws es (SumVolume number) text answer may = absurd may.2
+do_sound seed count ws es ScrubAll text status.Done order may = refl
+do_sound seed count ws es ScrubAll text status.Protected order may = refl
+do_sound seed count ws es ScrubAll text answer order may = absurd may
+do_sound seed count ws es (SumVolume number) text status.Done order may = refl
+do_sound seed count ws es (SumVolume number) text (status.Lost segment lost) order may =
+    let at = may.2.1.1 in
+    let behind : 3 ≤ segment = piece_behind ws (length ws - 1) es number may.0 may.2.1.0 segment order may.1 at.1 in
+    lost_sound seed count segment lost at.0 (omega arith)
+do_sound seed count ws es (SumVolume number) text (status.Mismatch segment) order may =
+    le-leb 3 segment (piece_behind ws (length ws - 1) es number may.0 may.2.1.0 segment order may.1 may.2.1.1)
+do_sound seed count ws es (SumVolume number) text answer order may = absurd may.2
 
-run_sound : (seed count : ℕ) (ws : List ℕ) (items : List MakeStep) (es : List Entry) (text : List ℕ) (answer : Status) → MayRun seed ws es items text answer →
+-- a step that was carried out leaves a list in order
+order_behind : (seed : ℕ) (ws : List ℕ) (es : List Entry) (item : MakeStep) (text : List ℕ) → IsSoundList (length ws - 1) es → MayDo seed ws es item text status.Done →
+    IsSoundList (length ws - 1) (after_item seed ws es item)
+order_behind seed ws es (AppendMade volume) text order may = made_order seed ws es volume order may.1
+order_behind seed ws es (WearSector segment sector) text order may = order
+order_behind seed ws es ScrubAll text order may = order
+order_behind seed ws es (SumVolume number) text order may = order
+
+-- .. and so is the run
+run_sound : (seed count : ℕ) (ws : List ℕ) (items : List MakeStep) (es : List Entry) (text : List ℕ) (answer : Status) → IsSoundList (length ws - 1) es → MayRun seed ws es items text answer →
     may_come_from answer (words.Make seed count) ≡ true
-run_sound seed count ws [] es text answer (none, done) = subst (λ (a : Status). may_come_from a (words.Make seed count) ≡ true) (sym done) refl
-run_sound seed count ws (item ∷ items) es text answer (inl (other, may)) = do_sound seed count ws es item text answer may
-run_sound seed count ws (item ∷ items) es text answer (inr (first, rest, parts, may, more)) =
-    run_sound seed count ws items (after_item seed ws es item) rest answer more
+run_sound seed count ws [] es text answer order (none, done) = subst (λ (a : Status). may_come_from a (words.Make seed count) ≡ true) (sym done) refl
+run_sound seed count ws (item ∷ items) es text answer order (inl (other, may)) = do_sound seed count ws es item text answer order may
+run_sound seed count ws (item ∷ items) es text answer order (inr (first, rest, parts, may, more)) =
+    run_sound seed count ws items (after_item seed ws es item) rest answer (order_behind seed ws es item first order may) more
 
 -- it printed what such a run may print
 run_prints : (seed count : ℕ) (ws : List ℕ) (es : List Entry) (text : List ℕ) (answer : Status) → MayRun seed ws es (making seed count ws es) text answer →
@@ -111,18 +130,14 @@ does_unlocked goes (Some c) outcome free (inr plain) = plain.1
 
 -- ---- the opening
 
-making_first : (seed count : ℕ) → Settles (Making seed count)
+making_first : (seed count : ℕ) → BeginsSettling (Making seed count)
 making_first seed count c header ws table entries outcome found = ap (λ (o : CommandOutcome). first_steps o) found.is
 
 found_by_make : (seed count : ℕ) (why : Status) → is_opening why ≡ true → may_come_from why (words.Make seed count) ≡ true
 found_by_make seed count status.NoCartridge sound = refl
 found_by_make seed count status.NotFormatted sound = refl
 found_by_make seed count (status.Foreign field value) sound = sound
-found_by_make seed count (status.Lost segment lost) sound = many_lost (nat_lt 3 lost) _ sound
-  where
-    many_lost : (a b : Bool) → (a && b) ≡ true → (a && true) ≡ true
-    many_lost true b is = refl
-    many_lost false b is = is
+found_by_make seed count (status.Lost segment lost) sound = table_lost segment lost true sound (λ at. refl)
 found_by_make seed count status.TableMismatch sound = refl
 found_by_make seed count why sound = cc
 
@@ -166,7 +181,8 @@ module _ {T K : Type 0} (t : tapes.Meaning T) (k : sinks.Meaning K) (seed count 
               (λ held is. ([], tt, ((λ no. absurd (cc)), unlocked_does (Making seed count) held outcome is.0 is.1)));
           went = went_behind t no_source k both nothing a b.tape tt x (around c y) opening.steps run.acts opening.did run.went;
           left = none_taken answer 0;
-          sound = run_sound seed count store.words (making seed count store.words store.entries) store.entries (text_of run.acts) answer run.may;
+          sound = run_sound seed count store.words (making seed count store.words store.entries) store.entries (text_of run.acts) answer
+              (subst (λ (n : ℕ). IsSoundList (n - 1) store.entries) (sym opening.fits.words) opening.fits.list) run.may;
           none_taken = λ no. refl;
           prints = run_prints seed count store.words store.entries (text_of run.acts) answer run.may;
           silent = λ still. absurd (cc);

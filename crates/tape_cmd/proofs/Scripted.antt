@@ -1,7 +1,8 @@
 -- How a script ends.
 use Rattle.std.proofs.Common.{◌≡◌, ◌≢◌, ℕ, true, List, [], ◌∷◌, ◌++◌, drop, Option, Some, None, IfSome, Result, Ok, Err, refl, sym, ap, ◌∙◌, subst, inl, inr, append-nil, arith}
 use Rattle.std.specs.Option.{option_map}
-use Rattle.std.specs.Prelude.{is_some}
+use Rattle.std.specs.Prelude.{is_some, ◌==◌}
+use Rattle.std.proofs.lemmas.Bool.{eq-eqb}
 use Rattle.qic_base.specs.Cartridge.{Cartridge}
 use Rattle.qic_base.specs.Step.{Step as TapeStep}
 use Rattle.qic_base.proofs.Writing.{TakesBoth}
@@ -27,12 +28,13 @@ use Rattle.command_laws.specs.CommandTerms.{ScriptOutcome}
 use Rattle.host_commands.specs.Opening.{OpeningEnds, is_opening}
 use Rattle.hand_commands.specs.Outcome.{first_steps}
 use Rattle.hand_commands.proofs.Endings.{told_map}
-use Rattle.host_commands.proofs.Mounted.{Settles, no_outcome, begins_is, refused_is}
+use Rattle.host_commands.proofs.Mounted.{BeginsSettling, no_outcome, begins_is, refused_is, table_lost}
 use Rattle.qic_base.specs.Sink as sinks
 use Rattle.qic_base.specs.Source as sources
 use Rattle.qic_base.specs.Tape as tapes
 use Rattle.cartridge_spec.specs.Mounting as mounting
 use Rattle.command_spec.specs.declared.words.Words.TheVariants as words
+use Rattle.command_laws.proofs.TextFaults.{fault_line}
 use Rattle.command_laws.proofs.TextInputs as inputs
 use Rattle.volume_script.specs.declared.fault.ScriptFault.TheVariants as fault
 use Rattle.volume_script.specs.Runs as runs
@@ -78,14 +80,14 @@ found_by_script : (why : Status) → is_opening why ≡ true → may_come_from w
 found_by_script status.NoCartridge sound = refl
 found_by_script status.NotFormatted sound = refl
 found_by_script (status.Foreign field value) sound = sound
-found_by_script (status.Lost segment lost) sound = sound
+found_by_script (status.Lost segment lost) sound = table_lost segment lost (segment == 2) sound (eq-eqb segment 2)
 found_by_script status.TableMismatch sound = refl
 found_by_script why sound = cc
 
 no_fault : (why : Status) → is_opening why ≡ true → (line place : ℕ) → why ≢ status.ScriptFault line place
 no_fault why sound line place is = let no = ap is_opening is in cc
 
-scripting_first : (input : List ℕ) → Settles (Scripting input)
+scripting_first : (input : List ℕ) → BeginsSettling (Scripting input)
 scripting_first input c header ws table entries outcome found = ap (λ (o : CommandOutcome). first_steps o) found.is
 
 -- nothing was printed
@@ -170,9 +172,12 @@ module _ {T S K : Type 0} (t : tapes.Meaning T) (s : sources.Meaning S) (k : sin
     left_so taken AllDone left = left
     left_so taken (FaultIn line place) left = left
 
-    sound_so : (answer : Answer) → may_come_from (script_status answer) words.Script ≡ true
-    sound_so AllDone = refl
-    sound_so (FaultIn line place) = refl
+    -- a line at fault is one of those that a script may have
+    sound_so : (input : List ℕ) (items : List Item) (ending : Ending) (answer : Answer) → IsScript input items ending → answer ≡ script_answer ending →
+        may_come_from (script_status answer) words.Script ≡ true
+    sound_so input items ending AllDone read is = refl
+    sound_so input items ending (FaultIn line place) read is =
+        fault_line IsItem 0 input items line place (subst (IsScript input items) (fault_ended ending line place (sym is)) read)
 
     prints_so : (answer : Answer) (text : List ℕ) → (answer ≡ AllDone → (replies : List ℕ) × (text ≡ replies ++ end_line)) → Prints words.Script (script_status answer) text
     prints_so AllDone text replied = ((λ is. replied refl), (λ other. absurd (other refl)))
@@ -188,7 +193,7 @@ module _ {T S K : Type 0} (t : tapes.Meaning T) (s : sources.Meaning S) (k : sin
               (λ d is does. (run.input, run.is_told, ((λ is. run.content), is_plain run.input came d is does)));
           went = went_behind t s k both nothing a b.tape i x (outside c j y) opening.steps came.acts opening.did run.went;
           left = left_so came.taken answer run.left;
-          sound = sound_so answer;
+          sound = sound_so run.input run.items run.ending answer run.read run.by_ending;
           none_taken = λ blind. absurd (cc);
           prints = prints_so answer (text_of came.acts) run.replied;
           silent = λ still. absurd (cc);

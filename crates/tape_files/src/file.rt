@@ -6,8 +6,8 @@ ghost use Rattle.tape_files.specs.Apart.{IsApart};
 ghost use Rattle.tape_files.specs.Edge.{SyncKind, Whole, DataAlone};
 
 use std::fs::{File, OpenFile};
-use std::io::ErrorKind;
 use std::io;
+use std::io::ErrorKind;
 use std::os::unix::fs::FileExt;
 
 /// An open file as a disk needs it. It may tell which of its syncs succeeded.

@@ -3,8 +3,8 @@
 ghost use Rattle.std.specs.Prelude.{◌≤◌, ◌≢◌, length, IfErr, IfOk};
 ghost use Rattle.std.specs.IoError.{error_kind};
 
-use std::io::{ErrorKind, Read, Write};
 use std::io;
+use std::io::{ErrorKind, Read, Write};
 use std::os::unix::fs::FileExt;
 
 /// One read; one that a signal interrupts is tried again.

@@ -4,8 +4,8 @@ ghost use Rattle.std.specs.Prelude.{◌≡◌, ◌≤◌, IfSome};
 
 use crate::retry::{read_some, write_some};
 use qic_base::{Sink, SinkFailed, Source, SourceFailed};
-use std::io::{Stderr, Stdin, Stdout};
 use std::io;
+use std::io::{Stderr, Stdin, Stdout};
 use std::marker::Model;
 
 /// Standard input as a source. It counts its failures, and tells nothing of its bytes.

@@ -1,7 +1,7 @@
 pub mod Dates
 pub mod Decimals
+pub mod Forms
 pub mod Lined
-pub mod Lines
 pub mod Making
 pub mod Rests
 pub mod Splits

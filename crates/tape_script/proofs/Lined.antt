@@ -1,5 +1,5 @@
 -- Lines and their newlines.
-use Rattle.std.proofs.Common.{◌≡◌, ℕ, ◌+◌, ◌-◌, List, [], ◌∷◌, ◌++◌, length, take, arith, ap, ◌∙◌, append_assoc, ◌⊎◌, inl, inr, ◌<◌, get_or, refl, sym, Option, Some, None, IfSome, ◌≤◌, codes, lit≤}
+use Rattle.std.proofs.Common.{◌≡◌, ℕ, ◌+◌, ◌-◌, List, [], ◌∷◌, ◌++◌, length, take, arith, ap, ◌∙◌, append_assoc, ◌⊎◌, inl, inr, ◌<◌, get_or, refl, sym, Option, Some, None, IfSome, codes, lit≤}
 use Rattle.std.proofs.Math.Seq.{take-append_seam}
 use Rattle.std.proofs.lemmas.List.{length_push, length-append, get_or_append_left, get_or_at}
 use Rattle.std.specs.Option.{option_map}

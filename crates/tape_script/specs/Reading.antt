@@ -12,10 +12,15 @@ use Rattle.tape_script.specs.declared.line.LineRead.TheVariants as read
 use Rattle.tape_script.specs.declared.train.TrainRead.TheVariants as train
 use Rattle.tape_script.specs.declared.taking.Taken.TheVariants as taken
 
--- it gave so many bytes, none of them behind a newline: only the last may be one
+-- bytes that it gave go as far as a line may: they end with a newline, are 128, or were all that was left
+abbrev pub GoAsALine : {S : Type 0} → Meaning S → (new : S) → (bytes : List ℕ) → Type 0
+GoAsALine m new bytes =
+    ((before : List ℕ) × (bytes ≡ before ++ 0x0A ∷ [])) ⊎ ((length bytes ≡ 128) ⊎ HasEnded m new)
+
+-- it gave so many bytes, as far as a line may go, none of them behind a newline: only the last may be one
 abbrev pub GaveInLine : {S : Type 0} → Meaning S → (old new : S) → ℕ → Type 0
 GaveInLine m old new n =
-    (bytes : List ℕ) × (length bytes ≡ n) × Gave m old new bytes × NoNewline (take (n - 1) bytes)
+    (bytes : List ℕ) × (length bytes ≡ n) × Gave m old new bytes × NoNewline (take (n - 1) bytes) × GoAsALine m new bytes
 
 -- it gave the front of a line: at most 127 bytes, none of them a newline
 abbrev pub GaveFront : {S : Type 0} → Meaning S → (old new : S) → Type 0
@@ -29,8 +34,8 @@ BeginsWithNo m s P = IfSome (m.left s) (λ bytes. (text rest : List ℕ) → byt
 abbrev pub GaveEnd : {S : Type 0} → Meaning S → (old new : S) → Type 0
 GaveEnd m old new = (HasEnded m old × Gave m old new []) ⊎ Gave m old new (codes "end\n")
 
--- the end of the source before any byte; bytes that begin with no line, none taken behind a newline; or a line, with
--- its newline. A failure comes before the line's newline.
+-- the end of the source before any byte; bytes that begin with no line, taken up to the first newline, or 128, or up to
+-- the end, and none behind that; or a line, with its newline. A failure comes before the line's newline.
 abbrev pub ReadsLine : {S E : Type 0} → Meaning S → (old new : S) → Result LineRead E → Type 0
 ReadsLine m old new (Ok read.End) = HasEnded m old × Gave m old new []
 ReadsLine m old new (Ok (read.Bad n)) =
@@ -50,10 +55,10 @@ ReadsTrain m old new (Ok (train.Train pulses n)) =
     (text : List ℕ) × IsPulse text pulses × (length text ≡ n) × Gave m old new text
 ReadsTrain m old new (Err e) = GaveFront m old new
 
--- bytes skipped: fewer than asked for exactly at the end of the source
+-- bytes skipped: fewer than asked for exactly at the end of the source, or where it failed
 abbrev pub Skips : {S E : Type 0} → Meaning S → (old new : S) → ℕ → Result ℕ E → Type 0
 Skips m old new asked (Ok n) = (n ≤ asked) × GaveSome m old new n × (n < asked → HasEnded m new)
-Skips m old new asked (Err e) = (n : ℕ) × (n ≤ asked) × GaveSome m old new n
+Skips m old new asked (Err e) = (n : ℕ) × (n < asked) × GaveSome m old new n
 
 -- ---- bytes and lines of any kind
 

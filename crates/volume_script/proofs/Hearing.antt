@@ -18,16 +18,18 @@ use Rattle.command_spec.specs.Input.{AtEnd, AtStop, AtFault, promised, most_item
 use Rattle.qic_base.specs.SourceCalls.{Gave}
 use Rattle.tape_script.specs.Reading.{GaveInLine, BeginsWithNo}
 use Rattle.qic_base.proofs.Giving.{Gave-Gave}
+use Rattle.tape_script.proofs.Lined.{IsLined-one_newline}
 use Rattle.tape_script.proofs.Rests.{whole_told}
 use Rattle.volume_store.specs.Mounting.{StoreView}
 use Rattle.volume_script.specs.Ending.{GaveNoEnd}
 use Rattle.volume_script.specs.Heard.{HeardItem, HeardShort, HeardCut, HeardMismatch, NextDoes}
+use Rattle.command_laws.specs.CommandTerms.{IsLine}
 use Rattle.command_laws.specs.ScriptItems.{EarlyDoes}
 use Rattle.volume_script.specs.Items.{ItemDone, ItemShort, ItemCut, ItemMismatched, WouldDo}
 use Rattle.command_spec.specs.Script.{EndsEarly, LineDoes}
 use Rattle.volume_script.proofs.Appended.{flip}
 use Rattle.volume_script.proofs.Content.{any_bytes, content_behind}
-use Rattle.volume_script.proofs.Input.{end_is_line, item_of, line_of_item, some_text}
+use Rattle.volume_script.proofs.Input.{end_is_line, item_of, line_of_item, line_short, some_text}
 use Rattle.command_laws.proofs.ScriptInput.{same_line}
 use Rattle.command_laws.proofs.ScriptLifting.{out, TakesNone}
 
@@ -55,7 +57,14 @@ pub on_line : {S : Type 0} (s : sources.Meaning S) (i j : S) (asked : Line) (n :
 on_line s i j asked n other read = record {
   n = n;
   some = let l = some_text read.0 asked read.1 in let m = read.2 in omega arith;
-  gave = (read.0, read.2, read.3);
+  few = let l = line_short read.0 asked read.1 in let m = read.2 in omega arith;
+  gave = (
+    read.0,
+    read.2,
+    read.3,
+    IsLined-one_newline (λ before. IsLine before asked) read.0 n read.2 read.1,
+    inl (read.1.before, read.1.whole),
+  );
   no_stop = no_stop_behind (s.left i) (s.left j) read.0 asked read.1 other read.3;
 }
 
@@ -64,8 +73,8 @@ no_stop_there : (o : Option (List ℕ)) → IfSome o (λ all. (text rest : List 
 no_stop_there None no_line = tt
 no_stop_there (Some all) no_line = λ t rest parts stop. no_line t rest parts (subst (λ (l : List ℕ). IsLineText l line.End) (sym stop) end_is_line)
 
-pub on_bad : {S : Type 0} (s : sources.Meaning S) (i j : S) (n : ℕ) → 0 < n → GaveInLine s i j n → ((asked : Line) → BeginsWithNo s i (λ text. IsLineText text asked)) → GaveNoEnd s i j
-on_bad s i j n some gave no_line = record { n = n; some = some; gave = (gave.0, gave.1, gave.2); no_stop = no_stop_there (s.left i) (no_line line.End) }
+pub on_bad : {S : Type 0} (s : sources.Meaning S) (i j : S) (n : ℕ) → 0 < n → n ≤ 128 → GaveInLine s i j n → ((asked : Line) → BeginsWithNo s i (λ text. IsLineText text asked)) → GaveNoEnd s i j
+on_bad s i j n some few gave no_line = record { n = n; some = some; few = few; gave = gave; no_stop = no_stop_there (s.left i) (no_line line.End) }
 
 module _ {T S K : Type 0} (t : tapes.Meaning T) (s : sources.Meaning S) (k : sinks.Meaning K) where
   -- ---- from before the line was read

@@ -6,7 +6,6 @@ use Rattle.std.proofs.lemmas.List.{length-append}
 use Rattle.std.specs.Option.{option_map}
 use Rattle.command_laws.proofs.ScriptInput.{SameLine, same_line}
 use Rattle.command_laws.proofs.TextLined.{end_no_newline}
-use Rattle.command_laws.proofs.TextLines.{one_line}
 use Rattle.command_spec.specs.Command.{Word, SpellsPart}
 use Rattle.command_laws.specs.CommandTerms.{words_of}
 use Rattle.command_spec.specs.Input.{IsLineText, IsItem, promised, Item, IsFault, most_items, HasStop}

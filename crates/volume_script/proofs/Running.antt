@@ -1,6 +1,5 @@
 -- A run of a script, item after item: the acts so far went, and then those of what is left went or were cut off.
-use Rattle.std.proofs.Common.{◌≡◌, ℕ, ◌+◌, ◌*◌, ◌<◌, ◌≤◌, List, [], ◌∷◌, ◌++◌, length, drop, None, IfSome, IfNone, Result, Ok, Err, codes, refl, sym, ap, ◌∙◌, subst, arith, inl, inr, append_assoc, append-nil}
-use Rattle.std.specs.Option.{option_map}
+use Rattle.std.proofs.Common.{◌≡◌, ℕ, ◌+◌, ◌*◌, ◌<◌, ◌≤◌, List, [], ◌∷◌, ◌++◌, length, drop, None, IfSome, IfNone, Result, Ok, Err, codes, refl, sym, ap, ◌∙◌, subst, arith, inl, inr, append_assoc, append-nil, ◌⊎◌}
 use Rattle.std.proofs.lemmas.List.{length-append, length_push}
 use Rattle.std.proofs.Math.Seq.{drop-append_seam}
 use Rattle.qic_base.specs.Cartridge.{Cartridge}
@@ -13,7 +12,7 @@ use Rattle.cartridge_spec.specs.Settling.{changed_by}
 use Rattle.segment_io.proofs.Going.{tells_always}
 use Rattle.command_spec.specs.declared.line.Line.{Line}
 use Rattle.command_spec.specs.Input.{Item, IsItem, IsFault, Ending, AtEnd, AtStop, AtFault, ItemsEnd, HasItems, IsScript, most_items, promised, IsLineText, input_status}
-use Rattle.qic_base.specs.SourceCalls.{Gave}
+use Rattle.qic_base.specs.SourceCalls.{Gave, HasEnded}
 use Rattle.qic_base.proofs.Giving.{Gave-Gave, Gave-end, Gave-nothing}
 use Rattle.command_laws.proofs.TextInputs.{one_reading, no_ending}
 use Rattle.tape_script.proofs.Rests.{ended_rest, whole_told, left_behind}
@@ -327,25 +326,29 @@ module _ {T S K : Type 0} {t : tapes.Meaning T} {s : sources.Meaning S} {k : sin
     -- ---- the input is at fault
 
     -- what is left behind a fault
-    behind_fault : (source : S) (bytes : List ℕ) (at : ℕ) → at ≡ place → Gave s now.source source bytes → (more : ℕ) × (s.left source ≡ option_map (drop (at + more)) (s.left start.source))
-    behind_fault source bytes at equal gave = (
+    behind_fault : (source : S) (bytes : List ℕ) (number at : ℕ) → at ≡ place → Gave s now.source source bytes → (length bytes ≤ 128) ⊎ HasEnded s source →
+        Leaves s start.source source 0 (FaultIn number at)
+    behind_fault source bytes number at equal gave far_enough = (
       length bytes,
       left_behind (s.left start.source) (s.left source) (far.texts ++ bytes) (at + length bytes) (Gave-Gave s start.source now.source source far.texts bytes far.gave gave)
           (let b = far.bytes in let l = length-append far.texts bytes in omega arith),
+      far_enough,
     )
 
     faulty : (new : Outside T S K) (rest bytes : List ℕ) (number at : ℕ) (last : List Act) → number ≡ lines + 1 → at ≡ place → IfSome (s.left now.source) (λ bytes. bytes ≡ rest) →
-        IfNone (s.left now.source) (AreBytes rest) → IsFault IsItem (lines + 1) rest → Went t s k now new last → Gave s now.source new.source bytes → tape_calls.Tells t now.tape (λ c. FaultDoes c store.words store.entries number rest last) →
+        IfNone (s.left now.source) (AreBytes rest) → IsFault IsItem (lines + 1) rest → Went t s k now new last → Gave s now.source new.source bytes →
+        (length bytes ≤ 128) ⊎ HasEnded s new.source → tape_calls.Tells t now.tape (λ c. FaultDoes c store.words store.entries number rest last) →
         Ended t s k first start new (FaultIn number at)
-    faulty new rest bytes number at last same equal told content is went gave does =
+    faulty new rest bytes number at last same equal told content is went gave far_enough does =
         ended_so both first store store start now new lines place far rest (AtFault number at) (FaultIn number at) last few went told content (is, same, equal) refl does (λ done. cc)
-        (λ read. behind_fault new.source bytes at equal gave)
+        (λ read. behind_fault new.source bytes number at equal gave far_enough)
 
     at_none : (new : Outside T S K) (number at : ℕ) → number ≡ lines + 1 → at ≡ place → HeardNone t s k now new → Ended t s k first start new (FaultIn number at)
     at_none new number at same equal heard =
         let behind = none_rest (s.left now.source) (s.left new.source) heard.n heard.gave.0 heard.some heard.gave.1 heard.gave.2 heard.no_line in
         faulty new behind.rest heard.gave.0 number at [] same equal behind.told
         (none_content (s.left now.source) (s.left new.source) heard.n heard.gave.0 heard.some heard.gave.1 heard.gave.2 heard.no_line) (no_line_fault (lines + 1) behind.rest behind.has) heard.went heard.gave.2
+        (inl (let l = heard.gave.1 in let f = heard.few in omega arith))
         (tells_always t now.tape (λ c. FaultDoes c store.words store.entries number behind.rest []) (λ c. inr ((λ within. no_line_early behind.rest behind.has), refl)))
 
     at_short : (new : Outside T S K) (number at : ℕ) → lines + 1 ≤ most_items → number ≡ lines + 1 → at ≡ place → HeardShort t s k store now new → Ended t s k first start new (FaultIn number at)
@@ -356,7 +359,7 @@ module _ {T S K : Type 0} {t : tapes.Meaning T} {s : sources.Meaning S} {k : sin
         let whole = whole_told (s.left now.source) (s.left new.source) rest behind.rest heard.gave behind.told in
         let told : IfSome (s.left now.source) (λ bytes. bytes ≡ rest) =
         flip (s.left now.source) rest (subst (λ (l : List ℕ). IfSome (s.left now.source) (λ bytes. l ≡ bytes)) (ap (λ (l : List ℕ). rest ++ l) behind.has ∙ append-nil rest) whole) in
-        faulty new rest rest number at heard.acts same equal told heard.content (early_fault (lines + 1) rest early) heard.went heard.gave
+        faulty new rest rest number at heard.acts same equal told heard.content (early_fault (lines + 1) rest early) heard.went heard.gave (inr heard.ended)
         (Tells-map t now.tape (λ c. EarlyDoes c store.words store.entries heard.asked heard.bytes heard.acts) (λ c. FaultDoes c store.words store.entries number rest heard.acts)
         (λ c does. early_does c heard.text heard.bytes heard.asked heard.acts heard.is heard.short number (omega arith) does) heard.told)
       where
@@ -406,6 +409,7 @@ module _ {T S K : Type 0} {t : tapes.Meaning T} {s : sources.Meaning S} {k : sin
         faulty (out now.tape source now.sink) behind.rest on.gave.0 number at [] (let e = same in omega arith) equal behind.told
         (on_content (lines + 1) (s.left now.source) (s.left source) on.n on.gave.0 (omega arith) on.some on.gave.1 on.gave.2 on.no_stop) behind.has
         (record { did = Done-nothing t now.tape; wrote = record { took = none now.sink; later = omega arith }; source_later = later }) on.gave.2
+        (inl (let l = on.gave.1 in let f = on.few in omega arith))
         (tells_always t now.tape (λ c. FaultDoes c store.words store.entries number behind.rest []) (λ c. inr ((λ within. absurd (omega arith)), refl)))
     end_failed source fault.Source all later rose =
         let rest = any_bytes (s.left now.source) in

@@ -5,8 +5,8 @@ use Rattle.qic_base.specs.Acts.{Act, Outside, Failing, TapeFails, SourceFails, S
 use Rattle.cartridge_spec.specs.Table.{Entry}
 use Rattle.command_spec.specs.declared.line.Line.{Line}
 use Rattle.command_spec.specs.Input.{Item, IsItem, Ending, ItemsEnd, most_items, promised, IsLineText}
-use Rattle.qic_base.specs.SourceCalls.{Gave, GaveSome, HasEnded}
-use Rattle.tape_script.specs.Reading.{BeginsWithNo, GaveEnd}
+use Rattle.qic_base.specs.SourceCalls.{Gave, HasEnded}
+use Rattle.tape_script.specs.Reading.{BeginsWithNo, GaveEnd, GaveInLine}
 use Rattle.volume_store.specs.Mounting.{StoreView}
 use Rattle.volume_script.specs.declared.fault.ScriptFault.{ScriptFault}
 use Rattle.command_laws.specs.ScriptItems.{EarlyDoes}
@@ -34,11 +34,12 @@ pub record HeardItem {T S K : Type 0} (t : tapes.Meaning T) (s : sources.Meaning
   pub went : Went t s k old new acts
   pub told : tape_calls.Tells t old.tape (λ c. ItemDoes c store.words store.entries item (record { acts = acts; entries = after.entries }))
 
--- bytes were taken that begin with no line
+-- bytes were taken that begin with no line, no more than a line's and none behind one
 pub record HeardNone {T S K : Type 0} (t : tapes.Meaning T) (s : sources.Meaning S) (k : sinks.Meaning K) (old new : Outside T S K) : Type 0 where
   pub n : ℕ
   pub some : 0 < n
-  pub gave : GaveSome s old.source new.source n
+  pub few : n ≤ 128
+  pub gave : GaveInLine s old.source new.source n
   pub no_line : (asked : Line) → BeginsWithNo s old.source (λ text. IsLineText text asked)
   pub went : Went t s k old new []
 

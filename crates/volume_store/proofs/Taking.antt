@@ -323,7 +323,7 @@ module _ {T S : Type 0} (t : tapes.Meaning T) (s : sources.Meaning S) (words : L
   pub none_fails : (c : S) → room words entries ≡ 0 → s.faults a ≤ s.faults c → Rose (s.faults a) (s.faults c) → Skips {E = Unit {0}} s a c 1 (Err tt) →
       InputBroke t s words entries None (reading x a) (reading x c) SourceFails
   none_fails c none later rose skipped =
-      let got = skipped_as (s.left a) (s.left c) skipped.2.0 skipped.0 skipped.1 skipped.2.1 skipped.2.2 in
+      let got = skipped_as (s.left a) (s.left c) skipped.2.0 skipped.0 (let few = skipped.1 in omega arith) skipped.2.1 skipped.2.2 in
       let input : List ℕ = got.0 ++ left_of (s.left c) in
       broke_with t s words entries (reading x a) (reading x c) None SourceFails got.0 got.2 got.3
       (subst (λ (acts : List Act). Cut t s no_sink (reading x a) (reading x c) acts SourceFails) (sym (no_writes input none))
@@ -391,7 +391,7 @@ module _ {T S : Type 0} (t : tapes.Meaning T) (s : sources.Meaning S) (words : L
 
     pub more_fails : Rose (s.faults b) (s.faults c) → Skips {E = Unit {0}} s b c 1 (Err tt) → InputBroke t s words entries None (reading x a) (reading y c) SourceFails
     more_fails rose skipped =
-        let got = skipped_as (s.left b) (s.left c) skipped.2.0 skipped.0 skipped.1 skipped.2.1 skipped.2.2 in
+        let got = skipped_as (s.left b) (s.left c) skipped.2.0 skipped.0 (let few = skipped.1 in omega arith) skipped.2.1 skipped.2.2 in
         broke_with t s words entries (reading x a) (reading y c) None SourceFails (has.bytes ++ got.0) (all_given got.0 got.2)
         (content_both (s.left a) (s.left b) (s.left c) has.bytes got.0 has.gave has.content got.3)
         (subst (λ (acts : List Act). Cut t s no_sink (reading x a) (reading y c) acts SourceFails) (writes_same got.0)

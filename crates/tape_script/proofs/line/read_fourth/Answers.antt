@@ -1,7 +1,7 @@
 use Rattle.std.proofs.Common.{◌+◌, ◌∷◌, drop, arith}
 use Rattle.command_laws.specs.CommandTerms.{words_of}
 use Rattle.tape_script.proofs.Splits.{some_word, longer}
-use Rattle.tape_script.proofs.Lines.{line_length}
+use Rattle.tape_script.proofs.Forms.{line_length}
 use Rattle.tape_script.proofs.line.read_fourth.Goals as goal
 
 pub returns-else-end-text : goal.returns-else-end-text

@@ -1,4 +1,4 @@
-use Rattle.std.proofs.Common.{◌≡◌, ◌≢◌, ◌⊎◌, List, ℕ, inl, inr, ◌+◌, ◌-◌, ◌∷◌, ◌++◌, [], length, take, ap, ◌∙◌, arith}
+use Rattle.std.proofs.Common.{◌≡◌, ◌≢◌, ◌⊎◌, List, ℕ, inl, inr, ◌+◌, ◌-◌, ◌∷◌, ◌++◌, [], refl, length, take, ap, ◌∙◌, arith}
 use Rattle.std.proofs.lemmas.List.{length_push, length-take-le}
 use Rattle.std.proofs.lemmas.List.Elements.{All-take}
 use Rattle.command_laws.specs.CommandTerms.{IsLine}
@@ -14,7 +14,7 @@ returns-in-Ok-Open-clause-read g c =
     let all : (length bytes.0 ≡ 128) ⊎ HasEnded m c.take_line.new.source = elim took.3 [ inl full ↦ inl (bytes.1 ∙ full) | inr ended ↦ inr ended ] in (
       took.0,
       took.1,
-      (bytes.0, bytes.1, bytes.3, All-take (λ b. b ≢ 0x0A) (c.in-Ok-Open.read - 1) bytes.0 bytes.2),
+      (bytes.0, bytes.1, bytes.3, All-take (λ b. b ≢ 0x0A) (c.in-Ok-Open.read - 1) bytes.0 bytes.2, inr all),
       (λ line. BeginsWithNo-open m (λ before. IsLine before line) c.args.source.now c.take_line.new.source bytes.0 bytes.2 bytes.3 all),
     )
 
@@ -31,6 +31,7 @@ returns-in-None-clause-read g c =
         length_push before 0x0A ∙ ap (λ n. n + 1) long,
         took.2,
         one_newline before (c.in-Ok-Line.len + 1) (omega arith) took.1,
+        inl (before, refl),
       ),
       (λ line. BeginsWithNo-line g.S.Source.means (λ text. IsLine text line) c.args.source.now c.take_line.new.source before took.1 took.2 (none line)),
     )

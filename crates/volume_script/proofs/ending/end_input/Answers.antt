@@ -9,4 +9,4 @@ returns-in-Ok-Line-clause-hears g c =
 pub returns-in-Ok-Bad-clause-hears : goal.returns-in-Ok-Bad-clause-hears
 returns-in-Ok-Bad-clause-hears g c =
     let read = rw c.in-Ok-Bad.field-0-is at c.in-Ok-Bad.ensures.read in
-    (refl, refl, on_bad g.S.Source.means c.args.source.now c.read_line.new.source _ read.0 read.2 read.3)
+    (refl, refl, on_bad g.S.Source.means c.args.source.now c.read_line.new.source _ read.0 read.1 read.2 read.3)

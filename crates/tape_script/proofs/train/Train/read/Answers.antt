@@ -1,4 +1,4 @@
-use Rattle.std.proofs.Common.{◌≡◌, ◌≢◌, ◌⊎◌, ◌+◌, ◌-◌, ◌∷◌, ◌++◌, [], List, ℕ, inl, inr, length, take, codes, ap, ◌∙◌, arith}
+use Rattle.std.proofs.Common.{◌≡◌, ◌≢◌, ◌⊎◌, ◌+◌, ◌-◌, ◌∷◌, ◌++◌, [], refl, List, ℕ, inl, inr, length, take, codes, ap, ◌∙◌, arith}
 use Rattle.std.proofs.lemmas.List.{length_push, length-take-le}
 use Rattle.std.proofs.lemmas.List.Elements.{All-take}
 use Rattle.command_laws.specs.CommandTerms.{IsTrain}
@@ -15,7 +15,7 @@ returns-in-Ok-Open-clause-read g c =
     let all : (length bytes.0 ≡ 128) ⊎ HasEnded m c.take_line.new.source = elim took.3 [ inl full ↦ inl (bytes.1 ∙ full) | inr ended ↦ inr ended ] in (
       took.0,
       took.1,
-      (bytes.0, bytes.1, bytes.3, All-take (λ b. b ≢ 0x0A) (c.in-Ok-Open.read - 1) bytes.0 bytes.2),
+      (bytes.0, bytes.1, bytes.3, All-take (λ b. b ≢ 0x0A) (c.in-Ok-Open.read - 1) bytes.0 bytes.2, inr all),
       BeginsWithNo-by m (λ text. IsLined (λ before. before ≡ codes "end") text) (λ text. text ≡ codes "end\n") c.args.source.now end_lined
           (BeginsWithNo-open m (λ before. before ≡ codes "end") c.args.source.now c.take_line.new.source bytes.0 bytes.2 bytes.3 all),
       (λ pulses. BeginsWithNo-open m (λ before. IsTrain before pulses) c.args.source.now c.take_line.new.source bytes.0 bytes.2 bytes.3 all),
@@ -36,6 +36,7 @@ returns-in-None-clause-read g c =
         length_push before 0x0A ∙ ap (λ n. n + 1) long,
         took.2,
         one_newline before (c.in-Ok-Line.len + 1) (omega arith) took.1,
+        inl (before, refl),
       ),
       BeginsWithNo-by m (λ text. IsLined (λ before. before ≡ codes "end") text) (λ text. text ≡ codes "end\n") c.args.source.now end_lined
           (BeginsWithNo-line m (λ before. before ≡ codes "end") c.args.source.now c.take_line.new.source before took.1 took.2 (λ e. let no = other e in cc)),
