@@ -8,6 +8,8 @@ mod lines;
 #[cfg(test)]
 mod memory;
 #[cfg(test)]
+mod printing;
+#[cfg(test)]
 mod pulses;
 #[cfg(test)]
 mod recordings;
