@@ -108,11 +108,19 @@ by_longest_way() {
 }
 
 # Proves one crate in a folder, by so many processors, and so far behind others that want one. A library is built as well:
-# the crates above it are proved over it.
+# the crates above it are proved over it. The program is made for this machine's processor, by a run without words, which
+# ends with the usage line and status 2.
 prove() {
-    local place=$1 crate=$2 jobs=$3 behind=$4 how=lib
-    [ "$crate" != tape ] || how=check
-    cd "$room/$place/crates/$crate" && nice -n "$behind" rt "$how" --jobs "$jobs" > "$room/log.$crate" 2>&1
+    local place=$1 crate=$2 jobs=$3 behind=$4
+    cd "$room/$place/crates/$crate"
+    if [ "$crate" != tape ]; then
+        nice -n "$behind" rt lib --jobs "$jobs" > "$room/log.$crate" 2>&1
+    else
+        rm -f out/tape
+        nice -n "$behind" rt run --jobs "$jobs" "--cpu=$("$top/bench/processor")" < /dev/null \
+            > "$room/log.$crate" 2>&1 || true
+        [ -x out/tape ] && cp out/tape "$room/program"
+    fi
 }
 
 # Gives each of the folders the library that was built in one of them.
@@ -214,11 +222,8 @@ build() {
     : > "$room/log"
     for ((place = 1; place <= at_once; place++)); do copy_sources "$room/$place"; done
     prove_all | tell || return
-    # The program was proved; a run without words makes it for this machine's processor, and ends with the usage line and
-    # status 2.
-    (cd "$room/1/crates/tape" && rt run "--cpu=$("$top/bench/processor")" < /dev/null) >> "$room/log" 2>&1 || true
     mkdir -p "$(dirname "$program")"
-    cp "$room/1/crates/tape/out/tape" "$program"
+    cp "$room/program" "$program"
 }
 
 case $#:${1-} in

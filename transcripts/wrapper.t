@@ -77,7 +77,8 @@ The first line tells what is wanting, and which kit has it: the one that the REA
 A build
 -------
 
-The stub says what `rt` does: nothing of a crate that was proved before. What it runs prints its words.
+The stub says what `rt` does: nothing of a crate that was proved before. What it makes prints its words; it is run without
+any, and ends as the program does then, with status 2.
 
   $ cat > stub/rt << 'END'
   > #!/usr/bin/env bash
@@ -85,13 +86,13 @@ The stub says what `rt` does: nothing of a crate that was proved before. What it
   > case $1:$crate in
   > lib:kept) ;;
   > lib:*) sleep 0.5; mkdir -p out/rlib; printf '%s\n' "fn $crate::one: proved" 'logic=proved functions=1' ;;
-  > check:*)
-  >   ls -d ../*/out/rlib
-  >   printf '%s\n' 'logic=proved functions=1' ;;
   > run:*)
+  >   ls -d ../*/out/rlib
+  >   printf '%s\n' 'logic=proved functions=1'
   >   mkdir -p out
   >   printf '%s\n' '#!/usr/bin/env bash' 'echo "words: $*"' > out/tape
-  >   chmod +x out/tape ;;
+  >   chmod +x out/tape
+  >   exit 2 ;;
   > esac
   > END
   $ chmod +x stub/rt
@@ -126,3 +127,23 @@ Built, it is just called, also without `rt`. The word `help` with others behind 
   words: help info
   $ PATH=$PWD/tools small/tape
   words: 
+
+A proof that fails
+------------------
+
+Nothing is run then, though a program was built before.
+
+  $ cat > stub/rt << 'END'
+  > #!/usr/bin/env bash
+  > case $1 in
+  > lib) echo 'logic=proved functions=1' ;;
+  > run) echo 'logic=not-proved'; exit 1 ;;
+  > esac
+  > END
+  $ seq 81 > small/crates/tape/src/main.rt
+  $ PATH=$PWD/stub:$PATH small/tape cart.img new 3 2> said
+  [1]
+  $ tail -n 1 said | sed "s|$PWD/cache/tape/[-0-9]*/|WHERE/|"
+  tape: the program could not be built; WHERE/log tells why
+  $ tail -n 1 cache/tape/*/log
+  logic=not-proved
