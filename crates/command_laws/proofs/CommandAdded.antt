@@ -11,7 +11,7 @@ use Rattle.command_spec.specs.declared.status.Status.TheVariants as status
 
 -- ---- the acts
 
-pub input_texts : (kept : Kept) (promised : Option ℕ) (input : List ℕ) → text_of (input_writes kept promised input) ≡ []
+pub input_texts : (kept : Kept) (promised : Option ℕ) (input : List ℕ) → text_of (input_writes kept.words kept.entries promised input) ≡ []
 input_texts kept promised input = by_room (has_promised_room (room_in kept) promised)
   where
     by_room : (b : Bool) → text_of (if b then input_acts kept.words (free_in kept) (most_written (room_in kept) promised) (is_some promised) input else []) ≡ []
@@ -22,7 +22,7 @@ input_texts kept promised input = by_room (has_promised_room (room_in kept) prom
 pub replied_text : (kept : Kept) (name : List ℕ) (date : ℕ) (reply : Entry → List ℕ) (input bytes : List ℕ) → taking (room_in kept) None input ≡ Fits bytes →
     text_of (append_acts kept name date None reply input) ≡ reply (entry_for kept name date bytes)
 replied_text kept name date reply input bytes took =
-    let ws : List Act = input_writes kept None input in
+    let ws : List Act = input_writes kept.words kept.entries None input in
     text_of-append ws (entry_acts kept name date reply (taking (room_in kept) None input))
     ∙ ap (λ (text : List ℕ). text ++ text_of (entry_acts kept name date reply (taking (room_in kept) None input))) (input_texts kept None input)
     ∙ ap (λ (became : Taking). text_of (entry_acts kept name date reply became)) took

@@ -124,7 +124,7 @@ abbrev pub kept_of : Cartridge → Plain → Kept
 kept_of c plain = kept_over (settled plain.table_area c) plain.words (entries_of plain) plain.table_area
 
 abbrev pub segments_acts : Cartridge → Plain → (input : List ℕ) → List Act
-segments_acts c plain input = input_writes (kept_of c plain) None input
+segments_acts c plain input = input_writes plain.words (entries_of plain) None input
 
 -- and the table's, where there is room
 abbrev pub table_acts : Cartridge → Plain → (name : List ℕ) → (date : ℕ) → (input : List ℕ) → List Act

@@ -195,7 +195,7 @@ settling_behind table c =
 abbrev IsInOrder : Kept → Type 0
 IsInOrder kept = IsSoundList (length kept.words - 1) kept.entries
 
-input_behind : (kept : Kept) (promised : Option ℕ) (input : List ℕ) → IsInOrder kept → AreBehind (steps_of (input_writes kept promised input))
+input_behind : (kept : Kept) (promised : Option ℕ) (input : List ℕ) → IsInOrder kept → AreBehind (steps_of (input_writes kept.words kept.entries promised input))
 input_behind kept promised input order =
     let from : ℕ = last_end kept.entries + 1 in
     let least : 2 ≤ last_end kept.entries = end_least 2 (length kept.words - 1) kept.entries order in
@@ -226,7 +226,7 @@ append_behind : (kept : Kept) (name : List ℕ) (date : ℕ) (promised : Option 
     AreBehind (steps_of (append_acts kept name date promised reply input))
 append_behind kept name date promised reply input order settling =
     let became : Taking = taking (room_in kept) promised input in
-    let ins : List Act = input_writes kept promised input in
+    let ins : List Act = input_writes kept.words kept.entries promised input in
     let entry : List Act = entry_acts kept name date reply became in
     in_append (λ s i. 1 < s) kept.settling (steps_of (ins ++ entry)) settling
     (subst AreBehind (sym (steps_of-append ins entry))

@@ -1,4 +1,5 @@
 -- A command is carried out where all is there that it needs.
+use Rattle.cartridge_spec.specs.Appending.{room}
 use Rattle.std.proofs.Common.{IsSomeAnd, ◌≡◌, Some, subst, inl, inr, ℕ, true, ap, List, ◌+◌, Bool, cond, length, min, ◌∙◌, ◌≤◌, ◌⊎◌, Option, None}
 use Rattle.cartridge_laws.proofs.FreshFront.{first_defect_is_none}
 use Rattle.cartridge_laws.proofs.MountOnce.{mounts_is_function}
@@ -9,11 +10,11 @@ use Rattle.cartridge_spec.specs.Volumes.{Plain, entries_of}
 use Rattle.command_laws.proofs.MadeComplete.{made_where_there_is_room}
 use Rattle.command_laws.proofs.MountedHeld.{mounted_open}
 use Rattle.command_laws.proofs.RestoreGivenBack.{given, given_whole}
-use Rattle.command_spec.specs.Append.{room_in, AppendOutcome}
+use Rattle.command_spec.specs.Append.{AppendOutcome}
 use Rattle.command_laws.specs.Terms.{CanTake, Printing, IsOfTrains, IsOfLines, Mends, ScrubOutcome, CanGive}
 use Rattle.command_spec.specs.Command.{ReadsAs, IsUnprotected}
 use Rattle.command_spec.specs.Single.{DefectOutcome, FormatOutcome, LoseOutcome}
-use Rattle.command_laws.specs.CommandTerms.{kept_in, Appends, ScriptOutcome, RestoreOutcome, MakeOutcome}
+use Rattle.command_laws.specs.CommandTerms.{Appends, ScriptOutcome, RestoreOutcome, MakeOutcome}
 use Rattle.command_spec.specs.Input.{Ending, AtEnd, AtStop, IsPulse, IsPulses, Item, IsItem, IsScript, input_status}
 use Rattle.command_spec.specs.Make.{Making, CanMake}
 use Rattle.command_spec.specs.Outcome.{Going, CommandOutcome, Opened, OpenOutcome, WritableOutcome, HasPlace, Shows}
@@ -80,7 +81,7 @@ append_goes name date input c outcome free can does =
     let goes : Going = Appends name date input in
     let plain : Plain = can.0 in
     let on = goes_on goes c plain outcome can.1 (is_opened goes c outcome free does) in
-    let have : ℕ = room_in (kept_in plain.words (entries_of plain)) in
+    let have : ℕ = room plain.words (entries_of plain) in
     ap status_of on.did ∙ ap (λ (b : Bool). cond b status.Done (status.Full (min (length input) (have + 1)) have)) can.2
 
 pub restore_goes : (number : ℕ) (c : Cartridge) (outcome : CommandOutcome) → CanGive c number → RestoreOutcome number (Some c) outcome → outcome.status ≡ status.Done

@@ -28,8 +28,8 @@ use Rattle.command_laws.proofs.ScriptMachineLaws.{one_outcome as one_script}
 use Rattle.command_laws.proofs.TextWords.{one_command}
 use Rattle.command_laws.specs.MountedListed.{IsListed, listed_behind}
 use Rattle.command_laws.specs.MountedListing.{AddsNone}
-use Rattle.command_spec.specs.Append.{Kept, Taking, Fits, TooLong, append_acts, room_in, taking, AppendOutcome, appended, kept_over}
-use Rattle.command_laws.specs.CommandTerms.{entry_for, kept_in, Appends, append_status, Makes, AppendedFrom, Yields, ScriptOutcome, MakeOutcome}
+use Rattle.command_spec.specs.Append.{Kept, Taking, Fits, TooLong, append_acts, room_in, taking, AppendOutcome, appended, kept_over, entry_behind}
+use Rattle.command_laws.specs.CommandTerms.{entry_for, Appends, append_status, Makes, AppendedFrom, Yields, ScriptOutcome, MakeOutcome}
 use Rattle.command_spec.specs.Headline.{ToldNow}
 use Rattle.command_spec.specs.Lines.{reply_behind}
 use Rattle.command_spec.specs.Several.{IsHeard, NowLists, ListsAppends}
@@ -116,7 +116,7 @@ module _ (c : Cartridge) (header : Header) (words : List ℕ) (table : List (Lis
 
     -- carried out, it leaves the list with the volume
     lists_with : (input : List ℕ) (outcome : CommandOutcome) → AppendOutcome name date (Some c) input outcome → outcome.status ≡ status.Done →
-        ListsNow (entries ++ entry_for (kept_in words entries) name date input ∷ []) (effects (steps_of outcome.acts) (Some c))
+        ListsNow (entries ++ entry_behind words entries name date input ∷ []) (effects (steps_of outcome.acts) (Some c))
     lists_with input outcome (inl (locked, is)) done = let other = ap (λ (o : CommandOutcome). o.status) is in absurd (cc)
     lists_with input outcome (inr (free, opened)) done =
         let is : outcome ≡ appended name date input c words table entries = went_on (Appends name date input) outcome opened in
@@ -125,7 +125,7 @@ module _ (c : Cartridge) (header : Header) (words : List ℕ) (table : List (Lis
         let all : Lists (changed_by (steps_of (acts_by (kept_over still words entries table) input)) still) header words
         (listed_behind (kept_over still words entries table) name date (taking (room_in (kept_over still words entries table)) None input)) =
         append_lists still header words entries table name date None (reply_behind (length entries)) input lists_still listed (ap (λ (i : TapeInfo). i.protected) same_info ∙ free) reads_still label word in
-        lists_as (entries ++ entry_for (kept_in words entries) name date input ∷ []) (changed_by (steps_of (acts_by (kept_over still words entries table) input)) still)
+        lists_as (entries ++ entry_behind words entries name date input ∷ []) (changed_by (steps_of (acts_by (kept_over still words entries table) input)) still)
         (effects (steps_of outcome.acts) (Some c))
         (subst (λ (became : Taking). Lists (changed_by (steps_of (acts_by (kept_over still words entries table) input)) still) header words (listed_behind (kept_over still words entries table) name date became)) took all)
         (ap (λ (o : CommandOutcome). effects (steps_of o.acts) (Some c)) is
@@ -299,10 +299,10 @@ module _ {T S K : Type 0} (t : tapes.Meaning T) (s : sources.Meaning S) (k : sin
   whole = told_whole (Some c) (t.told old.tape) (t.size old.tape) laws.right told
 
   append_lists_volume : IsCarriedOut answer → (input : List ℕ) × IsInput (s.left old.source) input
-      × NowLists t new.tape header words (entries ++ entry_for (kept_in words entries) name date input ∷ [])
+      × NowLists t new.tape header words (entries ++ entry_behind words entries name date input ∷ [])
   append_lists_volume which =
       let d : Did t (s.left old.source) command old.tape new.tape (Some c) status.Done = carried_out_did t s k command old new answer (Some c) whole values refl told which ends in
-      let with : List Entry = entries ++ entry_for (kept_in words entries) name date d.input ∷ [] in (
+      let with : List Entry = entries ++ entry_behind words entries name date d.input ∷ [] in (
         d.input,
         d.is_told,
         now_weaker t old.tape new.tape

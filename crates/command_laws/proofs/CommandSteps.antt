@@ -268,8 +268,8 @@ pub append_none : (kept : Kept) (name : List ℕ) (date : ℕ) (promised : Optio
     AreNoRenew (append_acts kept name date promised reply input)
 append_none kept name date promised reply input none =
     let entry : List Act = entry_acts kept name date reply (taking (room_in kept) promised input) in
-    none_both kept.settling (steps_of (input_writes kept promised input ++ entry)) none
-    (acts_both (input_writes kept promised input) entry
+    none_both kept.settling (steps_of (input_writes kept.words kept.entries promised input ++ entry)) none
+    (acts_both (input_writes kept.words kept.entries promised input) entry
     (acts_where (has_promised_room (room_in kept) promised)
     (input_acts kept.words (free_in kept) (most_written (room_in kept) promised) (is_some promised) input) []
     (input_none kept.words (free_in kept) (most_written (room_in kept) promised) (is_some promised) input) tt)

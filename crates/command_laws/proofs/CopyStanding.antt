@@ -49,7 +49,7 @@ writes_if : (before : ℕ) (some : Bool) (acts : List Act) → AreWrites (IsFree
 writes_if before true acts free = free
 writes_if before false acts free = tt
 
-behind_last : (kept : Kept) (n : ℕ) (bytes : List ℕ) → AreWrites (IsFree (last_end kept.entries)) (steps_of (input_writes kept (Some n) bytes))
+behind_last : (kept : Kept) (n : ℕ) (bytes : List ℕ) → AreWrites (IsFree (last_end kept.entries)) (steps_of (input_writes kept.words kept.entries (Some n) bytes))
 behind_last kept n bytes =
     writes_if (last_end kept.entries) (has_promised_room (room_in kept) (Some n)) (input_acts kept.words (free_in kept) n true bytes)
     (input_is_free (last_end kept.entries) kept.words (free_in kept) n true bytes
@@ -182,7 +182,7 @@ module _ (c : Cartridge) (one : Plain) (volume : Volume) (original : IsOriginal 
   begun_stands : (table : List (List ℕ)) (given : List ℕ) (acts : List Act) (left : Option Cartridge) →
       (table ≡ p.table_area) → IsBegun from e to table given acts → Torn (steps_of acts) (Some d) left → IsSomeAnd left (λ f. Stands f p)
   begun_stands table given acts left area begun torn =
-      let writes : List Act = input_writes (kept_over d p.words (entries_of p) table) (Some (volume_length one.words e)) given in
+      let writes : List Act = input_writes p.words (entries_of p) (Some (volume_length one.words e)) given in
       let all : Torn (settling_steps table d ++ steps_of writes) (Some d) left =
       subst (λ (steps : List Step). Torn steps (Some d) left) (sym (steps_of-append acts begun.rest) ∙ ap steps_of begun.parts)
       (Torn-front (steps_of acts) (steps_of begun.rest) (Some d) left torn) in

@@ -139,7 +139,7 @@ early_comes c plain name n date bytes (Finds table) left intact meets short torn
     ap (λ (t : List (List ℕ)). settling_steps t c) area ∙ whole_needs_no_steps c plain.table_area intact.table intact.kept.unprotected in
     let kept : Kept = kept_over c plain.words (entries_of plain) table in
     let replies : Entry → List ℕ = reply_behind (length (entries_of plain)) in
-    let writes : List Act = input_writes kept (Some n) bytes in
+    let writes : List Act = input_writes kept.words kept.entries (Some n) bytes in
     let entry : List Act = entry_acts kept name date replies (taking (room_in kept) (Some n) bytes) in
     let rear : steps_of (writes ++ entry) ≡ steps_of writes =
     steps_of-append writes entry ∙ ap (λ (ss : List Step). steps_of writes ++ ss) (early_entry kept name date n replies bytes short) ∙ append-nil (steps_of writes) in

@@ -32,7 +32,7 @@ no_front (x ∷ xs) ys none = absurd (cc)
 pub quiet_front : (front rest acts : List Act) → front ++ rest ≡ acts → text_of acts ≡ [] → text_of front ≡ []
 quiet_front front rest acts parts quiet = no_front (text_of front) (text_of rest) (sym (text_of-append front rest) ∙ ap text_of parts ∙ quiet)
 
-input_texts : (kept : Kept) (promised : Option ℕ) (input : List ℕ) → text_of (input_writes kept promised input) ≡ []
+input_texts : (kept : Kept) (promised : Option ℕ) (input : List ℕ) → text_of (input_writes kept.words kept.entries promised input) ≡ []
 input_texts kept promised input = by_room (has_promised_room (room_in kept) promised)
   where
     by_room : (b : Bool) → text_of (cond b (input_acts kept.words (free_in kept) (most_written (room_in kept) promised) (is_some promised) input) []) ≡ []
@@ -47,7 +47,7 @@ entry_texts kept name date (TooShort asked read) = refl
 quiet_acts : (kept : Kept) (name : List ℕ) (date : ℕ) (promised : Option ℕ) (input : List ℕ) → text_of (append_acts kept name date promised silently input) ≡ []
 quiet_acts kept name date promised input =
     let last : List Act = entry_acts kept name date silently (taking (room_in kept) promised input) in
-    text_of-append (input_writes kept promised input) last
+    text_of-append (input_writes kept.words kept.entries promised input) last
     ∙ ap (λ (text : List ℕ). text ++ text_of last) (input_texts kept promised input)
     ∙ entry_texts kept name date (taking (room_in kept) promised input)
 

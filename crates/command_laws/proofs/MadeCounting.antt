@@ -1,10 +1,11 @@
 -- How many volumes a run of `make` has appended, by its answer.
+use Rattle.cartridge_spec.specs.Appending.{room}
 use Rattle.std.proofs.Common.{◌≡◌, ◌≢◌, ℕ, suc, ◌+◌, ◌≤◌, List, [], ◌∷◌, ◌++◌, Bool, true, false, cond, Some, inl, inr, refl, ap, ◌∙◌, sym, subst, arith}
 use Rattle.cartridge_spec.specs.Settling.{changed_by}
 use Rattle.cartridge_spec.specs.Table.{Entry}
 use Rattle.command_laws.proofs.MadeStops.{AreStill, IsStill, still_after}
-use Rattle.command_spec.specs.Append.{has_promised_room, room_in}
-use Rattle.command_laws.specs.CommandTerms.{kept_in, AppendedFrom, made_entry, after_items}
+use Rattle.command_spec.specs.Append.{has_promised_room}
+use Rattle.command_laws.specs.CommandTerms.{AppendedFrom, made_entry, after_items}
 use Rattle.command_spec.specs.Make.{made_length, MakeStep, AppendMade, WearSector, ScrubAll, SumVolume, Runs, StepDoes, appending, made_answer, AppendedBy}
 use Rattle.command_spec.specs.Restore.{GivingEnd, Restored, LostIn, MismatchIn, ending_status}
 use Rattle.command_spec.specs.declared.status.Status.{Status}
@@ -76,12 +77,12 @@ counts_refused seed volume n c words es acts (status.Full need have) other (inr 
 counts_refused seed volume n c words es acts (status.Full need have) other (inr (free, inr lost)) = absurd (let same = lost.3 in cc)
 counts_refused seed volume n c words es acts (status.Lost segment lost) other (inl refused) = absurd (let same = refused.2 in cc)
 counts_refused seed volume n c words es acts (status.Lost segment lost) other (inr (free, inl appended)) =
-    absurd (room_loses_none (made_length seed volume) (room_in (kept_in words es)) segment lost (has_promised_room (room_in (kept_in words es)) (Some (made_length seed volume))) appended.answered)
+    absurd (room_loses_none (made_length seed volume) (room words es) segment lost (has_promised_room (room words es) (Some (made_length seed volume))) appended.answered)
 counts_refused seed volume n c words es acts (status.Lost segment lost) other (inr (free, inr table)) =
     λ elsewhere. absurd (let same = table.3 in let here : segment ≡ 2 = cc in elsewhere here)
 counts_refused seed volume n c words es acts (status.Mismatch segment) other (inl refused) = absurd (let same = refused.2 in cc)
 counts_refused seed volume n c words es acts (status.Mismatch segment) other (inr (free, inl appended)) =
-    absurd (room_matches (made_length seed volume) (room_in (kept_in words es)) segment (has_promised_room (room_in (kept_in words es)) (Some (made_length seed volume))) appended.answered)
+    absurd (room_matches (made_length seed volume) (room words es) segment (has_promised_room (room words es) (Some (made_length seed volume))) appended.answered)
 counts_refused seed volume n c words es acts (status.Mismatch segment) other (inr (free, inr lost)) = absurd (let same = lost.3 in cc)
 counts_refused seed volume n c words es acts answer other does = tt
 

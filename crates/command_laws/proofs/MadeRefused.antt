@@ -3,7 +3,7 @@ use Rattle.std.proofs.Common.{◌≡◌, ◌≢◌, ℕ, zero, suc, ◌+◌, ◌
 use Rattle.std.proofs.lemmas.Bool.{cases_Bool}
 use Rattle.cartridge_laws.proofs.FormatWriting.{effects-some}
 use Rattle.cartridge_laws.proofs.MountKeeping.{stopped_stands}
-use Rattle.cartridge_spec.specs.Appending.{has_room, with_all, with_bytes}
+use Rattle.cartridge_spec.specs.Appending.{has_room, with_all, with_bytes, room}
 use Rattle.cartridge_spec.specs.Settling.{changed_by}
 use Rattle.cartridge_spec.specs.Table.{Entry}
 use Rattle.cartridge_spec.specs.Volumes.{Plain, Stands, entries_of}
@@ -12,8 +12,8 @@ use Rattle.command_laws.proofs.MadeStops.{StillBehind, append_is, behind_is_stil
 use Rattle.command_laws.proofs.MountedKeeping.{changed_by_acts}
 use Rattle.command_laws.specs.MadeLaws.{AnsweredMakeStands}
 use Rattle.command_laws.specs.MountedKept.{IsOpen}
-use Rattle.command_spec.specs.Append.{has_promised_room, room_in}
-use Rattle.command_laws.specs.CommandTerms.{kept_in, AppendedFrom}
+use Rattle.command_spec.specs.Append.{has_promised_room}
+use Rattle.command_laws.specs.CommandTerms.{AppendedFrom}
 use Rattle.command_spec.specs.Make.{made_bytes, made_length, made_contents, AppendMade, MakeStep, Runs, ScrubAll, StepDoes, appending, made_list, made_name, summing, wearing_volumes}
 use Rattle.qic_base.proofs.Steps.{Torn-all}
 use Rattle.qic_base.specs.Acts.{Act, steps_of}
@@ -29,15 +29,15 @@ all_done steps c = subst (λ (o : Option Cartridge). Torn steps (Some c) o) (eff
 -- ---- an append that was refused
 
 module _ (seed : ℕ) (c : Cartridge) (plain : Plain) (held : IsOpen c plain) (volume : ℕ) where
-  abbrev room : Bool
-  room = has_promised_room (room_in (kept_in plain.words (entries_of plain))) (Some (made_length seed volume))
+  abbrev fits : Bool
+  fits = has_promised_room (room plain.words (entries_of plain)) (Some (made_length seed volume))
 
   -- it had no room
-  no_room : (answer : Status) → answer ≢ status.Done → answer ≡ cond room status.Done (status.Full (made_length seed volume) (room_in (kept_in plain.words (entries_of plain)))) →
+  no_room : (answer : Status) → answer ≢ status.Done → answer ≡ cond fits status.Done (status.Full (made_length seed volume) (room plain.words (entries_of plain))) →
       has_room plain (length (made_bytes seed volume)) ≡ false
   no_room answer other is =
       elim (cases_Bool (has_room plain (length (made_bytes seed volume)))) [
-        | inl enough ↦ absurd (other (is ∙ ap (λ (b : Bool). cond b status.Done (status.Full (made_length seed volume) (room_in (kept_in plain.words (entries_of plain)))))
+        | inl enough ↦ absurd (other (is ∙ ap (λ (b : Bool). cond b status.Done (status.Full (made_length seed volume) (room plain.words (entries_of plain))))
             (same_room seed c plain held volume ∙ enough)))
         | inr short ↦ short
       ]

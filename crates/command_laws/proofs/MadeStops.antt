@@ -12,7 +12,7 @@ use Rattle.cartridge_laws.proofs.MountKeeping.{stopped_stands}
 use Rattle.cartridge_laws.proofs.MountStanding.{standing_data}
 use Rattle.cartridge_laws.proofs.Places.{usable_small}
 use Rattle.cartridge_laws.specs.Table.{LieBehind}
-use Rattle.cartridge_spec.specs.Appending.{has_room, with_all, with_bytes, appended_volume}
+use Rattle.cartridge_spec.specs.Appending.{has_room, with_all, with_bytes, appended_volume, room}
 use Rattle.cartridge_spec.specs.Formatting.{IsLabel}
 use Rattle.cartridge_spec.specs.TableSegment.{TableIs}
 use Rattle.cartridge_spec.specs.HeaderCopies.{last_segment}
@@ -28,7 +28,7 @@ use Rattle.command_laws.proofs.ScrubMounted.{stopped_scrub_stands}
 use Rattle.command_laws.specs.MadeLaws.{StoppedMakeStands, DoneMakeStands, StopsInStep, StopsAreInSteps, MakesOneThing}
 use Rattle.command_laws.specs.MountedKept.{IsAppendable, IsOpen, settle_and_append, IsKept}
 use Rattle.command_spec.specs.Append.{Kept, append_acts, room_in, has_promised_room, kept_over}
-use Rattle.command_laws.specs.CommandTerms.{kept_in, silently, made_byte, made_acts, first_two, made_entry, after_items, wearing}
+use Rattle.command_laws.specs.CommandTerms.{silently, made_byte, made_acts, first_two, made_entry, after_items, wearing}
 use Rattle.command_spec.specs.Make.{made_length, made_bytes, made_contents, made_name, AppendMade, StepDoes, IsAppended, made_answer, MakeStep, WearSector, ScrubAll, SumVolume, after_item, sum_acts, Runs, wearing_in, wearing_volumes, summing, appending, made_list, making}
 use Rattle.command_spec.specs.Restore.{GivingEnd, Restored, LostIn, MismatchIn}
 use Rattle.qic_base.proofs.Steps.{Torn-all}
@@ -114,7 +114,7 @@ module _ (seed : ℕ) (c : Cartridge) (plain : Plain) (held : IsOpen c plain) (v
       ap (λ (t : List (List ℕ)). made_acts seed c plain.words (entries_of plain) t volume) (standing_data c plain table held.stands reads)
       ∙ ap acts_by (sym (length-made_bytes seed volume))
 
-  pub same_room : has_promised_room (room_in (kept_in plain.words (entries_of plain))) (Some (made_length seed volume))
+  pub same_room : has_promised_room (room plain.words (entries_of plain)) (Some (made_length seed volume))
       ≡ has_room plain (length bytes)
   same_room = ap room_for (sym (length-made_bytes seed volume))
 
@@ -150,12 +150,12 @@ module _ (seed : ℕ) (c : Cartridge) (plain : Plain) (held : IsOpen c plain) (v
       let enough : has_room plain (length bytes) ≡ true = by_answer (has_room plain (length bytes)) same_room is.answered in
       (enough, ap steps_of is.does ∙ steps_are is.table is.reads enough)
     where
-      by_answer : (b : Bool) → has_promised_room (room_in (kept_in plain.words (entries_of plain))) (Some (made_length seed volume)) ≡ b →
+      by_answer : (b : Bool) → has_promised_room (room plain.words (entries_of plain)) (Some (made_length seed volume)) ≡ b →
           status.Done ≡ made_answer seed plain.words (entries_of plain) volume → b ≡ true
       by_answer true is answered = refl
       by_answer false is answered =
-          let full : status.Done ≡ status.Full (made_length seed volume) (room_in (kept_in plain.words (entries_of plain))) =
-          answered ∙ ap (λ (b : Bool). cond b status.Done (status.Full (made_length seed volume) (room_in (kept_in plain.words (entries_of plain))))) is in
+          let full : status.Done ≡ status.Full (made_length seed volume) (room plain.words (entries_of plain)) =
+          answered ∙ ap (λ (b : Bool). cond b status.Done (status.Full (made_length seed volume) (room plain.words (entries_of plain)))) is in
           absurd (cc)
 
 -- what it leaves, done

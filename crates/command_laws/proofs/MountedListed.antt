@@ -184,12 +184,12 @@ module _ (c : Cartridge) (words : List ℕ) (entries : List Entry) (table : List
       }
 
   -- the writes of an input
-  pub ins_behind : (promised : Option ℕ) (input : List ℕ) → AreBehind (input_writes kept promised input)
-  ins_behind promised input = input_behind kept promised input (end_least 2 last entries order)
+  pub ins_behind : (promised : Option ℕ) (input : List ℕ) → AreBehind (input_writes kept.words kept.entries promised input)
+  ins_behind promised input = input_behind kept.words kept.entries promised input (end_least 2 last entries order)
 
   module _ (name : List ℕ) (date : ℕ) (promised : Option ℕ) (reply : Entry → List ℕ) (input : List ℕ) (label : IsLabel name) (word : date < 2 ^ 32) where
     abbrev ins : List Act
-    ins = input_writes kept promised input
+    ins = input_writes kept.words kept.entries promised input
 
     -- the cartridge with the volume's segments written
     abbrev filled : Cartridge

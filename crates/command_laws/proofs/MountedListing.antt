@@ -96,7 +96,7 @@ append_front_lists c header words entries table name date promised reply input [
 append_front_lists c header words entries table name date promised reply input (x ∷ front) rest lists listed mark reads parts none =
     let kept : Kept = kept_over c words entries table in
     let became : Taking = taking (room_in kept) promised input in
-    let ins : List Act = input_writes kept promised input in
+    let ins : List Act = input_writes kept.words kept.entries promised input in
     let entry : List Act = entry_acts kept name date reply became in
     let first : Act = record { steps = settling_steps table c; text = [] } in
     let all : x ∷ (front ++ rest) ≡ first ∷ (ins ++ entry) = parts in

@@ -56,7 +56,7 @@ module _ (plain : Plain) (name : List ℕ) (date : ℕ) (bytes : List ℕ) (sett
   }
 
   abbrev segments : List Act
-  segments = input_writes kept (Some size) bytes
+  segments = input_writes kept.words kept.entries (Some size) bytes
 
   abbrev rear : List Act
   rear = entry_acts kept name date silently (taking (room_in kept) (Some size) bytes)

@@ -58,7 +58,7 @@ module _ (kept : Kept) (name : List ℕ) (date n : ℕ) (input : List ℕ) (enou
       ∙ sym (ap (λ (b : Bool). cond b (filled_acts words segments (take n input)) (volume_acts words segments (take n (take n input))))
       (not_less (length (take n input)) n (let l = first_long in omega arith)))
 
-  pub same_writes : input_writes kept (Some n) input ≡ input_writes kept (Some n) (take n input)
+  pub same_writes : input_writes kept.words kept.entries (Some n) input ≡ input_writes kept.words kept.entries (Some n) (take n input)
   same_writes = ap (λ (acts : List Act). cond (has_promised_room (room_in kept) (Some n)) acts []) (same_volume kept.words (free_in kept))
 
   taking_where : (bytes : List ℕ) → n ≤ length bytes → taking (room_in kept) (Some n) bytes ≡ cond (has_promised_room (room_in kept) (Some n)) (Fits (take n bytes)) (TooLong n (room_in kept))
@@ -74,7 +74,7 @@ module _ (kept : Kept) (name : List ℕ) (date n : ℕ) (input : List ℕ) (enou
   pub same_acts : (reply : Entry → List ℕ) → append_acts kept name date (Some n) reply input ≡ append_acts kept name date (Some n) reply (take n input)
   same_acts reply =
       ap (λ (acts : List Act). quietly kept.settling ∷ (acts ++ entry_acts kept name date reply (taking (room_in kept) (Some n) input))) same_writes
-      ∙ ap (λ (became : Taking). quietly kept.settling ∷ (input_writes kept (Some n) (take n input) ++ entry_acts kept name date reply became)) same_taking
+      ∙ ap (λ (became : Taking). quietly kept.settling ∷ (input_writes kept.words kept.entries (Some n) (take n input) ++ entry_acts kept name date reply became)) same_taking
 
 -- ---- what became of an input
 
@@ -127,12 +127,12 @@ module _ (kept : Kept) (name : List ℕ) (date n : ℕ) (small : has_promised_ro
 pub short_acts : (kept : Kept) (name : List ℕ) (date n : ℕ) (one other : Entry → List ℕ) (input : List ℕ) (asked got : ℕ) → taking (room_in kept) (Some n) input ≡ TooShort asked got →
     append_acts kept name date (Some n) one input ≡ append_acts kept name date (Some n) other input
 short_acts kept name date n one other input asked got took =
-    ap (λ (became : Taking). quietly kept.settling ∷ (input_writes kept (Some n) input ++ entry_acts kept name date one became)) took
-    ∙ sym (ap (λ (became : Taking). quietly kept.settling ∷ (input_writes kept (Some n) input ++ entry_acts kept name date other became)) took)
+    ap (λ (became : Taking). quietly kept.settling ∷ (input_writes kept.words kept.entries (Some n) input ++ entry_acts kept name date one became)) took
+    ∙ sym (ap (λ (became : Taking). quietly kept.settling ∷ (input_writes kept.words kept.entries (Some n) input ++ entry_acts kept name date other became)) took)
 
 -- ---- the reply
 
-pub input_texts : (kept : Kept) (promised : Option ℕ) (input : List ℕ) → text_of (input_writes kept promised input) ≡ []
+pub input_texts : (kept : Kept) (promised : Option ℕ) (input : List ℕ) → text_of (input_writes kept.words kept.entries promised input) ≡ []
 input_texts kept promised input = by_room (has_promised_room (room_in kept) promised)
   where
     by_room : (b : Bool) → text_of (if b then input_acts kept.words (free_in kept) (most_written (room_in kept) promised) (is_some promised) input else []) ≡ []
@@ -141,7 +141,7 @@ input_texts kept promised input = by_room (has_promised_room (room_in kept) prom
 
 -- all acts but the last
 abbrev pub front_acts : Kept → (n : ℕ) → (input : List ℕ) → List Act
-front_acts kept n input = quietly kept.settling ∷ input_writes kept (Some n) input
+front_acts kept n input = quietly kept.settling ∷ input_writes kept.words kept.entries (Some n) input
 
 -- the last one, whose reply is this
 abbrev pub last_act : Kept → (name : List ℕ) → (date : ℕ) → (reply : Entry → List ℕ) → (bytes : List ℕ) → List Act
@@ -149,7 +149,7 @@ last_act kept name date reply bytes = entry_acts kept name date reply (Fits byte
 
 module _ (kept : Kept) (name : List ℕ) (date n : ℕ) (input bytes : List ℕ) (took : taking (room_in kept) (Some n) input ≡ Fits bytes) where
   pub fits_acts : (reply : Entry → List ℕ) → append_acts kept name date (Some n) reply input ≡ front_acts kept n input ++ last_act kept name date reply bytes
-  fits_acts reply = ap (λ (became : Taking). quietly kept.settling ∷ (input_writes kept (Some n) input ++ entry_acts kept name date reply became)) took
+  fits_acts reply = ap (λ (became : Taking). quietly kept.settling ∷ (input_writes kept.words kept.entries (Some n) input ++ entry_acts kept name date reply became)) took
 
   front_text : text_of (front_acts kept n input) ≡ []
   front_text = input_texts kept (Some n) input

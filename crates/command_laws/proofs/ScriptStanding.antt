@@ -415,7 +415,7 @@ early_entry kept name date n reply bytes short =
     ∙ no_entry kept name date n reply bytes (has_promised_room (room_in kept) (Some n))
 
 -- all that it writes behind the settling lies behind the volumes
-pub early_writes : (kept : Kept) (n : ℕ) (bytes : List ℕ) → AreWrites (IsFree (last_end kept.entries)) (steps_of (input_writes kept (Some n) bytes))
+pub early_writes : (kept : Kept) (n : ℕ) (bytes : List ℕ) → AreWrites (IsFree (last_end kept.entries)) (steps_of (input_writes kept.words kept.entries (Some n) bytes))
 early_writes kept n bytes =
     writes_if (last_end kept.entries) (has_promised_room (room_in kept) (Some n)) (input_acts kept.words (free_in kept) n true bytes)
     (input_is_free (last_end kept.entries) kept.words (free_in kept) n true bytes
@@ -429,7 +429,7 @@ early_stands c plain name n date bytes (Finds table) left stood meets short torn
     let area : table ≡ plain.table_area = standing_data c plain table stood meets.1 in
     let kept : Kept = kept_over c plain.words (entries_of plain) table in
     let replies : Entry → List ℕ = reply_behind (length (entries_of plain)) in
-    let writes : List Act = input_writes kept (Some n) bytes in
+    let writes : List Act = input_writes kept.words kept.entries (Some n) bytes in
     let entry : List Act = entry_acts kept name date replies (taking (room_in kept) (Some n) bytes) in
     let rear : steps_of (writes ++ entry) ≡ steps_of writes =
     steps_of-append writes entry ∙ ap (λ (ss : List Step). steps_of writes ++ ss) (early_entry kept name date n replies bytes short) ∙ append-nil (steps_of writes) in

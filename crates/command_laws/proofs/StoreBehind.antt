@@ -8,12 +8,13 @@ use Rattle.cartridge_laws.proofs.AppendKeeping.{AreIn, parts_of_segments, in_app
 use Rattle.cartridge_laws.proofs.AppendParts.{length-in_sectors}
 use Rattle.cartridge_laws.proofs.AppendSegments.{carrying_from}
 use Rattle.cartridge_laws.specs.AppendSettled.{IsSettledFor}
-use Rattle.cartridge_spec.specs.Appending.{part_writes, in_sectors}
+use Rattle.cartridge_spec.specs.Table.{Entry}
+use Rattle.cartridge_spec.specs.Appending.{part_writes, in_sectors, room, free_segments}
 use Rattle.cartridge_laws.specs.Terms.{last_end}
 use Rattle.cartridge_spec.specs.Settling.{changed_by}
 use Rattle.cartridge_spec.specs.Shape.{mask_at, data_count, capacity}
-use Rattle.command_spec.specs.Append.{segment_act, volume_acts, filled_acts, input_acts, Kept, input_writes, room_in, has_promised_room}
-use Rattle.command_laws.specs.CommandTerms.{free_in, most_written}
+use Rattle.command_spec.specs.Append.{segment_act, volume_acts, filled_acts, input_acts, input_writes, has_promised_room}
+use Rattle.command_laws.specs.CommandTerms.{most_written}
 use Rattle.qic_base.proofs.Joins.{steps_of-append}
 use Rattle.qic_base.specs.Acts.{Act, steps_of}
 use Rattle.qic_base.specs.Cartridge.{Cartridge}
@@ -59,14 +60,14 @@ over from (s ∷ ss) least are =
     let here : from ≤ s = All-head (λ (t : ℕ). from ≤ t) s ss are in
     All-cons (λ (t : ℕ). 2 < t) s ss (omega arith) (over from ss least (All-tail (λ (t : ℕ). from ≤ t) s ss are))
 
-pub input_behind : (kept : Kept) (promised : Option ℕ) (input : List ℕ) → 2 ≤ last_end kept.entries → AreBehind (input_writes kept promised input)
-input_behind kept promised input least =
-    let segments : List ℕ = free_in kept in
-    let most : ℕ = most_written (room_in kept) promised in
-    let are : All (λ s. 2 < s) segments = over (last_end kept.entries + 1) segments (omega arith) (carrying_from kept.words (last_end kept.entries + 1) (length kept.words - 1)) in
-    by_test (has_promised_room (room_in kept) promised) (input_acts kept.words segments most (is_some promised) input) []
-    (by_test (is_some promised && nat_lt (length input) most) (filled_acts kept.words segments input) (volume_acts kept.words segments (take most input))
-    (filled_behind kept.words segments input are) (volume_behind kept.words segments (take most input) are)) tt
+pub input_behind : (words : List ℕ) (entries : List Entry) (promised : Option ℕ) (input : List ℕ) → 2 ≤ last_end entries → AreBehind (input_writes words entries promised input)
+input_behind words entries promised input least =
+    let segments : List ℕ = free_segments words entries in
+    let most : ℕ = most_written (room words entries) promised in
+    let are : All (λ s. 2 < s) segments = over (last_end entries + 1) segments (omega arith) (carrying_from words (last_end entries + 1) (length words - 1)) in
+    by_test (has_promised_room (room words entries) promised) (input_acts words segments most (is_some promised) input) []
+    (by_test (is_some promised && nat_lt (length input) most) (filled_acts words segments input) (volume_acts words segments (take most input))
+    (filled_behind words segments input are) (volume_behind words segments (take most input) are)) tt
 
 -- the settled table stays so
 pub settled_behind : (c : Cartridge) (area : List (List ℕ)) (steps : List Step) → AreIn (λ s i. 2 < s) steps → IsSettledFor c area → IsSettledFor (changed_by steps c) area

@@ -244,7 +244,7 @@ module _ (c : Cartridge) (words : List ℕ) (entries : List Entry) (table : List
   pub append_leaves : Leaves IsCartridge c (steps_of (append_acts kept name date promised reply input))
   append_leaves =
       let became : Taking = taking (room_in kept) promised input in
-      let ins : List Act = input_writes kept promised input in
+      let ins : List Act = input_writes kept.words kept.entries promised input in
       let entry : List Act = entry_acts kept name date reply became in
       let are : AreWrites IsOfSector (steps_of (ins ++ entry)) =
       subst (λ (ss : List Step). AreWrites IsOfSector ss) (sym (steps_of-append ins entry))

@@ -46,10 +46,6 @@ bytes_taken promised (TooShort n read) = read
 abbrev pub free_in : Kept → List ℕ
 free_in kept = free_segments kept.words kept.entries
 
--- what an append goes by but for the table
-abbrev pub kept_in : (words : List ℕ) → (entries : List Entry) → Kept
-kept_in words entries = record { words = words; entries = entries; table = []; settling = [] }
-
 -- the entry of a volume of these bytes
 abbrev pub entry_for : Kept → (name : List ℕ) → (date : ℕ) → (bytes : List ℕ) → Entry
 entry_for kept name date bytes = entry_behind kept.words kept.entries name date bytes
@@ -75,7 +71,7 @@ made_byte seed volume place = (place + 31 * volume + seed) % 251
 
 -- a made volume's entry behind these volumes, with the date word 0
 abbrev pub made_entry : (seed : ℕ) → (words : List ℕ) → List Entry → (volume : ℕ) → Entry
-made_entry seed words entries volume = entry_for (kept_in words entries) (made_name volume) 0 (made_bytes seed volume)
+made_entry seed words entries volume = entry_behind words entries (made_name volume) 0 (made_bytes seed volume)
 
 -- the first two usable sectors of a segment
 abbrev pub first_two : (words : List ℕ) → (segment : ℕ) → List ℕ

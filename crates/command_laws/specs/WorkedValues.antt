@@ -1,5 +1,6 @@
 -- Worked values: what definitions give at small values, as facts. Each value stands in the tables and worked examples of
 -- the formats and commands that the definitions are of; none comes of evaluating a definition.
+use Rattle.qic_base.specs.Cartridge.{Cartridge}
 use Rattle.std.specs.Prelude.{ℕ, ◌≡◌, List, [], ◌∷◌, ◌++◌, replicate, length, Some, None, codes, true, false, map, Bool}
 use Rattle.std.specs.List.{range_with_len}
 use Rattle.cartridge_spec.specs.Appending.{taken_by, new_entry}
@@ -7,8 +8,8 @@ use Rattle.cartridge_spec.specs.Formatting.{fresh_header}
 use Rattle.cartridge_spec.specs.Says.{LostSectors, Mismatch}
 use Rattle.cartridge_spec.specs.Table.{Entry}
 use Rattle.cartridge_spec.specs.Volumes.{carrying}
-use Rattle.command_spec.specs.Append.{append_acts, taking, TooLong, TooShort}
-use Rattle.command_laws.specs.CommandTerms.{kept_in, entry_for, bytes_taken, append_status, made_byte, words_of}
+use Rattle.command_spec.specs.Append.{append_acts, taking, TooLong, TooShort, entry_behind, kept_over}
+use Rattle.command_laws.specs.CommandTerms.{bytes_taken, append_status, made_byte, words_of}
 use Rattle.command_spec.specs.Command.{IsNumber}
 use Rattle.command_spec.specs.Make.{made_length, sum_line, made_name, wearing_in, WearSector}
 use Rattle.command_spec.specs.Input.{IsScript, AtStop}
@@ -193,7 +194,7 @@ script_words = replicate 84 0
 
 -- the entry of the appended volume
 abbrev pub script_entry : Entry
-script_entry = entry_for (kept_in script_words []) (filled (codes "a")) 0 (codes "abc")
+script_entry = entry_behind script_words [] (filled (codes "a")) 0 (codes "abc")
 
 -- its lines
 abbrev pub ScriptIsRead : Type 0
@@ -203,8 +204,8 @@ ScriptIsRead = IsScript (codes "append a 3\nabclist\nrestore 1\nend\n")
 
 -- the reply to the append
 abbrev pub AppendReplies : Type 0
-AppendReplies =
-    text_of (append_acts (kept_in script_words []) (filled (codes "a")) 0 (Some 3) (reply_behind 0) (codes "abc"))
+AppendReplies = (c : Cartridge) (table : List (List ℕ)) →
+    text_of (append_acts (kept_over c script_words [] table) (filled (codes "a")) 0 (Some 3) (reply_behind 0) (codes "abc"))
     ≡ codes "appended 1 3 3 3\n"
 
 -- the reply to the list

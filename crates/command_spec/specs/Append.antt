@@ -83,11 +83,11 @@ abbrev pub room_in : Kept → ℕ
 room_in kept = room kept.words kept.entries
 
 -- the segments that the bytes of the input take, where there is room: one act for each
-abbrev pub input_writes : Kept → (promised : Option ℕ) → (input : List ℕ) → List Act
-input_writes kept promised input =
-    let free : List ℕ = free_segments kept.words kept.entries in
-    if has_promised_room (room_in kept) promised
-    then input_acts kept.words free (unwrap_or promised (room_in kept)) (is_some promised) input else []
+abbrev pub input_writes : (words : List ℕ) → List Entry → (promised : Option ℕ) → (input : List ℕ) → List Act
+input_writes words entries promised input =
+    let have : ℕ = room words entries in
+    if has_promised_room have promised
+    then input_acts words (free_segments words entries) (unwrap_or promised have) (is_some promised) input else []
 
 -- the entry of a volume of these bytes behind the others
 abbrev pub entry_behind : (words : List ℕ) → List Entry → (name : List ℕ) → (date : ℕ) → (bytes : List ℕ) → Entry
@@ -106,7 +106,7 @@ entry_acts kept name date reply other = []
 abbrev pub append_acts : Kept → (name : List ℕ) → (date : ℕ) → (promised : Option ℕ) → (reply : Entry → List ℕ) → (input : List ℕ) → List Act
 append_acts kept name date promised reply input =
     record { steps = kept.settling; text = [] }
-    ∷ (input_writes kept promised input ++ entry_acts kept name date reply (taking (room_in kept) promised input))
+    ∷ (input_writes kept.words kept.entries promised input ++ entry_acts kept name date reply (taking (room_in kept) promised input))
 
 -- ---- the outcome
 

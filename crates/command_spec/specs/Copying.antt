@@ -122,7 +122,7 @@ pub record IsFull (from : Side) (e : Entry) (to : Side) (table : List (List ℕ)
 -- some first acts of an append of these bytes: the settling of the table and segments, but no entry
 pub record IsBegun (from : Side) (e : Entry) (to : Side) (table : List (List ℕ)) (bytes : List ℕ) (acts : List Act) : Type 0 where
   pub rest : List Act
-  pub parts : acts ++ rest ≡ record { steps = (kept_on to table).settling; text = [] } ∷ input_writes (kept_on to table) (Some (length_on from e)) bytes
+  pub parts : acts ++ rest ≡ record { steps = (kept_on to table).settling; text = [] } ∷ input_writes to.words to.entries (Some (length_on from e)) bytes
 
 -- what was done of the append, by how the giving of the volume's bytes ended
 abbrev pub DoneOf : (from : Side) → Entry → (to : Side) → (table : List (List ℕ)) → (bytes : List ℕ) → GivingEnd → List Act → Type 0

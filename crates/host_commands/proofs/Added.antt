@@ -37,15 +37,15 @@ use Rattle.qic_base.specs.Terms.{no_sink, reading}
 use Rattle.qic_base.specs.Cartridge.{Cartridge}
 use Rattle.qic_base.specs.Step.{Step as TapeStep, effects, Torn}
 use Rattle.qic_base.specs.declared.sink.SinkFailed.{SinkFailed}
-use Rattle.store_opening.proofs.Opened.{opening_cut, IsKnown, outside, went_behind, settled_told, opened_known, known_before, found_locked, never_both, unlocked}
-use Rattle.store_opening.specs.Opening.{IsOpened, HasOpened}
+use Rattle.volume_store.proofs.Opened.{IsKnown, outside, went_behind, settled_told, opened_known, known_before, found_locked, never_both, unlocked}
+use Rattle.volume_store.specs.Opening.{IsOpened, HasOpened}
 use Rattle.volume_store.specs.Appending.{kept_by, AppendRan, HasAppended, TableRefused, AppendCut, AppendEnds}
 use Rattle.volume_store.specs.Mounting.{StoreView}
 use Rattle.volume_store.specs.declared.appended.Appended.{Appended}
 use Rattle.cartridge_front.proofs.Copies.{tells_two}
 use Rattle.cartridge_front.specs.declared.fault.StoreFault.{StoreFault}
 use Rattle.hand_commands.proofs.Endings.{told_map, told_both}
-use Rattle.host_commands.proofs.Mounted.{BeginsSettling, locked_is, unlocked_refused_is, writable_begins, table_lost}
+use Rattle.host_commands.proofs.Mounted.{BeginsSettling, locked_is, unlocked_refused_is, writable_begins, table_lost, input_unread}
 use Rattle.host_commands.specs.Opening.{is_opening, IsUnlocked, WritableEnds, store_status}
 use Rattle.hand_commands.specs.Outcome.{first_steps}
 use Rattle.hand_commands.specs.Writing.{printed_status}
@@ -90,7 +90,7 @@ replied_steps : (kept : Kept) (name : List ℕ) (date : ℕ) (reply : Entry → 
     steps_of (append_acts kept name date None silently input) ≡ steps_of (append_acts kept name date None reply input)
 replied_steps kept name date reply input =
     let became : Taking = taking (room_in kept) None input in
-    let ws : List Act = input_writes kept None input in
+    let ws : List Act = input_writes kept.words kept.entries None input in
     ap (λ (ss : List TapeStep). kept.settling ++ ss)
     (steps_of-append ws (entry_acts kept name date silently became)
     ∙ ap (λ (ss : List TapeStep). steps_of ws ++ ss) (entry_steps kept name date reply became)
@@ -98,10 +98,10 @@ replied_steps kept name date reply input =
 
 -- without one there is none
 silent_text : (kept : Kept) (name : List ℕ) (date : ℕ) (reply : Entry → List ℕ) (input : List ℕ) (need have : ℕ) → taking (room_in kept) None input ≡ TooLong need have →
-    append_acts kept name date None reply input ≡ quiet kept.settling ∷ input_writes kept None input
+    append_acts kept name date None reply input ≡ quiet kept.settling ∷ input_writes kept.words kept.entries None input
 silent_text kept name date reply input need have took =
-    ap (λ (acts : List Act). quiet kept.settling ∷ (input_writes kept None input ++ acts)) (ap (λ (became : Taking). entry_acts kept name date reply became) took)
-    ∙ ap (λ (acts : List Act). quiet kept.settling ∷ acts) (append-nil (input_writes kept None input))
+    ap (λ (acts : List Act). quiet kept.settling ∷ (input_writes kept.words kept.entries None input ++ acts)) (ap (λ (became : Taking). entry_acts kept name date reply became) took)
+    ∙ ap (λ (acts : List Act). quiet kept.settling ∷ acts) (append-nil (input_writes kept.words kept.entries None input))
 
 status_full : (have : ℕ) (input : List ℕ) (need most : ℕ) → taking have None input ≡ TooLong need most → append_status have input ≡ status.Full need most
 status_full have input need most took = (status_by (nat_le 1 have && nat_le (length input) have) have input (taking have None input) refl).1 need most took
@@ -224,32 +224,9 @@ module _ {T S K : Type 0} (t : tapes.Meaning T) (s : sources.Meaning S) (k : sin
       turned b.tape i why [] 0 nothing (found_by_append name date why refusal.sound) (no_script why refusal.sound) (not_done why refusal.sound) refl (none_taken (s.left i))
       (whatever (refused why) (told_map (t.told a) _ _ (told_both (t.told a) _ _ free refusal.told) (λ held is input. unlocked_refused_is (Appends name date input) why held is.0 is.1)))
       (record { did = refusal.did; wrote = record { took = nothing x; later = omega arith }; source_later = omega arith })
-  append_unopened b why nothing (inr (inr cut)) =
-      rw cut.answered (inr (
-        TapeFails,
-        refl,
-        record {
-          told = told_map (t.told a) _ _ cut.front (λ held front. (
-            input_of (s.left i),
-            input_told (s.left i),
-            (
-              (λ is. input_bytes (s.left i)),
-              λ outcome plain.
-                  let begins = writable_begins (Appends name date (input_of (s.left i))) (appends_first name date (input_of (s.left i))) cut.steps held front outcome plain in record {
-                    cut = opening_cut t s k nothing a b.tape i x cut.steps outcome.acts begins.0 begins.1 cut.broke;
-                    done = λ sink still. absurd (cc);
-                    silent = λ still. refl;
-                  },
-            ),
-          ));
-          acts = quiet cut.steps ∷ [];
-          cut = opening_cut t s k nothing a b.tape i x cut.steps (quiet cut.steps ∷ []) [] (append-nil cut.steps) cut.broke;
-          front = nothing_front (words.Append name date);
-          silent = λ still unlike. refl;
-          reads = λ same. absurd (cc);
-          source_tells = refl;
-        },
-      ))
+  append_unopened b why nothing (inr (inr (is, cut))) =
+      rw is (input_unread t s k (words.Append name date) a b.tape i x cut nothing
+      (told_map (t.told a) _ _ cut.front (λ held front. writable_begins (Appends name date (input_of (s.left i))) (appends_first name date (input_of (s.left i))) cut.steps held front)))
 
   module _ (b : UnitView T) (store : StoreView) (opening : HasOpened t a b store) where
     -- a protected one is none that is told
@@ -313,8 +290,8 @@ module _ {T S K : Type 0} (t : tapes.Meaning T) (s : sources.Meaning S) (k : sin
         let kept : Kept = kept_by store ran.table ran.settling in
         let reply : Entry → List ℕ = reply_behind (length store.entries) in
         let acts : List Act = append_acts kept name date None reply ran.input in
-        let plain : acts ≡ quiet ran.settling ∷ input_writes kept None ran.input = silent_text kept name date reply ran.input need have ran.took in
-        let quietly : append_acts kept name date None silently ran.input ≡ quiet ran.settling ∷ input_writes kept None ran.input = silent_text kept name date silently ran.input need have ran.took in
+        let plain : acts ≡ quiet ran.settling ∷ input_writes kept.words kept.entries None ran.input = silent_text kept name date reply ran.input need have ran.took in
+        let quietly : append_acts kept name date None silently ran.input ≡ quiet ran.settling ∷ input_writes kept.words kept.entries None ran.input = silent_text kept name date silently ran.input need have ran.took in
         let went : Went t s k (outside b.tape i x) (outside c j x) acts =
         subst (Went t s k (outside b.tape i x) (outside c j x)) (sym plain) (record {
           did = subst (λ (xs : List Act). tapes.Done t b.tape c (steps_of xs)) quietly ran.went.did;
@@ -356,7 +333,7 @@ module _ {T S K : Type 0} (t : tapes.Meaning T) (s : sources.Meaning S) (k : sin
       acts = append_acts kept name date None reply ran.input
 
       abbrev writes : List Act
-      writes = input_writes kept None ran.input
+      writes = input_writes kept.words kept.entries None ran.input
 
       abbrev last_act : Act
       last_act = record { steps = table_writes (slot_sector (length store.entries)) (table_with kept.table (length kept.entries) entry); text = reply entry }

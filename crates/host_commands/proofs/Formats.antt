@@ -5,7 +5,6 @@ use Rattle.std.proofs.lemmas.List.{append-nil, append_assoc}
 use Rattle.qic_base.specs.Cartridge.{Cartridge}
 use Rattle.qic_base.specs.declared.tape.TapeInfo.{TapeInfo}
 use Rattle.qic_base.specs.declared.sink.SinkFailed.{SinkFailed}
-use Rattle.qic_base.specs.Step.{Step as TapeStep}
 use Rattle.qic_base.proofs.Steps.{Done-Done, Done-Broke}
 use Rattle.cartridge_spec.specs.Shape.{marked_sectors}
 use Rattle.cartridge_spec.specs.Formatting.{MarksDefects, clearing_steps, copy_writes, format_steps, IsFirstDefectInFront, HasNoDefectInFront, IsFreshWith}
@@ -24,12 +23,13 @@ use Rattle.hand_commands.specs.Outcome.{first_steps}
 use Rattle.command_laws.specs.Terms.{cleared, formatted}
 use Rattle.command_spec.specs.Single.{FormatOutcome}
 use Rattle.host_commands.specs.Format.{format_status}
+use Rattle.host_commands.proofs.Mounted.{BeginsSteps}
 use Rattle.host_commands.specs.Opening.{StartFails}
 use Rattle.hand_commands.specs.Writing.{printed_status}
 use Rattle.command_laws.specs.CommandTerms.{EndsBlind}
 use Rattle.hand_commands.proofs.Endings.{IsBlind, printed, turned_down, turned_behind, cut_off, cut_off_first}
 use Rattle.command_laws.proofs.CommandEndings.{Rules}
-use Rattle.store_opening.proofs.Started.{Present, Knows, told_known, told_known_beside, told_at_start}
+use Rattle.volume_store.proofs.Started.{Present, Knows, told_known, told_known_beside, told_at_start}
 use Rattle.qic_base.specs.Sink as sinks
 use Rattle.qic_base.specs.SinkCalls as sink_calls
 use Rattle.qic_base.specs.Tape as tapes
@@ -80,9 +80,6 @@ formatted_is label date info words area (Some c) mark fresh known marks =
 
 -- ---- fronts of their steps
 
-abbrev BeginsSteps : List TapeStep → CommandOutcome → Type 0
-BeginsSteps steps outcome = (rest : List TapeStep) × (steps ++ rest ≡ first_steps outcome)
-
 clearing_begins : (label : List ℕ) (date : ℕ) (info : TapeInfo) (held : Option Cartridge) (outcome : CommandOutcome) → info.protected ≡ false → Knows (Some info) held →
     FormatOutcome label date held outcome → BeginsSteps (clearing_steps info.segments_per_track) outcome
 clearing_begins label date info None outcome mark known plain = cc
@@ -127,7 +124,7 @@ no_cartridge label date (Some (Some c)) none = absurd (cc)
 -- there was no start
 pub format_unstarted : {T K : Type 0} (t : tapes.Meaning T) (k : sinks.Meaning K) (label : List ℕ) (date : ℕ) (a b : T) (x : K) (why : Status) → ((z : K) → k.took z [] z) →
     StartFails t a b why → EndsBlind t k (Format label date) a b x x why
-format_unstarted t k label date a b x why nothing (inl (is, did, none)) =
+format_unstarted t k label date a b x why nothing (inl (is, (did, none))) =
     rw is (turned_down t k (Format label date) is_blind a b x status.NoCartridge nothing refl (λ same. cc) (no_cartridge label date (t.told a) none) did)
 format_unstarted t k label date a b x why nothing (inr (is, broke)) =
     rw is (cut_off_first t k (Format label date) is_blind a b x nothing broke)

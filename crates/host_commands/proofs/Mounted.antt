@@ -1,5 +1,5 @@
 -- How the commands that mount a cartridge end.
-use Rattle.std.proofs.Common.{◌≡◌, ◌≢◌, ◌⊎◌, ℕ, ◌++◌, Bool, true, false, List, [], length, Option, Some, None, IfSome, IsSomeAnd, Result, Err, refl, sym, ap, ◌∙◌, subst, inl, inr, append-nil, arith, ◌&&◌, nat_le}
+use Rattle.std.proofs.Common.{◌≡◌, ◌≢◌, ◌⊎◌, ℕ, ◌++◌, ◌∷◌, Bool, true, false, List, [], length, Option, Some, None, IfSome, IsSomeAnd, Result, Err, refl, sym, ap, ◌∙◌, subst, inl, inr, append-nil, arith, ◌&&◌, nat_le}
 use Rattle.qic_base.specs.Cartridge.{Cartridge}
 use Rattle.qic_base.specs.declared.tape.TapeInfo.{TapeInfo}
 use Rattle.qic_base.specs.declared.sink.SinkFailed.{SinkFailed}
@@ -21,27 +21,32 @@ use Rattle.command_spec.specs.declared.status.Status.{Status}
 use Rattle.command_spec.specs.Lines.{list_text, info_text}
 use Rattle.command_spec.specs.Outcome.{CommandOutcome, refused, acted, Going, Opened, OpenOutcome, WritableOutcome, Shows}
 use Rattle.command_laws.specs.Terms.{Printing, telling, listing}
-use Rattle.store_opening.proofs.Refusals.{foreign_is_refused}
-use Rattle.store_opening.specs.Opening.{IsOpened, HasOpened, IsTurnedDown, OpenFails, StartFails as FailsToStart}
-use Rattle.store_opening.specs.declared.opening.OpenFault.{OpenFault}
-use Rattle.command_laws.specs.CommandTerms.{CommandPrints, EndsBlind}
-use Rattle.command_spec.specs.Machine.{may_come_from}
-use Rattle.command_laws.proofs.CommandEndings.{Rules}
-use Rattle.store_opening.proofs.Started.{Present, Knows}
+use Rattle.volume_store.proofs.Refusals.{foreign_is_refused}
+use Rattle.volume_store.proofs.Opened.{opening_cut, outside}
+use Rattle.volume_store.specs.Opening.{IsOpened, HasOpened, IsTurnedDown, IsCutOff, OpenFails, StartFails as FailsToStart}
+use Rattle.volume_store.specs.declared.opening.OpenFault.{OpenFault}
+use Rattle.command_laws.specs.CommandTerms.{CommandPrints, EndsBlind, Yields}
+use Rattle.command_laws.proofs.CommandOpened.{quiet}
+use Rattle.command_laws.proofs.CommandTold.{input_of, input_told, input_bytes}
+use Rattle.command_spec.specs.Machine.{may_come_from, CommandEnds}
+use Rattle.command_laws.proofs.CommandEndings.{Rules, nothing_front}
+use Rattle.volume_store.proofs.Started.{Present, Knows}
 use Rattle.cartridge_front.specs.declared.fault.StoreFault.{StoreFault}
 use Rattle.cartridge_front.specs.Learning.{MountRefuses}
 use Rattle.hand_commands.specs.Outcome.{first_steps}
 use Rattle.host_commands.specs.Opening.{IsRefusal, RefusesOpening, store_status, open_status, is_opening, StartFails, OpeningRefused, OpeningEnds, IsUnlocked, WritableEnds}
 use Rattle.hand_commands.specs.Writing.{printed_status}
 use Rattle.hand_commands.proofs.Endings.{IsBlind, printed, turned_down, cut_off, told_map}
+use Rattle.qic_base.specs.Acts.{TapeFails}
 use Rattle.qic_base.specs.Sink as sinks
+use Rattle.qic_base.specs.Source as sources
 use Rattle.qic_base.specs.SinkCalls as sink_calls
 use Rattle.qic_base.specs.Tape as tapes
 use Rattle.cartridge_spec.specs.Mounting as mounting
 use Rattle.cartridge_front.specs.declared.fault.StoreFault.TheVariants as fault
 use Rattle.command_spec.specs.declared.words.Words.TheVariants as words
 use Rattle.command_spec.specs.declared.status.Status.TheVariants as status
-use Rattle.store_opening.specs.declared.opening.OpenFault.TheVariants as open_fault
+use Rattle.volume_store.specs.declared.opening.OpenFault.TheVariants as open_fault
 
 -- ---- outcomes
 
@@ -136,7 +141,7 @@ never_short t a b (open_fault.Refused (fault.Short p r)) fails promised read is 
 never_short t a b (open_fault.Refused f) fails promised read is = cc
 
 pub start_failed : {T : Type 0} (t : tapes.Meaning T) (a b : T) (why : OpenFault) → FailsToStart t a b why → StartFails t a b (open_status why)
-start_failed t a b open_fault.NoCartridge fails = inl (refl, fails.0, fails.1)
+start_failed t a b open_fault.NoCartridge fails = inl (refl, fails)
 start_failed t a b (open_fault.Refused fault.Tape) fails = inr (refl, fails)
 start_failed t a b (open_fault.Refused f) fails = absurd fails
 
@@ -157,7 +162,7 @@ open_failed t a b (open_fault.Refused (fault.Lost segment lost)) fails =
     inl (turned t a b.tape (fault.Lost segment lost) fails
     (both_true (nat_lt 3 lost) (segment == 2) (lt-ltb 3 lost fails.cause.1) (ap (λ (s : ℕ). s == 2) fails.cause.0)))
 open_failed t a b (open_fault.Refused fault.TableMismatch) fails = inl (turned t a b.tape fault.TableMismatch fails refl)
-open_failed t a b (open_fault.Refused fault.Tape) fails = inr (record { answered = refl; steps = fails.steps; broke = fails.broke; front = fails.front })
+open_failed t a b (open_fault.Refused fault.Tape) fails = inr (refl, fails)
 open_failed t a b (open_fault.Refused f) fails = let kind = fails.kind in absurd (cc)
 
 -- ---- .. of a cartridge to write on
@@ -182,10 +187,10 @@ absent_unlocked (Some None) none = tt
 absent_unlocked (Some (Some c)) none = absurd (cc)
 
 pub writable_unstarted : {T : Type 0} (t : tapes.Meaning T) (a : T) (b : UnitView T) (why : Status) → StartFails t a b.tape why → WritableEnds t a b (Err why)
-writable_unstarted t a b why (inl (is, did, none)) =
+writable_unstarted t a b why (inl (is, (did, none))) =
     inr (inl (absent_unlocked (t.told a) none, record { did = did; sound = ap is_opening is; told = rw is (absent_told (t.told a) none) }))
 writable_unstarted t a b why (inr (is, broke)) =
-    inr (inr (record { answered = is; steps = []; broke = broke; front = nothing_begins [] (t.told a) refl }))
+    inr (inr (is, record { steps = []; broke = broke; front = nothing_begins [] (t.told a) refl }))
 
 pub writable_locked : {T : Type 0} (t : tapes.Meaning T) (a : T) (b : UnitView T) (info : TapeInfo) → Present t a b.tape info → info.protected ≡ true → WritableEnds t a b (Err status.Protected)
 writable_locked t a b info there locked = inl (record { answered = refl; did = there.did; told = mark_known t a b.tape info there locked })
@@ -256,8 +261,8 @@ pub refuses : {T K : Type 0} (t : tapes.Meaning T) (k : sinks.Meaning K) (comman
 refuses t k command goes a b x why follows nothing (inl turned) =
     turned_down t k command follows.blind a b.tape x why nothing (follows.found why turned.sound) (no_outcome why turned.sound)
     (told_map (t.told a) _ _ turned.told (λ held is. follows.rules held (refused why) (refused_is goes why held is))) turned.did
-refuses t k command goes a b x why follows nothing (inr cut) =
-    rw cut.answered (cut_off t k command follows.blind a b.tape x cut.steps nothing
+refuses t k command goes a b x why follows nothing (inr (is, cut)) =
+    rw is (cut_off t k command follows.blind a b.tape x cut.steps nothing
     (told_map (t.told a) _ _ cut.front (λ held front outcome rules. begins_is goes follows.first cut.steps held front outcome (follows.plain held outcome rules))) cut.broke)
 
 shows : {T K : Type 0} (t : tapes.Meaning T) (k : sinks.Meaning K) (command : Words) (prints : Printing) (a : T) (b : UnitView T) (x y : K) (store : StoreView) (r : Result (Unit {0}) SinkFailed) → Follows command (Shows prints) →
@@ -282,3 +287,34 @@ pub info_printed : {T K : Type 0} (t : tapes.Meaning T) (k : sinks.Meaning K) (a
     sink_calls.Writes k x y (info_text store.header store.words (length store.entries)) r → EndsBlind t k words.Info a b.tape x y (printed_status r)
 info_printed t k a b x y store r mounted printed =
     shows t k words.Info telling a b x y store r info_follows (store.header, (store.words, (store.entries, refl))) mounted printed
+
+-- ---- commands that read an input
+
+-- the opening was cut off before anything of the input was taken
+pub input_unread : {T S K : Type 0} (t : tapes.Meaning T) (s : sources.Meaning S) (k : sinks.Meaning K) (command : Words) (a b : T) (i : S) (x : K) (cut : IsCutOff t a b) → ((z : K) → k.took z [] z) →
+    IfSome (t.told a) (λ held. (outcome : CommandOutcome) → Yields command held (input_of (s.left i)) outcome → BeginsSteps cut.steps outcome) →
+    CommandEnds t s k command (outside a i x) (outside b i x) status.TapeFault
+input_unread t s k command a b i x cut nothing front = inr (
+  TapeFails,
+  refl,
+  record {
+    told = told_map (t.told a) _ _ front (λ held begins. (
+      input_of (s.left i),
+      input_told (s.left i),
+      (
+        (λ is. input_bytes (s.left i)),
+        λ outcome plain. record {
+          cut = opening_cut t s k nothing a b i x cut.steps outcome.acts (begins outcome plain).0 (begins outcome plain).1 cut.broke;
+          done = λ sink still. absurd (cc);
+          silent = λ still. refl;
+        },
+      ),
+    ));
+    acts = quiet cut.steps ∷ [];
+    cut = opening_cut t s k nothing a b i x cut.steps (quiet cut.steps ∷ []) [] (append-nil cut.steps) cut.broke;
+    front = nothing_front command;
+    silent = λ still unlike. refl;
+    reads = λ same. absurd (cc);
+    source_tells = refl;
+  },
+)

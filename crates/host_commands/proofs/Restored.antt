@@ -22,11 +22,11 @@ use Rattle.volume_store.specs.Mounting.{StoreView}
 use Rattle.volume_store.specs.Restoring.{RestoreEnds}
 use Rattle.command_spec.specs.declared.status.Status.{Status}
 use Rattle.command_spec.specs.Outcome.{Opened, CommandOutcome, refused_behind}
-use Rattle.store_opening.specs.Opening.{IsOpened, HasOpened}
+use Rattle.volume_store.specs.Opening.{IsOpened, HasOpened}
 use Rattle.command_spec.specs.Machine.{IsCutOff, fault_of, may_come_from}
 use Rattle.command_laws.specs.Terms.{is_no_volume}
 use Rattle.command_laws.proofs.CommandOpened.{quiet}
-use Rattle.store_opening.proofs.Opened.{went_behind, cut_behind, settled_told}
+use Rattle.volume_store.proofs.Opened.{went_behind, cut_behind, settled_told}
 use Rattle.cartridge_front.specs.declared.fault.StoreFault.{StoreFault}
 use Rattle.host_commands.specs.Opening.{OpeningEnds, is_opening, store_status}
 use Rattle.hand_commands.specs.Outcome.{first_steps}

@@ -25,9 +25,9 @@ use Rattle.volume_store.specs.Mounting.{StoreView}
 use Rattle.volume_store.specs.Scrubbing.{MendEnds}
 use Rattle.command_spec.specs.declared.status.Status.{Status}
 use Rattle.command_spec.specs.Outcome.{CommandOutcome, Opened, WritableOutcome}
-use Rattle.store_opening.specs.Opening.{IsOpened, HasOpened}
+use Rattle.volume_store.specs.Opening.{IsOpened, HasOpened}
 use Rattle.command_spec.specs.Machine.{IsCutOff, fault_of, may_come_from}
-use Rattle.store_opening.proofs.Opened.{IsKnown, went_behind, cut_behind, settled_told, opened_known, known_before, found_locked, never_both, unlocked}
+use Rattle.volume_store.proofs.Opened.{IsKnown, went_behind, cut_behind, settled_told, opened_known, known_before, found_locked, never_both, unlocked}
 use Rattle.command_laws.proofs.CommandOpened.{quiet}
 use Rattle.cartridge_front.proofs.Copies.{tells_two}
 use Rattle.cartridge_front.specs.declared.fault.StoreFault.{StoreFault}
@@ -118,8 +118,8 @@ module _ (command : Words) (depth : Depth) (form : IsForm command depth) where
   refused_form t k a b x why nothing (inr (inl (free, turned))) =
       turned_down t k command form.blind a b.tape x why nothing (form.found why turned.sound) (no_outcome why turned.sound)
       (told_map (t.told a) _ _ (told_both (t.told a) _ _ free turned.told) (λ held is input. form.yields held input _ (unlocked_refused_is (ScrubsBy depth) why held is.0 is.1))) turned.did
-  refused_form t k a b x why nothing (inr (inr cut)) =
-      rw cut.answered (cut_off t k command form.blind a b.tape x cut.steps nothing
+  refused_form t k a b x why nothing (inr (inr (is, cut))) =
+      rw is (cut_off t k command form.blind a b.tape x cut.steps nothing
       (told_map (t.told a) _ _ cut.front (λ held front outcome rules. writable_begins (ScrubsBy depth) (begins depth) cut.steps held front outcome (form.opens held [] outcome (rules [])))) cut.broke)
 
   module _ {T K : Type 0} (t : tapes.Meaning T) (k : sinks.Meaning K) (a : T) (b : UnitView T) (store : StoreView) (opening : HasOpened t a b store) where

@@ -1,6 +1,6 @@
 -- How the opening of a cartridge ends: refused, or with its table settled and what was found; and the answer that each fault of
 -- a store makes (this project's own).
-use Rattle.std.specs.Prelude.{◌≡◌, Option, Some, None, ◌&&◌, ◌==◌, nat_lt, Bool, true, false, [], ◌⊎◌, IfSome, Result, Ok, Err, List, IsSomeAnd}
+use Rattle.std.specs.Prelude.{◌≡◌, Option, Some, None, ◌&&◌, ◌==◌, nat_lt, Bool, true, false, [], ◌⊎◌, IfSome, Result, Ok, Err, IsSomeAnd}
 use Rattle.cartridge_spec.specs.Mounting.{Mounting, Mounts}
 use Rattle.command_laws.specs.Terms.{foreign}
 use Rattle.command_spec.specs.Outcome.{is_refused}
@@ -8,16 +8,15 @@ use Rattle.command_spec.specs.declared.status.Status.{Status}
 use Rattle.drive_states.specs.Unit.{UnitView}
 use Rattle.host_driver.specs.declared.host.Host.{Host}
 use Rattle.qic_base.specs.Cartridge.{Cartridge}
-use Rattle.qic_base.specs.Step.{Step}
 use Rattle.qic_base.specs.Tape.{Meaning, Done, Broke}
 use Rattle.qic_base.specs.TapeCalls.{Tells}
-use Rattle.store_opening.specs.Opening.{HasStarted, HasOpened}
-use Rattle.store_opening.specs.declared.opening.OpenFault.{OpenFault}
-use Rattle.volume_store.specs.Mounting.{StoreView, IsSettling}
+use Rattle.volume_store.specs.Opening.{HasStarted, HasOpened, IsAbsent, IsCutOff}
+use Rattle.volume_store.specs.declared.opening.OpenFault.{OpenFault}
+use Rattle.volume_store.specs.Mounting.{StoreView}
 use Rattle.cartridge_front.specs.declared.fault.StoreFault.{StoreFault}
 use Rattle.cartridge_spec.specs.Mounting as mounting
 use Rattle.command_spec.specs.declared.status.Status.TheVariants as status
-use Rattle.store_opening.specs.declared.opening.OpenFault.TheVariants as open_fault
+use Rattle.volume_store.specs.declared.opening.OpenFault.TheVariants as open_fault
 use Rattle.cartridge_front.specs.declared.fault.StoreFault.TheVariants as fault
 
 -- what the mounting gives is refused so
@@ -68,7 +67,7 @@ is_opening answer = false
 -- there is no cartridge, or a fault of the tape broke the insertion off
 abbrev pub StartFails : {T : Type 0} (m : Meaning T) (old new : T) → Status → Type 0
 StartFails m old new why =
-    ((why ≡ status.NoCartridge) × Done m old new [] × IfSome (m.told old) (λ held. held ≡ None))
+    ((why ≡ status.NoCartridge) × IsAbsent m old new)
     ⊎ ((why ≡ status.TapeFault) × Broke m old new [])
 
 -- how the start of a host on what a drive holds ended
@@ -82,12 +81,9 @@ pub record OpeningRefused {T : Type 0} (m : Meaning T) (old new : T) (why : Stat
   pub sound : is_opening why ≡ true
   pub told : IfSome (m.told old) (λ held. RefusesOpening held why)
 
--- A fault of the tape broke a front of its steps off.
-pub record OpeningCut {T : Type 0} (m : Meaning T) (old new : T) (why : Status) : Type 0 where
-  pub answered : why ≡ status.TapeFault
-  pub steps : List Step
-  pub broke : Broke m old new steps
-  pub front : IfSome (m.told old) (λ held. (steps ≡ []) ⊎ IsSomeAnd held (λ c. IsSettling c steps))
+-- a fault of the tape broke it off
+abbrev pub OpeningCut : {T : Type 0} (m : Meaning T) (old new : T) → Status → Type 0
+OpeningCut m old new why = (why ≡ status.TapeFault) × IsCutOff m old new
 
 -- how the opening of what a drive holds ended
 abbrev pub OpeningEnds : {T : Type 0} (m : Meaning T) (old : T) (new : UnitView T) → Result StoreView Status → Type 0

@@ -10,9 +10,8 @@ use command_spec::Status;
 use drive_states::Unit;
 use hand_commands::printed;
 use qic_base::{Name, Sink, Source, Tape};
-use store_opening::Room;
 use tape_script::write_text;
-use volume_store::appended_text;
+use volume_store::{Room, appended_text};
 
 /// Opens the cartridge, where it isn't protected, and appends the whole input as a volume. Prints its number, its
 /// length in bytes, and its first and its last segment.

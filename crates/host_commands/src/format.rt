@@ -11,8 +11,8 @@ use drive_states::Unit;
 use formatter::{FormatFault, format};
 use hand_commands::printed;
 use qic_base::{Name, Sink, Tape};
-use store_opening::Room;
 use tape_script::{place_text, write_text};
+use volume_store::Room;
 
 /// Formats the cartridge, and prints how many segments and how many bad sectors it has.
 pub fn format_cartridge<T: Tape, K: Sink>(

@@ -13,8 +13,8 @@ use drive_states::Unit;
 use hand_commands::printed;
 use header_segments::Header;
 use qic_base::{Sink, SinkFailed, Tape};
-use store_opening::Room;
 use tape_script::{TextLine, write_text};
+use volume_store::Room;
 
 /// Opens the cartridge and prints what its header tells.
 pub fn info<T: Tape, K: Sink>(unit: &mut Unit<T>, room: Room, sink: &mut K) -> Status

@@ -8,8 +8,7 @@ use command_spec::Status;
 use drive_states::Unit;
 use hand_commands::printed;
 use qic_base::{Sink, Tape};
-use store_opening::Room;
-use volume_store::write_list;
+use volume_store::{Room, write_list};
 
 /// Opens the cartridge and prints its volumes.
 pub fn list<T: Tape, K: Sink>(unit: &mut Unit<T>, room: Room, sink: &mut K) -> Status

@@ -1,7 +1,7 @@
 //! The cartridge that the drive holds, opened: put in and mounted.
 
 ghost use Rattle.std.specs.Prelude.{◌≡◌, ◌≢◌, ℕ};
-ghost use Rattle.store_opening.specs.declared.opening.OpenFault.TheVariants.{Refused};
+ghost use Rattle.volume_store.specs.declared.opening.OpenFault.TheVariants.{Refused};
 ghost use Rattle.cartridge_front.specs.declared.fault.StoreFault.TheVariants.{Short};
 ghost use Rattle.host_commands.specs.Opening.{OpeningEnds, StartEnds, WritableEnds, open_status as status_of_opening, store_status as status_of};
 
@@ -9,14 +9,13 @@ use command_spec::Status;
 use drive_states::Unit;
 use host_driver::Host;
 use qic_base::Tape;
-use store_opening::{OpenFault, Room};
-use volume_store::{Store, StoreFault};
+use volume_store::{OpenFault, Room, Store, StoreFault};
 
 /// Puts the cartridge in and starts a host on it.
 pub fn start<T: Tape>(unit: &mut Unit<T>) -> Result<Host, Status>
     ensures { StartEnds T.means unit.old unit.new result }
 {
-    match store_opening::start(unit) {
+    match volume_store::start(unit) {
         Ok(host) => Ok(host),
         Err(fault) => Err(open_status(fault)),
     }
@@ -26,7 +25,7 @@ pub fn start<T: Tape>(unit: &mut Unit<T>) -> Result<Host, Status>
 pub fn open<T: Tape>(unit: &mut Unit<T>, room: Room) -> Result<Store, Status>
     ensures { OpeningEnds T.means unit.old.tape unit.new result }
 {
-    match store_opening::open(unit, room) {
+    match volume_store::open(unit, room) {
         Ok(store) => Ok(store),
         Err(fault) => Err(open_status(fault)),
     }

@@ -7,7 +7,7 @@ use crate::opening::{open, store_status};
 use command_spec::Status;
 use drive_states::Unit;
 use qic_base::{Sink, Tape};
-use store_opening::Room;
+use volume_store::Room;
 
 /// Opens the cartridge and gives the bytes of a volume, counted from 1, and nothing else.
 pub fn restore<T: Tape, K: Sink>(

@@ -7,7 +7,7 @@ use crate::opening::{open_writable, store_status};
 use command_spec::Status;
 use drive_states::Unit;
 use qic_base::{Sink, Tape};
-use store_opening::Room;
+use volume_store::Room;
 
 /// Opens the cartridge, where it isn't protected, and writes unreadable sectors again where they can be found.
 pub fn scrub<T: Tape, K: Sink>(unit: &mut Unit<T>, room: Room, sink: &mut K) -> Status

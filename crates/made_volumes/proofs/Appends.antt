@@ -1,4 +1,5 @@
 -- How the append of a made volume ended, as a step of a run.
+use Rattle.cartridge_spec.specs.Appending.{room}
 use Rattle.std.proofs.Common.{◌≡◌, ◌↔◌, inl, inr, ℕ, Bool, true, false, cond, List, [], ◌∷◌, ◌++◌, length, take, Option, Some, Result, Ok, Err, refl, sym, ap, ◌∙◌, subst, arith, nat_lt}
 use Rattle.std.proofs.lemmas.Bool.{le-ltb}
 use Rattle.std.proofs.lemmas.List.{take_all}
@@ -16,8 +17,8 @@ use Rattle.cartridge_spec.specs.Settling.{settling_steps}
 use Rattle.command_spec.specs.Make.{made_length, made_bytes, AppendMade, made_name, StepDoes, Runs, IsTableLost, made_answer}
 use Rattle.tape_script.specs.Generator.{made_means}
 use Rattle.volume_store.specs.declared.appended.Appended.{Appended}
-use Rattle.command_spec.specs.Append.{Taking, Fits, TooLong, TooShort, taking, room_in, has_promised_room, append_acts}
-use Rattle.command_laws.specs.CommandTerms.{kept_in, entry_for, silently, made_entry, made_acts, MayAppend}
+use Rattle.command_spec.specs.Append.{Taking, Fits, TooLong, TooShort, taking, has_promised_room, append_acts}
+use Rattle.command_laws.specs.CommandTerms.{entry_for, silently, made_entry, made_acts, MayAppend}
 use Rattle.volume_store.specs.Appending.{kept_by, AppendRan, AppendCut, TableRefused, AppendEnds, CutUnread, FaultsUnread}
 use Rattle.volume_store.specs.Mounting.{StoreView, StoreFits}
 use Rattle.made_volumes.specs.declared.fault.MakeFault.{MakeFault}
@@ -108,7 +109,7 @@ module _ {T : Type 0} (t : tapes.Meaning T) (seed volume : ℕ) (before : StoreV
   promise = Some (made_length seed volume)
 
   abbrev have : ℕ
-  have = room_in (kept_in words entries)
+  have = room words entries
 
   abbrev a : T
   a = u.tape

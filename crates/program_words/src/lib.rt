@@ -1,6 +1,6 @@
-//! The words of the command lines of `pulse_trace`, `tape_export` and `tape_import`: commands of `clap`, the first with one option,
-//! the gap; the others with an image, an option for the map of its dump, and one for the segments per track of a cartridge
-//! that is imported.
+//! The words of the command lines of `pulse_trace`, `tape_export` and `tape_import`: commands of `clap`, the first with one
+//! option, the gap; the others with an image, an option for the map of its dump, and one for the segments per track of a
+//! cartridge that is imported.
 #![tactic(auto)]
 
 mod command;

@@ -1,4 +1,5 @@
 -- How a generated run ends.
+use Rattle.cartridge_spec.specs.Appending.{room}
 use Rattle.std.proofs.Common.{◌≡◌, ◌≢◌, ℕ, ◌<◌, ◌≤◌, ◌&&◌, nat_le, nat_lt, Bool, true, false, cond, List, [], ◌∷◌, Option, Some, None, IfSome, Result, Ok, Err, refl, sym, ap, ◌∙◌, subst, inl, inr, arith, length, ◌-◌}
 use Rattle.command_laws.proofs.CommandClean.{made_order}
 use Rattle.command_laws.proofs.RestoreBehind.{piece_behind}
@@ -14,8 +15,8 @@ use Rattle.cartridge_spec.specs.Table.{Entry}
 use Rattle.drive_states.specs.Unit.{UnitView}
 use Rattle.cartridge_laws.proofs.MountOnce.{mounts_is_function}
 use Rattle.command_spec.specs.Make.{made_length, MakeStep, AppendMade, WearSector, ScrubAll, SumVolume, after_item, making, made_answer, MayDo, MayRun, Making}
-use Rattle.command_spec.specs.Append.{has_promised_room, room_in}
-use Rattle.command_laws.specs.CommandTerms.{kept_in, Makes, EndsBlind}
+use Rattle.command_spec.specs.Append.{has_promised_room}
+use Rattle.command_laws.specs.CommandTerms.{Makes, EndsBlind}
 use Rattle.volume_store.specs.Mounting.{StoreView}
 use Rattle.command_laws.proofs.StoreTaking.{both_true}
 use Rattle.made_volumes.specs.declared.fault.MakeFault.{MakeFault}
@@ -23,11 +24,11 @@ use Rattle.made_volumes.specs.Runs.{HasRun, MakeEnds, RunCut}
 use Rattle.command_spec.specs.declared.status.Status.{Status}
 use Rattle.tape_cmd.specs.Make.{run_status}
 use Rattle.command_spec.specs.Outcome.{Going, Opened, OpenOutcome, WritableOutcome, CommandOutcome}
-use Rattle.store_opening.specs.Opening.{IsOpened, HasOpened}
+use Rattle.volume_store.specs.Opening.{IsOpened, HasOpened}
 use Rattle.command_spec.specs.Machine.{IsCutOff, fault_of, may_come_from}
 use Rattle.command_laws.specs.Terms.{Prints}
 use Rattle.command_laws.proofs.CommandOpened.{quiet}
-use Rattle.store_opening.proofs.Opened.{went_behind, cut_behind, settled_told}
+use Rattle.volume_store.proofs.Opened.{went_behind, cut_behind, settled_told}
 use Rattle.host_commands.specs.Opening.{IsUnlocked, WritableEnds, is_opening}
 use Rattle.hand_commands.specs.Outcome.{first_steps}
 use Rattle.hand_commands.proofs.Endings.{IsBlind, none_taken, turned_down, cut_off, told_map, told_both}
@@ -60,14 +61,14 @@ some_bytes seed volume = omega arith
 -- an append is carried out, or full
 append_sound : (seed count : ℕ) (ws : List ℕ) (es : List Entry) (volume : ℕ) (answer : Status) → made_answer seed ws es volume ≡ answer →
     may_come_from answer (words.Make seed count) ≡ true
-append_sound seed count ws es volume answer is = by_room (has_promised_room (room_in (kept_in ws es)) (Some (made_length seed volume))) refl is
+append_sound seed count ws es volume answer is = by_room (has_promised_room (room ws es) (Some (made_length seed volume))) refl is
   where
-    by_room : (b : Bool) → has_promised_room (room_in (kept_in ws es)) (Some (made_length seed volume)) ≡ b →
-        cond b status.Done (status.Full (made_length seed volume) (room_in (kept_in ws es))) ≡ answer → may_come_from answer (words.Make seed count) ≡ true
+    by_room : (b : Bool) → has_promised_room (room ws es) (Some (made_length seed volume)) ≡ b →
+        cond b status.Done (status.Full (made_length seed volume) (room ws es)) ≡ answer → may_come_from answer (words.Make seed count) ≡ true
     by_room true there same = subst (λ (a : Status). may_come_from a (words.Make seed count) ≡ true) same refl
     by_room false none same =
         subst (λ (a : Status). may_come_from a (words.Make seed count) ≡ true) same
-        (full_more (room_in (kept_in ws es)) (made_length seed volume) (some_bytes seed volume) none)
+        (full_more (room ws es) (made_length seed volume) (some_bytes seed volume) none)
 
 -- a segment that lost too much is the table's, or one behind it
 lost_sound : (seed count segment lost : ℕ) → 3 < lost → 2 ≤ segment → may_come_from (status.Lost segment lost) (words.Make seed count) ≡ true
@@ -152,8 +153,8 @@ module _ {T K : Type 0} (t : tapes.Meaning T) (k : sinks.Meaning K) (seed count 
   make_refused b x why nothing (inr (inl (free, turned))) =
       turned_down t k (words.Make seed count) blind a b.tape x why nothing (found_by_make seed count why turned.sound) (no_outcome why turned.sound)
       (told_map (t.told a) _ _ (told_both (t.told a) _ _ free turned.told) (λ held is input. unlocked_refused_is (Making seed count) why held is.0 is.1)) turned.did
-  make_refused b x why nothing (inr (inr cut)) =
-      rw cut.answered (cut_off t k (words.Make seed count) blind a b.tape x cut.steps nothing
+  make_refused b x why nothing (inr (inr (is, cut))) =
+      rw is (cut_off t k (words.Make seed count) blind a b.tape x cut.steps nothing
       (told_map (t.told a) _ _ cut.front (λ held front outcome rules. writable_begins (Making seed count) (making_first seed count) cut.steps held front outcome (rules []))) cut.broke)
 
   module _ (b : UnitView T) (store : StoreView) (opening : HasOpened t a b store) (free : IsUnlocked t a) where

@@ -1,5 +1,5 @@
 -- How a script ends.
-use Rattle.std.proofs.Common.{◌≡◌, ◌≢◌, ℕ, true, List, [], ◌∷◌, ◌++◌, drop, Option, Some, None, IfSome, Result, Ok, Err, refl, sym, ap, ◌∙◌, subst, inl, inr, append-nil, arith}
+use Rattle.std.proofs.Common.{◌≡◌, ◌≢◌, ℕ, true, List, [], ◌∷◌, ◌++◌, drop, Option, Some, None, IfSome, Result, Ok, Err, refl, sym, ap, ◌∙◌, subst, inl, inr, arith}
 use Rattle.std.specs.Option.{option_map}
 use Rattle.std.specs.Prelude.{is_some, ◌==◌}
 use Rattle.std.proofs.lemmas.Bool.{eq-eqb}
@@ -17,18 +17,18 @@ use Rattle.command_laws.specs.ScriptAnswers.{Answer, AllDone, FaultIn, script_an
 use Rattle.volume_store.specs.Mounting.{StoreView}
 use Rattle.command_spec.specs.declared.status.Status.{Status}
 use Rattle.command_spec.specs.Outcome.{Opened, CommandOutcome, refused}
-use Rattle.store_opening.specs.Opening.{IsOpened, HasOpened}
+use Rattle.volume_store.specs.Opening.{IsOpened, HasOpened}
 use Rattle.command_spec.specs.Machine.{CommandEnds, InputLeft, IsCutOff, NamesFault, fault_of, may_come_from}
 use Rattle.command_laws.specs.Terms.{Prints}
 use Rattle.tape_cmd.specs.Script.{run_status}
-use Rattle.store_opening.proofs.Opened.{opening_cut, outside, went_behind, cut_behind, settled_told}
+use Rattle.volume_store.proofs.Opened.{outside, went_behind, cut_behind, settled_told}
 use Rattle.command_laws.proofs.CommandOpened.{quiet}
 use Rattle.command_laws.proofs.CommandTold.{input_of, input_told, input_bytes}
 use Rattle.command_laws.specs.CommandTerms.{ScriptOutcome}
 use Rattle.host_commands.specs.Opening.{OpeningEnds, is_opening}
 use Rattle.hand_commands.specs.Outcome.{first_steps}
 use Rattle.hand_commands.proofs.Endings.{told_map}
-use Rattle.host_commands.proofs.Mounted.{BeginsSettling, no_outcome, begins_is, refused_is, table_lost}
+use Rattle.host_commands.proofs.Mounted.{BeginsSettling, no_outcome, begins_is, refused_is, table_lost, input_unread}
 use Rattle.qic_base.specs.Sink as sinks
 use Rattle.qic_base.specs.Source as sources
 use Rattle.qic_base.specs.Tape as tapes
@@ -127,32 +127,9 @@ module _ {T S K : Type 0} (t : tapes.Meaning T) (s : sources.Meaning S) (k : sin
     silent = λ still other. refl;
     fault = names_none why (s.left i) (no_fault why turned.sound) (no_outcome why turned.sound);
   })
-  script_unopened b why nothing (inr cut) =
-      rw cut.answered (inr (
-        TapeFails,
-        refl,
-        record {
-          told = told_map (t.told a) _ _ cut.front (λ held front. (
-            input_of (s.left i),
-            input_told (s.left i),
-            (
-              (λ is. input_bytes (s.left i)),
-              λ outcome plain.
-                  let begins = begins_is (Scripting (input_of (s.left i))) (scripting_first (input_of (s.left i))) cut.steps held front outcome plain in record {
-                    cut = opening_cut t s k nothing a b.tape i x cut.steps outcome.acts begins.0 begins.1 cut.broke;
-                    done = λ sink still. absurd (cc);
-                    silent = λ still. absurd (cc);
-                  },
-            ),
-          ));
-          acts = quiet cut.steps ∷ [];
-          cut = opening_cut t s k nothing a b.tape i x cut.steps (quiet cut.steps ∷ []) [] (append-nil cut.steps) cut.broke;
-          front = said [];
-          silent = λ still unlike. refl;
-          reads = λ same. refl;
-          source_tells = refl;
-        },
-      ))
+  script_unopened b why nothing (inr (is, cut)) =
+      rw is (input_unread t s k words.Script a b.tape i x cut nothing
+      (told_map (t.told a) _ _ cut.front (λ held front. begins_is (Scripting (input_of (s.left i))) (scripting_first (input_of (s.left i))) cut.steps held front)))
 
   module _ (b : UnitView T) (store : StoreView) (opening : HasOpened t a b store) (c : T) (j : S) (y : K) (both : TakesBoth k) (nothing : (z : K) → k.took z [] z) where
     -- the machine's outcome over the cartridge that was opened

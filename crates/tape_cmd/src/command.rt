@@ -19,8 +19,8 @@ use host_commands::{append, format, info, list, restore, scrub};
 use qic_base::{NoMemory, Sink, Source, Tape};
 use segment_io::Workspace;
 use std::alloc::Global;
-use store_opening::Room;
 use tape_script::{BadWords, Words, read_words};
+use volume_store::Room;
 use volume_table::Table;
 
 /// Carries out a command, with each of its values in its range. It has the working objects from the memory, and does so

@@ -3,7 +3,7 @@
 use qic_base::NoMemory;
 use std::alloc::Global;
 use std::convert::Infallible;
-use store_opening::Room;
+use volume_store::Room;
 
 /// What a command has its working objects from.
 pub trait Memory {

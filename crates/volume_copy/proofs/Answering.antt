@@ -14,9 +14,9 @@ use Rattle.qic_base.proofs.Steps.{Rose-after}
 use Rattle.qic_base.proofs.Writing.{TakesBoth, some_longer}
 use Rattle.qic_base.specs.Terms.{reading}
 use Rattle.qic_base.specs.Tape.{Rose}
-use Rattle.store_opening.proofs.Refusals.{foreign_is_refused}
-use Rattle.store_opening.specs.Opening.{OpenFails}
-use Rattle.store_opening.specs.declared.opening.OpenFault.{OpenFault}
+use Rattle.volume_store.proofs.Refusals.{foreign_is_refused}
+use Rattle.volume_store.specs.Opening.{OpenFails}
+use Rattle.volume_store.specs.declared.opening.OpenFault.{OpenFault}
 use Rattle.volume_copy.proofs.Ends.{decks_of}
 use Rattle.volume_copy.proofs.Goes.{Chained, GoesOn, append_kind, append_late, chained, goes_broke, goes_both, goes_done, goes_same, lines_more, missing_goes}
 use Rattle.volume_copy.specs.Faults.{from_status, to_status}
@@ -29,7 +29,7 @@ use Rattle.command_spec.specs.declared.copy_fault.CopyFault.TheVariants as copy
 use Rattle.command_spec.specs.declared.copy_status.CopyStatus.TheVariants as status
 use Rattle.qic_base.specs.Sink as sinks
 use Rattle.qic_base.specs.Tape as tapes
-use Rattle.store_opening.specs.declared.opening.OpenFault.TheVariants as open_fault
+use Rattle.volume_store.specs.declared.opening.OpenFault.TheVariants as open_fault
 use Rattle.cartridge_front.specs.declared.fault.StoreFault.TheVariants as fault
 
 -- ---- the kinds of refusals

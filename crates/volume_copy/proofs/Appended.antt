@@ -55,7 +55,7 @@ pub replied_steps : (kept : Kept) (name : List ℕ) (date : ℕ) (promised : Opt
     steps_of (append_acts kept name date promised one input) ≡ steps_of (append_acts kept name date promised other input)
 replied_steps kept name date promised one other input =
     let became : Taking = taking (room_in kept) promised input in
-    let ws : List Act = input_writes kept promised input in
+    let ws : List Act = input_writes kept.words kept.entries promised input in
     ap (λ (ss : List TapeStep). kept.settling ++ ss)
     (steps_of-append ws (entry_acts kept name date one became)
     ∙ ap (λ (ss : List TapeStep). steps_of ws ++ ss) (entry_steps kept name date one other became)

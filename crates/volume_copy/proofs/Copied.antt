@@ -8,8 +8,8 @@ use Rattle.command_spec.specs.declared.copy_status.CopyStatus.{CopyStatus}
 use Rattle.drive_states.specs.Unit.{UnitView}
 use Rattle.qic_base.specs.Terms.{reading}
 use Rattle.qic_base.specs.Tape.{Rose}
-use Rattle.store_opening.specs.Opening.{OpenFails}
-use Rattle.store_opening.specs.declared.opening.OpenFault.{OpenFault}
+use Rattle.volume_store.specs.Opening.{OpenFails}
+use Rattle.volume_store.specs.declared.opening.OpenFault.{OpenFault}
 use Rattle.volume_copy.specs.Faults.{from_status, is_of_cartridge, is_of_opening, to_status}
 use Rattle.volume_copy.specs.Runs.{BothRefused, CopiesOne, CopyRuns, CopyView, HasCopied, HaveCopied, IsCounted, IsRefused, IsUnprinted, MissingEnds, PrintsCount, RunEnds, SideFits, SideView, Units, append_answer, append_status, is_append_fault, is_asked}
 use Rattle.volume_copy.specs.Source.{IsOfPart, IsSoundSource, SourceView, new_source, source_means}
@@ -21,7 +21,7 @@ use Rattle.cartridge_front.specs.declared.fault.StoreFault.{StoreFault}
 use Rattle.command_spec.specs.declared.copy_status.CopyStatus.TheVariants as status
 use Rattle.qic_base.specs.Sink as sinks
 use Rattle.qic_base.specs.Tape as tapes
-use Rattle.store_opening.specs.declared.opening.OpenFault.TheVariants as open_fault
+use Rattle.volume_store.specs.declared.opening.OpenFault.TheVariants as open_fault
 use Rattle.cartridge_front.specs.declared.fault.StoreFault.TheVariants as fault
 
 -- ---- the lists

@@ -31,8 +31,8 @@ use Rattle.qic_base.specs.Terms.{reading, IsCartridge}
 use Rattle.qic_base.specs.Cartridge.{Cartridge}
 use Rattle.qic_base.specs.Step.{Step as TapeStep, effects, Torn}
 use Rattle.qic_base.specs.declared.tape.TapeInfo.{TapeInfo}
-use Rattle.store_opening.specs.Opening.{HasOpened, OpenFails}
-use Rattle.store_opening.specs.declared.opening.OpenFault.{OpenFault}
+use Rattle.volume_store.specs.Opening.{HasOpened, OpenFails}
+use Rattle.volume_store.specs.declared.opening.OpenFault.{OpenFault}
 use Rattle.volume_copy.proofs.Answering.{FailsSo, differs_at_most, fails_so}
 use Rattle.volume_copy.proofs.Appended.{adds_one, adds_to_target, all_acts, never_protected, side_over, tells_at, told_behind}
 use Rattle.volume_copy.proofs.Ends.{AtStart, decks_of}
@@ -52,7 +52,7 @@ use Rattle.command_spec.specs.declared.copy_fault.CopyFault.TheVariants as copy
 use Rattle.command_spec.specs.declared.copy_status.CopyStatus.TheVariants as status
 use Rattle.qic_base.specs.Sink as sinks
 use Rattle.qic_base.specs.Tape as tapes
-use Rattle.store_opening.specs.declared.opening.OpenFault.TheVariants as open_fault
+use Rattle.volume_store.specs.declared.opening.OpenFault.TheVariants as open_fault
 use Rattle.cartridge_front.specs.declared.fault.StoreFault.TheVariants as fault
 
 -- ---- the openings

@@ -1,7 +1,7 @@
 -- What a copy comes to where both tapes tell: the plain machine's outcome, carried out or cut off.
 use Rattle.std.proofs.Common.{◌≡◌, ℕ, Bool, true, false, List, [], ◌∷◌, All, Option, Some, None, IfSome, IsSomeAnd, refl, ap, sym, subst, ◌∙◌, arith, inl, inr, append-nil}
 use Rattle.cartridge_laws.proofs.MountWhole.{table_is_area}
-use Rattle.cartridge_spec.specs.Mounting.{Mounting, Mounts, settled}
+use Rattle.cartridge_spec.specs.Mounting.{settled}
 use Rattle.command_laws.proofs.CommandEnds.{over_at, told_whole}
 use Rattle.command_laws.proofs.CommandOpened.{quiet}
 use Rattle.command_laws.proofs.CopyOutcomes.{IsTarget, copies_something}
@@ -21,9 +21,9 @@ use Rattle.qic_base.specs.Terms.{around, no_source, IsCartridge}
 use Rattle.qic_base.specs.Cartridge.{Cartridge}
 use Rattle.qic_base.specs.Step.{Step as TapeStep}
 use Rattle.qic_base.specs.declared.tape.TapeInfo.{TapeInfo}
-use Rattle.store_opening.proofs.Opened.{cut_behind, opening_cut, went_behind}
-use Rattle.store_opening.specs.Opening.{HasOpened, OpenFails}
-use Rattle.store_opening.specs.declared.opening.OpenFault.{OpenFault}
+use Rattle.volume_store.proofs.Opened.{cut_behind, opening_cut, went_behind}
+use Rattle.volume_store.specs.Opening.{HasOpened, OpenFails}
+use Rattle.volume_store.specs.declared.opening.OpenFault.{OpenFault}
 use Rattle.volume_copy.proofs.Appended.{side_over}
 use Rattle.volume_copy.proofs.Carried.{Carried, Reached, carried, seen}
 use Rattle.volume_copy.proofs.Goes.{missing_goes}
@@ -40,7 +40,7 @@ use Rattle.command_spec.specs.declared.copy_status.CopyStatus.TheVariants as sta
 use Rattle.qic_base.specs.Sink as sinks
 use Rattle.qic_base.specs.Tape as tapes
 use Rattle.qic_base.specs.TapeCalls as tape_calls
-use Rattle.store_opening.specs.declared.opening.OpenFault.TheVariants as open_fault
+use Rattle.volume_store.specs.declared.opening.OpenFault.TheVariants as open_fault
 use Rattle.cartridge_front.specs.declared.fault.StoreFault.TheVariants as fault
 
 -- the tapes and the sink of units

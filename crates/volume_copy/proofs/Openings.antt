@@ -20,8 +20,8 @@ use Rattle.drive_states.specs.Unit.{UnitView}
 use Rattle.qic_base.specs.Acts.{Act, next_steps}
 use Rattle.qic_base.specs.Cartridge.{Cartridge}
 use Rattle.qic_base.specs.Step.{Step as TapeStep, effects}
-use Rattle.store_opening.proofs.Opened.{IsKnown, known_before, opened_known}
-use Rattle.store_opening.specs.Opening.{HasOpened, IsOpened}
+use Rattle.volume_store.proofs.Opened.{IsKnown, known_before, opened_known}
+use Rattle.volume_store.specs.Opening.{HasOpened, IsOpened}
 use Rattle.volume_copy.specs.Faults.{copy_fault}
 use Rattle.cartridge_front.specs.Learning.{MountRefuses}
 use Rattle.volume_store.specs.Mounting.{IsSettling, StoreView}

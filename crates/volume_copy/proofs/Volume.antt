@@ -4,7 +4,7 @@ use Rattle.std.specs.Option.{option_map}
 use Rattle.std.proofs.lemmas.Bool.{cases_Bool, ltb-false, ltb-true}
 use Rattle.std.proofs.lemmas.List.{length-take-le}
 use Rattle.cartridge_laws.proofs.TableSayings.{table_says_is_function}
-use Rattle.cartridge_spec.specs.Appending.{free_segments, new_entry, table_writes, taken_by}
+use Rattle.cartridge_spec.specs.Appending.{free_segments, new_entry, table_writes, taken_by, room}
 use Rattle.cartridge_spec.specs.TableSegment.{TableIs, table_cells}
 use Rattle.cartridge_spec.specs.Says.{AsRead, ByCode, Data, LostSectors, TableSays}
 use Rattle.cartridge_spec.specs.Settling.{changed_by, settling_steps}
@@ -19,7 +19,7 @@ use Rattle.command_laws.proofs.MountedListed.{listed_reads}
 use Rattle.command_laws.proofs.MountedSaying.{restores_anyway}
 use Rattle.command_laws.proofs.ScriptActs.{full_acts}
 use Rattle.command_spec.specs.Append.{Fits, Kept, TooLong, TooShort, append_acts, entry_acts, input_writes, room_in, taking}
-use Rattle.command_laws.specs.CommandTerms.{entry_for, kept_in}
+use Rattle.command_laws.specs.CommandTerms.{entry_for}
 use Rattle.command_spec.specs.Copying.{CopiesVolume, Side, behind_copy, copied_behind, copied_line, copy_acts, has_room_for, GivenBytes}
 use Rattle.command_spec.specs.Restore.{GivingEnd, LostIn, MismatchIn, Restored, Restores, pieces}
 use Rattle.command_spec.specs.declared.copy_status.CopyStatus.{CopyStatus}
@@ -249,9 +249,9 @@ module _ {A B : Type 0} (a : tapes.Meaning A) (b : tapes.Meaning B) (number : �
         acts = acts;
         copies = by_restored table adds.is.reads enough.room restored.0 restored.1 input (input_is input adds.is.is_told);
         did = adds.is.did reply;
-        front = first ∷ input_writes kept_t (Some n) input;
+        front = first ∷ input_writes kept_t.words kept_t.entries (Some n) input;
         last = last;
-        parts = ap (λ (es : List Act). first ∷ (input_writes kept_t (Some n) input ++ es)) (sym (ap (entry_acts kept_t e.name e.date reply) adds.is.took));
+        parts = ap (λ (es : List Act). first ∷ (input_writes kept_t.words kept_t.entries (Some n) input ++ es)) (sym (ap (entry_acts kept_t e.name e.date reply) adds.is.took));
         quiet = input_texts kept_t (Some n) input;
         line = ap (copied_line (length to.store.entries + 1)) (sym adds.count);
         cartridge = left;
@@ -422,11 +422,11 @@ module _ {A B : Type 0} (a : tapes.Meaning A) (b : tapes.Meaning B) (number : �
         ⊎ (MayAsk b to.unit.tape to.store (Some n) × HasGivenAll (source_means a) made one.source to.store (Some n)) →
         IsUnwritten a b source e side old_outside new_outside (status.To copy.Tape)
     unwritten order = elim (cases_Bool (has_room_for source e side)) [
-      | inl room ↦ elim order [
+      | inl enough ↦ elim order [
         | inl early ↦
-            let any = restores_anyway c from.store.words (pieces from.store.words one.entry) in unwritten_early room early any.0 any.1 any.2
+            let any = restores_anyway c from.store.words (pieces from.store.words one.entry) in unwritten_early enough early any.0 any.1 any.2
         | inr (may, all) ↦
-            let restored = all_taken (room_in (kept_in to.store.words to.store.entries)) all.input all.bytes all.took all.left in unwritten_all room restored.0 restored.1
+            let restored = all_taken (room to.store.words to.store.entries) all.input all.bytes all.took all.left in unwritten_all enough restored.0 restored.1
       ]
       | inr none ↦ unwritten_full none
     ]

@@ -11,8 +11,8 @@ use Rattle.drive_spec.specs.Terms.{is_protected}
 use Rattle.drive_states.specs.Unit.{UnitView}
 use Rattle.host_driver.specs.Fits.{deck_of}
 use Rattle.qic_base.specs.Terms.{reading}
-use Rattle.store_opening.specs.Opening.{HasOpened, OpenFails}
-use Rattle.store_opening.specs.declared.opening.OpenFault.{OpenFault}
+use Rattle.volume_store.specs.Opening.{HasOpened, OpenFails}
+use Rattle.volume_store.specs.declared.opening.OpenFault.{OpenFault}
 use Rattle.volume_copy.specs.Faults.{copy_fault, from_status, is_of_cartridge, to_status}
 use Rattle.volume_copy.specs.Source.{IsSoundSource, KeepsVolume, SourceView, new_source, source_means}
 use Rattle.volume_store.specs.Appending.{AppendEnds, FaultsUnread, KeepsFormat, KeepsList, InOrder}

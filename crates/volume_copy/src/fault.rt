@@ -4,8 +4,7 @@ ghost use Rattle.std.specs.Prelude.{◌≡◌, true};
 ghost use Rattle.volume_copy.specs.Faults.{copy_fault, from_status, is_of_cartridge, is_of_opening, to_status};
 
 use command_spec::{CopyFault, CopyStatus};
-use store_opening::OpenFault;
-use volume_store::StoreFault;
+use volume_store::{OpenFault, StoreFault};
 
 /// What a refusal of a cartridge is called in a copy.
 pub fn copy_fault(fault: StoreFault) -> CopyFault

@@ -9,8 +9,7 @@ use command_spec::{CopyFault, CopyStatus};
 use drive_states::Unit;
 use qic_base::{NoMemory, Tape};
 use std::alloc::Global;
-use store_opening::{Room, open};
-use volume_store::Store;
+use volume_store::{Room, Store, open};
 
 /// All working objects of a copy: no later call takes memory.
 #[derive(Drop)]

@@ -162,7 +162,7 @@ module _ {T S : Type 0} (t : tapes.Meaning T) (s : sources.Meaning S) (store aft
         let got = known table is in
         let kept : Kept = kept_by store table (settling_steps table c) in
         broke_cut t s x0 x1 a (record { steps = settling_steps table c; text = [] })
-        (input_writes kept promised (left_of (s.left a)) ++ entry_acts kept name date reply (taking (room_in kept) promised (left_of (s.left a))))
+        (input_writes kept.words kept.entries promised (left_of (s.left a)) ++ entry_acts kept name date reply (taking (room_in kept) promised (left_of (s.left a))))
         (subst (Broke t x0 x1) got.1 (Broke-front got.0 did.broke))) did.told;
     acts = record { steps = did.steps; text = [] } ∷ [];
     cut = broke_cut t s x0 x1 a (record { steps = did.steps; text = [] }) [] did.broke;
@@ -204,10 +204,10 @@ module _ {T S : Type 0} (t : tapes.Meaning T) (s : sources.Meaning S) (store aft
       is_told = went.is_told;
       content = went.content;
       took = went.took;
-      went = subst (λ (last : List Act). Went t s no_sink (reading x0 a) (reading x2 b) (first_act ∷ (input_writes kept promised went.input ++ last)))
+      went = subst (λ (last : List Act). Went t s no_sink (reading x0 a) (reading x2 b) (first_act ∷ (input_writes kept.words kept.entries promised went.input ++ last)))
           (sym (ap (λ (k : Taking). entry_acts kept name date silently k) went.took ∙ none kept))
-          (subst (λ (acts : List Act). Went t s no_sink (reading x0 a) (reading x2 b) (first_act ∷ acts)) (sym (append-nil (input_writes kept promised went.input)))
-          (both_went (input_writes kept promised went.input) went.went));
+          (subst (λ (acts : List Act). Went t s no_sink (reading x0 a) (reading x2 b) (first_act ∷ acts)) (sym (append-nil (input_writes kept.words kept.entries promised went.input)))
+          (both_went (input_writes kept.words kept.entries promised went.input) went.went));
       left = went.left;
     }
 
@@ -225,15 +225,15 @@ module _ {T S : Type 0} (t : tapes.Meaning T) (s : sources.Meaning S) (store aft
           let same : again.steps ≡ settling_steps table c = known.1 ∙ ap (λ (d : List (List ℕ)). settling_steps d c) (table_one c area table known.0 is) in
           subst (λ (ss : List Step). Cut t s no_sink (reading x0 a) (reading x2 b) (append_acts (kept_by store table ss) name date promised reply broke.input) failing) same
           (cut_before (entry_acts (kept_by store table again.steps) name date reply (taking (room_in (kept_by store table again.steps)) promised broke.input)))) again.told;
-      acts = first_act ∷ input_writes kept promised broke.input;
-      cut = went_then_cut t s no_sink no_text (reading x0 a) (reading x1 a) (reading x2 b) (first_act ∷ []) (input_writes kept promised broke.input) failing first_went broke.cut;
+      acts = first_act ∷ input_writes kept.words kept.entries promised broke.input;
+      cut = went_then_cut t s no_sink no_text (reading x0 a) (reading x1 a) (reading x2 b) (first_act ∷ []) (input_writes kept.words kept.entries promised broke.input) failing first_went broke.cut;
       tells = broke.tells;
     }
       where
-        cut_before : (last : List Act) → Cut t s no_sink (reading x0 a) (reading x2 b) (first_act ∷ (input_writes kept promised broke.input ++ last)) failing
+        cut_before : (last : List Act) → Cut t s no_sink (reading x0 a) (reading x2 b) (first_act ∷ (input_writes kept.words kept.entries promised broke.input ++ last)) failing
         cut_before last =
-            went_then_cut t s no_sink no_text (reading x0 a) (reading x1 a) (reading x2 b) (first_act ∷ []) (input_writes kept promised broke.input ++ last) failing first_went
-            (cut_is_longer t s no_sink (reading x1 a) (reading x2 b) (input_writes kept promised broke.input) last failing broke.cut)
+            went_then_cut t s no_sink no_text (reading x0 a) (reading x1 a) (reading x2 b) (first_act ∷ []) (input_writes kept.words kept.entries promised broke.input ++ last) failing first_went
+            (cut_is_longer t s no_sink (reading x1 a) (reading x2 b) (input_writes kept.words kept.entries promised broke.input) last failing broke.cut)
 
     pub input_refused : (why : StoreFault) → InputIs t s store.words store.entries promised (reading x1 a) (reading x2 b) (Err why) →
         AppendEnds t s (reading x0 a) (reading x2 b) store after name date promised (Err why)
@@ -259,7 +259,7 @@ module _ {T S : Type 0} (t : tapes.Meaning T) (s : sources.Meaning S) (store aft
       input = wrote.went.input
 
       abbrev ins : List Act
-      ins = input_writes kept promised input
+      ins = input_writes kept.words kept.entries promised input
 
       pub entry_is : new ≡ entry_for kept name date wrote.bytes
       entry_is =
@@ -284,7 +284,7 @@ module _ {T S : Type 0} (t : tapes.Meaning T) (s : sources.Meaning S) (store aft
       at_settled : Tells t x0 (Now (λ d. IsSettledFor d area))
       at_settled =
           tells_two t x0 (λ c. TableIs c area × (again.steps ≡ settling_steps area c)) (λ c. c.info.protected ≡ false) (Now (λ d. IsSettledFor d area))
-          (λ c known mark. settled_behind (changed_by again.steps c) area (steps_of ins) (input_behind kept promised input (end_least 2 (length store.words - 1) store.entries order))
+          (λ c known mark. settled_behind (changed_by again.steps c) area (steps_of ins) (input_behind kept.words kept.entries promised input (end_least 2 (length store.words - 1) store.entries order))
           (subst (λ (d : Cartridge). IsSettledFor d area) (sym (ap (λ (ss : List Step). changed_by ss c) known.1 ∙ settling_settles c area known.0))
           (settled_is_settled_for c area known.0 mark)))
           again.told unprotected

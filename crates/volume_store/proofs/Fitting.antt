@@ -33,7 +33,6 @@ use Rattle.host_driver.specs.Fits.{Fits, AgreesWithTape, segments_of}
 use Rattle.cartridge_laws.proofs.MountWhole.{table_is_area}
 use Rattle.cartridge_front.specs.declared.fault.StoreFault.{StoreFault}
 use Rattle.cartridge_front.specs.Again.{IsSettledAgain, IsAdded, SettlesAgain, AddsEntry, entry_writes}
-use Rattle.command_laws.specs.CommandTerms.{kept_in}
 use Rattle.command_spec.specs.Append.{input_writes}
 use Rattle.volume_store.specs.Appending.{InputIs}
 use Rattle.volume_store.specs.Mounting.{StoreView, StoreFits}
@@ -131,11 +130,11 @@ least_end last entries order = end_least 2 last entries order
 pub input_did : {T S : Type 0} (t : tapes.Meaning T) (s : sources.Meaning S) (words : List ℕ) (entries : List Entry) (promised : Option ℕ) (x y : T) (a b : S) (why : StoreFault) → 2 ≤ last_end entries → why ≢ fault.Tape →
     InputIs t s words entries promised (reading x a) (reading y b) (Err why) → DidBehind t x y
 input_did t s words entries promised x y a b (fault.Full need room_left) least other is =
-    (steps_of (input_writes (kept_in words entries) promised is.input), input_behind (kept_in words entries) promised is.input least, is.went.did)
+    (steps_of (input_writes words entries promised is.input), input_behind words entries promised is.input least, is.went.did)
 input_did t s words entries promised x y a b (fault.Short asked read) least other is =
-    (steps_of (input_writes (kept_in words entries) promised is.input), input_behind (kept_in words entries) promised is.input least, is.went.did)
+    (steps_of (input_writes words entries promised is.input), input_behind words entries promised is.input least, is.went.did)
 input_did t s words entries promised x y a b fault.Source least other is =
-    (steps_of is.cut.front, front_behind is.cut.front is.cut.rest (input_writes (kept_in words entries) promised is.input) is.cut.parts (input_behind (kept_in words entries) promised is.input least), is.cut.did)
+    (steps_of is.cut.front, front_behind is.cut.front is.cut.rest (input_writes words entries promised is.input) is.cut.parts (input_behind words entries promised is.input least), is.cut.did)
 input_did t s words entries promised x y a b fault.Tape least other is = absurd (other refl)
 input_did t s words entries promised x y a b fault.NotFormatted least other is = absurd is
 input_did t s words entries promised x y a b (fault.Foreign field value) least other is = absurd is

@@ -1,11 +1,15 @@
 pub mod BrokenUnread
 pub mod Ending
 pub mod Fitting
+pub mod Mounted
+pub mod Opened
 pub mod Ordering
 pub mod Parts
+pub mod Refusals
 pub mod Restored
 pub mod Scrubs
 pub mod Stages
+pub mod Started
 pub mod Storing
 pub mod Taking
 pub mod Worn

@@ -51,7 +51,7 @@ module _ {T S : Type 0} (t : tapes.Meaning T) (s : sources.Meaning S) (store : S
           (λ c known table is.
           let got = known table is in
           broke_cut t s x0 x1 a (record { steps = settling_steps table c; text = [] })
-          (input_writes (kept_by store table (settling_steps table c)) promised (left_of (s.left a)))
+          (input_writes store.words store.entries promised (left_of (s.left a)))
           (subst (tapes.Broke t x0 x1) got.1 (Broke-front got.0 did.broke))) did.told;
     }
 
@@ -99,7 +99,7 @@ module _ {T S : Type 0} (t : tapes.Meaning T) (s : sources.Meaning S) (store : S
           (λ c known table is.
           let same : again.steps ≡ settling_steps table c = known.1 ∙ ap (λ (d : List (List ℕ)). settling_steps d c) (table_one c area table known.0 is) in
           subst (λ (ss : List Step). Cut t s no_sink (reading x0 a) (reading x2 b) (acts_before_entry (kept_by store table ss) promised broke.input) failing) same
-          (went_then_cut t s no_sink no_text (reading x0 a) (reading x1 a) (reading x2 b) (first_act ∷ []) (input_writes (kept_by store area again.steps) promised broke.input) failing
+          (went_then_cut t s no_sink no_text (reading x0 a) (reading x1 a) (reading x2 b) (first_act ∷ []) (input_writes store.words store.entries promised broke.input) failing
           (act_went t s x0 x1 a again.steps again.done) broke.cut)) again.told;
     }
 

@@ -21,7 +21,6 @@ use Rattle.volume_store.specs.declared.appended.Appended.{Appended}
 use Rattle.cartridge_front.specs.declared.fault.StoreFault.{StoreFault}
 use Rattle.cartridge_front.specs.Again.{IsSettledAgain, IsAdded, IsOfReading, SettlesAgain, AddsEntry}
 use Rattle.volume_store.specs.Appending.{InputIs, InputWritten, HasAppended, AppendEnds}
-use Rattle.command_laws.specs.CommandTerms.{kept_in}
 use Rattle.command_spec.specs.Append.{input_writes}
 use Rattle.volume_store.specs.Mounting.{StoreView, StoreFits}
 use Rattle.command_laws.proofs.StoreBehind.{input_behind}
@@ -103,8 +102,8 @@ module _ {T S : Type 0} (t : tapes.Meaning T) (s : sources.Meaning S) {store : S
 
       did_input : DidBehind t v.tape w.tape
       did_input = (
-        steps_of (input_writes (kept_in store.words store.entries) promised wrote.went.input),
-        input_behind (kept_in store.words store.entries) promised wrote.went.input (least_end (length store.words - 1) store.entries may.order),
+        steps_of (input_writes store.words store.entries promised wrote.went.input),
+        input_behind store.words store.entries promised wrote.went.input (least_end (length store.words - 1) store.entries may.order),
         wrote.went.went.did,
       )
 

@@ -13,7 +13,7 @@ use Rattle.cartridge_spec.specs.Table.{Entry}
 use Rattle.cartridge_spec.specs.Volumes.{carrying}
 use Rattle.command_laws.proofs.StoreTaking.{both_true}
 use Rattle.command_spec.specs.Append.{Fits, TooLong, taking, has_promised_room, TooShort, volume_acts, filled_acts, input_acts, Taking, input_writes}
-use Rattle.command_laws.specs.CommandTerms.{kept_in, bytes_taken}
+use Rattle.command_laws.specs.CommandTerms.{bytes_taken}
 use Rattle.qic_base.proofs.Giving.{Gave-nothing, Gave-Gave, Gave-end}
 use Rattle.qic_base.proofs.Steps.{Done-nothing, Rose-after}
 use Rattle.qic_base.specs.Acts.{Act, Outside, Failing, Went, Cut, SourceFails}
@@ -152,16 +152,16 @@ module _ {T S : Type 0} (t : tapes.Meaning T) (s : sources.Meaning S) (words : L
   have = room words entries
 
   -- the writes that an input asks for, where there is room
-  writes_none : (input : List ℕ) → 1 ≤ have → input_writes (kept_in words entries) None input ≡ volume_acts words segments (take have input)
+  writes_none : (input : List ℕ) → 1 ≤ have → input_writes words entries None input ≡ volume_acts words segments (take have input)
   writes_none input some = chosen_true (nat_le 1 have) (volume_acts words segments (take have input)) [] (le-leb 1 have some)
 
   writes_some : (n : ℕ) (input : List ℕ) → 1 ≤ have → n ≤ have →
-      input_writes (kept_in words entries) (Some n) input ≡ input_acts words segments n true input
+      input_writes words entries (Some n) input ≡ input_acts words segments n true input
   writes_some n input some within = chosen_true (has_promised_room have (Some n)) (input_acts words segments n true input) [] (has_room have n some within)
 
   went_with : (promised : Option ℕ) (bytes : List ℕ) (became : Taking) → Gave s old.source new.source bytes → IfNone (s.left old.source) (All (λ (b : ℕ). b < 256) bytes) →
       taking have promised (bytes ++ left_of (s.left new.source)) ≡ became → bytes_taken promised became ≡ length bytes →
-      Went t s no_sink old new (input_writes (kept_in words entries) promised (bytes ++ left_of (s.left new.source))) →
+      Went t s no_sink old new (input_writes words entries promised (bytes ++ left_of (s.left new.source))) →
       InputWent t s words entries promised old new became
   went_with promised bytes became gave content took taken went = record {
     input = bytes ++ left_of (s.left new.source);
@@ -173,7 +173,7 @@ module _ {T S : Type 0} (t : tapes.Meaning T) (s : sources.Meaning S) (words : L
   }
 
   broke_with : (promised : Option ℕ) (failing : Failing) (bytes : List ℕ) → Gave s old.source new.source bytes → IfNone (s.left old.source) (All (λ (b : ℕ). b < 256) bytes) →
-      Cut t s no_sink old new (input_writes (kept_in words entries) promised (bytes ++ left_of (s.left new.source))) failing →
+      Cut t s no_sink old new (input_writes words entries promised (bytes ++ left_of (s.left new.source))) failing →
       InputBroke t s words entries promised old new failing
   broke_with promised failing bytes gave content cut = record {
     input = bytes ++ left_of (s.left new.source);
@@ -279,7 +279,7 @@ module _ {T S : Type 0} (t : tapes.Meaning T) (s : sources.Meaning S) (words : L
   nothing : (c : S) → s.faults a ≤ s.faults c → Went t s no_sink (reading x a) (reading x c) []
   nothing c later = record { did = Done-nothing t x; wrote = record { took = refl; later = omega arith }; source_later = later }
 
-  no_writes : (input : List ℕ) → room words entries ≡ 0 → input_writes (kept_in words entries) None input ≡ []
+  no_writes : (input : List ℕ) → room words entries ≡ 0 → input_writes words entries None input ≡ []
   no_writes input none =
       chosen_false (nat_le 1 (room words entries))
       (volume_acts words (free_segments words entries) (take (room words entries) input)) []
@@ -358,7 +358,7 @@ module _ {T S : Type 0} (t : tapes.Meaning T) (s : sources.Meaning S) (words : L
     all_given : (more : List ℕ) → Gave s b c more → Gave s a c (has.bytes ++ more)
     all_given more gave = Gave-Gave s a b c has.bytes more has.gave gave
 
-    writes_same : (more : List ℕ) → volume_acts words places has.bytes ≡ input_writes (kept_in words entries) None ((has.bytes ++ more) ++ left_of (s.left c))
+    writes_same : (more : List ℕ) → volume_acts words places has.bytes ≡ input_writes words entries None ((has.bytes ++ more) ++ left_of (s.left c))
     writes_same more =
         let rest : List ℕ = left_of (s.left c) in
         ap (volume_acts words places)

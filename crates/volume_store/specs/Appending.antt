@@ -1,12 +1,13 @@
 -- What an append does, by the map, the list, the table's data and the input; and how the call ended (this project's own).
+use Rattle.cartridge_spec.specs.Appending.{room}
 use Rattle.std.specs.Prelude.{◌≡◌, ℕ, ◌<◌, List, drop, Option, All, IfSome, IfNone, [], length, is_some, Result, Ok, Err, ◌≤◌, ◌+◌, ◌∷◌, ◌++◌, ◌⊎◌, Some, true}
 use Rattle.std.specs.Option.{option_map}
 use Rattle.cartridge_spec.specs.TableSegment.{TableIs, table_cells}
 use Rattle.cartridge_spec.specs.Says.{LostSectors, ByCode, TableSays}
 use Rattle.cartridge_spec.specs.Settling.{settling_steps}
 use Rattle.cartridge_spec.specs.Table.{Entry, Shows}
-use Rattle.command_spec.specs.Append.{Taking, taking, room_in, input_writes, Fits, TooLong, TooShort, Kept, append_acts, has_promised_room}
-use Rattle.command_laws.specs.CommandTerms.{kept_in, entry_for, bytes_taken, silently}
+use Rattle.command_spec.specs.Append.{Taking, taking, room_in, input_writes, Fits, TooLong, TooShort, Kept, append_acts, has_promised_room, entry_behind}
+use Rattle.command_laws.specs.CommandTerms.{entry_for, bytes_taken, silently}
 use Rattle.qic_base.specs.Acts.{Outside, Went, Failing, Cut, TapeFails, SourceFails, Act}
 use Rattle.qic_base.specs.Terms.{no_sink}
 use Rattle.qic_base.specs.Cartridge.{Cartridge}
@@ -27,8 +28,8 @@ pub record InputWent {T S : Type 0} (t : tapes.Meaning T) (s : sources.Meaning S
   pub input : List ℕ
   pub is_told : IfSome (s.left old.source) (λ bytes. input ≡ bytes)
   pub content : IfNone (s.left old.source) (All (λ b. b < 256) input)
-  pub took : taking (room_in (kept_in words entries)) promised input ≡ became
-  pub went : Went t s no_sink old new (input_writes (kept_in words entries) promised input)
+  pub took : taking (room words entries) promised input ≡ became
+  pub went : Went t s no_sink old new (input_writes words entries promised input)
   pub left : s.left new.source ≡ option_map (drop (bytes_taken promised became)) (s.left old.source)
 
 -- .. all of it was written: what is answered of it
@@ -36,15 +37,15 @@ pub record InputWritten {T S : Type 0} (t : tapes.Meaning T) (s : sources.Meanin
   pub bytes : List ℕ
   pub went : InputWent t s words entries promised old new (Fits bytes)
   pub count : written.bytes ≡ length bytes
-  pub start : written.start ≡ (entry_for (kept_in words entries) [] 0 bytes).start
-  pub end : written.end ≡ (entry_for (kept_in words entries) [] 0 bytes).end
+  pub start : written.start ≡ (entry_behind words entries [] 0 bytes).start
+  pub end : written.end ≡ (entry_behind words entries [] 0 bytes).end
 
 -- A fault of the tape or of the source cut the writes off.
 pub record InputBroke {T S : Type 0} (t : tapes.Meaning T) (s : sources.Meaning S) (words : List ℕ) (entries : List Entry) (promised : Option ℕ) (old new : Outside T S (Unit {0})) (failing : Failing) : Type 0 where
   pub input : List ℕ
   pub is_told : IfSome (s.left old.source) (λ bytes. input ≡ bytes)
   pub content : IfNone (s.left old.source) (All (λ b. b < 256) input)
-  pub cut : Cut t s no_sink old new (input_writes (kept_in words entries) promised input) failing
+  pub cut : Cut t s no_sink old new (input_writes words entries promised input) failing
   pub tells : is_some (s.left new.source) ≡ is_some (s.left old.source)
 
 abbrev pub InputIs : {T S : Type 0} (t : tapes.Meaning T) (s : sources.Meaning S) (words : List ℕ) (entries : List Entry) (promised : Option ℕ) (old new : Outside T S (Unit {0})) → Result Written StoreFault → Type 0
@@ -65,7 +66,7 @@ TakesNone s old new fault = ⊥
 
 -- what an append to the cartridge of a store goes by, where the table's data are these and these steps settle it
 abbrev pub kept_by : StoreView → (table : List (List ℕ)) → (settling : List Step) → Kept
-kept_by store table settling = record (kept_in store.words store.entries) { table = table; settling = settling }
+kept_by store table settling = record { words = store.words; entries = store.entries; table = table; settling = settling }
 
 -- All acts went, and this became of the input that the source told, or of some input where it tells none.
 pub record AppendRan {T S : Type 0} (t : tapes.Meaning T) (s : sources.Meaning S) (old new : Outside T S (Unit {0})) (store : StoreView) (name : List ℕ) (date : ℕ) (promised : Option ℕ) (became : Taking) : Type 0 where
@@ -153,7 +154,7 @@ pub record KeepsFormat (store after : StoreView) : Type 0 where
 -- There is room for as many bytes as are promised. With nothing promised the source is asked for one byte where there
 -- is no room, too.
 abbrev pub HasRoomFor : (words : List ℕ) → (entries : List Entry) → (promised : Option ℕ) → Type 0
-HasRoomFor words entries promised = IfSome promised (λ n. has_promised_room (room_in (kept_in words entries)) (Some n) ≡ true)
+HasRoomFor words entries promised = IfSome promised (λ n. has_promised_room (room words entries) (Some n) ≡ true)
 
 -- so an input was taken of which so many bytes are promised: it is Full, and the source as it was; or there is room
 abbrev pub AskedFor : {S : Type 0} (words : List ℕ) (entries : List Entry) (n : ℕ) (old new : S) → Result Written StoreFault → Type 0
@@ -173,7 +174,7 @@ AsksInRoom t old new store promised = (new.source ≡ old.source) ⊎ MayAsk t o
 
 -- the acts of an append in front of those of the entry: the table is settled, and the input is written
 abbrev pub acts_before_entry : Kept → (promised : Option ℕ) → (input : List ℕ) → List Act
-acts_before_entry kept promised input = record { steps = kept.settling; text = [] } ∷ input_writes kept promised input
+acts_before_entry kept promised input = record { steps = kept.settling; text = [] } ∷ input_writes kept.words kept.entries promised input
 
 -- A fault cut these off, and no write of the entry came.
 pub record CutBeforeEntry {T S : Type 0} (t : tapes.Meaning T) (s : sources.Meaning S) (old new : Outside T S (Unit {0})) (store : StoreView) (promised : Option ℕ) (failing : Failing) : Type 0 where
@@ -189,7 +190,7 @@ pub record HasGivenAll {S : Type 0} (s : sources.Meaning S) (old new : S) (store
   pub is_told : IfSome (s.left old) (λ bytes. input ≡ bytes)
   pub content : IfNone (s.left old) (All (λ b. b < 256) input)
   pub bytes : List ℕ
-  pub took : taking (room_in (kept_in store.words store.entries)) promised input ≡ Fits bytes
+  pub took : taking (room store.words store.entries) promised input ≡ Fits bytes
   pub left : s.left new ≡ option_map (drop (length bytes)) (s.left old)
 
 -- Where a promise has no room the source is as it was. A fault of the source, which was asked, came before any write of

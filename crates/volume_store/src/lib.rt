@@ -1,16 +1,21 @@
-//! A formatted cartridge mounted: its header in force, its map of bad sectors and its list of volumes, read through the
-//! host; and its volumes listed, appended, restored, read by parts and scrubbed.
+//! A formatted cartridge put in and mounted: its header in force, its map of bad sectors and its list of volumes, read through
+//! the host; and its volumes listed, appended, restored, read by parts and scrubbed. Its working objects are all asked for
+//! before.
 #![tactic(auto)]
 
 mod appended;
 mod appending;
 mod listing;
+mod opening;
+mod room;
 mod store;
 mod volume_text;
 
 pub use appended::Appended;
 pub use cartridge_front::StoreFault;
 pub use listing::write_list;
+pub use opening::{OpenFault, open, start};
+pub use room::Room;
 pub use segment_mending::ScrubReport;
 pub use store::Store;
 pub use volume_text::{appended_text, write_count, write_volume};

@@ -10,7 +10,7 @@ use drive_states::Unit;
 use host_commands::open_writable;
 use made_volumes::{MakeFault, make_volumes};
 use qic_base::{Sink, Tape};
-use store_opening::Room;
+use volume_store::Room;
 
 /// Opens the cartridge, where it isn't protected, appends so many volumes that are made from the seed, wears some of
 /// their sectors, scrubs the cartridge, and prints the sum of each volume's bytes.

@@ -9,8 +9,8 @@ use crate::Status;
 use drive_states::Unit;
 use host_commands::open;
 use qic_base::{Sink, Source, Tape};
-use store_opening::Room;
 use volume_script::{ScriptFault, run_script};
+use volume_store::Room;
 
 /// Opens the cartridge once, carries out the lines of the source on it, and prints the reply of each as it goes.
 pub fn script<T: Tape, S: Source, K: Sink>(

@@ -71,7 +71,7 @@ returns-clause-read c = (
 
 pub returns-clause-append : goal.returns-clause-append
 unfolding digits number_line place_line date_form date_text trimmed name_text appended_line volume_line volume_lines list_text label_lines count_lines filled lost_places
-returns-clause-append c = refl
+returns-clause-append c = λ d table. refl
 
 pub returns-clause-list : goal.returns-clause-list
 unfolding digits number_line place_line date_form date_text trimmed name_text appended_line volume_line volume_lines list_text label_lines count_lines filled lost_places

@@ -4,7 +4,7 @@ use Rattle.qic_base.specs.SinkCalls.{Writes}
 use Rattle.cartridge_front.specs.declared.fault.StoreFault.{StoreFault}
 use Rattle.volume_store.specs.Appending.{AppendEnds}
 use Rattle.command_spec.specs.Lines.{appended_line}
-use Rattle.store_opening.proofs.Opened.{unlocked_where}
+use Rattle.volume_store.proofs.Opened.{unlocked_where}
 use Rattle.host_commands.proofs.Added.{append_unopened, append_replied, append_failed, never_short_told}
 use Rattle.host_commands.proofs.append.append.Goals as goal
 

@@ -5,7 +5,7 @@ use Rattle.drive_spec.specs.Terms.{is_protected}
 use Rattle.formatter.specs.Formats.{Formats, HasFormatted}
 use Rattle.formatter.specs.declared.fault.FormatFault.TheVariants as fault
 use Rattle.host_commands.proofs.Formats.{not_true, format_unstarted, format_faulted, format_printed}
-use Rattle.store_opening.proofs.Started.{there_of, present}
+use Rattle.volume_store.proofs.Started.{there_of, present}
 use Rattle.host_commands.proofs.format.format_cartridge.Goals as goal
 
 pub returns-in-Err : goal.returns-in-Err

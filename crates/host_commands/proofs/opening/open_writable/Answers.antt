@@ -1,9 +1,9 @@
 use Rattle.std.proofs.Common.{◌≡◌, false, sym, ap, ◌∙◌}
 use Rattle.std.specs.Option.{option_map_or}
 use Rattle.drive_spec.specs.Terms.{is_protected}
-use Rattle.store_opening.proofs.Started.{there_of, present}
-use Rattle.store_opening.proofs.Mounted.{open_shown, open_failed as mount_failed}
-use Rattle.store_opening.specs.declared.opening.OpenFault.TheVariants.{Refused}
+use Rattle.volume_store.proofs.Started.{there_of, present}
+use Rattle.volume_store.proofs.Mounted.{open_shown, open_failed as mount_failed}
+use Rattle.volume_store.specs.declared.opening.OpenFault.TheVariants.{Refused}
 use Rattle.host_commands.proofs.Mounted.{open_failed, unlocked_known, writable_unstarted, writable_failed}
 use Rattle.host_commands.proofs.opening.open_writable.Goals as goal
 

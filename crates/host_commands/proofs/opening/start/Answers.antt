@@ -1,4 +1,4 @@
-use Rattle.store_opening.proofs.Mounted.{open_unstarted}
+use Rattle.volume_store.proofs.Mounted.{open_unstarted}
 use Rattle.host_commands.proofs.Mounted.{never_short, start_failed}
 use Rattle.host_commands.proofs.opening.start.Goals as goal
 

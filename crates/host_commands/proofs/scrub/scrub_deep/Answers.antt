@@ -2,7 +2,7 @@ use Rattle.std.proofs.Common.{Err, ap, subst}
 use Rattle.command_spec.specs.declared.depth.Depth.TheVariants.{Deep}
 use Rattle.qic_base.specs.Terms.{around}
 use Rattle.volume_store.specs.Scrubbing.{MendEnds}
-use Rattle.store_opening.proofs.Opened.{unlocked_where}
+use Rattle.volume_store.proofs.Opened.{unlocked_where}
 use Rattle.cartridge_front.specs.declared.fault.StoreFault.{StoreFault}
 use Rattle.host_commands.proofs.Scrubbed.{deep_form, refused_form, scrub_failed, scrubbed}
 use Rattle.command_spec.specs.declared.words.Words.TheVariants as words

@@ -1,6 +1,6 @@
-use Rattle.store_opening.proofs.Mounted.{open_unstarted, open_shown, open_failed}
-use Rattle.store_opening.proofs.Started.{there_of, present}
-use Rattle.store_opening.proofs.opening.open.Goals as goal
+use Rattle.volume_store.proofs.Mounted.{open_unstarted, open_shown, open_failed}
+use Rattle.volume_store.proofs.Started.{there_of, present}
+use Rattle.volume_store.proofs.opening.open.Goals as goal
 
 pub returns-in-Err : goal.returns-in-Err
 returns-in-Err g c = open_unstarted g.T.Tape.means c.args.unit.now.tape c.start.new.unit.tape c.in-Err.fault c.in-Err.ensures

@@ -16,7 +16,7 @@ use Rattle.qic_base.specs.Acts.{Outside, Act, next_steps, Failing, TapeCut, Went
 use Rattle.qic_base.specs.Cartridge.{Cartridge}
 use Rattle.qic_base.specs.Step.{Step as TapeStep, effects}
 use Rattle.qic_base.specs.declared.tape.TapeInfo.{TapeInfo}
-use Rattle.store_opening.specs.Opening.{IsOpened, HasOpened}
+use Rattle.volume_store.specs.Opening.{IsOpened, HasOpened}
 use Rattle.cartridge_front.proofs.Copies.{IsLearnt, told_learnt}
 use Rattle.volume_store.specs.Mounting.{StoreView}
 use Rattle.cartridge_front.specs.declared.fault.StoreFault.{StoreFault}

@@ -1,12 +1,13 @@
 //! The cartridge that a drive holds, opened: put in and mounted.
 
-ghost use Rattle.store_opening.specs.Opening.{OpenEnds, StartEnds};
+ghost use Rattle.volume_store.specs.Opening.{OpenEnds, StartEnds};
 
 use crate::room::Room;
+use crate::store::Store;
+use cartridge_front::StoreFault;
 use drive_states::Unit;
 use host_driver::{Host, HostFault};
 use qic_base::Tape;
-use volume_store::{Store, StoreFault};
 
 /// Why a cartridge can't be opened.
 #[derive(Clone, Copy, Debug, Drop, PartialEq, Eq)]

@@ -6,7 +6,7 @@ use Rattle.host_driver.specs.declared.host.Host.{Host}
 use Rattle.qic_base.proofs.Steps.{Done-told}
 use Rattle.qic_base.specs.Cartridge.{Cartridge}
 use Rattle.qic_base.specs.declared.tape.TapeInfo.{TapeInfo}
-use Rattle.store_opening.specs.Opening.{HasStarted}
+use Rattle.volume_store.specs.Opening.{HasStarted}
 use Rattle.qic_base.specs.Tape as tapes
 use Rattle.qic_base.specs.TapeCalls as tape_calls
 

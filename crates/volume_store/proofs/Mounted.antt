@@ -5,16 +5,16 @@ use Rattle.qic_base.proofs.Steps.{Done-Done, Done-Broke}
 use Rattle.qic_base.specs.Cartridge.{Cartridge}
 use Rattle.qic_base.specs.Step.{Step as TapeStep}
 use Rattle.qic_base.specs.declared.tape.TapeInfo.{TapeInfo}
-use Rattle.store_opening.proofs.Started.{Knows, Present, told_known_beside, told_at_start}
-use Rattle.store_opening.specs.Opening.{IsOpened, IsTurnedDown, HasOpened, OpenFails, StartFails}
-use Rattle.store_opening.specs.declared.opening.OpenFault.{OpenFault}
+use Rattle.volume_store.proofs.Started.{Knows, Present, told_known_beside, told_at_start}
+use Rattle.volume_store.specs.Opening.{IsOpened, IsTurnedDown, HasOpened, OpenFails, StartFails}
+use Rattle.volume_store.specs.declared.opening.OpenFault.{OpenFault}
 use Rattle.cartridge_front.specs.Finding.{is_of_mounting, NamesCause}
 use Rattle.cartridge_front.specs.Learning.{MountRefuses}
 use Rattle.volume_store.specs.Mounting.{StoreView, StoreFits, IsSettling, MountDoes}
 use Rattle.cartridge_front.specs.declared.fault.StoreFault.{StoreFault}
 use Rattle.qic_base.specs.Tape as tapes
 use Rattle.qic_base.specs.TapeCalls as tape_calls
-use Rattle.store_opening.specs.declared.opening.OpenFault.TheVariants as open_fault
+use Rattle.volume_store.specs.declared.opening.OpenFault.TheVariants as open_fault
 use Rattle.volume_store.specs.Mounting as stores
 use Rattle.cartridge_front.specs.declared.fault.StoreFault.TheVariants as fault
 

@@ -1,5 +1,5 @@
 -- How the opening of a cartridge ends: refused, or with its table settled and what was found (this project's own).
-use Rattle.std.specs.Prelude.{◌≡◌, ℕ, List, [], ◌⊎◌, Option, None, IfSome, IsSomeAnd, Result, Ok, Err, true}
+use Rattle.std.specs.Prelude.{◌≡◌, ℕ, List, [], ◌⊎◌, None, IfSome, IsSomeAnd, Result, Ok, Err, true}
 use Rattle.drive_states.specs.Unit.{UnitView}
 use Rattle.host_driver.specs.Calls.{IsReady}
 use Rattle.host_driver.specs.Fits.{AgreesWithTape}
@@ -8,8 +8,8 @@ use Rattle.host_driver.specs.declared.host.Host.{Host}
 use Rattle.qic_base.specs.Cartridge.{Cartridge}
 use Rattle.qic_base.specs.Step.{Step}
 use Rattle.qic_base.specs.Tape.{Meaning, Done, Broke}
-use Rattle.store_opening.specs.declared.opening.OpenFault.{OpenFault}
-use Rattle.store_opening.specs.declared.opening.OpenFault.TheVariants.{NoCartridge, Refused}
+use Rattle.volume_store.specs.declared.opening.OpenFault.{OpenFault}
+use Rattle.volume_store.specs.declared.opening.OpenFault.TheVariants.{NoCartridge, Refused}
 use Rattle.cartridge_front.specs.Finding.{is_of_mounting, NamesCause}
 use Rattle.cartridge_front.specs.Learning.{MountRefuses}
 use Rattle.volume_store.specs.Mounting.{StoreView, StoreFits, IsSettling, Settles}

@@ -1,4 +1,0 @@
-pub mod Mounted
-pub mod Opened
-pub mod Refusals
-pub mod Started
