@@ -112,7 +112,7 @@ by_longest_way() {
 # ends with the usage line and status 2.
 prove() {
     local place=$1 crate=$2 jobs=$3 behind=$4
-    cd "$room/$place/crates/$crate"
+    cd "$room/$place/crates/$crate" || return
     if [ "$crate" != tape ]; then
         nice -n "$behind" rt lib --jobs "$jobs" > "$room/log.$crate" 2>&1
     else
