@@ -1,10 +1,11 @@
 The examples of the manual
 ==========================
 
-Every command of the examples in the manual pages `tape.1`, `pulse_trace.1`, `tape_export.1` and `tape_import.1`, in their
-order, with exactly what is shown there, so that the examples stay true. Who changes a line here changes it there, too.
+Every command of the examples in the manual pages `tape.1`, `pulse_trace.1`, `tape_export.1`, `tape_import.1` and
+`tape_dup.1`, in their order, with exactly what is shown there, so that the examples stay true. Who changes a line here
+changes it there, too.
 
-  $ command -v tape_export > /dev/null && command -v tape_import > /dev/null || exit 80
+  $ for name in tape_export tape_import tape_dup; do command -v $name > /dev/null || exit 80; done
 
 tape
 ----
@@ -160,3 +161,23 @@ The dump and the map of before stand for those of a medium.
   scrub 4 3 0
   $ tape tape.img restore 1
   a page of text
+
+tape_dup
+--------
+
+The cartridge of the first example once more, since above a segment of it was lost.
+
+  $ tape evening.img new 3
+  blank 3
+  $ tape evening.img format evening 1994-03-01T12:00:00
+  formatted 84 0
+  $ tape evening.img append numbers 1994-03-01T20:15:00 < numbers
+  appended 1 48894 3 4
+  $ tape second.img new 3
+  blank 3
+  $ tape second.img format second
+  formatted 84 0
+  $ tape_dup evening.img second.img
+  copied 1 48894
+  volumes 1
+  $ tape second.img restore 1 | cmp - numbers

@@ -219,27 +219,26 @@ module _ (c : Cartridge) (words : List ℕ) (entries : List Entry) (table : List
           size = omega (arith, room_most words entries last);
         }
 
+    -- what was taken has room
+    has_room : (bytes : List ℕ) → taking (room_in kept) promised input ≡ Fits bytes → HasRoom words entries (length bytes)
+    has_room bytes took =
+        let fit = took_fits (room_in kept) promised input bytes took in
+        room_is words entries (length bytes) (both_true (nat_le 1 (room words entries)) (nat_le (length bytes) (room words entries))
+        (le-leb 1 (room words entries) fit.0) (le-leb (length bytes) (room words entries) fit.1))
+
     -- the table with the entry of a volume that has room is one
     pub entry_area : (bytes : List ℕ) → taking (room_in kept) promised input ≡ Fits bytes → IsArea (with_slot table (length entries) (slot_bytes (entry_for kept name date bytes)))
     entry_area bytes took =
         let e : Entry = entry_for kept name date bytes in
         let n : ℕ = length entries in
-        let fit = took_fits (room_in kept) promised input bytes took in
-        let has : HasRoom words entries (length bytes) =
-        room_is words entries (length bytes) (both_true (nat_le 1 (room words entries)) (nat_le (length bytes) (room words entries))
-        (le-leb 1 (room words entries) fit.0) (le-leb (length bytes) (room words entries) fit.1)) in
+        let has : HasRoom words entries (length bytes) = has_room bytes took in
         let within : n < 232 = has.free_slot in
         let small : n / 8 < 29 = omega arith in
         let slot : List ℕ = slot_bytes e in
         slot_area table n slot area within (length-slot_bytes e label.size) (slot_are_bytes e label.bytes (omega arith) (omega arith))
 
     pub slot_free : (bytes : List ℕ) → taking (room_in kept) promised input ≡ Fits bytes → length entries < 232
-    slot_free bytes took =
-        let fit = took_fits (room_in kept) promised input bytes took in
-        let has : HasRoom words entries (length bytes) =
-        room_is words entries (length bytes) (both_true (nat_le 1 (room words entries)) (nat_le (length bytes) (room words entries))
-        (le-leb 1 (room words entries) fit.0) (le-leb (length bytes) (room words entries) fit.1)) in
-        has.free_slot
+    slot_free bytes took = (has_room bytes took).free_slot
 
     with_entry : (bytes : List ℕ) → taking (room_in kept) promised input ≡ Fits bytes →
         LeavesTable c (changed_by (steps_of (entry_acts kept name date reply (Fits bytes))) filled) last (entries ++ entry_for kept name date bytes ∷ [])
@@ -247,9 +246,7 @@ module _ (c : Cartridge) (words : List ℕ) (entries : List Entry) (table : List
         let e : Entry = entry_for kept name date bytes in
         let n : ℕ = length entries in
         let fit = took_fits (room_in kept) promised input bytes took in
-        let has : HasRoom words entries (length bytes) =
-        room_is words entries (length bytes) (both_true (nat_le 1 (room words entries)) (nat_le (length bytes) (room words entries))
-        (le-leb 1 (room words entries) fit.0) (le-leb (length bytes) (room words entries) fit.1)) in
+        let has : HasRoom words entries (length bytes) = has_room bytes took in
         let within : n < 232 = has.free_slot in
         let small : n / 8 < 29 = omega arith in
         let slot : List ℕ = slot_bytes e in

@@ -11,7 +11,7 @@ use Rattle.cartridge_laws.proofs.MountOnce.{mounts_is_function}
 use Rattle.command_laws.proofs.StoreTaking.{both_true}
 use Rattle.std.proofs.lemmas.Bool.{lt-ltb, eqb-true, eq-eqb, le-leb, and_parts}
 use Rattle.std.specs.Prelude.{◌==◌, nat_lt, if◌then◌else◌}
-use Rattle.volume_store.specs.Mounting.{StoreView, IsSettling}
+use Rattle.volume_store.specs.Mounting.{StoreView, IsSettling, IsCutOff}
 use Rattle.drive_states.specs.Unit.{UnitView}
 use Rattle.cartridge_spec.specs.Settling.{settling_steps, settling_places, block_writes}
 use Rattle.cartridge_spec.specs.Says.{with_parity}
@@ -23,13 +23,14 @@ use Rattle.command_spec.specs.Outcome.{CommandOutcome, refused, acted, Going, Op
 use Rattle.command_laws.specs.Terms.{Printing, telling, listing}
 use Rattle.volume_store.proofs.Refusals.{foreign_is_refused}
 use Rattle.volume_store.proofs.Opened.{opening_cut, outside}
-use Rattle.volume_store.specs.Opening.{IsOpened, HasOpened, IsTurnedDown, IsCutOff, OpenFails, StartFails as FailsToStart}
+use Rattle.volume_store.specs.Opening.{IsOpened, HasOpened, IsTurnedDown, OpenFails, StartFails as FailsToStart}
 use Rattle.volume_store.specs.declared.opening.OpenFault.{OpenFault}
 use Rattle.command_laws.specs.CommandTerms.{CommandPrints, EndsBlind, Yields}
 use Rattle.command_laws.proofs.CommandOpened.{quiet}
 use Rattle.command_laws.proofs.CommandTold.{input_of, input_told, input_bytes}
 use Rattle.command_spec.specs.Machine.{may_come_from, CommandEnds}
 use Rattle.command_laws.proofs.CommandEndings.{Rules, nothing_front}
+use Rattle.volume_store.proofs.Mounted.{cut_first}
 use Rattle.volume_store.proofs.Started.{Present, Knows}
 use Rattle.cartridge_front.specs.declared.fault.StoreFault.{StoreFault}
 use Rattle.cartridge_front.specs.Learning.{MountRefuses}
@@ -130,10 +131,6 @@ absent_told None none = tt
 absent_told (Some None) none = refl
 absent_told (Some (Some c)) none = absurd (cc)
 
-nothing_begins : (steps : List TapeStep) (told : Option (Option Cartridge)) → steps ≡ [] → IfSome told (λ held. (steps ≡ []) ⊎ IsSomeAnd held (λ c. IsSettling c steps))
-nothing_begins steps None none = tt
-nothing_begins steps (Some h) none = inl none
-
 -- the refusals of an opening have an answer each
 pub never_short : {T : Type 0} (t : tapes.Meaning T) (a b : T) (why : OpenFault) → OpenFails t a b why → (promised read : ℕ) → why ≢ open_fault.Refused (fault.Short promised read)
 never_short t a b open_fault.NoCartridge fails promised read is = cc
@@ -189,8 +186,7 @@ absent_unlocked (Some (Some c)) none = absurd (cc)
 pub writable_unstarted : {T : Type 0} (t : tapes.Meaning T) (a : T) (b : UnitView T) (why : Status) → StartFails t a b.tape why → WritableEnds t a b (Err why)
 writable_unstarted t a b why (inl (is, (did, none))) =
     inr (inl (absent_unlocked (t.told a) none, record { did = did; sound = ap is_opening is; told = rw is (absent_told (t.told a) none) }))
-writable_unstarted t a b why (inr (is, broke)) =
-    inr (inr (is, record { steps = []; broke = broke; front = nothing_begins [] (t.told a) refl }))
+writable_unstarted t a b why (inr (is, broke)) = inr (inr (is, cut_first t a b.tape broke))
 
 pub writable_locked : {T : Type 0} (t : tapes.Meaning T) (a : T) (b : UnitView T) (info : TapeInfo) → Present t a b.tape info → info.protected ≡ true → WritableEnds t a b (Err status.Protected)
 writable_locked t a b info there locked = inl (record { answered = refl; did = there.did; told = mark_known t a b.tape info there locked })

@@ -10,9 +10,9 @@ use Rattle.host_driver.specs.declared.host.Host.{Host}
 use Rattle.qic_base.specs.Cartridge.{Cartridge}
 use Rattle.qic_base.specs.Tape.{Meaning, Done, Broke}
 use Rattle.qic_base.specs.TapeCalls.{Tells}
-use Rattle.volume_store.specs.Opening.{HasStarted, HasOpened, IsAbsent, IsCutOff}
+use Rattle.volume_store.specs.Opening.{HasStarted, HasOpened, IsAbsent}
 use Rattle.volume_store.specs.declared.opening.OpenFault.{OpenFault}
-use Rattle.volume_store.specs.Mounting.{StoreView}
+use Rattle.volume_store.specs.Mounting.{StoreView, IsCutOff}
 use Rattle.cartridge_front.specs.declared.fault.StoreFault.{StoreFault}
 use Rattle.cartridge_spec.specs.Mounting as mounting
 use Rattle.command_spec.specs.declared.status.Status.TheVariants as status

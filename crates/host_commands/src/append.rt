@@ -35,16 +35,7 @@ pub fn append<T: Tape, S: Source, K: Sink>(
         Err(status) => return status,
     };
     match store.append(unit, name, date, None, source) {
-        Ok(appended) => printed(write_text(
-            appended_text(
-                appended.number,
-                appended.bytes,
-                appended.start,
-                appended.end,
-            )
-            .bytes(),
-            sink,
-        )),
+        Ok(appended) => printed(write_text(appended_text(&appended).bytes(), sink)),
         Err(fault) => store_status(fault),
     }
 }

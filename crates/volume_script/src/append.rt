@@ -96,16 +96,7 @@ pub fn append<T: Tape, S: Source, K: Sink>(
 {
     let Promised { answer, left } = take_promised(store, unit, name, promised, date, source);
     match answer {
-        Ok(appended) => replied(write_text(
-            appended_text(
-                appended.number,
-                appended.bytes,
-                appended.start,
-                appended.end,
-            )
-            .bytes(),
-            sink,
-        )),
+        Ok(appended) => replied(write_text(appended_text(&appended).bytes(), sink)),
         Err(StoreFault::Protected) => refuse(left, Refusal::Protected, source, sink),
         Err(StoreFault::Full { need, have }) => {
             refuse(left, Refusal::Full { need, have }, source, sink)

@@ -1,16 +1,16 @@
 -- How the opening of a cartridge ends, by how its mounting did.
-use Rattle.std.proofs.Common.{◌≡◌, ◌⊎◌, ℕ, List, [], true, Option, Some, None, IfSome, IsSomeAnd, Ok, Err, refl, inl, inr}
+use Rattle.std.proofs.Common.{◌≡◌, ◌⊎◌, ℕ, List, [], true, Option, Some, None, IfSome, IsSomeAnd, Ok, Err, refl, inl}
 use Rattle.drive_states.specs.Unit.{UnitView}
 use Rattle.qic_base.proofs.Steps.{Done-Done, Done-Broke}
 use Rattle.qic_base.specs.Cartridge.{Cartridge}
 use Rattle.qic_base.specs.Step.{Step as TapeStep}
 use Rattle.qic_base.specs.declared.tape.TapeInfo.{TapeInfo}
-use Rattle.volume_store.proofs.Started.{Knows, Present, told_known_beside, told_at_start}
+use Rattle.volume_store.proofs.Started.{Knows, Present, told_known_beside, told_at_start, told_before}
 use Rattle.volume_store.specs.Opening.{IsOpened, IsTurnedDown, HasOpened, OpenFails, StartFails}
 use Rattle.volume_store.specs.declared.opening.OpenFault.{OpenFault}
 use Rattle.cartridge_front.specs.Finding.{is_of_mounting, NamesCause}
 use Rattle.cartridge_front.specs.Learning.{MountRefuses}
-use Rattle.volume_store.specs.Mounting.{StoreView, StoreFits, IsSettling, MountDoes}
+use Rattle.volume_store.specs.Mounting.{StoreView, StoreFits, IsSettling, IsCutOff, MountDoes}
 use Rattle.cartridge_front.specs.declared.fault.StoreFault.{StoreFault}
 use Rattle.qic_base.specs.Tape as tapes
 use Rattle.qic_base.specs.TapeCalls as tape_calls
@@ -23,24 +23,22 @@ is_mounted : (info : TapeInfo) (store : StoreView) (steps : List TapeStep) (held
 is_mounted info store steps None known settles = cc
 is_mounted info store steps (Some c) known settles = settles
 
-is_settling : (info : TapeInfo) (steps : List TapeStep) (held : Option Cartridge) → Knows (Some info) held → IfSome held (λ c. (steps ≡ []) ⊎ IsSettling c steps) →
-    (steps ≡ []) ⊎ IsSomeAnd held (λ c. IsSettling c steps)
-is_settling info steps None known settling = cc
-is_settling info steps (Some c) known (inl none) = inl none
-is_settling info steps (Some c) known (inr settling) = inr settling
-
 is_refused : (info : TapeInfo) (f : StoreFault) (held : Option Cartridge) → Knows (Some info) held → IfSome held (λ c. MountRefuses c f) → IsSomeAnd held (λ c. MountRefuses c f)
 is_refused info f None known refuses = cc
 is_refused info f (Some c) known refuses = refuses
 
-nothing_begins : (steps : List TapeStep) (told : Option (Option Cartridge)) → steps ≡ [] → IfSome told (λ held. (steps ≡ []) ⊎ IsSomeAnd held (λ c. IsSettling c steps))
-nothing_begins steps None none = tt
-nothing_begins steps (Some h) none = inl none
+-- a fault before any step
+pub cut_first : {T : Type 0} (t : tapes.Meaning T) (a b : T) → tapes.Broke t a b [] → IsCutOff t a b
+cut_first t a b broke = record { steps = []; broke = broke; front = nothing_begins (t.told a) }
+  where
+    nothing_begins : (told : Option (Option Cartridge)) → IfSome told (λ held. ([] ≡ []) ⊎ IsSomeAnd held (λ c. IsSettling c []))
+    nothing_begins None = tt
+    nothing_begins (Some h) = inl refl
 
 -- there was no start
 pub open_unstarted : {T : Type 0} (t : tapes.Meaning T) (a b : T) (why : OpenFault) → StartFails t a b why → OpenFails t a b why
 open_unstarted t a b open_fault.NoCartridge fails = fails
-open_unstarted t a b (open_fault.Refused fault.Tape) fails = record { steps = []; broke = fails; front = nothing_begins [] (t.told a) refl }
+open_unstarted t a b (open_fault.Refused fault.Tape) fails = cut_first t a b fails
 open_unstarted t a b (open_fault.Refused f) fails = absurd fails
 
 pub open_shown : {T : Type 0} (t : tapes.Meaning T) (a b : T) (c : UnitView T) (info : TapeInfo) (store : StoreView) → Present t a b info → MountDoes t b c.tape (Ok store) → StoreFits t store c →
@@ -75,9 +73,6 @@ open_failed n t a b c info fault.TableMismatch there does kind cause = turned n 
 open_failed n t a b c info fault.Tape there does kind cause = record {
   steps = does.steps;
   broke = Done-Broke there.did does.broke;
-  front = told_known_beside (t.told a) (Some info) (λ d. (does.steps ≡ []) ⊎ IsSettling d does.steps)
-      (λ h. (does.steps ≡ []) ⊎ IsSomeAnd h (λ d. IsSettling d does.steps)) there.known
-      (told_at_start t a b there.did (λ d. (does.steps ≡ []) ⊎ IsSettling d does.steps) does.told)
-      (λ held known settling. is_settling info does.steps held known settling);
+  front = told_before t a b there.did (λ held. (does.steps ≡ []) ⊎ IsSomeAnd held (λ d. IsSettling d does.steps)) does.front;
 }
 open_failed n t a b c info f there does kind cause = absurd (cc)

@@ -10,16 +10,21 @@ use Rattle.volume_store.specs.Opening.{HasStarted}
 use Rattle.qic_base.specs.Tape as tapes
 use Rattle.qic_base.specs.TapeCalls as tape_calls
 
--- what the drive knows since the insertion is what the tape told before it
-pub known_before : {T : Type 0} (t : tapes.Meaning T) (a b : T) (cartridge : Option TapeInfo) → tapes.Done t a b [] →
-    IfSome (t.told b) (λ there. cartridge ≡ option_map (λ c. c.info) there) → IfSome (t.told a) (λ there. cartridge ≡ option_map (λ c. c.info) there)
-known_before t a b cartridge inserted known =
-    let telling : Option (Option Cartridge) → Type 0 = λ held. IfSome held (λ there. cartridge ≡ option_map (λ c. c.info) there) in
-    subst telling (Done-told inserted) known
-
 -- the drive knows what is told
 abbrev pub Knows : Option TapeInfo → Option Cartridge → Type 0
 Knows cartridge held = cartridge ≡ option_map (λ c. c.info) held
+
+-- a fact of what is told after the insertion was told before it
+pub told_before : {T : Type 0} (t : tapes.Meaning T) (a b : T) → tapes.Done t a b [] → (P : Option Cartridge → Type 0) → IfSome (t.told b) P → IfSome (t.told a) P
+told_before t a b inserted P told = subst (λ (held : Option (Option Cartridge)). IfSome held P) (Done-told inserted) told
+
+-- .. what the drive knows since the insertion among them
+pub known_before : {T : Type 0} (t : tapes.Meaning T) (a b : T) (cartridge : Option TapeInfo) → tapes.Done t a b [] → IfSome (t.told b) (Knows cartridge) → IfSome (t.told a) (Knows cartridge)
+known_before t a b cartridge inserted known = told_before t a b inserted (Knows cartridge) known
+
+-- .. and what was told of the cartridge
+pub told_at_start : {T : Type 0} (t : tapes.Meaning T) (a b : T) → tapes.Done t a b [] → (P : Cartridge → Type 0) → tape_calls.Tells t b P → tape_calls.Tells t a P
+told_at_start t a b inserted P told = told_before t a b inserted (λ h. IfSome h P) told
 
 -- a fact of what is told follows from what the drive knows
 pub told_known : (held : Option (Option Cartridge)) (cartridge : Option TapeInfo) (R : Option Cartridge → Type 0) → IfSome held (Knows cartridge) → ((h : Option Cartridge) → Knows cartridge h → R h) → IfSome held R
@@ -31,12 +36,6 @@ pub told_known_beside : (held : Option (Option Cartridge)) (cartridge : Option T
     IfSome held (Knows cartridge) → IfSome held (λ h. IfSome h Q) → ((h : Option Cartridge) → Knows cartridge h → IfSome h Q → R h) → IfSome held R
 told_known_beside None cartridge Q R known fact follows = tt
 told_known_beside (Some h) cartridge Q R known fact follows = follows h known fact
-
--- a fact of the cartridge that is told after the insertion was told before it
-pub told_at_start : {T : Type 0} (t : tapes.Meaning T) (a b : T) → tapes.Done t a b [] → (P : Cartridge → Type 0) → tape_calls.Tells t b P → tape_calls.Tells t a P
-told_at_start t a b inserted P told =
-    let telling : Option (Option Cartridge) → Type 0 = λ held. IfSome held (λ h. IfSome h P) in
-    subst telling (Done-told inserted) told
 
 -- a cartridge that the drive knows
 pub record IsThere (cartridge : Option TapeInfo) : Type 0 where

@@ -164,6 +164,14 @@ told_settles m host old u words sectors entries learnt fits agrees read room has
     (λ c known mounted. settles_learnt host c words sectors entries learnt (is_protected u.drive.deck) room (ap is_protected fits.deck) known mounted)
     (Tells-read (IsLearnt host) read (told_learnt m host u fits agrees)) has
 
+-- what gives a fact of a cartridge that the drive knows gives it of what the tape tells
+pub told_there : (cartridge : Option TapeInfo) (told : Option (Option Cartridge)) (S : TapeInfo → Type 0) (P : Cartridge → Type 0) (R : Option Cartridge → Type 0) → IsSomeAnd cartridge S →
+    IfSome cartridge (λ info. IfSome told (λ held. IsSomeAnd held (λ c. c.info ≡ info))) → ((c : Cartridge) → P c → R (Some c)) → IfSome told (λ held. IfSome held P) → IfSome told R
+told_there None told S P R there agrees gives fact = absurd there
+told_there (Some info) None S P R there agrees gives fact = tt
+told_there (Some info) (Some None) S P R there agrees gives fact = absurd agrees
+told_there (Some info) (Some (Some c)) S P R there agrees gives fact = gives c fact
+
 -- hosts that fit units with one cartridge have learnt one length
 pub one_length : {T : Type 0} (m : Meaning T) (one other : Host) (u v : UnitView T) → Fits m one u → Fits m other v → v.drive.deck.cartridge ≡ u.drive.deck.cartridge → segments_of one ≡ segments_of other
 one_length m one other u v fits next same =

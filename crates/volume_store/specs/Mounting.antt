@@ -1,5 +1,5 @@
 -- How a cartridge is mounted, what a store shows of it, and when a store fits a unit (this project's own).
-use Rattle.std.specs.Prelude.{◌≡◌, ℕ, List, Result, Ok, Err, ◌⊎◌, [], ◌-◌, ◌*◌, true, false, length}
+use Rattle.std.specs.Prelude.{◌≡◌, ℕ, List, Result, Ok, Err, ◌⊎◌, [], ◌-◌, ◌*◌, true, false, length, IfSome, IsSomeAnd}
 use Rattle.cartridge_laws.specs.Table.{IsSoundList}
 use Rattle.cartridge_laws.specs.Terms.{HasList}
 use Rattle.cartridge_spec.specs.Header.{Header}
@@ -50,11 +50,11 @@ pub record MountsAs {T : Type 0} (m : Meaning T) (old new : T) (store : StoreVie
   pub done : Done m old new steps
   pub told : Tells m old (λ c. Settles c store.header store.words store.entries steps)
 
--- a fault of the tape broke the settling off, or came before it
-pub record MountBreaks {T : Type 0} (m : Meaning T) (old new : T) : Type 0 where
+-- A fault of the tape broke a front of its steps off.
+pub record IsCutOff {T : Type 0} (m : Meaning T) (old new : T) : Type 0 where
   pub steps : List Step
   pub broke : Broke m old new steps
-  pub told : Tells m old (λ c. (steps ≡ []) ⊎ IsSettling c steps)
+  pub front : IfSome (m.told old) (λ held. (steps ≡ []) ⊎ IsSomeAnd held (λ c. IsSettling c steps))
 
 -- a mounting was refused before anything was written
 pub record MountRefused {T : Type 0} (m : Meaning T) (old new : T) (fault : StoreFault) : Type 0 where
@@ -64,7 +64,7 @@ pub record MountRefused {T : Type 0} (m : Meaning T) (old new : T) (fault : Stor
 -- what a mounting did, by its answer
 abbrev pub MountDoes : {T : Type 0} (m : Meaning T) (old new : T) → Result StoreView StoreFault → Type 0
 MountDoes m old new (Ok store) = MountsAs m old new store
-MountDoes m old new (Err Tape) = MountBreaks m old new
+MountDoes m old new (Err Tape) = IsCutOff m old new
 MountDoes m old new (Err fault) = MountRefused m old new fault
 
 -- A store fits a unit: its host does, in Primary mode, it has learnt the cartridge, and where that is told and may be

@@ -1,5 +1,5 @@
 -- How the opening of a cartridge ends: refused, or with its table settled and what was found (this project's own).
-use Rattle.std.specs.Prelude.{◌≡◌, ℕ, List, [], ◌⊎◌, None, IfSome, IsSomeAnd, Result, Ok, Err, true}
+use Rattle.std.specs.Prelude.{◌≡◌, ℕ, List, [], None, IfSome, IsSomeAnd, Result, Ok, Err, true}
 use Rattle.drive_states.specs.Unit.{UnitView}
 use Rattle.host_driver.specs.Calls.{IsReady}
 use Rattle.host_driver.specs.Fits.{AgreesWithTape}
@@ -12,7 +12,7 @@ use Rattle.volume_store.specs.declared.opening.OpenFault.{OpenFault}
 use Rattle.volume_store.specs.declared.opening.OpenFault.TheVariants.{NoCartridge, Refused}
 use Rattle.cartridge_front.specs.Finding.{is_of_mounting, NamesCause}
 use Rattle.cartridge_front.specs.Learning.{MountRefuses}
-use Rattle.volume_store.specs.Mounting.{StoreView, StoreFits, IsSettling, Settles}
+use Rattle.volume_store.specs.Mounting.{StoreView, StoreFits, IsCutOff, Settles}
 use Rattle.cartridge_front.specs.declared.fault.StoreFault.{StoreFault}
 use Rattle.cartridge_front.specs.declared.fault.StoreFault.TheVariants.{Tape}
 
@@ -61,12 +61,6 @@ pub record IsTurnedDown {T : Type 0} (m : Meaning T) (old new : T) (fault : Stor
   pub segments : ℕ
   pub cause : NamesCause {A = StoreView} segments (Err fault)
   pub told : IfSome (m.told old) (λ held. IsSomeAnd held (λ c. MountRefuses c fault))
-
--- A fault of the tape broke a front of its steps off.
-pub record IsCutOff {T : Type 0} (m : Meaning T) (old new : T) : Type 0 where
-  pub steps : List Step
-  pub broke : Broke m old new steps
-  pub front : IfSome (m.told old) (λ held. (steps ≡ []) ⊎ IsSomeAnd held (λ c. IsSettling c steps))
 
 abbrev pub OpenFails : {T : Type 0} (m : Meaning T) (old new : T) → OpenFault → Type 0
 OpenFails m old new NoCartridge = IsAbsent m old new

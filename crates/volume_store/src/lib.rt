@@ -1,6 +1,6 @@
-//! A formatted cartridge put in and mounted: its header in force, its map of bad sectors and its list of volumes, read through
-//! the host; and its volumes listed, appended, restored, read by parts and scrubbed. Its working objects are all asked for
-//! before.
+//! A formatted cartridge put in and mounted: its header in force, its map of bad sectors and its list of volumes, read
+//! through the host; and its volumes listed, appended, restored, read by parts and scrubbed. Its working objects are all
+//! asked for before.
 #![tactic(auto)]
 
 mod appended;

@@ -5,24 +5,25 @@ ghost use Rattle.qic_base.specs.SinkCalls.{Writes};
 ghost use Rattle.volume_table.specs.Entry.{entry_of};
 ghost use Rattle.command_spec.specs.Lines.{appended_line, volume_line, count_line};
 
+use crate::appended::Appended;
 use qic_base::{Sink, SinkFailed};
 use tape_script::{TextLine, number_text, write_text};
 use volume_table::Entry;
 
 /// The line of a volume that was appended: its number, its bytes, and its first and its last segment.
 #[tactic(auto, unfolding(command_spec::specs::Lines::appended_line))]
-pub fn appended_text(number: u32, bytes: u64, start: u16, end: u16) -> TextLine
-    ensures { result ≡ appended_line number bytes start end }
+pub fn appended_text(appended: &Appended) -> TextLine
+    ensures { result ≡ appended_line appended.now.number appended.now.bytes appended.now.start appended.now.end }
 {
     let mut line = TextLine::new();
     line.push_text(b"appended ");
-    line.push_number(u64::from(number));
+    line.push_number(u64::from(appended.number));
     line.push_text(b" ");
-    line.push_number(bytes);
+    line.push_number(appended.bytes);
     line.push_text(b" ");
-    line.push_number(u64::from(start));
+    line.push_number(u64::from(appended.start));
     line.push_text(b" ");
-    line.push_number(u64::from(end));
+    line.push_number(u64::from(appended.end));
     line.push_text(b"\n");
     line
 }

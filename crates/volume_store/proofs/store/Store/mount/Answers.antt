@@ -1,6 +1,6 @@
-use Rattle.std.proofs.Common.{◌≡◌, ◌⊎◌, ℕ, ◌-◌, ◌*◌, List, [], length, take, Result, Err, sym, ap, ◌∙◌, subst, inr}
+use Rattle.std.proofs.Common.{◌≡◌, ◌⊎◌, ℕ, ◌-◌, ◌*◌, List, [], length, take, Result, Err, sym, ap, ◌∙◌, subst, inr, IsSomeAnd}
 use Rattle.qic_base.specs.Step.{Step}
-use Rattle.qic_base.proofs.Steps.{Done-after_reads, Broke-after_reads, Tells-map}
+use Rattle.qic_base.proofs.Steps.{Done-after_reads, Broke-after_reads}
 use Rattle.cartridge_laws.specs.Table.{IsSoundList}
 use Rattle.drive_spec.specs.Terms.{is_protected}
 use Rattle.header_segments.specs.Header.{header_of}
@@ -8,10 +8,10 @@ use Rattle.host_driver.specs.declared.host.Host.{Host}
 use Rattle.host_driver.specs.Fits.{segments_of}
 use Rattle.cartridge_front.specs.declared.fault.StoreFault.{StoreFault}
 use Rattle.cartridge_front.specs.declared.fault.StoreFault.TheVariants.{Tape}
-use Rattle.volume_store.specs.Mounting.{StoreView, Settles, IsSettling, MountBreaks, MountDoes}
+use Rattle.volume_store.specs.Mounting.{StoreView, Settles, IsSettling, IsCutOff, MountDoes}
 use Rattle.cartridge_front.specs.Settling.{mending_steps}
 use Rattle.cartridge_front.proofs.Passing.{passed}
-use Rattle.volume_store.proofs.Storing.{sound_volumes, told_settles, told_lists, none_mended, one_length, still_primary, still_referenced}
+use Rattle.volume_store.proofs.Storing.{sound_volumes, told_settles, told_lists, told_there, none_mended, one_length, still_primary, still_referenced}
 use Rattle.volume_store.proofs.store.Store.mount.Goals as goal
 
 pub invariant_of-result : goal.invariant_of-result
@@ -63,11 +63,12 @@ returns-in_err-settle-clause-did g c =
     let is : c.from_residual-in_err-settle.result ≡ Err fault = passed c.from_residual-in_err-settle.result fault c.from_residual-in_err-settle.ensures.1 in
     let tape : fault ≡ Tape = c.in_err-settle.ensures.fault in
     let steps : List Step = mending_steps (is_protected c.learn.new.unit.drive.deck) c.in_ok-learnt.learnt.unread c.learn.new.work in
-    let broken : MountBreaks m c.args.unit.now.tape c.settle.new.unit.tape = record {
+    let broken : IsCutOff m c.args.unit.now.tape c.settle.new.unit.tape = record {
       steps = steps;
       broke = Broke-after_reads c.in_ok-learnt.ensures.did c.in_err-settle.ensures.did;
-      told = Tells-map m c.args.unit.now.tape (λ c'. Settles c' (header_of c.in_ok-learnt.learnt.header) c.learn.new.map c.learn.new.table steps)
-          (λ c'. (steps ≡ []) ⊎ IsSettling c' steps)
+      front = told_there c.args.unit.now.drive.deck.cartridge (m.told c.args.unit.now.tape) _
+          (λ c'. Settles c' (header_of c.in_ok-learnt.learnt.header) c.learn.new.map c.learn.new.table steps)
+          (λ held. (steps ≡ []) ⊎ IsSomeAnd held (λ c'. IsSettling c' steps)) c.requires.ready.fits.cartridge c.requires.agrees
           (λ c' settles. inr (record { header = header_of c.in_ok-learnt.learnt.header; words = c.learn.new.map; entries = c.learn.new.table; settles = settles }))
           (told_settles m c.learn.new.host c.args.unit.now.tape c.learn.new.unit c.learn.new.map c.learn.new.work c.learn.new.table c.in_ok-learnt.learnt
           c.in_ok-learnt.ensures.ready.fits c.in_ok-learnt.ensures.agrees c.in_ok-learnt.ensures.did c.in_ok-learnt.ensures.room (c.in_ok-learnt.ensures.found (λ same. cc)));
