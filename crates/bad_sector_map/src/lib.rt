@@ -5,3 +5,6 @@ mod map;
 mod words;
 
 pub use map::BadMap;
+
+/// The mask of a segment without a bad sector: a bit for each of its sectors, the lowest that of sector 0.
+pub const WHOLE: u32 = u32::MAX;

@@ -5,7 +5,7 @@ ghost use Rattle.cartridge_laws.specs.Terms.{sectors_of, byte_in, words_in, IsIn
 ghost use Rattle.cartridge_spec.specs.Shape.{mask_at, capacity, marked_sectors};
 
 use crate::words::{SEGMENTS, clear_words, read_words, write_words};
-use qic_base::{LONGEST, NoMemory};
+use qic_base::{LONGEST, NoMemory, Sector};
 use std::alloc::Global;
 use std::marker::Model;
 
@@ -92,7 +92,7 @@ impl BadMap {
     }
 
     /// Makes it the map of so many segments, as the header's data area, 29 sectors, has it.
-    pub fn read(&mut self, area: &[[u8; 1024]], segments: u32)
+    pub fn read(&mut self, area: &[Sector], segments: u32)
         requires sectors { length area.now ≡ 29 }
         requires segments { segments ≤ 28 * LONGEST }
         ensures { self.new ≡ words_in area.now segments }
@@ -101,7 +101,7 @@ impl BadMap {
     }
 
     /// Writes the map into the header's data area, 29 sectors. All other bytes stay.
-    pub fn write(&self, area: &mut [[u8; 1024]])
+    pub fn write(&self, area: &mut [Sector])
         requires { length area.old ≡ 29 }
         ensures words { words_in area.new (length self.now) ≡ self.now }
         ensures others { (k : ℕ) → ¬ (IsInMap (length self.now) k) →

@@ -5,10 +5,10 @@ ghost use Rattle.std.specs.Vec.{vec_len, vec_capacity};
 ghost use Rattle.cartridge_laws.specs.Terms.{byte_in, words_in, IsInMap};
 ghost use Rattle.cartridge_spec.specs.Header.{word_in};
 
-use qic_base::{LONGEST, push_within, read_u32, write_u32};
+use qic_base::{MOST_SEGMENTS, Sector, push_within, read_u32, write_u32};
 
-/// The greatest number of segments: 28 tracks of the greatest length.
-pub const SEGMENTS: u32 = 28 * LONGEST as u32;
+/// The most segments of a cartridge.
+pub const SEGMENTS: u32 = MOST_SEGMENTS as u32;
 
 /// The map's words begin in this sector of the area, 256 to a sector (Linux ftape headers).
 const FIRST_SECTOR: usize = 2;
@@ -27,7 +27,7 @@ pub fn clear_words(words: &mut Vec<u32>, segments: u32)
     }
 }
 
-fn word_at(area: &[[u8; 1024]], segment: u32) -> u32
+fn word_at(area: &[Sector], segment: u32) -> u32
     requires sectors { length area.now ≡ 29 }
     requires within { segment < SEGMENTS }
     ensures { result ≡ word_in area.now segment }
@@ -38,7 +38,7 @@ fn word_at(area: &[[u8; 1024]], segment: u32) -> u32
 }
 
 /// Makes the list that of the words in the area.
-pub fn read_words(words: &mut Vec<u32>, area: &[[u8; 1024]], segments: u32)
+pub fn read_words(words: &mut Vec<u32>, area: &[Sector], segments: u32)
     requires sectors { length area.now ≡ 29 }
     requires within { segments ≤ SEGMENTS }
     requires room { segments ≤ vec_capacity words.old }
@@ -52,7 +52,7 @@ pub fn read_words(words: &mut Vec<u32>, area: &[[u8; 1024]], segments: u32)
     }
 }
 
-fn set_word(area: &mut [[u8; 1024]], segment: usize, word: u32)
+fn set_word(area: &mut [Sector], segment: usize, word: u32)
     requires sectors { length area.old ≡ 29 }
     requires within { segment < SEGMENTS }
     ensures word { word_in area.new segment ≡ word }
@@ -64,7 +64,7 @@ fn set_word(area: &mut [[u8; 1024]], segment: usize, word: u32)
 }
 
 /// Writes the words into the area, the first of them first. All other bytes stay.
-pub fn write_words(words: &[u32], area: &mut [[u8; 1024]])
+pub fn write_words(words: &[u32], area: &mut [Sector])
     requires sectors { length area.old ≡ 29 }
     requires within { length words.now ≤ SEGMENTS }
     ensures words { words_in area.new (length words.now) ≡ words.now }

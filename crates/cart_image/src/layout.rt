@@ -22,7 +22,7 @@ pub const LAYOUT_PLACE: u64 = 14;
 /// Where the eight bytes of the base stand.
 pub const BASE_PLACE: u64 = 16;
 
-/// The byte of a mark that stands; any other is none.
+/// The byte of a mark that stands, and of an open gate; any other is none.
 pub const MARK: u8 = 0x5A;
 
 /// The byte of an open gate; any other is closed.

@@ -12,4 +12,5 @@ mod tape;
 mod upgrading;
 mod writing;
 
+pub use layout::{HEAD_LEN, MARK, SIGNATURE};
 pub use tape::ImageTape;

@@ -13,7 +13,7 @@ use crate::layout::{
     DEFECT, FORMED, HEAD_LEN, Head, Kind, Layout, MARK, OPEN, Part, SIGNATURE, image_len,
 };
 use crate::segment::SegmentMarks;
-use qic_base::{Disk, DiskFailed, LONGEST, SectorRead, read_u16, read_u64};
+use qic_base::{Disk, DiskFailed, LONGEST, Sector, SectorRead, read_u16, read_u64};
 
 /// The fewest segments per track of a cartridge.
 const SHORTEST: u16 = 3;
@@ -372,7 +372,7 @@ fn read_bytes<D: Disk>(
     disk: &mut D,
     layout: Layout,
     sector: u64,
-) -> Result<Option<[u8; 1024]>, DiskFailed>
+) -> Result<Option<Sector>, DiskFailed>
     requires { sector < sectors layout.segments_per_track }
     ensures looked { Looked D.means disk.old disk.new result }
     ensures bytes { IfOk result (λ found. IfSome (D.means.told disk.old) (λ bytes.
@@ -394,7 +394,7 @@ pub fn read_sector<D: Disk>(
     layout: Layout,
     sector: u64,
     state: SectorState,
-    into: &mut [u8; 1024],
+    into: &mut Sector,
 ) -> Result<SectorRead, DiskFailed>
     requires place { sector < sectors layout.segments_per_track }
     requires state { IfSome (D.means.told disk.old) (λ bytes.
@@ -424,7 +424,7 @@ fn read_at_once<D: Disk>(
     disk: &mut D,
     layout: Layout,
     sector: u64,
-    into: &mut [u8; 1024],
+    into: &mut Sector,
 ) -> Result<SectorRead, DiskFailed>
     requires place { sector < sectors layout.segments_per_track }
     requires cells { touches layout.kind ≡ false }
@@ -453,7 +453,7 @@ pub fn read_whole<D: Disk>(
     disk: &mut D,
     layout: Layout,
     sector: u64,
-    into: &mut [u8; 1024],
+    into: &mut Sector,
 ) -> Result<SectorRead, DiskFailed>
     requires place { sector < sectors layout.segments_per_track }
     requires cells { touches layout.kind ≡ false }

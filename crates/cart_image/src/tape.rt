@@ -19,7 +19,7 @@ use crate::layout::{Head, Kind, Layout, PROTECTED_PLACE, REFERENCED_PLACE};
 use crate::reading::SectorState;
 use crate::segment::SegmentStates;
 use crate::{formatting, reading, renewing, upgrading, writing};
-use qic_base::{Disk, DiskFailed, SectorRead, SectorWrite, Tape, TapeFailed, TapeInfo};
+use qic_base::{Disk, DiskFailed, Sector, SectorRead, SectorWrite, Tape, TapeFailed, TapeInfo};
 
 /// A tape in an image file on a disk.
 #[derive(Drop)]
@@ -81,7 +81,7 @@ impl<D: Disk> ImageTape<D> {
     {
         match self.layout {
             Some(layout) => layout,
-            None => unreachable!(),
+            None => unreachable!("an image has a layout"),
         }
     }
 
@@ -139,7 +139,7 @@ impl<D: Disk> ImageTape<D> {
         layout: Layout,
         segment: u32,
         sector: u8,
-        into: &mut [u8; 1024],
+        into: &mut Sector,
     ) -> Result<SectorRead, DiskFailed>
         requires place { IsPlaceOf image_means self.old segment sector }
         requires layout { layout_at self.old ≡ Some layout }
@@ -167,7 +167,7 @@ impl<D: Disk> ImageTape<D> {
         layout: Layout,
         segment: u32,
         sector: u8,
-        into: &mut [u8; 1024],
+        into: &mut Sector,
     ) -> Result<SectorRead, DiskFailed>
         requires place { IsPlaceOf image_means self.old segment sector }
         requires layout { layout_at self.old ≡ Some layout }
@@ -225,7 +225,7 @@ impl<D: Disk> Tape for ImageTape<D> {
         &mut self,
         segment: u32,
         sector: u8,
-        into: &mut [u8; 1024],
+        into: &mut Sector,
     ) -> Result<SectorRead, TapeFailed>
         requires { IsPlaceOf image_means self.old segment sector }
         ensures did { Does image_means self.old self.new [] result }
@@ -248,7 +248,7 @@ impl<D: Disk> Tape for ImageTape<D> {
         &mut self,
         segment: u32,
         sector: u8,
-        from: &[u8; 1024],
+        from: &Sector,
     ) -> Result<SectorWrite, TapeFailed>
         requires { IsPlaceOf image_means self.old segment sector }
         ensures did { Does image_means self.old self.new

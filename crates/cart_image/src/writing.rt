@@ -11,7 +11,7 @@ ghost use Rattle.cart_image.specs.State.{state_of};
 use crate::layout::{CLOSED, DEFECT, Layout, MARK, OPEN, Part};
 use crate::reading::{SectorState, read_byte};
 use crate::synced::put;
-use qic_base::{Disk, DiskFailed, SectorWrite};
+use qic_base::{Disk, DiskFailed, Sector, SectorWrite};
 
 /// Writes the gate of a sector.
 fn put_gate<D: Disk>(disk: &mut D, layout: Layout, sector: u64, gate: u8) -> Result<(), DiskFailed>
@@ -30,7 +30,7 @@ fn put_bytes<D: Disk>(
     disk: &mut D,
     layout: Layout,
     sector: u64,
-    from: &[u8; 1024],
+    from: &Sector,
 ) -> Result<(), DiskFailed>
     requires place { sector < sectors layout.segments_per_track }
     requires covers { end_of layout ≤ D.means.seen_len disk.old }
@@ -47,7 +47,7 @@ fn overwrite_closed<D: Disk>(
     disk: &mut D,
     layout: Layout,
     sector: u64,
-    from: &[u8; 1024],
+    from: &Sector,
 ) -> Result<(), DiskFailed>
     requires place { sector < sectors layout.segments_per_track }
     requires covers { end_of layout ≤ D.means.seen_len disk.old }
@@ -65,7 +65,7 @@ fn overwrite_open<D: Disk>(
     disk: &mut D,
     layout: Layout,
     sector: u64,
-    from: &[u8; 1024],
+    from: &Sector,
 ) -> Result<(), DiskFailed>
     requires place { sector < sectors layout.segments_per_track }
     requires covers { end_of layout ≤ D.means.seen_len disk.old }
@@ -84,7 +84,7 @@ pub fn write_sector<D: Disk>(
     layout: Layout,
     sector: u64,
     state: SectorState,
-    from: &[u8; 1024],
+    from: &Sector,
 ) -> Result<SectorWrite, DiskFailed>
     requires place { sector < sectors layout.segments_per_track }
     requires covers { end_of layout ≤ D.means.seen_len disk.old }

@@ -10,12 +10,12 @@ ghost use Rattle.qic_base.specs.Cartridge.{IsLength};
 ghost use Rattle.cartridge_front.specs.Finding.{Leaves, RefusesMounting, FindsCopy, FindsHeader, NamesCause, TakesHeader, HasMap};
 
 use crate::fault::StoreFault;
-use crate::table_reader::{WHOLE, data_sectors};
-use bad_sector_map::BadMap;
+use crate::table_reader::data_sectors;
+use bad_sector_map::{BadMap, WHOLE};
 use drive_states::Unit;
 use header_segments::{Header, HeaderFault, decode};
 use host_driver::Host;
-use qic_base::Tape;
+use qic_base::{Sector, Tape};
 use segment_io::{SegFault, Workspace, read_segment};
 
 /// The first copy of the header, segment 0; the second stands in segment 1.
@@ -25,7 +25,7 @@ const SECOND_COPY: u32 = 1;
 
 /// The header and the map that a copy's data are, or None where they have no header's signature.
 fn decode_copy(
-    area: &[[u8; 1024]],
+    area: &[Sector],
     segments_per_track: u16,
     map: &mut BadMap,
 ) -> Result<Option<Header>, StoreFault>

@@ -11,11 +11,12 @@ ghost use Rattle.host_driver.specs.Calls.{IsReady, Keeps};
 ghost use Rattle.cartridge_front.specs.Settling.{collected_block, is_stale, mending_steps};
 
 use crate::fault::StoreFault;
-use crate::table_reader::{DATA_SECTORS, Unread, data_sectors};
+use crate::table_reader::{Unread, data_sectors};
 use crate::table_writer::write_places;
 use drive_states::Unit;
+use gf256_qic::DATA_SECTORS;
 use host_driver::Host;
-use qic_base::{LostSet, Tape};
+use qic_base::{LostSet, Sector, Tape};
 use segment_io::Workspace;
 use segment_parity::parity_of;
 
@@ -23,7 +24,7 @@ use segment_parity::parity_of;
 const PARITY: [u8; 3] = [29, 30, 31];
 
 /// The mask with the bit of a place where its sector isn't the one that belongs there.
-fn with_stale(stale: u32, place: u8, held: &[u8; 1024], wanted: &[u8; 1024]) -> u32
+fn with_stale(stale: u32, place: u8, held: &Sector, wanted: &Sector) -> u32
     requires { place < 32 }
     ensures { (i : ℕ) → is_lost result i ≡
         (is_lost stale i || (i == place && not (bytes_eq held.now wanted.now))) }
@@ -36,7 +37,7 @@ fn with_stale(stale: u32, place: u8, held: &[u8; 1024], wanted: &[u8; 1024]) -> 
 
 /// Puts the parity behind the data. The answer is the mask of the lost places, and of those of the parity that was
 /// another.
-fn replace_parity(sectors: &mut [[u8; 1024]], lost: u32, parity: &[[u8; 1024]; 3]) -> u32
+fn replace_parity(sectors: &mut [Sector], lost: u32, parity: &[Sector; 3]) -> u32
     requires { length sectors.old ≡ 32 }
     ensures sectors { sectors.new ≡ take 29 sectors.old ++ parity.now }
     ensures stale { (i : ℕ) → i < 32 →

@@ -15,20 +15,16 @@ ghost use Rattle.segment_io.specs.Reading.{OnlyReads};
 ghost use Rattle.cartridge_front.specs.Finding.{FindsTable};
 ghost use Rattle.cartridge_front.specs.Reading.{IsReadBut, SolvesFirst, SolvesTable};
 
+use bad_sector_map::WHOLE;
 use drive_states::Unit;
+use gf256_qic::DATA_SECTORS;
 use host_driver::Host;
-use qic_base::{LostSet, Tape};
+use qic_base::{LostSet, Sector, Tape};
 use segment_io::{SegFault, Workspace, collect, solve_collected};
 use volume_table::{Table, TableReading, Trials, last_used, trials};
 
 /// The segment of the volume table.
-pub(crate) const TABLE_SEGMENT: u32 = 2;
-
-/// The mask of a segment without a bad sector.
-pub(crate) const WHOLE: u32 = u32::MAX;
-
-/// The data sectors of a segment without a bad sector.
-pub(crate) const DATA_SECTORS: usize = 29;
+pub(crate) const TABLE_SEGMENT: u32 = volume_table::TABLE_SEGMENT as u32;
 
 /// The sectors of the volume table's segment that a workspace may not have as the tape holds them.
 #[derive(Clone, Copy, Debug, PartialEq, Eq)]
@@ -40,7 +36,7 @@ pub struct Unread {
 }
 
 /// The first 29 sectors of a workspace, where those of a whole segment's data stand.
-pub(crate) fn data_sectors(work: &Workspace) -> &[[u8; 1024]]
+pub(crate) fn data_sectors(work: &Workspace) -> &[Sector]
     ensures value { result.now ≡ take 29 work.now }
     ensures size { length result.now ≡ 29 }
 {
@@ -67,7 +63,7 @@ fn solve_first(tried: &Trials, work: &mut Workspace) -> Option<LostSet>
 }
 
 /// A copy of the parity sectors.
-fn parity_of_table(work: &Workspace) -> [[u8; 1024]; 3]
+fn parity_of_table(work: &Workspace) -> [Sector; 3]
     requires { length work.now ≡ 32 }
     ensures { result ≡ drop 29 work.now }
 {
@@ -76,7 +72,7 @@ fn parity_of_table(work: &Workspace) -> [[u8; 1024]; 3]
 }
 
 /// Puts parity sectors behind the data.
-fn put_back(parity: &[[u8; 1024]; 3], work: &mut Workspace)
+fn put_back(parity: &[Sector; 3], work: &mut Workspace)
     requires { length work.old ≡ 32 }
     ensures { work.new ≡ take 29 work.old ++ parity.now }
 {

@@ -12,10 +12,12 @@ ghost use Rattle.cartridge_spec.specs.Settling.{block_writes};
 ghost use Rattle.volume_table.specs.Entry.{entry_of};
 
 use crate::fault::StoreFault;
-use crate::table_reader::{DATA_SECTORS, TABLE_SEGMENT, WHOLE};
+use crate::table_reader::TABLE_SEGMENT;
+use bad_sector_map::WHOLE;
 use drive_states::Unit;
+use gf256_qic::DATA_SECTORS;
 use host_driver::Host;
-use qic_base::{LostSet, Tape};
+use qic_base::{LostSet, Sector, Tape};
 use segment_io::{Workspace, write_sectors};
 use segment_parity::put_parity;
 use volume_table::{Entry, Table, TableFull};
@@ -25,7 +27,7 @@ const PARITY: u32 = 0xE000_0000;
 
 /// Puts the entry into the next slot of the data, the first 29 of a segment's sectors. The answer is the sector that
 /// has the slot.
-fn put_slot(entry: &Entry, sectors: &mut [[u8; 1024]], table: &mut Table) -> u8
+fn put_slot(entry: &Entry, sectors: &mut [Sector], table: &mut Table) -> u8
     requires room { length sectors.old ≡ 32 }
     requires listed { Shows (take 29 sectors.old) table.old }
     requires free { length table.old < 232 }

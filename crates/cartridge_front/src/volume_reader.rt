@@ -12,7 +12,7 @@ use crate::fault::StoreFault;
 use crate::table_reader::{Unread, data_sectors, read_table};
 use drive_states::Unit;
 use host_driver::Host;
-use qic_base::{ForeignField, Tape};
+use qic_base::{ForeignField, Sector, Tape};
 use segment_io::{SegFault, Workspace};
 use volume_table::{Table, TableFault};
 
@@ -29,7 +29,7 @@ pub(crate) fn table_fault(fault: SegFault) -> StoreFault
 
 /// The list of volumes that the table's data show, on a cartridge whose last segment is `last`, or the first slot at
 /// fault.
-fn decode_table(table: &mut Table, area: &[[u8; 1024]], last: u32) -> Result<(), StoreFault>
+fn decode_table(table: &mut Table, area: &[Sector], last: u32) -> Result<(), StoreFault>
     requires { length area.now ≡ 29 }
     ensures shown { DecodesTable area.now last table.new result }
     ensures kind { RefusesMounting result }

@@ -9,16 +9,14 @@ ghost use Rattle.gf256_qic.specs.Code.{IsSolvable};
 ghost use Rattle.erasure_solve.specs.Lost.{is_lost};
 
 use erasure_solve::{SolveFault, solve};
-use qic_base::LostSet;
+use qic_base::{LostSet, SECTOR, Sector};
 use segment_parity::{Parity, parity_of};
 use std::env::Env;
 use std::process::ExitCode;
 use std::time::{Clock, Duration, Instant};
 use std::{env, io};
 
-const SECTOR: usize = 1024;
-
-const DATA: usize = 29;
+const DATA: usize = gf256_qic::DATA_SECTORS;
 
 const WHOLE: usize = 32;
 
@@ -65,7 +63,7 @@ fn repetitions<R: Env + AllocGlobal>(rt: &R) -> io::Result<u32> {
 /// Encodes the segment so many times, and changes the data by the parity before each but the first.
 fn timed_encoding(
     clock: &impl Clock,
-    segment: &mut [[u8; SECTOR]; WHOLE],
+    segment: &mut [Sector; WHOLE],
     times: u32,
 ) -> io::Result<Duration> {
     let start = Instant::now(clock)?;
@@ -80,9 +78,9 @@ fn timed_encoding(
 /// The same sector by sector, and the parity after the last encoding.
 fn timed_pushing(
     clock: &impl Clock,
-    data: &mut [[u8; SECTOR]; DATA],
+    data: &mut [Sector; DATA],
     times: u32,
-) -> io::Result<([[u8; SECTOR]; 3], Duration)> {
+) -> io::Result<([Sector; 3], Duration)> {
     let start = Instant::now(clock)?;
     let mut parity = by_register(data);
     for i in 1..times {
@@ -95,7 +93,7 @@ fn timed_pushing(
 /// Whether each solving went well, after three sectors were overwritten.
 fn timed_solving(
     clock: &impl Clock,
-    segment: &mut [[u8; SECTOR]; WHOLE],
+    segment: &mut [Sector; WHOLE],
     times: u32,
 ) -> io::Result<(bool, Duration)> {
     let start = Instant::now(clock)?;
@@ -108,14 +106,14 @@ fn timed_solving(
 }
 
 /// Puts the byte everywhere into the three sectors that are lost.
-fn overwrite(segment: &mut [[u8; SECTOR]; WHOLE], byte: u8) {
+fn overwrite(segment: &mut [Sector; WHOLE], byte: u8) {
     for place in LOST {
         segment[place] = [byte; SECTOR];
     }
 }
 
 /// Puts the parity behind the 29 data sectors.
-fn encode(segment: &mut [[u8; SECTOR]; WHOLE])
+fn encode(segment: &mut [Sector; WHOLE])
     ensures block { IsCodeBlock segment.new }
     ensures data { take 29 segment.new ≡ take 29 segment.old }
 {
@@ -124,7 +122,7 @@ fn encode(segment: &mut [[u8; SECTOR]; WHOLE])
 }
 
 /// The parity of 29 data sectors, from the register that an append gives each sector as it writes it.
-fn by_register(sectors: &[[u8; SECTOR]; DATA]) -> [[u8; SECTOR]; 3]
+fn by_register(sectors: &[Sector; DATA]) -> [Sector; 3]
     ensures { IsCodeBlock (sectors.now ++ result) }
 {
     let mut parity = Parity::new();
@@ -135,7 +133,7 @@ fn by_register(sectors: &[[u8; SECTOR]; DATA]) -> [[u8; SECTOR]; 3]
 }
 
 /// Finds the three lost sectors.
-fn solved(segment: &mut [[u8; SECTOR]; WHOLE]) -> Result<(), SolveFault>
+fn solved(segment: &mut [Sector; WHOLE]) -> Result<(), SolveFault>
     ensures block { OnOk result (IsCodeBlock segment.new) }
     ensures solved { IsOk result ↔ IsSolvable (is_lost 0x0200_4008) segment.old }
 {

@@ -17,3 +17,6 @@ pub use line::Line;
 pub use refusal::Refusal;
 pub use status::Status;
 pub use words::Words;
+
+/// The most lines of an input, before the line `end`: trains of `pulses`, or lines of a script.
+pub const MOST_LINES: u32 = 65536;

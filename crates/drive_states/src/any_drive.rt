@@ -21,7 +21,7 @@ use crate::drive::{Drive, Ticked};
 use crate::fault::FdcFault;
 use crate::states::{Format, LoadPoint, Primary, Seeking, Verify};
 use drive_spec::Deck;
-use qic_base::{Tape, TapeFailed};
+use qic_base::{Sector, Tape, TapeFailed};
 use qic117_commands::Mode;
 use tape_geometry::FloppyAddr;
 
@@ -192,7 +192,7 @@ impl<T: Tape> AnyDrive<T> {
     }
 
     /// Reads the sector at an address, in a state that has the call.
-    pub fn read_sector(&mut self, addr: FloppyAddr, into: &mut [u8; 1024]) -> Result<(), FdcFault>
+    pub fn read_sector(&mut self, addr: FloppyAddr, into: &mut Sector) -> Result<(), FdcFault>
         ensures unreached { ReachesNone reads_in (drive_of self.old).deck addr →
             (result ≡ Err FdcFault.NoAddress) × (self.new ≡ self.old) × (into.new ≡ into.old) }
         ensures reached { (segment index : ℕ) → Reaches reads_in (drive_of self.old).deck addr segment index →
@@ -208,7 +208,7 @@ impl<T: Tape> AnyDrive<T> {
     }
 
     /// Writes the sector at an address, in a state that has the call.
-    pub fn write_sector(&mut self, addr: FloppyAddr, from: &[u8; 1024]) -> Result<(), FdcFault>
+    pub fn write_sector(&mut self, addr: FloppyAddr, from: &Sector) -> Result<(), FdcFault>
         ensures unreached { ReachesNone is_primary (drive_of self.old).deck addr →
             (result ≡ Err FdcFault.NoAddress) × (self.new ≡ self.old) }
         ensures reached { (segment index : ℕ) → Reaches is_primary (drive_of self.old).deck addr segment index →

@@ -13,7 +13,7 @@ use crate::effects::{passed, run_on};
 use crate::fault::FdcFault;
 use crate::states::{Format, Primary, Reads, State};
 use drive_spec::{Deck, Motion};
-use qic_base::{SectorRead, SectorWrite, Tape, TapeFailed};
+use qic_base::{Sector, SectorRead, SectorWrite, Tape, TapeFailed};
 use tape_geometry::{FloppyAddr, Geometry};
 
 /// The segment and the sector index of an address that the head can still reach.
@@ -49,7 +49,7 @@ impl<S: State, T: Tape> Drive<S, T> {
 impl<M: Reads, T: Tape> Drive<M, T> {
     /// Reads the sector at an address; where it answers Ok or Unreadable, the head has passed it. `into` is unchanged
     /// unless the answer is Ok.
-    pub fn read_sector(&mut self, addr: FloppyAddr, into: &mut [u8; 1024]) -> Result<(), FdcFault>
+    pub fn read_sector(&mut self, addr: FloppyAddr, into: &mut Sector) -> Result<(), FdcFault>
         ensures unreached { ReachesNone reads_in self.old.deck addr →
             (result ≡ Err FdcFault.NoAddress) × (self.new ≡ self.old) × (into.new ≡ into.old) }
         ensures reached { (segment index : ℕ) → Reaches reads_in self.old.deck addr segment index →
@@ -63,7 +63,7 @@ impl<M: Reads, T: Tape> Drive<M, T> {
     }
 
     /// Reads a sector of the segment under the head, which has not passed it.
-    fn read_under(&mut self, segment: u32, index: u8, into: &mut [u8; 1024]) -> Result<(), FdcFault>
+    fn read_under(&mut self, segment: u32, index: u8, into: &mut Sector) -> Result<(), FdcFault>
         requires place { IsPlaceOf T.means self.old.tape segment index }
         requires fits { index < 32 }
         requires streams { StreamsTo self.old.deck.motion index }
@@ -103,7 +103,7 @@ impl<T: Tape> Drive<Primary, T> {
     }
 
     /// Writes the sector at an address; where it answers Ok, the head has passed it.
-    pub fn write_sector(&mut self, addr: FloppyAddr, from: &[u8; 1024]) -> Result<(), FdcFault>
+    pub fn write_sector(&mut self, addr: FloppyAddr, from: &Sector) -> Result<(), FdcFault>
         ensures unreached { ReachesNone is_primary self.old.deck addr →
             (result ≡ Err FdcFault.NoAddress) × (self.new ≡ self.old) }
         ensures reached { (segment index : ℕ) → Reaches is_primary self.old.deck addr segment index →
@@ -120,7 +120,7 @@ impl<T: Tape> Drive<Primary, T> {
     }
 
     /// Writes a sector of the segment under the head, which has not passed it; the cartridge is not protected.
-    fn write_under(&mut self, segment: u32, index: u8, from: &[u8; 1024]) -> Result<(), FdcFault>
+    fn write_under(&mut self, segment: u32, index: u8, from: &Sector) -> Result<(), FdcFault>
         requires place { IsPlaceOf T.means self.old.tape segment index }
         requires fits { index < 32 }
         requires streams { StreamsTo self.old.deck.motion index }

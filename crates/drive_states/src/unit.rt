@@ -18,7 +18,7 @@ use crate::dialogue::Dialogue;
 use crate::fault::{FdcFault, HandFault};
 use crate::hand::empty;
 use drive_spec::UnderWay;
-use qic_base::{Tape, TapeFailed};
+use qic_base::{Sector, Tape, TapeFailed};
 use std::marker::Model;
 use tape_geometry::FloppyAddr;
 
@@ -110,7 +110,7 @@ impl<T: Tape> Unit<T> {
 
     /// Reads the sector at an address; where it answers Ok or Unreadable, the head has passed it. `into` is unchanged
     /// unless the answer is Ok.
-    pub fn read_sector(&mut self, addr: FloppyAddr, into: &mut [u8; 1024]) -> Result<(), FdcFault>
+    pub fn read_sector(&mut self, addr: FloppyAddr, into: &mut Sector) -> Result<(), FdcFault>
         // Where the head can reach no sector with that address, nothing is done.
         ensures unreached { ReachesNone reads_in self.old.drive.deck addr →
             (result ≡ Err FdcFault.NoAddress) × (self.new ≡ self.old) × (into.new ≡ into.old) }
@@ -127,7 +127,7 @@ impl<T: Tape> Unit<T> {
     }
 
     /// Writes the sector at an address; where it answers Ok, the head has passed it.
-    pub fn write_sector(&mut self, addr: FloppyAddr, from: &[u8; 1024]) -> Result<(), FdcFault>
+    pub fn write_sector(&mut self, addr: FloppyAddr, from: &Sector) -> Result<(), FdcFault>
         ensures unreached { ReachesNone is_primary self.old.drive.deck addr →
             (result ≡ Err FdcFault.NoAddress) × (self.new ≡ self.old) }
         ensures reached { (segment index : ℕ) → Reaches is_primary self.old.drive.deck addr segment index →

@@ -5,9 +5,9 @@ ghost use Rattle.cartridge_spec.specs.Code.{power};
 ghost use Rattle.erasure_solve.specs.Rows.{AddsRow, Corrects, weighed_sum, weighed_row};
 ghost use Rattle.erasure_solve.specs.Correction.{correction_factors, FitsDegree, Applied};
 
-use crate::SECTOR;
 use crate::values::{Values, is_zero};
 use gf256_qic::{inv, mul, mul_by_shifts, pow};
+use qic_base::{SECTOR, Sector};
 
 /// The generator of the field, whose powers tell the places of a column apart.
 const GENERATOR: u8 = 0x02;
@@ -62,7 +62,7 @@ impl Coefficients {
     }
 
     /// Adds the row to the sector at the place, if the degree is that of one.
-    pub fn apply(&self, row: &[u8; SECTOR], sectors: &mut [[u8; SECTOR]])
+    pub fn apply(&self, row: &Sector, sectors: &mut [Sector])
         requires { self.now.degree < 32 → self.now.degree < length sectors.old }
         ensures { Applied self.now.degree row.now sectors.old sectors.new }
     {
@@ -115,7 +115,7 @@ fn factors(x: u8, y: u8, z: u8) -> [u8; 3]
 }
 
 /// The values at the three roots, each times its factor, added up in each column.
-fn weighed(values: &Values, factors: &[u8; 3]) -> [u8; SECTOR]
+fn weighed(values: &Values, factors: &[u8; 3]) -> Sector
     ensures { result ≡ weighed_row values.now factors.now }
 {
     let [inverse, q, r] = *factors;
@@ -135,7 +135,7 @@ fn weighed(values: &Values, factors: &[u8; 3]) -> [u8; SECTOR]
 }
 
 /// Adds a row of bytes to a sector.
-fn add_row(sector: &mut [u8; SECTOR], row: &[u8; SECTOR])
+fn add_row(sector: &mut Sector, row: &Sector)
     ensures { AddsRow row.now sector.old sector.new }
 {
     for (j, byte) in sector.iter_mut().enumerate() {

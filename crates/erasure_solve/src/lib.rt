@@ -7,15 +7,13 @@ ghost use Rattle.gf256_qic.specs.Code.{AgreesOutside, IsSolvable};
 ghost use Rattle.erasure_solve.specs.Lost.{is_lost, lost_count, IsOnlyBlock};
 
 pub use plan::Plan;
-use qic_base::LostSet;
+use qic_base::{LostSet, Sector};
 use thiserror::Error;
 
 mod coefficients;
 pub mod laws;
 mod plan;
 mod values;
-
-const SECTOR: usize = 1024;
 
 /// Why the lost sectors of a segment cannot be found.
 #[derive(Clone, Copy, Debug, Drop, PartialEq, Eq, Error)]
@@ -30,7 +28,7 @@ pub enum SolveFault {
 
 /// Makes 4 to 32 sectors a code block by changing the lost ones alone, whatever those hold before
 /// (QIC-80-MC). A place in `lost` past the last sector counts as one more that is lost.
-pub fn solve(sectors: &mut [[u8; SECTOR]], lost: LostSet) -> Result<(), SolveFault>
+pub fn solve(sectors: &mut [Sector], lost: LostSet) -> Result<(), SolveFault>
     requires least { 4 ≤ length sectors.old }
     requires most { length sectors.old ≤ 32 }
     ensures block { OnOk result (IsCodeBlock sectors.new) }
@@ -52,7 +50,7 @@ pub fn solve(sectors: &mut [[u8; SECTOR]], lost: LostSet) -> Result<(), SolveFau
 }
 
 /// Whether the sectors are a code block (QIC-80-MC); fewer than 4 or more than 32 are none.
-pub fn consistent(sectors: &[[u8; SECTOR]]) -> bool
+pub fn consistent(sectors: &[Sector]) -> bool
     ensures { IsTrue result ↔ IsCodeBlock sectors.now }
 {
     match sectors.len() {

@@ -7,10 +7,10 @@ ghost use Rattle.erasure_solve.specs.Lost.{is_lost, lost_count, IsOnlyBlock};
 ghost use Rattle.erasure_solve.specs.Correction.{AreDegrees, Agree};
 ghost use Rattle.erasure_solve.specs.Plan.{planned_count, planned_lost, corrections_of, IsPlan, IsPlanFor, IsFull};
 
+use crate::SolveFault;
 use crate::coefficients::{Coefficients, NO_PLACE, correct};
 use crate::values::{Values, are_sectors};
-use crate::{SECTOR, SolveFault};
-use qic_base::LostSet;
+use qic_base::{LostSet, Sector};
 
 /// The coefficients that give the lost sectors of a segment, and those of the equations left over
 /// with fewer than three lost, for each segment with as many sectors and the same places lost.
@@ -74,7 +74,7 @@ impl Plan {
     }
 
     /// Whether some code block agrees with the sectors that are not lost (QIC-80-MC).
-    pub fn agrees(&self, sectors: &[[u8; SECTOR]]) -> bool
+    pub fn agrees(&self, sectors: &[Sector]) -> bool
         requires plan { IsPlan self.now }
         requires count { length sectors.now ≡ planned_count self.now }
         ensures { IsTrue result ↔ IsSolvable (is_lost (planned_lost self.now)) sectors.now }
@@ -87,7 +87,7 @@ impl Plan {
     }
 
     /// Makes the sectors a code block by changing the lost ones alone, whatever those hold before.
-    pub fn fill(&self, sectors: &mut [[u8; SECTOR]])
+    pub fn fill(&self, sectors: &mut [Sector])
         requires plan { IsPlan self.now }
         requires count { length sectors.old ≡ planned_count self.now }
         requires agrees { IsSolvable (is_lost (planned_lost self.now)) sectors.old }

@@ -4,8 +4,8 @@ ghost use Rattle.std.specs.Prelude.{◌≡◌, ◌+◌, ◌≤◌, ◌↔◌, le
 ghost use Rattle.qic_base.specs.Cartridge.{IsSector};
 ghost use Rattle.erasure_solve.specs.Rows.{IsZero, AreValues, AreZero, PutsStrip, IsStrip, AddsToStrip};
 
-use crate::SECTOR;
 use gf256_qic::{mul, pow, times_x};
+use qic_base::{SECTOR, Sector};
 
 /// How many columns are taken at once: so few that what is gathered of them stays in registers.
 const STRIP: usize = 128;
@@ -14,15 +14,15 @@ const STRIP: usize = 128;
 /// at 0xC3 is `scale` times the one at 0x02 of the column read from its last byte to its first.
 #[derive(Drop)]
 pub struct Values {
-    pub reversed: [u8; SECTOR],
-    pub at_one: [u8; SECTOR],
-    pub at_generator: [u8; SECTOR],
+    pub reversed: Sector,
+    pub at_one: Sector,
+    pub at_generator: Sector,
     pub scale: u8,
 }
 
 impl Values {
     /// The values of the columns of at most 32 sectors.
-    pub fn of(sectors: &[[u8; SECTOR]]) -> Values
+    pub fn of(sectors: &[Sector]) -> Values
         requires { length sectors.now ≤ 32 }
         ensures values { AreValues result sectors.now }
         ensures sectors { All IsSector sectors.now }
@@ -62,7 +62,7 @@ impl Values {
 }
 
 /// Whether each byte is 0.
-pub fn is_zero(row: &[u8; SECTOR]) -> bool
+pub fn is_zero(row: &Sector) -> bool
     ensures { IsTrue result ↔ IsZero row.now }
 {
     row.iter().all(|byte| *byte == 0)
@@ -80,7 +80,7 @@ struct Strip {
 
 impl Strip {
     /// The strip of the columns from `start` on.
-    fn of(sectors: &[[u8; SECTOR]], start: usize) -> Strip
+    fn of(sectors: &[Sector], start: usize) -> Strip
         requires within { start + 128 ≤ 1024 }
         requires few { length sectors.now ≤ 32 }
         requires sectors { All IsSector sectors.now }
@@ -98,7 +98,7 @@ impl Strip {
     }
 
     /// Takes the next sector from the front and the next one from the end.
-    fn add(&mut self, start: usize, sector: &[u8; SECTOR], from_end: &[u8; SECTOR])
+    fn add(&mut self, start: usize, sector: &Sector, from_end: &Sector)
         requires { start + 128 ≤ 1024 }
         ensures { AddsToStrip self.old start sector.now from_end.now self.new }
     {
@@ -112,7 +112,7 @@ impl Strip {
 }
 
 /// States that arrays of 1,024 bytes are sectors, and does nothing.
-pub fn are_sectors(sectors: &[[u8; SECTOR]])
+pub fn are_sectors(sectors: &[Sector])
     ensures { All IsSector sectors.now }
 {
     for sector in sectors {
@@ -120,7 +120,7 @@ pub fn are_sectors(sectors: &[[u8; SECTOR]])
     }
 }
 
-fn is_sector(sector: &[u8; SECTOR])
+fn is_sector(sector: &Sector)
     ensures { IsSector sector.now }
 {
     let _bytes = sector.iter();

@@ -8,23 +8,15 @@ ghost use Rattle.flat_dump.specs.Cells.{AreWhole, cell_bytes, is_held as held_at
 ghost use Rattle.flat_dump.specs.Import.{lost_count};
 ghost use Rattle.flat_dump.specs.Importing.{Unfinished, Goes, lost_cells};
 
-use qic_base::{Disk, DiskFailed, write_u16, write_u64};
-
-/// The length of the head of an image, in bytes.
-const HEAD_LEN: u64 = 64;
+use cart_image::{HEAD_LEN, MARK, SIGNATURE};
+use qic_base::{Disk, DiskFailed, Sector, write_u16, write_u64};
 
 /// The bytes of a segment's cells in an image.
 const CELLS_LEN: u64 = 32_864;
 
-/// The first bytes of an image.
-const SIGNATURE: &[u8; 8] = b"QIC80IMG";
-
-/// The byte of a mark that stands, and of an open gate.
-const MARK: u8 = 0x5A;
-
 /// The cell of a sector that holds these bytes, or of a lost one.
 #[tactic(auto, unfolding(crate::specs::Cells::cell_bytes))]
-fn cell_of(bytes: &[u8; 1024], held: bool) -> [u8; 1027]
+fn cell_of(bytes: &Sector, held: bool) -> [u8; 1027]
     ensures { result ≡ cell_bytes held bytes.now }
 {
     let gate = if held { MARK } else { 0 };
@@ -44,7 +36,7 @@ fn is_held(word: u32, len: u32, index: u32) -> bool
 }
 
 /// Makes the cells of a segment, and counts the lost sectors.
-fn fill_cells(sectors: &[[u8; 1024]], len: u32, word: u32, cells: &mut [[u8; 1027]]) -> u32
+fn fill_cells(sectors: &[Sector], len: u32, word: u32, cells: &mut [[u8; 1027]]) -> u32
     requires sectors { length sectors.now ≡ 32 }
     requires cells { length cells.old ≡ 32 }
     ensures cells { cells.new ≡ cells_of word len sectors.now }
@@ -86,7 +78,7 @@ fn append<D: Disk>(disk: &mut D, segment: u32, cells: &[u8]) -> Result<(), DiskF
 pub fn write_segment<D: Disk>(
     disk: &mut D,
     segment: u32,
-    sectors: &[[u8; 1024]],
+    sectors: &[Sector],
     len: u32,
     word: u32,
 ) -> Result<u32, DiskFailed>

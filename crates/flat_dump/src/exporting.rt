@@ -7,7 +7,7 @@ ghost use Rattle.flat_dump.specs.Export.{Exports};
 ghost use Rattle.flat_dump.specs.Seen.{Dumps};
 
 use crate::segment::read_segment;
-use qic_base::{LONGEST, Sink, SinkFailed, Tape, TapeFailed, push_within};
+use qic_base::{LONGEST, Sector, Sink, SinkFailed, Tape, TapeFailed, push_within};
 use rescue_map::write_bytes;
 
 /// Why a dump was not written to its end.
@@ -25,7 +25,7 @@ pub enum ExportError {
 fn export_segments<T: Tape, K: Sink>(
     tape: &mut T,
     segments_per_track: u16,
-    sectors: &mut [[u8; 1024]],
+    sectors: &mut [Sector],
     mask: &mut Vec<u32>,
     sink: &mut K,
 ) -> Result<(), ExportError>
@@ -54,7 +54,7 @@ fn export_segments<T: Tape, K: Sink>(
 /// the tape nothing changes. After an error a front of the dump is written, and the mask holds nothing of use.
 pub fn export<T: Tape, K: Sink>(
     tape: &mut T,
-    sectors: &mut [[u8; 1024]],
+    sectors: &mut [Sector],
     mask: &mut Vec<u32>,
     sink: &mut K,
 ) -> Result<(), ExportError>

@@ -5,10 +5,10 @@ ghost use Rattle.qic_base.specs.Cartridge.{IsSector, zero_sector};
 ghost use Rattle.qic_base.specs.TapeCalls.{Does, IsPlaceOf};
 ghost use Rattle.flat_dump.specs.Seen.{IsSeen, AreSeen};
 
-use qic_base::{SectorRead, Tape, TapeFailed};
+use qic_base::{Sector, SectorRead, Tape, TapeFailed};
 
 /// States that the array is a sector, and does nothing.
-fn is_sector(sector: &[u8; 1024])
+fn is_sector(sector: &Sector)
     ensures { IsSector sector.now }
 {
     let _bytes = sector.iter();
@@ -16,7 +16,7 @@ fn is_sector(sector: &[u8; 1024])
 
 /// Puts zero bytes.
 #[tactic(auto, unfolding(qic_base::specs::Cartridge::zero_sector))]
-fn clear(sector: &mut [u8; 1024])
+fn clear(sector: &mut Sector)
     ensures { sector.new ≡ zero_sector }
 {
     *sector = [0; 1024];
@@ -27,7 +27,7 @@ fn read_sector<T: Tape>(
     tape: &mut T,
     segment: u32,
     sector: u8,
-    into: &mut [u8; 1024],
+    into: &mut Sector,
 ) -> Result<bool, TapeFailed>
     requires { IsPlaceOf T.means tape.old segment sector }
     ensures did { Does T.means tape.old tape.new [] result }
@@ -48,7 +48,7 @@ fn read_sector<T: Tape>(
 pub fn read_segment<T: Tape>(
     tape: &mut T,
     segment: u32,
-    sectors: &mut [[u8; 1024]],
+    sectors: &mut [Sector],
 ) -> Result<u32, TapeFailed>
     requires place { IsPlaceOf T.means tape.old segment 0 }
     requires room { length sectors.old ≡ 32 }

@@ -5,14 +5,14 @@ ghost use Rattle.qic_base.specs.Cartridge.{IsLength};
 
 use bad_sector_map::BadMap;
 use header_segments::{Header, HeaderFault, decode, encode};
-use qic_base::{ForeignField, Name, NoMemory};
+use qic_base::{ForeignField, Name, NoMemory, Sector};
 use std::alloc::Global;
 use std::test::Fail;
 
 const DATE: u32 = 0x3052_65C0;
 
 /// A data area of the header.
-type Area = [[u8; 1024]; 29];
+type Area = [Sector; 29];
 
 fn sample(segments_per_track: u16) -> Header
     ensures { result.segments_per_track ≡ segments_per_track }

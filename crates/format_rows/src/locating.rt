@@ -2,13 +2,11 @@
 
 ghost use Rattle.std.specs.Prelude.{◌<◌};
 
-use qic_base::LostSet;
+use qic_base::{LostSet, SECTOR, Sector};
 use silent_locate::{LocateFault, Located, locate};
 
-const SECTOR: usize = 1024;
-
 /// Four sectors with the same bytes in each column.
-fn alike(bytes: [u8; 4]) -> [[u8; SECTOR]; 4] {
+fn alike(bytes: [u8; 4]) -> [Sector; 4] {
     [
         [bytes[0]; SECTOR],
         [bytes[1]; SECTOR],
@@ -55,7 +53,7 @@ fn generator_columns_are_located(rt: HostRuntime) {
 }
 
 /// A segment of 32 sectors whose columns are the generator, from each of the places 0 to 28 on.
-fn shifted_generators() -> [[u8; SECTOR]; 32] {
+fn shifted_generators() -> [Sector; 32] {
     let mut sectors = [[0; SECTOR]; 32];
     for j in 0..SECTOR {
         for (i, byte) in [0x01, 0xC0, 0xC0, 0x01].iter().enumerate() {
@@ -66,11 +64,7 @@ fn shifted_generators() -> [[u8; SECTOR]; 32] {
 }
 
 /// Makes a byte of a sector wrong and has it located.
-fn locate_one(
-    sectors: &mut [[u8; SECTOR]; 32],
-    place: u8,
-    lost: u32,
-) -> Result<Located, LocateFault>
+fn locate_one(sectors: &mut [Sector; 32], place: u8, lost: u32) -> Result<Located, LocateFault>
     requires { place < 32 }
 {
     sectors[place as usize][place as usize * 33] ^= 0x55;
@@ -78,7 +72,7 @@ fn locate_one(
 }
 
 /// The same with another sector lost, the seventh behind it.
-fn locate_beside_lost(sectors: &mut [[u8; SECTOR]; 32], place: u8) -> Result<Located, LocateFault>
+fn locate_beside_lost(sectors: &mut [Sector; 32], place: u8) -> Result<Located, LocateFault>
     requires { place < 32 }
 {
     let lost = (place + 7) % 32;
@@ -102,7 +96,7 @@ fn one_wrong_byte_of_a_segment_is_located(rt: HostRuntime) {
 
 /// Makes bytes of two sectors wrong; the answer, and whether the sectors then are as these wrong ones.
 fn locate_two(
-    segment: &[[u8; SECTOR]; 32],
+    segment: &[Sector; 32],
     place: u8,
     other: u8,
 ) -> (Result<Located, LocateFault>, bool) {

@@ -3,12 +3,12 @@
 ghost use Rattle.std.specs.Prelude.{◌<◌};
 
 use bad_sector_map::BadMap;
-use qic_base::{NoMemory, write_u32};
+use qic_base::{NoMemory, Sector, write_u32};
 use std::alloc::Global;
 use std::test::Fail;
 
 /// A data area of the header.
-type Area = [[u8; 1024]; 29];
+type Area = [Sector; 29];
 
 /// Writes the map of a cartridge of 2,800 segments with three marks. Answers the number of marks.
 fn write_three(alloc: Global, area: &mut Area) -> Result<u32, NoMemory> {

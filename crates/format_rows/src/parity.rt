@@ -2,10 +2,11 @@
 
 ghost use Rattle.std.specs.Prelude.{◌<◌};
 
+use qic_base::Sector;
 use segment_parity::{Parity, parity_of};
 
 /// The bytes of a column.
-fn column(rows: &[[u8; 1024]; 3], at: usize) -> [u8; 3]
+fn column(rows: &[Sector; 3], at: usize) -> [u8; 3]
     requires { at < 1024 }
 {
     [rows[0][at], rows[1][at], rows[2][at]]

@@ -4,12 +4,10 @@ ghost use Rattle.std.specs.Prelude.{◌≡◌, ◌<◌};
 ghost use Rattle.erasure_solve.specs.Plan.{planned_count, IsPlan};
 
 use erasure_solve::{Plan, SolveFault, consistent, solve};
-use qic_base::LostSet;
-
-const SECTOR: usize = 1024;
+use qic_base::{LostSet, SECTOR, Sector};
 
 /// Four sectors with the same bytes in each column.
-fn alike(bytes: [u8; 4]) -> [[u8; SECTOR]; 4] {
+fn alike(bytes: [u8; 4]) -> [Sector; 4] {
     [
         [bytes[0]; SECTOR],
         [bytes[1]; SECTOR],
@@ -19,7 +17,7 @@ fn alike(bytes: [u8; 4]) -> [[u8; SECTOR]; 4] {
 }
 
 /// Four sectors with these bytes in the last column, and zeros before it.
-fn alone(bytes: [u8; 4]) -> [[u8; SECTOR]; 4] {
+fn alone(bytes: [u8; 4]) -> [Sector; 4] {
     let mut sectors = [[0; SECTOR]; 4];
     for (i, byte) in bytes.iter().enumerate() {
         sectors[i][SECTOR - 1] = *byte;
@@ -29,9 +27,9 @@ fn alone(bytes: [u8; 4]) -> [[u8; SECTOR]; 4] {
 
 /// The answer for four sectors, and whether they become these.
 fn solved(
-    mut sectors: [[u8; SECTOR]; 4],
+    mut sectors: [Sector; 4],
     mask: u32,
-    after: &[[u8; SECTOR]; 4],
+    after: &[Sector; 4],
 ) -> (Result<(), SolveFault>, bool) {
     let answer = solve(&mut sectors, LostSet::from_mask(mask));
     (answer, sectors == *after)
@@ -113,7 +111,7 @@ fn one_plan_serves_segment_after_segment(rt: HostRuntime) {
 }
 
 /// A segment of 32 sectors whose columns are the generator, from each of the places 0 to 28 on.
-fn shifted_generators() -> [[u8; SECTOR]; 32] {
+fn shifted_generators() -> [Sector; 32] {
     let mut sectors = [[0; SECTOR]; 32];
     for j in 0..SECTOR {
         for (i, byte) in [0x01, 0xC0, 0xC0, 0x01].iter().enumerate() {
@@ -124,7 +122,7 @@ fn shifted_generators() -> [[u8; SECTOR]; 32] {
 }
 
 /// Overwrites three sectors of a segment, and has them found again.
-fn found(sectors: &mut [[u8; SECTOR]; 32], a: u8, b: u8, c: u8) -> Result<(), SolveFault>
+fn found(sectors: &mut [Sector; 32], a: u8, b: u8, c: u8) -> Result<(), SolveFault>
     requires first { a < 32 }
     requires second { b < 32 }
     requires third { c < 32 }
@@ -136,7 +134,7 @@ fn found(sectors: &mut [[u8; SECTOR]; 32], a: u8, b: u8, c: u8) -> Result<(), So
 }
 
 /// The first three places of a segment whose sectors are not found again.
-fn first_not_found(segment: &[[u8; SECTOR]; 32]) -> Option<[u8; 3]> {
+fn first_not_found(segment: &[Sector; 32]) -> Option<[u8; 3]> {
     let mut sectors = *segment;
     for a in 0..32u8 {
         for b in 0..a {

@@ -3,13 +3,13 @@
 ghost use Rattle.std.specs.Prelude.{◌<◌, ◌≤◌, IfOk};
 ghost use Rattle.cartridge_spec.specs.Table.{Shows};
 
-use qic_base::{LostSet, Name, write_u16, write_u32};
+use qic_base::{LostSet, Name, Sector, write_u16, write_u32};
 use std::alloc::Global;
 use std::test::Fail;
 use volume_table::{Entry, Table, TableFault, TableFull, TableReading, Trials, last_used, trials};
 
 /// A data area of the table's segment.
-type Area = [[u8; 1024]; 29];
+type Area = [Sector; 29];
 
 /// `VTBL`, as a little-endian number.
 const SIGNATURE: u32 = 0x4C42_5456;

@@ -14,20 +14,17 @@ ghost use Rattle.cartridge_spec.specs.Says.{with_parity};
 ghost use Rattle.cartridge_laws.specs.Terms.{IsFreshArea};
 ghost use Rattle.formatter.specs.Formats.{WritesHeader};
 
-use crate::SECTOR;
 use crate::fault::FormatFault;
 use bad_sector_map::BadMap;
 use drive_states::Unit;
+use gf256_qic::DATA_SECTORS;
 use header_segments::{Header, encode};
 use host_driver::Host;
-use qic_base::{LostSet, Name, Tape};
+use qic_base::{LostSet, Name, Sector, Tape};
 use qic117_commands::Mode;
 use segment_io::{SegFault, Workspace, write_sectors};
 use segment_parity::put_parity;
 use tape_geometry::Geometry;
-
-/// The data sectors of a header copy.
-const DATA_SECTORS: usize = 29;
 
 /// Writes both header copies of a cartridge that was just formatted, copy 0 first.
 pub(crate) fn write_header<T: Tape>(
@@ -60,7 +57,7 @@ pub(crate) fn write_header<T: Tape>(
 }
 
 /// Makes the sectors those of a header copy: the data and their parity.
-fn spell(geometry: Geometry, label: &Name, date: u32, map: &BadMap, sectors: &mut [[u8; SECTOR]])
+fn spell(geometry: Geometry, label: &Name, date: u32, map: &BadMap, sectors: &mut [Sector])
     requires words { length map.now ≡ 28 * geometry }
     requires room { length sectors.old ≡ 32 }
     ensures fresh { IsFreshArea geometry label.now date map.now (take 29 sectors.new) }
@@ -78,7 +75,7 @@ fn spell(geometry: Geometry, label: &Name, date: u32, map: &BadMap, sectors: &mu
 }
 
 /// Spells the header and the map in the data sectors.
-fn put_header(header: &Header, map: &BadMap, sectors: &mut [[u8; SECTOR]])
+fn put_header(header: &Header, map: &BadMap, sectors: &mut [Sector])
     requires long { IsLength header.now.segments_per_track }
     requires words { length map.now ≡ 28 * header.now.segments_per_track }
     requires room { length sectors.old ≡ 32 }

@@ -13,8 +13,4 @@ pub use fault::FormatFault;
 pub use formatting::{FormatReport, format};
 
 /// The tracks of a cartridge.
-const TRACKS: u32 = 28;
-/// Sectors a segment.
-const SECTORS: u8 = 32;
-/// The bytes of a sector.
-const SECTOR: usize = 1024;
+const TRACKS: u32 = qic_base::TRACKS as u32;

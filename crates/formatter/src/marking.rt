@@ -10,12 +10,12 @@ ghost use Rattle.host_driver.specs.Calls.{IsReady, Keeps};
 ghost use Rattle.host_driver.specs.Fits.{AgreesWithTape};
 ghost use Rattle.formatter.specs.Marking.{MarksBelow, MarksUnreadable, IsFirstMarked, HasNoMarkInFront};
 
+use crate::TRACKS;
 use crate::track::go_to_track;
-use crate::{SECTOR, SECTORS, TRACKS};
 use bad_sector_map::BadMap;
 use drive_states::Unit;
 use host_driver::{Host, HostFault};
-use qic_base::{SectorRead, Tape};
+use qic_base::{SECTORS, Sector, SectorRead, Tape};
 use qic117_commands::Mode;
 
 /// The segments of the header copies and of the volume table.
@@ -27,7 +27,7 @@ pub(crate) fn mark_all<T: Tape>(
     host: &mut Host,
     unit: &mut Unit<T>,
     map: &mut BadMap,
-    sectors: &mut [[u8; SECTOR]],
+    sectors: &mut [Sector],
 ) -> Result<(), HostFault>
     requires ready { IsReady T.means host.old unit.old }
     requires stopped { is_stopped unit.old.drive.deck.motion ≡ true }
@@ -53,7 +53,7 @@ fn mark_tracks<T: Tape>(
     host: &mut Host,
     unit: &mut Unit<T>,
     map: &mut BadMap,
-    sectors: &mut [[u8; SECTOR]],
+    sectors: &mut [Sector],
 ) -> Result<(), HostFault>
     requires ready { IsReady T.means host.old unit.old }
     requires mode { reads_in unit.old.drive.deck.mode ≡ true }
@@ -81,7 +81,7 @@ fn mark_track<T: Tape>(
     unit: &mut Unit<T>,
     track: u32,
     map: &mut BadMap,
-    sectors: &mut [[u8; SECTOR]],
+    sectors: &mut [Sector],
 ) -> Result<(), HostFault>
     requires ready { IsReady T.means host.old unit.old }
     requires mode { reads_in unit.old.drive.deck.mode ≡ true }
@@ -113,7 +113,7 @@ fn mark_segment<T: Tape>(
     unit: &mut Unit<T>,
     segment: u32,
     map: &mut BadMap,
-    sectors: &mut [[u8; SECTOR]],
+    sectors: &mut [Sector],
 ) -> Result<(), HostFault>
     requires ready { IsReady T.means host.old unit.old }
     requires mode { reads_in unit.old.drive.deck.mode ≡ true }
@@ -141,7 +141,7 @@ fn mark_sector<T: Tape>(
     segment: u32,
     index: u8,
     map: &mut BadMap,
-    sectors: &mut [[u8; SECTOR]],
+    sectors: &mut [Sector],
 ) -> Result<(), HostFault>
     requires ready { IsReady T.means host.old unit.old }
     requires mode { reads_in unit.old.drive.deck.mode ≡ true }

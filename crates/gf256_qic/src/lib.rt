@@ -9,6 +9,9 @@ use logarithms::{exponential, logarithm};
 pub mod laws;
 mod logarithms;
 
+/// The data sectors of a segment without a bad sector, of 32; those of parity stand behind them (QIC-80-MC).
+pub const DATA_SECTORS: usize = 29;
+
 /// The product of two elements of the field of QIC-80 (QIC-80-MC).
 pub fn mul(a: u8, b: u8) -> u8
     ensures { result ≡ product a b }

@@ -8,6 +8,7 @@ mod reading;
 mod writing;
 
 pub use fault::HeaderFault;
+pub use fields::SIGNATURE;
 pub use header::Header;
 pub use reading::decode;
 pub use writing::encode;

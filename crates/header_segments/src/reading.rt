@@ -11,14 +11,13 @@ ghost use Rattle.header_segments.specs.Refusal.{foreign, refusal};
 use crate::fault::HeaderFault;
 use crate::fields::{
     FIRST_DATA, FIRST_HEADER, FORMAT_CODE, SECOND_HEADER, SECTOR_MAXIMUM, SIGNATURE, TRACK_MAXIMUM,
-    TRACKS,
 };
 use crate::header::Header;
 use bad_sector_map::BadMap;
-use qic_base::{ForeignField, Name, read_u16, read_u32};
+use qic_base::{ForeignField, Name, Sector, TRACKS, read_u16, read_u32};
 
 /// The test of a field of one byte in the first sector: a fault where the byte is another.
-fn byte_fault(area: &[[u8; 1024]], field: ForeignField, at: usize, value: u8) -> Option<HeaderFault>
+fn byte_fault(area: &[Sector], field: ForeignField, at: usize, value: u8) -> Option<HeaderFault>
     requires sectors { length area.now ≡ 29 }
     requires within { at < 1024 }
     ensures { result ≡ option_map foreign (field_fault area.now (tested field at 1 value)) }
@@ -34,12 +33,7 @@ fn byte_fault(area: &[[u8; 1024]], field: ForeignField, at: usize, value: u8) ->
 }
 
 /// The test of a field of two bytes in the first sector.
-fn number_fault(
-    area: &[[u8; 1024]],
-    field: ForeignField,
-    at: usize,
-    value: u16,
-) -> Option<HeaderFault>
+fn number_fault(area: &[Sector], field: ForeignField, at: usize, value: u16) -> Option<HeaderFault>
     requires sectors { length area.now ≡ 29 }
     requires within { at < 1023 }
     ensures { result ≡ option_map foreign (field_fault area.now (tested field at 2 value)) }
@@ -55,7 +49,7 @@ fn number_fault(
 }
 
 /// The first field that does not have the profile's value.
-fn profile_fault(area: &[[u8; 1024]], segments_per_track: u16) -> Option<HeaderFault>
+fn profile_fault(area: &[Sector], segments_per_track: u16) -> Option<HeaderFault>
     requires sectors { length area.now ≡ 29 }
     requires long { IsLength segments_per_track }
     ensures { result ≡
@@ -90,7 +84,7 @@ fn marked_fault(map: &BadMap) -> Option<HeaderFault>
     None
 }
 
-fn fields_of(area: &[[u8; 1024]]) -> Header
+fn fields_of(area: &[Sector]) -> Header
     requires { length area.now ≡ 29 }
     ensures { All (Holds area.now) (header_fields (header_of result)) }
 {
@@ -107,7 +101,7 @@ fn fields_of(area: &[[u8; 1024]]) -> Header
 }
 
 /// Why the area is refused, where its map was read already.
-fn fault_in(area: &[[u8; 1024]], segments_per_track: u16, map: &BadMap) -> Option<HeaderFault>
+fn fault_in(area: &[Sector], segments_per_track: u16, map: &BadMap) -> Option<HeaderFault>
     requires sectors { length area.now ≡ 29 }
     requires long { IsLength segments_per_track }
     requires map { map.now ≡ words_in area.now (28 * segments_per_track) }
@@ -121,11 +115,7 @@ fn fault_in(area: &[[u8; 1024]], segments_per_track: u16, map: &BadMap) -> Optio
 
 /// Reads the header and the map in a data area of 29 sectors, for a drive that reports these
 /// segments per track. A refusal is the first test that fails, and leaves a map with no marks.
-pub fn decode(
-    area: &[[u8; 1024]],
-    drive_segments: u16,
-    map: &mut BadMap,
-) -> Result<Header, HeaderFault>
+pub fn decode(area: &[Sector], drive_segments: u16, map: &mut BadMap) -> Result<Header, HeaderFault>
     requires sectors { length area.now ≡ 29 }
     requires long { IsLength drive_segments }
     ensures shown { IfOk result (λ header. Shows area.now (header_of header) map.new) }

@@ -9,16 +9,15 @@ ghost use Rattle.cartridge_laws.specs.HeaderWriting.{FieldFits, with_fields, tol
 
 use crate::fields::{
     FIRST_DATA, FIRST_HEADER, FORMAT_CODE, SECOND_HEADER, SECTOR_MAXIMUM, SIGNATURE, TRACK_MAXIMUM,
-    TRACKS,
 };
 use crate::header::Header;
 use bad_sector_map::BadMap;
-use qic_base::{write_u16, write_u32};
+use qic_base::{Sector, TRACKS, write_u16, write_u32};
 
 /// The segments under one floppy head.
 const HEAD_SEGMENTS: u16 = 600;
 
-fn clear(area: &mut [[u8; 1024]])
+fn clear(area: &mut [Sector])
     ensures { (k : ℕ) → byte_in area.new k ≡ 0 }
 {
     for sector in area.iter_mut() {
@@ -26,7 +25,7 @@ fn clear(area: &mut [[u8; 1024]])
     }
 }
 
-fn write_profile(sector: &mut [u8; 1024], segments_per_track: u16)
+fn write_profile(sector: &mut Sector, segments_per_track: u16)
     requires { IsLength segments_per_track }
     ensures { sector.new ≡ with_fields (profile_fields segments_per_track) sector.old }
 {
@@ -45,7 +44,7 @@ fn write_profile(sector: &mut [u8; 1024], segments_per_track: u16)
     sector[29] = SECTOR_MAXIMUM;
 }
 
-fn write_told(sector: &mut [u8; 1024], header: &Header)
+fn write_told(sector: &mut Sector, header: &Header)
     ensures whole { sector.new ≡ with_fields (told_fields (header_of header.now)) sector.old }
     ensures fits { All FieldFits (told_fields (header_of header.now)) }
 {
@@ -59,7 +58,7 @@ fn write_told(sector: &mut [u8; 1024], header: &Header)
 }
 
 /// Spells the header and the map in a data area of 29 sectors. All other bytes become zero.
-pub fn encode(header: &Header, map: &BadMap, into: &mut [[u8; 1024]])
+pub fn encode(header: &Header, map: &BadMap, into: &mut [Sector])
     requires sectors { length into.old ≡ 29 }
     requires long { IsLength header.now.segments_per_track }
     requires map { length map.now ≡ 28 * header.now.segments_per_track }

@@ -17,7 +17,7 @@ use crate::fault::HostFault;
 use crate::host::Host;
 use drive_states::effects::{passed, run_on};
 use drive_states::{FdcFault, HandFault, Unit};
-use qic_base::{SectorRead, SectorWrite, Tape};
+use qic_base::{Sector, SectorRead, SectorWrite, Tape};
 
 impl Host {
     /// Reads a sector of the segment in which the tape streams, one that the head has yet to reach. `into` is unchanged
@@ -27,7 +27,7 @@ impl Host {
         unit: &mut Unit<T>,
         segment: u32,
         sector: u8,
-        into: &mut [u8; 1024],
+        into: &mut Sector,
     ) -> Result<SectorRead, HostFault>
         requires ready { IsReady T.means self.old unit.old }
         requires mode { reads_in unit.old.drive.deck.mode ≡ true }
@@ -61,7 +61,7 @@ impl Host {
         unit: &mut Unit<T>,
         segment: u32,
         sector: u8,
-        into: &mut [u8; 1024],
+        into: &mut Sector,
     ) -> Result<(), FdcFault>
         requires ready { IsReady T.means self.now unit.old }
         requires mode { reads_in unit.old.drive.deck.mode ≡ true }
@@ -82,7 +82,7 @@ impl Host {
         unit: &mut Unit<T>,
         segment: u32,
         sector: u8,
-        from: &[u8; 1024],
+        from: &Sector,
     ) -> Result<SectorWrite, HostFault>
         requires ready { IsReady T.means self.old unit.old }
         requires writable { MayWrite unit.old.drive.deck }
@@ -118,7 +118,7 @@ impl Host {
         unit: &mut Unit<T>,
         segment: u32,
         sector: u8,
-        from: &[u8; 1024],
+        from: &Sector,
     ) -> Result<(), FdcFault>
         requires ready { IsReady T.means self.now unit.old }
         requires writable { MayWrite unit.old.drive.deck }

@@ -9,7 +9,7 @@ ghost use Rattle.qic_mem.specs.Tape.{tape_means};
 use crate::trains::{WRITTEN, report, train, write_one};
 use drive_states::{FdcFault, FloppyAddr, HandFault, Unit};
 use host_driver::{Host, HostFault};
-use qic_base::Tape;
+use qic_base::{Sector, Tape};
 use qic_mem::MemTape;
 use qic117_commands::Mode;
 use std::alloc::Global;
@@ -103,7 +103,7 @@ fn reports_of_the_status(unit: &mut Unit<MemTape>) -> u8 {
 }
 
 /// The answer to a read, and what the bytes 1 became.
-fn read(unit: &mut Unit<MemTape>, addr: FloppyAddr) -> (Result<(), FdcFault>, [u8; 1024]) {
+fn read(unit: &mut Unit<MemTape>, addr: FloppyAddr) -> (Result<(), FdcFault>, Sector) {
     let mut into = [1; 1024];
     (unit.read_sector(addr, &mut into), into)
 }

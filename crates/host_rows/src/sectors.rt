@@ -5,16 +5,16 @@ use crate::cable::{Row, begun, first_wrong, put_away, written};
 use crate::trains::{FIRST_OF_FOUR, WRITTEN};
 use drive_states::Unit;
 use host_driver::{HandFault, HostFault};
-use qic_base::{SectorRead, SectorWrite};
+use qic_base::{Sector, SectorRead, SectorWrite};
 use qic_mem::MemTape;
 
-fn read(unit: &mut Unit<MemTape>, into: &mut [u8; 1024]) -> Result<SectorRead, HostFault> {
+fn read(unit: &mut Unit<MemTape>, into: &mut Sector) -> Result<SectorRead, HostFault> {
     let mut host = begun(unit)?;
     host.go_to(unit, 4)?;
     host.read_sector(unit, 4, 0, into)
 }
 
-fn write(unit: &mut Unit<MemTape>, from: &[u8; 1024]) -> Result<SectorWrite, HostFault> {
+fn write(unit: &mut Unit<MemTape>, from: &Sector) -> Result<SectorWrite, HostFault> {
     let mut host = begun(unit)?;
     host.go_to(unit, 4)?;
     host.write_sector(unit, 4, 0, from)

@@ -4,7 +4,7 @@ ghost use Rattle.std.specs.Prelude.{◌≤◌};
 
 use crate::cable::{begun, put_away, tape};
 use drive_states::{HandFault, Unit};
-use qic_base::{LostSet, Tape, TapeFailed};
+use qic_base::{LostSet, Sector, Tape, TapeFailed};
 use qic_mem::MemTape;
 use segment_io::{SegFault, Workspace, collect, read_segment, write_sectors, write_segment};
 use std::alloc::Global;
@@ -77,7 +77,7 @@ fn wear(unit: &mut Unit<MemTape>, sector: u32) -> Result<(), HandFault> {
 }
 
 /// The bytes that `fill` puts at a place.
-fn bytes(place: u8, first: u8) -> [u8; 1024] {
+fn bytes(place: u8, first: u8) -> Sector {
     let mut sector = [place.wrapping_add(first); 1024];
     sector[1023] = first;
     sector

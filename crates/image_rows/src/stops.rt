@@ -6,7 +6,7 @@ ghost use Rattle.std.specs.Prelude.{◌<◌};
 use crate::files::{image, sees_three};
 use crate::sectors::{after_write, held};
 use cart_image::ImageTape;
-use qic_base::{SectorRead, Tape};
+use qic_base::{Sector, SectorRead, Tape};
 use qic_mem::MemDisk;
 use std::alloc::Global;
 use std::test::Fail;
@@ -16,7 +16,7 @@ fn view(
     tape: &mut ImageTape<MemDisk>,
     segment: u32,
     sector: u8,
-) -> Result<(SectorRead, [u8; 1024]), Fail>
+) -> Result<(SectorRead, Sector), Fail>
     requires segment { segment < 84 }
     requires sector { sector < 32 }
 {

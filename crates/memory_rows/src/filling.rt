@@ -3,7 +3,7 @@
 ghost use Rattle.std.specs.Prelude.{◌≤◌};
 
 use crate::streams::source;
-use qic_base::{Source, SourceFailed};
+use qic_base::{Sector, Source, SourceFailed};
 use qic_mem::MemSource;
 use sector_fill::fill_sectors;
 use std::alloc::Global;
@@ -11,7 +11,7 @@ use std::test::Fail;
 
 type Filled = (
     Result<u32, SourceFailed>,
-    [[u8; 1024]; 3],
+    [Sector; 3],
     [Result<usize, SourceFailed>; 2],
 );
 

@@ -27,3 +27,18 @@ pub use tape::{SectorRead, SectorView, SectorWrite, Tape, TapeFailed, TapeInfo};
 
 /// The greatest number of segments per track; the least is 3 (this project's profile).
 pub const LONGEST: u16 = 246;
+
+/// The tracks of each cartridge (QIC-80).
+pub const TRACKS: u8 = 28;
+
+/// The most segments of a cartridge.
+pub const MOST_SEGMENTS: usize = TRACKS as usize * LONGEST as usize;
+
+/// The sectors of each segment (QIC-80).
+pub const SECTORS: u8 = 32;
+
+/// The bytes of each sector (QIC-80).
+pub const SECTOR: usize = 1024;
+
+/// What a sector holds.
+pub type Sector = [u8; SECTOR];

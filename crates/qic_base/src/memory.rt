@@ -34,6 +34,6 @@ pub fn push_within<T: Drop>(list: &mut Vec<T>, item: T)
 {
     match list.push(item) {
         Ok(()) => {}
-        Err(_) => unreachable!(),
+        Err(_) => unreachable!("there is room"),
     }
 }

@@ -8,6 +8,8 @@ ghost use Rattle.qic_base.specs.Step.{WriteSector, FormatSegment, SetReferenced,
 ghost use Rattle.qic_base.specs.Tape.{Meaning, spoil_answer};
 ghost use Rattle.qic_base.specs.TapeCalls.{Does, Tells, IsPlaceOf, IsToldRight, IsLeftNow, Reads, write_answer};
 
+use crate::Sector;
+
 /// A call of a tape failed.
 #[derive(Clone, Copy, Debug, PartialEq, Eq)]
 pub struct TapeFailed;
@@ -28,7 +30,7 @@ pub enum SectorView {
     Blank,
     Defect,
     Lost,
-    Holds([u8; 1024]),
+    Holds(Sector),
 }
 
 /// What a read of a sector found.
@@ -65,7 +67,7 @@ pub trait Tape {
         &mut self,
         segment: u32,
         sector: u8,
-        into: &mut [u8; 1024],
+        into: &mut Sector,
     ) -> Result<SectorRead, TapeFailed>
         requires { IsPlaceOf means self.old segment sector }
         ensures did { Does means self.old self.new [] result }
@@ -79,7 +81,7 @@ pub trait Tape {
         &mut self,
         segment: u32,
         sector: u8,
-        from: &[u8; 1024],
+        from: &Sector,
     ) -> Result<SectorWrite, TapeFailed>
         requires { IsPlaceOf means self.old segment sector }
         ensures did { Does means self.old self.new (WriteSector segment sector from.now ∷ []) result }

@@ -25,7 +25,7 @@ use holder::Holder;
 use log::{Call, TapeRecord, add_call, is_full};
 use outcome::End;
 pub use outcome::Outcome;
-use qic_base::{NoMemory, SectorRead, SectorWrite, Tape, TapeFailed, TapeInfo};
+use qic_base::{NoMemory, Sector, SectorRead, SectorWrite, Tape, TapeFailed, TapeInfo};
 use std::alloc::Global;
 pub use sure::SureTape;
 
@@ -157,7 +157,7 @@ impl Tape for MemTape {
         &mut self,
         segment: u32,
         sector: u8,
-        into: &mut [u8; 1024],
+        into: &mut Sector,
     ) -> Result<SectorRead, TapeFailed>
         requires { IsPlaceOf tape_means self.old segment sector }
         ensures did { Does tape_means self.old self.new [] result }
@@ -179,7 +179,7 @@ impl Tape for MemTape {
         &mut self,
         segment: u32,
         sector: u8,
-        from: &[u8; 1024],
+        from: &Sector,
     ) -> Result<SectorWrite, TapeFailed>
         requires { IsPlaceOf tape_means self.old segment sector }
         ensures did { Does tape_means self.old self.new (WriteSector segment sector from.now ∷ []) result }

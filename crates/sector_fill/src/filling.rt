@@ -5,7 +5,7 @@ ghost use Rattle.qic_base.specs.Terms.{HasCause};
 ghost use Rattle.sector_fill.specs.Filling.{FillsFront, FillsBytes, FillsSectors, IsFrontOf};
 
 use crate::flat::split_bytes;
-use qic_base::{Source, SourceFailed};
+use qic_base::{Sector, Source, SourceFailed};
 
 /// Reads until the slice is full or the source has ended, and answers how many bytes were read.
 fn read_full<S: Source>(source: &mut S, into: &mut [u8]) -> Result<usize, SourceFailed>
@@ -43,7 +43,7 @@ fn fill_bytes<S: Source>(source: &mut S, into: &mut [u8], most: u32) -> Result<u
 /// leaves them with anything, and the bytes that were read before it are taken from the source.
 pub fn fill_sectors<S: Source>(
     source: &mut S,
-    sectors: &mut [[u8; 1024]],
+    sectors: &mut [Sector],
     count: u8,
     most: u32,
 ) -> Result<u32, SourceFailed>

@@ -5,10 +5,11 @@ ghost use Rattle.std.specs.Borrow.{sem};
 ghost use Rattle.cartridge_spec.specs.Volumes.{bytes_in};
 ghost use Rattle.sector_fill.specs.Flat.{LendsBytes};
 
+use qic_base::Sector;
 use std::slice::from_raw_parts_mut;
 
 /// The bytes of the first `count` sectors, one sector behind the other, and the other sectors.
-pub fn split_bytes(sectors: &mut [[u8; 1024]], count: usize) -> (&mut [u8], &mut [[u8; 1024]])
+pub fn split_bytes(sectors: &mut [Sector], count: usize) -> (&mut [u8], &mut [Sector])
     requires { count ≤ length sectors.old }
     ensures* writes_back { sem 𝓛 (LendsBytes sectors.entry count result) }
     ensures bytes { result.0.now ≡ bytes_in (take count sectors.old) }

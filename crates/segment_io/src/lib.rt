@@ -14,7 +14,3 @@ pub use reading::{collect, read_segment};
 pub use solving::solve_collected;
 pub use workspace::Workspace;
 pub use writing::{write_sectors, write_segment};
-
-const SECTOR: usize = 1024;
-/// Sectors a segment.
-const SECTORS: u8 = 32;

@@ -16,10 +16,9 @@ ghost use Rattle.segment_io.specs.Reading.{OnlyReads, Solves};
 use crate::fault::SegFault;
 use crate::solving::solve_collected;
 use crate::workspace::Workspace;
-use crate::{SECTOR, SECTORS};
 use drive_states::Unit;
 use host_driver::Host;
-use qic_base::{LostSet, SectorRead, Tape};
+use qic_base::{LostSet, SECTORS, Sector, SectorRead, Tape};
 
 /// Reads the usable sectors of a segment into the first places of the workspace, ascending: bit `i` of `usable` stands
 /// for sector `i`. The answer is the places of those that can't be read.
@@ -52,7 +51,7 @@ fn collect_into<T: Tape>(
     unit: &mut Unit<T>,
     segment: u32,
     usable: u32,
-    sectors: &mut [[u8; SECTOR]],
+    sectors: &mut [Sector],
 ) -> Result<LostSet, SegFault>
     requires ready { IsReady T.means host.old unit.old }
     requires segment { HasSegment unit.old.drive.deck segment usable }
@@ -90,7 +89,7 @@ impl Found {
         segment: u32,
         usable: u32,
         index: u8,
-        sectors: &mut [[u8; SECTOR]],
+        sectors: &mut [Sector],
     ) -> Result<(), SegFault>
         requires ready { IsReady T.means host.old unit.old }
         requires mode { reads_in unit.old.drive.deck.mode ≡ true }
@@ -121,7 +120,7 @@ impl Found {
         unit: &mut Unit<T>,
         segment: u32,
         index: u8,
-        sectors: &mut [[u8; SECTOR]],
+        sectors: &mut [Sector],
     ) -> Result<(), SegFault>
         requires ready { IsReady T.means host.old unit.old }
         requires mode { reads_in unit.old.drive.deck.mode ≡ true }

@@ -10,12 +10,11 @@ ghost use Rattle.cartridge_spec.specs.Shape.{usable_count};
 ghost use Rattle.segment_io.specs.Gathered.{Gathered};
 ghost use Rattle.segment_io.specs.Reading.{Solves};
 
-use crate::SECTOR;
 use crate::fault::SegFault;
 use crate::shape::count_usable;
 use crate::workspace::Workspace;
 use erasure_solve::{SolveFault, solve};
-use qic_base::LostSet;
+use qic_base::{LostSet, Sector};
 
 /// Makes the usable sectors of a collected segment a code block, by changing those that were lost.
 pub fn solve_collected(
@@ -49,7 +48,7 @@ pub fn solve_collected(
 }
 
 /// Solves the first 4 to 32 sectors.
-fn solve_first(sectors: &mut [[u8; SECTOR]], count: u8, lost: LostSet) -> Result<(), SolveFault>
+fn solve_first(sectors: &mut [Sector], count: u8, lost: LostSet) -> Result<(), SolveFault>
     requires least { 4 ≤ count }
     requires most { count ≤ 32 }
     requires room { count ≤ length sectors.old }

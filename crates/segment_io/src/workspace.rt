@@ -3,15 +3,14 @@
 ghost use Rattle.std.specs.Prelude.{◌≡◌, IfOk, length};
 ghost use Rattle.std.specs.Borrow.{sem};
 
-use crate::{SECTOR, SECTORS};
-use qic_base::NoMemory;
+use qic_base::{NoMemory, SECTOR, SECTORS, Sector};
 use std::alloc::Global;
 use std::marker::Model;
 
 /// The 32 sectors of a segment; the usable ones, ascending, stand at the first places. Contracts see the list of them.
 #[derive(Drop)]
 pub struct Workspace {
-    pub(crate) sectors: Vec<[u8; SECTOR]>,
+    pub(crate) sectors: Vec<Sector>,
 }
 
 impl Model for Workspace {
@@ -37,7 +36,7 @@ impl Workspace {
     }
 
     /// The 32 sectors.
-    pub fn sectors(&self) -> &[[u8; 1024]]
+    pub fn sectors(&self) -> &[Sector]
         ensures value { result.now ≡ self.now }
         ensures size { length result.now ≡ 32 }
     {
@@ -45,7 +44,7 @@ impl Workspace {
     }
 
     /// The 32 sectors, to be changed.
-    pub fn sectors_mut(&mut self) -> &mut [[u8; 1024]]
+    pub fn sectors_mut(&mut self) -> &mut [Sector]
         ensures* writes_back { sem 𝓛 (LendsSectors self.entry result) }
         ensures value { result.now ≡ self.old }
         ensures size { length result.now ≡ 32 }

@@ -16,10 +16,9 @@ ghost use Rattle.cartridge_laws.specs.Writes.{block_in, segment_writes, named_wr
 use crate::fault::SegFault;
 use crate::shape::count_usable;
 use crate::workspace::Workspace;
-use crate::{SECTOR, SECTORS};
 use drive_states::Unit;
 use host_driver::Host;
-use qic_base::{LostSet, Tape};
+use qic_base::{LostSet, SECTORS, Sector, Tape};
 use segment_parity::{Parity, put_parity};
 
 /// Writes all usable sectors of a segment, ascending: the data in the workspace, at the places before the last three,
@@ -59,7 +58,7 @@ fn write_by_register<T: Tape>(
     segment: u32,
     usable: u32,
     count: u8,
-    sectors: &mut [[u8; SECTOR]],
+    sectors: &mut [Sector],
 ) -> Result<(), SegFault>
     requires ready { IsReady T.means host.old unit.old }
     requires segment { HasSegment unit.old.drive.deck segment usable }
@@ -104,7 +103,7 @@ fn write_next<T: Tape>(
     count: u8,
     place: &mut u8,
     parity: &mut Parity,
-    sectors: &mut [[u8; SECTOR]],
+    sectors: &mut [Sector],
 ) -> Result<(), SegFault>
     requires ready { IsReady T.means host.old unit.old }
     requires writable { MayWrite unit.old.drive.deck }
@@ -136,7 +135,7 @@ fn write_next<T: Tape>(
 
 /// Makes the sector at a place ready to be written: one of data goes into the register, and at the first place behind
 /// the data the register's parity is put in.
-fn make_ready(sectors: &mut [[u8; SECTOR]], count: u8, place: u8, parity: &mut Parity)
+fn make_ready(sectors: &mut [Sector], count: u8, place: u8, parity: &mut Parity)
     requires least { 1 ≤ count }
     requires most { count ≤ 29 }
     requires room { length sectors.old ≡ 32 }
@@ -193,7 +192,7 @@ fn write_usable<T: Tape>(
     index: u8,
     places: LostSet,
     place: &mut u8,
-    sectors: &[[u8; SECTOR]],
+    sectors: &[Sector],
 ) -> Result<(), SegFault>
     requires ready { IsReady T.means host.old unit.old }
     requires writable { MayWrite unit.old.drive.deck }
@@ -224,7 +223,7 @@ fn write_named<T: Tape>(
     index: u8,
     places: LostSet,
     place: u8,
-    sectors: &[[u8; SECTOR]],
+    sectors: &[Sector],
 ) -> Result<(), SegFault>
     requires ready { IsReady T.means host.old unit.old }
     requires writable { MayWrite unit.old.drive.deck }
@@ -250,7 +249,7 @@ fn write_at<T: Tape>(
     segment: u32,
     index: u8,
     place: u8,
-    sectors: &[[u8; SECTOR]],
+    sectors: &[Sector],
 ) -> Result<(), SegFault>
     requires ready { IsReady T.means host.old unit.old }
     requires writable { MayWrite unit.old.drive.deck }

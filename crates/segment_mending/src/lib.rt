@@ -18,6 +18,4 @@ pub use scrubbing::scrub_segments;
 /// Segments with a copy of the header, the first of a cartridge.
 const HEADER_COPIES: u32 = 2;
 /// The segment of the volume table.
-const TABLE_SEGMENT: u32 = 2;
-/// The mask of a segment without a bad sector.
-const WHOLE: u32 = 0xFFFF_FFFF;
+const TABLE_SEGMENT: u32 = volume_table::TABLE_SEGMENT as u32;

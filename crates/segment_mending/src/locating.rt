@@ -22,16 +22,11 @@ use crate::fault::ScrubFault;
 use crate::{HEADER_COPIES, TABLE_SEGMENT};
 use command_spec::Depth;
 use drive_states::Unit;
+use header_segments::SIGNATURE;
 use host_driver::Host;
-use qic_base::{LostSet, Tape, read_u32};
+use qic_base::{LostSet, SECTORS, Sector, Tape, read_u32};
 use segment_io::{SegFault, Workspace, collect, read_segment};
 use silent_locate::{LocateFault, Located, locate, with_place};
-
-const SECTOR: usize = 1024;
-/// Sectors a segment.
-const SECTORS: u8 = 32;
-/// What a header's data begin with (Linux ftape headers).
-const SIGNATURE: u32 = 0xAA55_AA55;
 
 /// What is found of a segment.
 #[derive(Clone, Copy)]
@@ -174,11 +169,7 @@ fn locate_in(usable: u32, lost: LostSet, work: &mut Workspace) -> Result<Located
 }
 
 /// Locates among the first 4 to 32 sectors.
-fn locate_first(
-    sectors: &mut [[u8; SECTOR]],
-    count: u8,
-    lost: LostSet,
-) -> Result<Located, LocateFault>
+fn locate_first(sectors: &mut [Sector], count: u8, lost: LostSet) -> Result<Located, LocateFault>
     requires least { 4 ≤ count }
     requires most { count ≤ 32 }
     requires room { count ≤ length sectors.old }

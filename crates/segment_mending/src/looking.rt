@@ -10,12 +10,12 @@ ghost use Rattle.segment_io.specs.Calls.{HasSegment};
 ghost use Rattle.segment_mending.specs.Looking.{HasFew, Looks};
 ghost use Rattle.segment_mending.specs.Mending.{reported};
 
-use crate::WHOLE;
 use crate::fault::ScrubFault;
 use crate::lines::unread_text;
 use crate::locating::{Found, find_in_segment};
 use crate::mending::{mend, pass_over};
 use crate::report::ScrubReport;
+use bad_sector_map::WHOLE;
 use command_spec::Depth;
 use drive_states::Unit;
 use host_driver::Host;

@@ -10,13 +10,13 @@ ghost use Rattle.command_spec.specs.Scrub.{whole_segment};
 ghost use Rattle.segment_mending.specs.Looking.{HasFew, Looks};
 ghost use Rattle.segment_mending.specs.Mending.{ScrubEnds, reported};
 
+use crate::TABLE_SEGMENT;
 use crate::fault::ScrubFault;
 use crate::lines::counts_text;
 use crate::looking::{look_at_copy, look_at_segment};
 use crate::report::ScrubReport;
 use crate::volumes::look_at_volumes;
-use crate::{TABLE_SEGMENT, WHOLE};
-use bad_sector_map::BadMap;
+use bad_sector_map::{BadMap, WHOLE};
 use command_spec::Depth;
 use drive_states::Unit;
 use host_driver::Host;

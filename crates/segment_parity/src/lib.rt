@@ -8,10 +8,9 @@ ghost use Rattle.segment_parity.specs.Register.{pushed, Holds, Shifted, AreParit
 
 use gf256_qic::{over_x, times_x};
 pub use putting::put_parity;
+use qic_base::{SECTOR, Sector};
 
 mod putting;
-
-const SECTOR: usize = 1024;
 
 /// The columns that `parity_of` takes at a time, few enough for the processor's registers.
 const BLOCK: usize = 128;
@@ -19,7 +18,7 @@ const BLOCK: usize = 128;
 /// The parity of the data sectors of a segment so far, 0 to 29 of them (QIC-80-MC).
 #[derive(Drop)]
 pub struct Parity {
-    register: [[u8; SECTOR]; 3],
+    register: [Sector; 3],
     count: u8,
 }
 
@@ -36,7 +35,7 @@ impl Parity {
     }
 
     /// Takes the next data sector, in ascending order of index.
-    pub fn push(&mut self, sector: &[u8; SECTOR])
+    pub fn push(&mut self, sector: &Sector)
         requires { pushed self.old < 29 }
         ensures count { pushed self.new ≡ pushed self.old + 1 }
         ensures sectors { (ss : List (List ℕ)) → Holds self.old ss →
@@ -54,7 +53,7 @@ impl Parity {
     }
 
     /// The three parity sectors of what was pushed so far, in ascending order of index.
-    pub fn so_far(&self) -> &[[u8; SECTOR]; 3]
+    pub fn so_far(&self) -> &[Sector; 3]
         requires { 0 < pushed self.now }
         ensures parity { (ss : List (List ℕ)) → Holds self.now ss →
             result.now ≡ parity_sectors ss }
@@ -67,7 +66,7 @@ impl Parity {
     }
 
     /// The three parity sectors, in ascending order of index.
-    pub fn finish(self) -> [[u8; SECTOR]; 3]
+    pub fn finish(self) -> [Sector; 3]
         requires { 0 < pushed self }
         ensures parity { (ss : List (List ℕ)) → Holds self ss → result ≡ parity_sectors ss }
         ensures codewords { (ss : List (List ℕ)) → Holds self ss → IsCodeBlock (ss ++ result) }
@@ -79,7 +78,7 @@ impl Parity {
 }
 
 /// The parity of 1 to 29 data sectors, which follows them in a segment (QIC-80-MC).
-pub fn parity_of(sectors: &[[u8; SECTOR]]) -> [[u8; SECTOR]; 3]
+pub fn parity_of(sectors: &[Sector]) -> [Sector; 3]
     requires least { 1 ≤ length sectors.now }
     requires most { length sectors.now ≤ 29 }
     ensures parity { result ≡ parity_sectors sectors.now }
@@ -93,7 +92,7 @@ pub fn parity_of(sectors: &[[u8; SECTOR]]) -> [[u8; SECTOR]; 3]
 }
 
 /// Puts the parity of a block of columns, from `start` on, into the three parity sectors.
-fn put_columns(rows: &mut [[u8; SECTOR]; 3], sectors: &[[u8; SECTOR]], start: usize)
+fn put_columns(rows: &mut [Sector; 3], sectors: &[Sector], start: usize)
     requires { start + 128 ≤ 1024 }
     ensures sectors { All IsSector sectors.now }
     ensures columns { HasColumns rows.old sectors.now start →
@@ -111,7 +110,7 @@ fn put_columns(rows: &mut [[u8; SECTOR]; 3], sectors: &[[u8; SECTOR]], start: us
 }
 
 /// Puts a block into its place in a row.
-fn put(row: &mut [u8; SECTOR], block: &[u8; BLOCK], start: usize)
+fn put(row: &mut Sector, block: &[u8; BLOCK], start: usize)
     requires { start + 128 ≤ 1024 }
     ensures size { length row.new ≡ 1024 }
     ensures before { (j : ℕ) → j < start → slice_index row.new j ≡ slice_index row.old j }
@@ -125,7 +124,7 @@ fn shift_block(
     high: &mut [u8; BLOCK],
     middle: &mut [u8; BLOCK],
     low: &mut [u8; BLOCK],
-    sector: &[u8; SECTOR],
+    sector: &Sector,
     start: usize,
 )
     requires { start + 128 ≤ 1024 }
@@ -144,7 +143,7 @@ fn shift_block(
 }
 
 /// Shifts each column of the register by one, and adds the feedback's multiples.
-fn shift_in(register: &mut [[u8; SECTOR]; 3], sector: &[u8; SECTOR])
+fn shift_in(register: &mut [Sector; 3], sector: &Sector)
     ensures columns { All IsSector register.old →
         Shifted register.old sector.now register.new 1024 }
     ensures rows { All IsSector register.old → All IsSector register.new }

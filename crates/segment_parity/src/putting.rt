@@ -4,11 +4,12 @@ ghost use Rattle.std.specs.Prelude.{◌≡◌, ◌+◌, ◌≤◌, ◌++◌, len
 ghost use Rattle.cartridge_spec.specs.Code.{parity_sectors};
 ghost use Rattle.qic_base.specs.Cartridge.{IsSector};
 
-use crate::{SECTOR, parity_of};
+use crate::parity_of;
+use qic_base::Sector;
 
 /// Puts the parity of the first `count` sectors, 1 to 29 data sectors of a segment, into the three behind them
 /// (QIC-80-MC). What lies behind those stays.
-pub fn put_parity(sectors: &mut [[u8; SECTOR]], count: usize)
+pub fn put_parity(sectors: &mut [Sector], count: usize)
     requires least { 1 ≤ count }
     requires most { count ≤ 29 }
     requires room { count + 3 ≤ length sectors.old }

@@ -12,11 +12,9 @@ mod tries;
 use erasure_solve::{SolveFault, solve};
 use places::lost_among;
 pub use places::with_place;
-use qic_base::LostSet;
+use qic_base::{LostSet, Sector};
 use thiserror::Error;
 use tries::mend_one;
-
-const SECTOR: usize = 1024;
 
 /// What the sectors of a segment were.
 #[derive(Clone, Copy, Debug, Drop, PartialEq, Eq)]
@@ -41,7 +39,7 @@ pub enum LocateFault {
 /// Makes 4 to 32 sectors a code block by changing the lost ones, whatever those hold before, and
 /// where at most one is lost, one more that holds wrong bytes (QIC-80-MC). A place in `lost` past
 /// the last sector is left out of account.
-pub fn locate(sectors: &mut [[u8; SECTOR]], lost: LostSet) -> Result<Located, LocateFault>
+pub fn locate(sectors: &mut [Sector], lost: LostSet) -> Result<Located, LocateFault>
     requires least { 4 ≤ length sectors.old }
     requires most { length sectors.old ≤ 32 }
     ensures agrees { (block : List (List ℕ)) →

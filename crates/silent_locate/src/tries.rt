@@ -7,14 +7,13 @@ ghost use Rattle.gf256_qic.specs.Code.{AgreesOutside, IsSolvable};
 ghost use Rattle.erasure_solve.specs.Lost.{lost_count};
 ghost use Rattle.silent_locate.specs.Tries.{lost_or};
 
-use crate::SECTOR;
 use crate::places::with_place;
 use erasure_solve::Plan;
-use qic_base::LostSet;
+use qic_base::{LostSet, Sector};
 
 /// Makes the sectors a code block by changing one of them besides the lost ones, and answers its
 /// place. None where more than one is lost, or where there is no such place.
-pub fn mend_one(sectors: &mut [[u8; SECTOR]], lost: LostSet) -> Option<u8>
+pub fn mend_one(sectors: &mut [Sector], lost: LostSet) -> Option<u8>
     requires least { 4 ≤ length sectors.old }
     requires most { length sectors.old ≤ 32 }
     ensures few { OnSome result (lost_count lost ≤ 1) }
@@ -38,7 +37,7 @@ pub fn mend_one(sectors: &mut [[u8; SECTOR]], lost: LostSet) -> Option<u8>
 
 /// Makes the sectors a code block by changing the lost ones and the one at a place, if some code
 /// block agrees with the others.
-fn mend_at(sectors: &mut [[u8; SECTOR]], lost: LostSet, place: u8) -> bool
+fn mend_at(sectors: &mut [Sector], lost: LostSet, place: u8) -> bool
     requires least { 4 ≤ length sectors.old }
     requires most { length sectors.old ≤ 32 }
     requires few { lost_count lost ≤ 1 }

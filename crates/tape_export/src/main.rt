@@ -12,7 +12,7 @@ mod status;
 use cart_image::ImageTape;
 use map_file::{MapFile, require_empty};
 use program_words::{ExportWords, read_export_words};
-use qic_base::{DiskFailed, NoMemory};
+use qic_base::{DiskFailed, MOST_SEGMENTS, NoMemory, Sector};
 use read_ahead::{MOST, ReadAhead};
 use rescue_map::write_bytes;
 use run::{run_export, unread};
@@ -23,13 +23,10 @@ use std::process::ExitCode;
 use std::{env, io};
 use tape_files::{FileDisk, NoImage, NullStreams, StderrSink, StdoutSink, open_image};
 
-/// The most segments of a cartridge.
-const MOST_SEGMENTS: usize = 6888;
-
 /// What a run works in: the sectors of a segment, and the mask of the sectors that hold bytes.
 #[derive(Drop)]
 struct Room {
-    sectors: Vec<[u8; 1024]>,
+    sectors: Vec<Sector>,
     mask: Vec<u32>,
 }
 

@@ -7,7 +7,7 @@ ghost use Rattle.tape_export.specs.Runs.{Runs};
 
 use crate::status::ExportStatus;
 use flat_dump::{ExportError, export};
-use qic_base::{Sink, SinkFailed, Tape};
+use qic_base::{Sector, Sink, SinkFailed, Tape};
 use rescue_map::write_map;
 use std::io::ErrorKind;
 
@@ -26,7 +26,7 @@ pub fn unread(kind: ErrorKind) -> ExportStatus
 /// Writes the flat dump of a tape's cartridge, and then its map. The room is one for the 32 sectors of a segment, and the
 /// mask has room for 6,888 words.
 pub fn run_export<T: Tape, K: Sink, M: Sink>(
-    sectors: &mut [[u8; 1024]],
+    sectors: &mut [Sector],
     mask: &mut Vec<u32>,
     tape: &mut T,
     dump: &mut K,

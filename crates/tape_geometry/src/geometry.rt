@@ -2,20 +2,17 @@
 
 ghost use Rattle.std.specs.Prelude.{◌≡◌, ◌<◌, ◌≤◌, ◌*◌, ◌↔◌, IsOk, IfOk, IfNone, IfSome};
 
-use qic_base::LONGEST;
+use qic_base::{LONGEST, SECTORS};
 use std::marker::Model;
 
 /// The tracks of a cartridge.
-const TRACKS: u32 = 28;
+const TRACKS: u32 = qic_base::TRACKS as u32;
 
 /// The segments under one floppy head: four a cylinder, with floppy track maximum 149.
 const SEGMENTS_PER_HEAD: u32 = 600;
 
 /// The segments of one floppy cylinder.
 const SEGMENTS_PER_CYLINDER: u32 = 4;
-
-/// The sectors of a segment.
-const SECTORS_PER_SEGMENT: u8 = 32;
 
 /// A floppy address, by which the host's controller asks for a sector of 1,024 bytes. Heads and
 /// cylinders count from 0, sectors from 1 (QIC-80-MC).
@@ -111,7 +108,7 @@ impl Geometry {
         FloppyAddr {
             head: (segment / SEGMENTS_PER_HEAD) as u8,
             cylinder: (under_head / SEGMENTS_PER_CYLINDER) as u8,
-            sector: SECTORS_PER_SEGMENT * in_cylinder + sector + 1,
+            sector: SECTORS * in_cylinder + sector + 1,
         }
     }
 
@@ -123,12 +120,12 @@ impl Geometry {
     {
         let cylinder = u32::from(addr.cylinder);
         let before = addr.sector.checked_sub(1)?;
-        let in_cylinder = u32::from(before / SECTORS_PER_SEGMENT);
+        let in_cylinder = u32::from(before / SECTORS);
         let under_head = SEGMENTS_PER_CYLINDER * cylinder + in_cylinder;
         if in_cylinder >= SEGMENTS_PER_CYLINDER || under_head >= SEGMENTS_PER_HEAD {
             return None;
         }
         let segment = SEGMENTS_PER_HEAD * u32::from(addr.head) + under_head;
-        (segment < self.segments()).then_some((segment, before % SECTORS_PER_SEGMENT))
+        (segment < self.segments()).then_some((segment, before % SECTORS))
     }
 }

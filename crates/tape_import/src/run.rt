@@ -10,12 +10,9 @@ ghost use Rattle.tape_import.specs.Runs.{Filled, Found, Masks, Runs};
 
 use crate::status::{ImportStatus, write_imported};
 use flat_dump::{ImportError, import};
-use qic_base::{Disk, DiskFailed, Sink, SinkFailed, Source};
+use qic_base::{Disk, DiskFailed, MOST_SEGMENTS, Sink, SinkFailed, Source};
 use rescue_map::{MapError, read_map};
 use std::io::ErrorKind;
-
-/// The most segments of a cartridge.
-const MOST_SEGMENTS: usize = 6888;
 
 /// The bytes of a map that are read at a time.
 const MAP_ROOM: usize = 4096;

@@ -10,7 +10,7 @@ ghost use Rattle.volume_store.specs.Mounting.{StoreFits};
 ghost use Rattle.volume_copy.specs.Source.{IsSoundSource, KeepsVolume, count_after, first_refusal, keeps_itself, keeps_on, new_source, pieces_of_number, source_means, unread_in};
 
 use drive_states::Unit;
-use qic_base::{Source, SourceFailed, Tape};
+use qic_base::{Sector, Source, SourceFailed, Tape};
 use std::marker::Model;
 use volume_store::{Store, StoreFault};
 
@@ -58,7 +58,7 @@ impl<T: Tape> Model for VolumeSource<T> {
 }
 
 /// Copies as many as fit of the bytes from `given` to `held` of the sectors.
-fn copy_part(sectors: &[[u8; 1024]], held: u32, given: u32, into: &mut [u8]) -> u32
+fn copy_part(sectors: &[Sector], held: u32, given: u32, into: &mut [u8]) -> u32
     requires some { given < held }
     requires there { held ≤ 1024 * length sectors.now }
     requires room { 0 < length into.old }

@@ -5,7 +5,7 @@ ghost use Rattle.qic_base.specs.Cartridge.{IsSector};
 ghost use Rattle.qic_base.specs.Terms.{HasCause};
 ghost use Rattle.sector_fill.specs.Filling.{FillsSectors};
 
-use qic_base::{Source, SourceFailed};
+use qic_base::{Sector, Source, SourceFailed};
 use sector_fill::fill_sectors;
 use segment_io::Workspace;
 
@@ -27,7 +27,7 @@ pub fn fill_work<S: Source>(
 }
 
 /// States that the sectors hold bytes, and does nothing.
-pub fn are_sectors(sectors: &[[u8; 1024]])
+pub fn are_sectors(sectors: &[Sector])
     ensures { All IsSector sectors.now }
 {
     for sector in sectors {
@@ -35,7 +35,7 @@ pub fn are_sectors(sectors: &[[u8; 1024]])
     }
 }
 
-fn is_sector(sector: &[u8; 1024])
+fn is_sector(sector: &Sector)
     ensures { IsSector sector.now }
 {
     let _bytes = sector.iter();

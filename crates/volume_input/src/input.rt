@@ -21,7 +21,7 @@ use segment_io::Workspace;
 /// bytes have come: all its usable sectors, with zero bytes behind the last byte, and their parity. One segment is
 /// written for no byte. With `exact` a source that ends before `most` bytes is a fault, and the segment that it doesn't
 /// fill is left.
-pub fn write_volume<T: Tape, S: Source>(
+pub fn take_volume<T: Tape, S: Source>(
     host: &mut Host,
     unit: &mut Unit<T>,
     map: &BadMap,

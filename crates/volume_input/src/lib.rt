@@ -8,5 +8,5 @@ mod segment;
 mod written;
 
 pub use fault::InputFault;
-pub use input::write_volume;
+pub use input::take_volume;
 pub use written::Written;

@@ -9,6 +9,6 @@ mod piece;
 mod sectors;
 
 pub use fault::OutputFault;
-pub use output::write_volume;
+pub use output::give_volume;
 pub use part::{PartRead, read_part};
 pub use sectors::write_bytes;

@@ -22,7 +22,7 @@ use segment_io::Workspace;
 /// segment's bytes to the sink once the whole segment agrees; with `lined`, behind a line `part K`, where K is their
 /// number. A segment that holds none of these bytes is not read. The first one that doesn't read ends it. The tape is
 /// only read.
-pub fn write_volume<T: Tape, K: Sink>(
+pub fn give_volume<T: Tape, K: Sink>(
     host: &mut Host,
     unit: &mut Unit<T>,
     map: &BadMap,

@@ -14,7 +14,7 @@ use crate::fault::OutputFault;
 use crate::sectors::write_bytes;
 use drive_states::Unit;
 use host_driver::Host;
-use qic_base::{Sink, SinkFailed, Tape};
+use qic_base::{Sector, Sink, SinkFailed, Tape};
 use segment_io::{SegFault, Workspace, read_segment};
 use tape_script::{TextLine, write_text};
 
@@ -52,7 +52,7 @@ pub fn write_piece<T: Tape, K: Sink>(
 
 /// Writes the first `count` bytes of the sectors; with `lined`, behind a line with their number.
 fn write_part<K: Sink>(
-    sectors: &[[u8; 1024]],
+    sectors: &[Sector],
     count: u32,
     lined: bool,
     sink: &mut K,

@@ -9,12 +9,10 @@ ghost use Rattle.volume_script.specs.Runs.{ScriptEnds};
 use crate::ending::{end_input, write_end};
 use crate::fault::ScriptFault;
 use crate::line::carry_out_line;
+use command_spec::MOST_LINES;
 use drive_states::Unit;
 use qic_base::{Sink, Source, Tape};
 use volume_store::Store;
-
-/// The most lines before the line `end`.
-const MOST_LINES: u32 = 65536;
 
 /// Carries out the lines of the source one after the other over the store of the unit's cartridge, and prints the reply
 /// of each; last `end`. A line that is refused is replied to, and the script goes on. The source is read to its end or

@@ -20,21 +20,15 @@ use host_driver::Host;
 use qic_base::{Name, Source, SourceFailed, Tape};
 use segment_io::Workspace;
 use tape_script::skip;
-use volume_input::{InputFault, Written, write_volume};
-use volume_table::Table;
+use volume_input::{InputFault, Written, take_volume};
+use volume_table::{SLOTS, TABLE_SEGMENT, Table};
 
-/// The volumes that a table has room for.
-const SLOTS: u8 = 232;
-
-/// The last segment in front of the volumes: that of the volume table.
-const IN_FRONT: u16 = 2;
-
-/// The last segment that is taken.
+/// The last segment that is taken: that of the volume table, where there is no volume.
 fn last_taken(table: &Table) -> u16
     ensures { result ≡ last_end table.now }
 {
     match table.len() {
-        0 => IN_FRONT,
+        0 => TABLE_SEGMENT,
         count => table.entry(count - 1).end,
     }
 }
@@ -88,7 +82,7 @@ fn take_promised<T: Tape, S: Source>(
             have: u64::from(have),
         });
     }
-    match write_volume(
+    match take_volume(
         host,
         unit,
         map,
@@ -129,7 +123,7 @@ fn take_all<T: Tape, S: Source>(
     ensures kept { S.means.keeps source.old source.new }
     ensures keeps { Keeps T.means host.new unit.old unit.new }
 {
-    let written = match write_volume(
+    let written = match take_volume(
         host,
         unit,
         map,

@@ -18,4 +18,4 @@ pub use opening::{OpenFault, open, start};
 pub use room::Room;
 pub use segment_mending::ScrubReport;
 pub use store::Store;
-pub use volume_text::{appended_text, write_count, write_volume};
+pub use volume_text::appended_text;

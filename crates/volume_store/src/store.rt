@@ -26,11 +26,11 @@ use command_spec::Depth;
 use drive_states::{HandFault, Unit};
 use header_segments::Header;
 use host_driver::Host;
-use qic_base::{Name, Sink, Source, Tape};
+use qic_base::{Name, Sector, Sink, Source, Tape};
 use segment_io::Workspace;
 use segment_mending::{ScrubFault, ScrubReport, scrub_segments};
 use std::marker::Model;
-use volume_output::{OutputFault, read_part, write_volume};
+use volume_output::{OutputFault, give_volume, read_part};
 use volume_table::{Entry, Table};
 
 /// A mounted cartridge's volumes: its header in force, its map of bad sectors and the list of its volumes. It doesn't
@@ -214,7 +214,7 @@ impl Store {
         let length = self.length(number - 1);
         let entry = self.entry(number - 1);
         let (start, end) = (entry.start, entry.end);
-        match write_volume(
+        match give_volume(
             &mut self.host,
             unit,
             &self.map,
@@ -275,7 +275,7 @@ impl Store {
     }
 
     /// The data sectors of the segment that `part` read. It is called right behind a `part` that found one.
-    pub fn part_data(&self) -> &[[u8; 1024]]
+    pub fn part_data(&self) -> &[Sector]
         requires { 0 < length self.now.part }
         ensures { result.now ≡ self.now.part }
     {

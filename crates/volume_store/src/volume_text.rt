@@ -49,7 +49,7 @@ fn volume_text(number: u32, entry: &Entry, bytes: u64) -> TextLine
 }
 
 /// Writes the line of a volume in a list, which counts from 1, with its length in bytes.
-pub fn write_volume<K: Sink>(
+pub fn write_volume_line<K: Sink>(
     number: u32,
     entry: &Entry,
     bytes: u64,

@@ -13,13 +13,13 @@ ghost use Rattle.volume_table.specs.Trials.{AreTrials, IsLastUsed, ShowsUsed, tr
 use crate::reading::DATA_SECTORS;
 use crate::sets_tried::Trials;
 use crate::slots::{SIGNATURE, slot_at};
-use qic_base::{LostSet, read_u32};
+use qic_base::{LostSet, Sector, read_u32};
 
 /// The slots of a sector.
 const SLOTS_A_SECTOR: u8 = 8;
 
 /// Whether a data sector has a used slot.
-fn has_used_slot(area: &[[u8; 1024]], place: u8) -> bool
+fn has_used_slot(area: &[Sector], place: u8) -> bool
     requires sectors { length area.now ≡ 29 }
     requires within { place < 29 }
     ensures { result ≡ has_used_slot (sector_at area.now place) }
@@ -33,7 +33,7 @@ fn has_used_slot(area: &[[u8; 1024]], place: u8) -> bool
 }
 
 /// Whether a data sector is not lost and has a used slot.
-fn shows_used_slot(area: &[[u8; 1024]], lost: LostSet, place: u8) -> bool
+fn shows_used_slot(area: &[Sector], lost: LostSet, place: u8) -> bool
     requires sectors { length area.now ≡ 29 }
     requires within { place < 29 }
     ensures { result ≡ shows_used_slot
@@ -43,7 +43,7 @@ fn shows_used_slot(area: &[[u8; 1024]], lost: LostSet, place: u8) -> bool
 }
 
 /// The last of the table's 29 data sectors, 0 to 28, that is not lost and has a slot that begins with `VTBL`.
-pub fn last_used(area: &[[u8; 1024]], lost: LostSet) -> Option<u8>
+pub fn last_used(area: &[Sector], lost: LostSet) -> Option<u8>
     requires { length area.now ≡ 29 }
     ensures greatest { (k : ℕ) → (result ≡ Some k) ↔ IsLastUsed area.now lost k }
     ensures none { (result ≡ None) ↔ ((i : ℕ) → ¬ (ShowsUsed area.now lost i)) }

@@ -16,4 +16,5 @@ pub use fault::{TableFault, TableFull};
 pub use leaving_out::{last_used, trials};
 pub use reading::TableReading;
 pub use sets_tried::Trials;
+pub use slots::{SLOTS, TABLE_SEGMENT};
 pub use table::Table;

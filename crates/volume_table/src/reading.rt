@@ -8,7 +8,7 @@ use crate::table::Table;
 use qic_base::LostSet;
 
 /// The data sectors of the table's segment, which come first.
-pub(crate) const DATA_SECTORS: u8 = 29;
+pub(crate) const DATA_SECTORS: u8 = gf256_qic::DATA_SECTORS as u8;
 
 /// What the unreadable sectors of the table's segment call for (this project's profile).
 #[derive(Clone, Copy, Debug, PartialEq, Eq)]

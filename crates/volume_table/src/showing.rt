@@ -7,9 +7,9 @@ ghost use Rattle.volume_table.specs.Reading.{IsSlotOf};
 
 use crate::entry::Entry;
 use crate::slots::{SIGNATURE, SLOTS, entry_at, slot_at};
-use qic_base::read_u32;
+use qic_base::{Sector, read_u32};
 
-fn has_entry(area: &[[u8; 1024]], index: u8, entry: &Entry) -> bool
+fn has_entry(area: &[Sector], index: u8, entry: &Entry) -> bool
     requires sectors { length area.now ≡ 29 }
     requires within { index < 232 }
     ensures { IsTrue result ↔ IsSlotOf area.now index (Some (entry_of entry.now)) }
@@ -18,7 +18,7 @@ fn has_entry(area: &[[u8; 1024]], index: u8, entry: &Entry) -> bool
     read_u32(bytes, 0) == SIGNATURE && entry_at(bytes) == *entry
 }
 
-fn has_no_entry(area: &[[u8; 1024]], index: u8) -> bool
+fn has_no_entry(area: &[Sector], index: u8) -> bool
     requires sectors { length area.now ≡ 29 }
     requires within { index < 232 }
     ensures { IsTrue result ↔ IsSlotOf area.now index None }
@@ -26,7 +26,7 @@ fn has_no_entry(area: &[[u8; 1024]], index: u8) -> bool
     read_u32(slot_at(area, index), 0) == 0
 }
 
-fn is_slot_of(entries: &[Entry], area: &[[u8; 1024]], index: u8) -> bool
+fn is_slot_of(entries: &[Entry], area: &[Sector], index: u8) -> bool
     requires sectors { length area.now ≡ 29 }
     requires within { index < 232 }
     ensures { IsTrue result ↔ IsSlotOf area.now index (slice_get (map entry_of entries.now) index) }
@@ -38,7 +38,7 @@ fn is_slot_of(entries: &[Entry], area: &[[u8; 1024]], index: u8) -> bool
 }
 
 /// Whether the table's data show just these entries.
-pub fn are_shown_by(entries: &[Entry], area: &[[u8; 1024]]) -> bool
+pub fn are_shown_by(entries: &[Entry], area: &[Sector]) -> bool
     requires sectors { length area.now ≡ 29 }
     requires few { length entries.now ≤ 232 }
     ensures { IsTrue result ↔ Shows area.now (map entry_of entries.now) }

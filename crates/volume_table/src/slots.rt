@@ -10,19 +10,19 @@ ghost use Rattle.cartridge_laws.specs.TableReading.{IsTakenBefore};
 
 use crate::entry::Entry;
 use crate::fault::TableFault;
-use qic_base::{Name, push_within, read_u16, read_u32, read_u64};
+use qic_base::{Name, Sector, push_within, read_u16, read_u32, read_u64};
 
 /// The number of slots: eight in each of the 29 data sectors (Linux ftape headers).
 pub const SLOTS: u8 = 232;
 
 /// The segment of the table itself, behind which the volumes lie (this project's profile).
-const TABLE_SEGMENT: u16 = 2;
+pub const TABLE_SEGMENT: u16 = 2;
 
 /// `VTBL`, the signature of a used slot, as a little-endian number.
 pub const SIGNATURE: u32 = 0x4C42_5456;
 
 /// The 128 bytes of a slot.
-pub fn slot_at(area: &[[u8; 1024]], index: u8) -> &[u8]
+pub fn slot_at(area: &[Sector], index: u8) -> &[u8]
     requires sectors { length area.now ≡ 29 }
     requires within { index < 232 }
     ensures bytes { result.now ≡ slot area.now index }
@@ -62,7 +62,7 @@ fn is_bad_range(entry: &Entry, taken: u16, last: u32) -> bool
 /// Reads one slot: a volume, or `None` where it is free. `taken` is the last segment that is taken
 /// by the slots before, and `seen_free` says whether one of them is free.
 fn read_slot(
-    area: &[[u8; 1024]],
+    area: &[Sector],
     last: u32,
     index: u8,
     taken: u16,
@@ -92,11 +92,7 @@ fn read_slot(
 }
 
 /// Adds the table's volumes to an empty list, up to the first slot that is at fault.
-pub fn read_slots(
-    entries: &mut Vec<Entry>,
-    area: &[[u8; 1024]],
-    last: u32,
-) -> Result<(), TableFault>
+pub fn read_slots(entries: &mut Vec<Entry>, area: &[Sector], last: u32) -> Result<(), TableFault>
     requires sectors { length area.now ≡ 29 }
     requires empty { entries.old.items ≡ [] }
     requires room { 232 ≤ vec_capacity entries.old }

@@ -9,7 +9,7 @@ use crate::fault::{TableFault, TableFull};
 use crate::showing::are_shown_by;
 use crate::slots::{SLOTS, read_slots};
 use crate::writing::write_slot;
-use qic_base::{NoMemory, push_within};
+use qic_base::{NoMemory, Sector, push_within};
 use std::alloc::Global;
 use std::marker::Model;
 
@@ -48,7 +48,7 @@ impl Table {
 
     /// Reads the table's data area, 29 sectors, of a cartridge whose last segment is `last`. A
     /// refusal names the first slot that is at fault, and leaves the table empty.
-    pub fn decode(&mut self, area: &[[u8; 1024]], last: u32) -> Result<(), TableFault>
+    pub fn decode(&mut self, area: &[Sector], last: u32) -> Result<(), TableFault>
         requires { length area.now ≡ 29 }
         ensures shown { OnOk result (Shows area.now self.new) }
         ensures sound { OnOk result (HasNoFault area.now last) }
@@ -67,7 +67,7 @@ impl Table {
     /// Writes the entry into the next slot of the table's data area, 29 sectors that show the list,
     /// and adds it to the list. Answers the index of the sector that has the slot, 0 to 28, or
     /// `TableFull` where all 232 slots are used. The segments of the entry are not tested.
-    pub fn put(&mut self, entry: &Entry, area: &mut [[u8; 1024]]) -> Result<u8, TableFull>
+    pub fn put(&mut self, entry: &Entry, area: &mut [Sector]) -> Result<u8, TableFull>
         requires sectors { length area.old ≡ 29 }
         requires list { Shows area.old self.old }
         ensures full { IsErr result ↔ (length self.old ≡ 232) }
@@ -89,7 +89,7 @@ impl Table {
     }
 
     /// Whether the table's data area, 29 sectors, shows just this list.
-    pub fn is_shown_by(&self, area: &[[u8; 1024]]) -> bool
+    pub fn is_shown_by(&self, area: &[Sector]) -> bool
         requires sectors { length area.now ≡ 29 }
         ensures { IsTrue result ↔ Shows area.now self.now }
     {

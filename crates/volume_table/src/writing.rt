@@ -8,7 +8,7 @@ ghost use Rattle.volume_table.specs.Entry.{entry_of};
 
 use crate::entry::Entry;
 use crate::slots::SIGNATURE;
-use qic_base::{write_u16, write_u32, write_u64};
+use qic_base::{Sector, write_u16, write_u32, write_u64};
 
 fn write_entry(bytes: &mut [u8], entry: &Entry)
     requires { length bytes.old ≡ 128 }
@@ -34,7 +34,7 @@ fn write_entry(bytes: &mut [u8], entry: &Entry)
 
 /// Writes the entry into a slot. The vendor's extension, the password and the unassigned bytes
 /// become zero.
-pub fn write_slot(area: &mut [[u8; 1024]], index: u8, entry: &Entry)
+pub fn write_slot(area: &mut [Sector], index: u8, entry: &Entry)
     requires sectors { length area.old ≡ 29 }
     requires within { index < 232 }
     ensures written { area.new ≡ with_slot area.old index (slot_bytes (entry_of entry.now)) }

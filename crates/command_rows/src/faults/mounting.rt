@@ -5,7 +5,7 @@ use crate::runs::{run_words, told_into};
 use crate::streams::{NEVER, ROOM, sink};
 use crate::units::{OUTCOMES, put_away, tape};
 use drive_states::Unit;
-use qic_base::{Tape, TapeFailed};
+use qic_base::{Sector, Tape, TapeFailed};
 use qic_mem::{MemTape, Outcome};
 use std::alloc::Global;
 use std::process::Abort;
@@ -26,7 +26,7 @@ const HEAD: [u8; 30] = [
 ];
 
 /// The first sector of that header, with the label `A`.
-fn header() -> [u8; 1024] {
+fn header() -> Sector {
     let mut sector = [0; 1024];
     sector[..30].copy_from_slice(&HEAD);
     sector[30..74].copy_from_slice(b"A                                           ");
@@ -39,7 +39,7 @@ const INFO: &[u8] =
     b"label A\nformatted 1994-03-01T12:00:00\nsegments 84\nbad sectors 0\nvolumes 1\n";
 
 /// The first sector of a volume table with one volume: ten bytes in segment 3, called `a`, of the same time.
-pub fn one_volume() -> [u8; 1024] {
+pub fn one_volume() -> Sector {
     let mut sector = [0; 1024];
     sector[..8].copy_from_slice(b"VTBL\x03\0\x03\0");
     sector[8..52].copy_from_slice(b"a                                           ");
@@ -61,7 +61,7 @@ fn put_in(tape: &mut MemTape) -> Result<(), TapeFailed> {
 }
 
 /// A cartridge with that header and this first sector of a volume table, by `MADE` calls.
-fn make(tape: &mut MemTape, table: &[u8; 1024]) -> Result<(), TapeFailed> {
+fn make(tape: &mut MemTape, table: &Sector) -> Result<(), TapeFailed> {
     put_in(tape)?;
     write_first(tape, 0, &header())?;
     write_first(tape, 2, table)
@@ -71,7 +71,7 @@ fn make(tape: &mut MemTape, table: &[u8; 1024]) -> Result<(), TapeFailed> {
 fn made_before(
     rt: &impl Abort,
     alloc: Global,
-    table: &[u8; 1024],
+    table: &Sector,
     call: u64,
     outcome: Outcome,
 ) -> MemTape {

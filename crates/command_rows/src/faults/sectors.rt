@@ -4,7 +4,7 @@
 ghost use Rattle.std.specs.Prelude.{◌≡◌, ◌+◌, ◌≤◌, ◌<◌};
 ghost use Rattle.segment_parity.specs.Register.{pushed};
 
-use qic_base::{SectorRead, Tape, TapeFailed};
+use qic_base::{Sector, SectorRead, Tape, TapeFailed};
 use qic_mem::MemTape;
 use segment_parity::Parity;
 
@@ -13,7 +13,7 @@ fn read(
     tape: &mut MemTape,
     segment: u32,
     sector: u8,
-    into: &mut [u8; 1024],
+    into: &mut Sector,
 ) -> Result<SectorRead, TapeFailed>
     requires segment { segment < 84 }
     requires sector { sector < 32 }
@@ -25,12 +25,7 @@ fn read(
 }
 
 /// Writes a sector. Two calls of the tape.
-pub fn write(
-    tape: &mut MemTape,
-    segment: u32,
-    sector: u8,
-    from: &[u8; 1024],
-) -> Result<(), TapeFailed>
+pub fn write(tape: &mut MemTape, segment: u32, sector: u8, from: &Sector) -> Result<(), TapeFailed>
     requires segment { segment < 84 }
     requires sector { sector < 32 }
 {
@@ -55,7 +50,7 @@ pub fn wear(tape: &mut MemTape, segment: u32, sector: u8) -> Result<(), TapeFail
 }
 
 /// Writes the first sector of a segment whose other data are zero bytes, and their parity. Eight calls of the tape.
-pub fn write_first(tape: &mut MemTape, segment: u32, first: &[u8; 1024]) -> Result<(), TapeFailed>
+pub fn write_first(tape: &mut MemTape, segment: u32, first: &Sector) -> Result<(), TapeFailed>
     requires { segment < 84 }
 {
     let [a, b, c] = parity_of(first);
@@ -91,7 +86,7 @@ fn lost_of(tape: &mut MemTape, segment: u32) -> Result<u32, TapeFailed>
 
 /// The mask of the sectors of segment 2 that are not readable, or do not hold their part of the data whose first sector
 /// is this one, with zero bytes behind it, and of their parity.
-pub fn faults(tape: &mut MemTape, first: &[u8; 1024]) -> Result<u32, TapeFailed> {
+pub fn faults(tape: &mut MemTape, first: &Sector) -> Result<u32, TapeFailed> {
     let [a, b, c] = parity_of(first);
     let mut mask: u32 = 0;
     for sector in 0..32 {
@@ -110,7 +105,7 @@ pub fn faults(tape: &mut MemTape, first: &[u8; 1024]) -> Result<u32, TapeFailed>
 }
 
 /// Whether a sector of segment 2 holds these bytes.
-fn holds(tape: &mut MemTape, sector: u8, wanted: &[u8; 1024]) -> Result<bool, TapeFailed>
+fn holds(tape: &mut MemTape, sector: u8, wanted: &Sector) -> Result<bool, TapeFailed>
     requires { sector < 32 }
 {
     let mut held = [0x55; 1024];
@@ -118,7 +113,7 @@ fn holds(tape: &mut MemTape, sector: u8, wanted: &[u8; 1024]) -> Result<bool, Ta
 }
 
 /// The parity of a segment's 29 data sectors, of which all but the first are zero bytes.
-fn parity_of(first: &[u8; 1024]) -> [[u8; 1024]; 3] {
+fn parity_of(first: &Sector) -> [Sector; 3] {
     let mut parity = Parity::new();
     parity.push(first);
     push_fourteen(&mut parity);

@@ -7,11 +7,9 @@ ghost use Rattle.hand_commands.specs.PulseRuns.{PulsesEnd};
 use crate::pulses::ending::end_input;
 use crate::pulses::fault::PulseFault;
 use crate::pulses::lines::carry_out_line;
+use command_spec::MOST_LINES;
 use drive_states::Unit;
 use qic_base::{Sink, Source, Tape, TapeFailed};
-
-/// The most lines that are trains.
-const MOST_LINES: u32 = 65536;
 
 /// Puts the cartridge in, and sends the trains of the source, each with a gap behind it. The sink gets the level that
 /// each leaves on the track-0 line, `0` or `1` and a newline. The source is read to its end or up to and with the line

@@ -14,7 +14,7 @@ ghost use Rattle.qic_mem.specs.Outcome.{lost_by, left_by, size_ended};
 use crate::tape::change::TapeChange;
 use crate::tape::outcome::Outcome;
 use crate::tape::sectors::Sectors;
-use qic_base::{NoMemory, SectorRead, SectorWrite, TapeInfo};
+use qic_base::{NoMemory, Sector, SectorRead, SectorWrite, TapeInfo};
 use std::alloc::Global;
 
 /// Sectors for each segment per track: 28 tracks of 32 sectors a segment (QIC-80-MC).
@@ -71,7 +71,7 @@ impl Holder {
     }
 
     /// Reads a sector. `into` is unchanged unless the answer is `Good`.
-    pub(crate) fn read(&self, segment: u32, sector: u8, into: &mut [u8; 1024]) -> SectorRead
+    pub(crate) fn read(&self, segment: u32, sector: u8, into: &mut Sector) -> SectorRead
         requires { IsSomeAnd (holder_state self.now).size (λ n. IsPlace n segment sector) }
         ensures view { IfSome (holder_state self.now).cartridge (λ c.
             Reads (view_at c segment sector) into.old into.new result) }
@@ -107,7 +107,7 @@ impl Holder {
     }
 
     /// Writes a sector, where it was formatted and is no defect.
-    fn write(&mut self, segment: u32, sector: u8, from: &[u8; 1024])
+    fn write(&mut self, segment: u32, sector: u8, from: &Sector)
         requires { IsSomeAnd (holder_state self.old).size (λ n. IsPlace n segment sector) }
         ensures { holder_state self.new ≡ made (holder_state self.old) (WriteSector segment sector from.now) }
     {

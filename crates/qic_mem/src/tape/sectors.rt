@@ -8,7 +8,7 @@ ghost use Rattle.qic_base.specs.TapeCalls.{Reads, write_answer};
 ghost use Rattle.qic_base.specs.Tape.{spoil_answer};
 ghost use Rattle.qic_mem.specs.Sectors.{view_in, changed_at, changed_from, views_prop};
 
-use qic_base::{NoMemory, SectorRead, SectorView, SectorWrite};
+use qic_base::{NoMemory, Sector, SectorRead, SectorView, SectorWrite};
 use std::alloc::Global;
 
 /// The views of sectors, one after another.
@@ -29,7 +29,7 @@ impl Sectors {
     }
 
     /// Reads the sector at a place. `into` is unchanged unless the answer is `Good`.
-    pub(crate) fn read(&self, place: usize, into: &mut [u8; 1024]) -> SectorRead
+    pub(crate) fn read(&self, place: usize, into: &mut Sector) -> SectorRead
         requires { place < length self.now.views.items }
         ensures reads { Reads (view_in self.now.views.items place) into.old into.new result }
         ensures unchanged { result ≢ SectorRead.Good → into.new ≡ into.old }
@@ -60,7 +60,7 @@ impl Sectors {
     }
 
     /// Writes the sector at a place, where it was formatted and is no defect.
-    pub(crate) fn write(&mut self, place: usize, from: &[u8; 1024])
+    pub(crate) fn write(&mut self, place: usize, from: &Sector)
         requires { place < length self.old.views.items }
         ensures { self.new.views.items ≡ changed_at self.old.views.items place (written_view from.now) }
     {
@@ -112,7 +112,7 @@ impl Sectors {
 }
 
 /// Reads a sector by its view. `into` is unchanged unless the answer is `Good`.
-fn read_view(view: &SectorView, into: &mut [u8; 1024]) -> SectorRead
+fn read_view(view: &SectorView, into: &mut Sector) -> SectorRead
     ensures reads { Reads view.now into.old into.new result }
     ensures unchanged { result ≢ SectorRead.Good → into.new ≡ into.old }
 {
@@ -127,7 +127,7 @@ fn read_view(view: &SectorView, into: &mut [u8; 1024]) -> SectorRead
 }
 
 /// Writes a sector, where it was formatted and is no defect.
-fn write_view(view: &mut SectorView, from: &[u8; 1024])
+fn write_view(view: &mut SectorView, from: &Sector)
     ensures written { view.new ≡ written_view from.now view.old }
     ensures whole { IsView view.old → IsView view.new }
 {

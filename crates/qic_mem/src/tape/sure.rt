@@ -12,7 +12,7 @@ ghost use Rattle.qic_mem.specs.Longest.{HasLongest};
 
 use crate::tape::change::TapeChange;
 use crate::tape::holder::Holder;
-use qic_base::{LONGEST, NoMemory, SectorRead, SectorWrite, Tape, TapeFailed, TapeInfo};
+use qic_base::{LONGEST, NoMemory, Sector, SectorRead, SectorWrite, Tape, TapeFailed, TapeInfo};
 use std::alloc::Global;
 
 /// A tape in memory whose calls never fail.
@@ -81,7 +81,7 @@ impl Tape for SureTape {
         &mut self,
         segment: u32,
         sector: u8,
-        into: &mut [u8; 1024],
+        into: &mut Sector,
     ) -> Result<SectorRead, TapeFailed>
         requires { IsPlaceOf sure_means self.old segment sector }
         ensures did { Does sure_means self.old self.new [] result }
@@ -100,7 +100,7 @@ impl Tape for SureTape {
         &mut self,
         segment: u32,
         sector: u8,
-        from: &[u8; 1024],
+        from: &Sector,
     ) -> Result<SectorWrite, TapeFailed>
         requires { IsPlaceOf sure_means self.old segment sector }
         ensures did { Does sure_means self.old self.new (WriteSector segment sector from.now ∷ []) result }

@@ -32,7 +32,7 @@ returns-in-Ok-clause-ends g c =
     let words = c.args.map.now in
     let entries = c.args.table.now in
     let old = reading c.args.unit.now.tape c.args.source.now in
-    let new = reading c.write_volume.new.unit.tape c.write_volume.new.source in
+    let new = reading c.take_volume.new.unit.tape c.take_volume.new.source in
     promised_written g.T.Tape.means g.S.Source.means words entries old new c.args.count
     (let is = c.requires.have in let some = c.if-have-eq0.false in omega arith) (let is = c.requires.have in let most = c.if-count-have.false in omega arith) c.in-Ok.written
     (subst (λ (first : ℕ). HasWritten g.T.Tape.means g.S.Source.means words (carrying words first (length words - 1)) c.args.count true old new c.in-Ok.written)
@@ -43,7 +43,7 @@ returns-in-Err-Short-clause-ends g c =
     let words = c.args.map.now in
     let entries = c.args.table.now in
     let old = reading c.args.unit.now.tape c.args.source.now in
-    let new = reading c.write_volume.new.unit.tape c.write_volume.new.source in
+    let new = reading c.take_volume.new.unit.tape c.take_volume.new.source in
     promised_ends_short g.T.Tape.means g.S.Source.means words entries old new c.args.count
     (let is = c.requires.have in let some = c.if-have-eq0.false in omega arith) (let is = c.requires.have in let most = c.if-count-have.false in omega arith) c.in-Err-Short.read
     (subst (λ (first : ℕ). EndedShort g.T.Tape.means g.S.Source.means words (carrying words first (length words - 1)) c.args.count true old new c.in-Err-Short.read)

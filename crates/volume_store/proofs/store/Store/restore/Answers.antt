@@ -15,8 +15,8 @@ use Rattle.volume_store.proofs.store.Store.restore.Goals.{in-Ok, in-Err}
 use Rattle.volume_output.specs.declared.fault.OutputFault.TheVariants as output
 use Rattle.volume_store.proofs.store.Store.restore.Goals as goal
 
-pub write_volume-requires-clause-on_tape : goal.write_volume-requires-clause-on_tape
-write_volume-requires-clause-on_tape g c =
+pub give_volume-requires-clause-on_tape : goal.give_volume-requires-clause-on_tape
+give_volume-requires-clause-on_tape g c =
     let e : Entry = entry_of c.entry-entry.result.now in
     let at : slice_get c.self.inside.table (c.args.number - 1) ≡ Some e =
     ap (λ (v : StoreView). slice_get v.entries (c.args.number - 1)) c.self.view_is ∙ c.entry-entry.ensures in
@@ -34,8 +34,8 @@ returns-clause-ends g c =
     length_there store (c.args.number - 1) e c.length-length.result c.entry-entry.ensures c.length-length.ensures in
     let words : c.self.inside.map ≡ store.words = ap (λ (v : StoreView). v.words) c.self.view_is in
     let a = around c.args.unit.now.tape c.args.sink.now in
-    let b = around c.write_volume.new.unit.tape c.write_volume.new.sink in
-    elim c.match-write_volume.branch [
+    let b = around c.give_volume.new.unit.tape c.give_volume.new.sink in
+    elim c.match-give_volume.branch [
       | in-Ok w ↦
           rw w.result-is (
             e,
@@ -59,9 +59,9 @@ returns-clause-fits g c = λ other.
     let map = c.self.inside.map in
     let needed = pieces_of map (carrying map e.start e.end) c.length-length.result in
     let a = around c.args.unit.now.tape c.args.sink.now in
-    let b = around c.write_volume.new.unit.tape c.write_volume.new.sink in
-    let told : Tells g.T.Tape.means c.write_volume.new.unit.tape (λ c'. c'.info.protected ≡ false → HasList c' store.entries) =
-    elim c.match-write_volume.branch [
+    let b = around c.give_volume.new.unit.tape c.give_volume.new.sink in
+    let told : Tells g.T.Tape.means c.give_volume.new.unit.tape (λ c'. c'.info.protected ≡ false → HasList c' store.entries) =
+    elim c.match-give_volume.branch [
       | in-Ok w ↦
           output_told g.T.Tape.means g.K.Sink.means map needed c.args.lined a b (λ c'. c'.info.protected ≡ false → HasList c' store.entries)
           (Ok tt) w.in-Ok.ensures.ends (λ is. cc) c.requires.fits.volumes
@@ -72,14 +72,14 @@ returns-clause-fits g c = λ other.
           c.requires.fits.volumes
     ] in
     let after : StoreView = record {
-      host = c.write_volume.new.host;
+      host = c.give_volume.new.host;
       header = header_of c.self.inside.header;
       words = map;
       entries = c.self.inside.table;
-      part = take c.self.inside.shown c.write_volume.new.work;
+      part = take c.self.inside.shown c.give_volume.new.work;
     } in
-    still_fits g.T.Tape.means store after c.args.unit.now c.write_volume.new.unit c.requires.fits (record {
+    still_fits g.T.Tape.means store after c.args.unit.now c.give_volume.new.unit c.requires.fits (record {
       header = ap (λ (v : StoreView). v.header) c.self.view_is;
       words = ap (λ (v : StoreView). v.words) c.self.view_is;
       entries = ap (λ (v : StoreView). v.entries) c.self.view_is;
-    }) c.write_volume.ensures.keeps told
+    }) c.give_volume.ensures.keeps told

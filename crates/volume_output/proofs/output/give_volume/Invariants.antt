@@ -2,7 +2,7 @@
 use Rattle.qic_base.specs.Terms.{around}
 use Rattle.host_driver.specs.Calls.{Keeps}
 use Rattle.volume_output.proofs.Walking.{left_from, GoesOn}
-use Rattle.volume_output.proofs.output.write_volume.Given as goal
+use Rattle.volume_output.proofs.output.give_volume.Given as goal
 
 abbrev pub invariant-loop-segment : goal.invariant-loop-segment
 invariant-loop-segment g l = record {

@@ -10,8 +10,8 @@ use Rattle.volume_input.specs.Next.{NextWritten}
 use Rattle.volume_input.proofs.Places.{capacity_carries}
 use Rattle.volume_input.proofs.Running.{SoFar, begin, next, last, none_came, failed}
 use Rattle.volume_input.proofs.Volume.{here_next, skipped, not_over, written_within}
-use Rattle.volume_input.proofs.input.write_volume.Goals as goal
-use Rattle.volume_input.proofs.input.write_volume.Goals.{then-read-capacity-via-then-read-capacity, then-read-capacity-via-else-read-capacity+then-written-most}
+use Rattle.volume_input.proofs.input.take_volume.Goals as goal
+use Rattle.volume_input.proofs.input.take_volume.Goals.{then-read-capacity-via-then-read-capacity, then-read-capacity-via-else-read-capacity+then-written-most}
 
 pub loop-segment-init : goal.loop-segment-init
 loop-segment-init g c = record {

@@ -4,7 +4,7 @@ use Rattle.qic_base.specs.Terms.{reading}
 use Rattle.cartridge_spec.specs.Volumes.{carrying}
 use Rattle.host_driver.specs.Calls.{Keeps}
 use Rattle.volume_input.proofs.Running.{SoFar}
-use Rattle.volume_input.proofs.input.write_volume.Given as goal
+use Rattle.volume_input.proofs.input.take_volume.Given as goal
 
 abbrev pub invariant-loop-segment : goal.invariant-loop-segment
 invariant-loop-segment g l = record {

@@ -9,8 +9,8 @@ use Rattle.volume_output.specs.declared.fault.OutputFault.{OutputFault}
 use Rattle.volume_output.specs.Output.{OutputEnds}
 use Rattle.volume_output.specs.Piece.{piece_of}
 use Rattle.volume_output.proofs.Walking.{count_is, left_from, left_behind, left_skipped, left_given, same_left, one_given, one_failed, all_given}
-use Rattle.volume_output.proofs.output.write_volume.Goals as goal
-use Rattle.volume_output.proofs.output.write_volume.Goals.{then-count-gt0+in_ok-write_piece, else-count-gt0}
+use Rattle.volume_output.proofs.output.give_volume.Goals as goal
+use Rattle.volume_output.proofs.output.give_volume.Goals.{then-count-gt0+in_ok-write_piece, else-count-gt0}
 
 pub returns-in_err-write_piece-clause-ends : goal.returns-in_err-write_piece-clause-ends
 returns-in_err-write_piece-clause-ends g c =
