@@ -8,9 +8,8 @@ use Rattle.std.proofs.lemmas.List.Elements.{All-head, All-tail}
 use Rattle.std.proofs.lemmas.List.{append_assoc, take_all, take_at, append-nil, take-append-drop, length-take, length-drop}
 use Rattle.cartridge_laws.proofs.AppendDone.{segments_are}
 use Rattle.cartridge_laws.proofs.AppendSegments.{carries, carried, carrying_are, AreTaken, HasRoom, carrying_carry}
-use Rattle.cartridge_laws.proofs.AppendVolume.{ready_taken, may_append, plain_room}
+use Rattle.cartridge_laws.proofs.AppendVolume.{ready_taken, plain_room}
 use Rattle.cartridge_laws.proofs.MountWriting.{places_that, places_none, places_passes, places_fails}
-use Rattle.cartridge_laws.specs.AppendLaws.{AppendedBytes}
 use Rattle.cartridge_laws.specs.AppendSettled.{DoneBytes}
 use Rattle.cartridge_laws.specs.Shape.{Carries}
 use Rattle.cartridge_spec.specs.Appending.{taken_by, in_sectors, appended_volume, free_segments}
@@ -150,6 +149,3 @@ done_bytes c plain name date bytes ready =
       long,
       ap (λ (n : ℕ). take n (bytes_in volume.area)) long ∙ bytes_of_sectors (sectors_in words segments) bytes (omega arith),
     )
-
-pub appended_bytes : AppendedBytes
-appended_bytes c plain name date bytes ready = done_bytes c plain name date bytes (may_append ready)

@@ -3,7 +3,7 @@ use Rattle.std.proofs.Common.{◌≡◌, ℕ, ◌-◌, List, length, sym, ap, �
 use Rattle.std.specs.Prelude.{slice_index}
 use Rattle.std.proofs.lemmas.List.Elements.{All-weaker, All-append, All-cons, All-nil}
 use Rattle.cartridge_laws.proofs.AppendBetween.{begun_written, before_reads_old, turned_reads_new}
-use Rattle.cartridge_laws.proofs.AppendDead.{settled_kept, table_settled, live_written, ready_settled}
+use Rattle.cartridge_laws.proofs.AppendDead.{settled_kept, table_settled, live_written}
 use Rattle.cartridge_laws.proofs.AppendKeeping.{IsKeptBut, steps_kept, AreIn, steps_stopped}
 use Rattle.cartridge_laws.proofs.AppendOrders.{LiesWithin}
 use Rattle.cartridge_laws.proofs.AppendParts.{parts_written, length-in_sectors, are_sectors}
@@ -17,7 +17,7 @@ use Rattle.cartridge_laws.proofs.FormatWriting.{changed_by-append, effects-some,
 use Rattle.cartridge_laws.proofs.MountParts.{data_read}
 use Rattle.cartridge_laws.proofs.TableOrders.{sound_is_faultless}
 use Rattle.cartridge_laws.specs.AppendBetween.{IsWhole, IsBegun, Between}
-use Rattle.cartridge_laws.specs.AppendLaws.{IsReadyFor, StoppedList, AppendedIsWhole, AppendedStands, StoppedAppend, new_table}
+use Rattle.cartridge_laws.specs.AppendLaws.{IsReadyFor, StoppedList, AppendedIsWhole, StoppedAppend, new_table}
 use Rattle.cartridge_laws.specs.AppendSettled.{MayAppendTo, IsSettledFor, DoneIsSettledFor, DoneStands}
 use Rattle.cartridge_laws.specs.AppendSteps.{volume_writes, list_writes, append_steps}
 use Rattle.cartridge_laws.specs.Shape.{Carries}
@@ -208,9 +208,6 @@ done_stands c plain name date bytes may known =
     (stands_new c (changed_by next d) plain name date bytes may
     (steps_kept OfTable next d (list_in plain volume (ready_count c plain name date bytes may)))
     (inl (live_written (changed_by next d) (new_table plain name date bytes) (done_table_shows c plain name date bytes may).0 then.live)))
-
-pub appended_stands : AppendedStands
-appended_stands c plain name date bytes ready = done_stands c plain name date bytes (may_append ready) (ready_settled ready)
 
 pub some_both : (P Q : Cartridge → Type 0) (left : Option Cartridge) → IsSomeAnd left P → IsSomeAnd left Q → IsSomeAnd left (λ d. P d × Q d)
 some_both P Q None p q = absurd p

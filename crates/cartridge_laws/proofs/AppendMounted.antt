@@ -1,7 +1,7 @@
 -- What an append leaves, done or stopped, is mounted as what it stands for, and its header copies are as they were.
 use Rattle.std.proofs.Common.{ℕ, ◌≤◌, ◌<◌, List, arith, ◌≡◌, ◌⊎◌, sym, subst, refl, inl, inr, Contains, length, Option, Some, IsSomeAnd, ◌∙◌}
 use Rattle.std.proofs.lemmas.List.Elements.{All-weaker, All-contains_itself, Contains-get_or}
-use Rattle.cartridge_laws.proofs.AppendDead.{ready_settled, settled_kept}
+use Rattle.cartridge_laws.proofs.AppendDead.{settled_kept}
 use Rattle.cartridge_laws.proofs.AppendDone.{IsReadAs, done_stands, done_is_settled_for, either_of, stopped_reads, some_both, stopped_append}
 use Rattle.cartridge_laws.proofs.AppendKeeping.{AreIn, in_append, parts_of_segments, IsKeptBut, steps_kept, steps_stopped, AllowsUsable, parts_in}
 use Rattle.cartridge_laws.proofs.AppendTable.{ready_count}
@@ -10,7 +10,7 @@ use Rattle.cartridge_laws.proofs.AppendWhole.{sector_writes_are_cartridge}
 use Rattle.cartridge_laws.proofs.FormatStanding.{same_cells}
 use Rattle.cartridge_laws.proofs.FormatWriting.{some_weaker}
 use Rattle.cartridge_laws.proofs.MountStanding.{can_be_read, standing_mounts}
-use Rattle.cartridge_laws.specs.AppendLaws.{AppendedMounts, StoppedAppendMounts, AppendedIsClean, StoppedAppendIsClean, append_steps_of, AppendTouchesOnly, FreeWritesAreClean, FreeWritesLeaveReady}
+use Rattle.cartridge_laws.specs.AppendLaws.{StoppedAppendMounts, StoppedAppendIsClean, append_steps_of, AppendTouchesOnly, FreeWritesAreClean, FreeWritesLeaveReady}
 use Rattle.cartridge_laws.specs.AppendSettled.{DoneMounts, MayAppendTo, DoneIsClean, DoneTouchesOnly, FreeWritesLeaveSettled}
 use Rattle.cartridge_laws.specs.AppendSteps.{append_steps, volume_writes, list_writes, IsNamed}
 use Rattle.cartridge_laws.specs.AppendWrites.{KeepsTo, AreWrites, IsFree, IsOfSector}
@@ -39,9 +39,6 @@ done_mounts c plain name date bytes may known =
       stands = done_stands c plain name date bytes may known;
       table = (done_is_settled_for c plain name date bytes may known).table;
     })
-
-pub appended_mounts : AppendedMounts
-appended_mounts c plain name date bytes ready = done_mounts c plain name date bytes (may_append ready) (ready_settled ready)
 
 pub stopped_append_mounts : StoppedAppendMounts
 stopped_append_mounts c plain name date bytes left ready torn =
@@ -92,9 +89,6 @@ done_is_clean c plain name date bytes may known clean =
     let steps : List Step = append_steps plain bytes volume in
     clean_kept c (changed_by steps c) plain (with_bytes plain name date bytes) refl clean
     (steps_kept BehindCopies steps c (append_in c plain name date bytes may)) (done_stands c plain name date bytes may known)
-
-pub appended_is_clean : AppendedIsClean
-appended_is_clean c plain name date bytes ready clean = done_is_clean c plain name date bytes (may_append ready) (ready_settled ready) clean
 
 pub stopped_append_is_clean : StoppedAppendIsClean
 stopped_append_is_clean c plain name date bytes left ready clean torn =

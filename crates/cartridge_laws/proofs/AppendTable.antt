@@ -5,12 +5,12 @@ use Rattle.std.specs.Prelude.{slice_index}
 use Rattle.cartridge_laws.proofs.AppendOrders.{order_more}
 use Rattle.cartridge_laws.proofs.AppendSegments.{AreTaken, HasRoom, room_most}
 use Rattle.cartridge_laws.proofs.AppendTableWrites.{DifferIn}
-use Rattle.cartridge_laws.proofs.AppendVolume.{ready_taken, old_order, may_append, plain_room}
+use Rattle.cartridge_laws.proofs.AppendVolume.{ready_taken, old_order, plain_room}
 use Rattle.cartridge_laws.proofs.HeaderRefusals.{plain_last}
 use Rattle.cartridge_laws.proofs.MountParts.{data_sector}
 use Rattle.cartridge_laws.proofs.SlotBytes.{length-slot_bytes, slot_is_used, slot_shows, slot_are_bytes}
 use Rattle.cartridge_laws.proofs.Slots.{slot_area, area_is_long, shows_more}
-use Rattle.cartridge_laws.specs.AppendLaws.{AppendedTableShows, new_table}
+use Rattle.cartridge_laws.specs.AppendLaws.{new_table}
 use Rattle.cartridge_laws.specs.AppendSettled.{MayAppendTo, DoneTableShows}
 use Rattle.cartridge_laws.specs.Slots.{FitsSlot}
 use Rattle.cartridge_laws.specs.Table.{IsSoundList}
@@ -102,6 +102,3 @@ done_table_shows c plain name date bytes ready =
       subst (λ (es : List Entry). IsSoundList last es) (sym more)
           (order_more 2 last (entries_of plain) entry (old_order c plain ready.stands) (omega arith) (omega arith) (omega arith)),
     )
-
-pub appended_table_shows : AppendedTableShows
-appended_table_shows c plain name date bytes ready = done_table_shows c plain name date bytes (may_append ready)

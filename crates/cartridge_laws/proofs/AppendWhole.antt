@@ -9,7 +9,7 @@ use Rattle.cartridge_laws.proofs.FormatWriting.{some_and, effects-some}
 use Rattle.cartridge_laws.proofs.MountParts.{length-block}
 use Rattle.cartridge_laws.proofs.Segments.{view_of_cartridge}
 use Rattle.cartridge_laws.proofs.Whole.{with_view_whole, written_is_view, worn_is_view}
-use Rattle.cartridge_laws.specs.AppendLaws.{SectorWritesAreCartridge, StoppedAppendIsCartridge, AppendedIsCartridge, new_table}
+use Rattle.cartridge_laws.specs.AppendLaws.{SectorWritesAreCartridge, StoppedAppendIsCartridge, new_table}
 use Rattle.cartridge_laws.specs.AppendSettled.{MayAppendTo, DoneIsCartridge}
 use Rattle.cartridge_laws.specs.AppendSteps.{parts_writes, volume_writes, list_writes, append_steps}
 use Rattle.cartridge_laws.specs.AppendWrites.{AreWrites, IsOfSector, IsWrite}
@@ -125,6 +125,3 @@ done_is_cartridge c plain name date bytes may =
     let steps : List Step = append_steps plain bytes (appended_volume plain name date bytes) in
     subst (λ (o : Option Cartridge). IsSomeAnd o IsCartridge) (effects-some steps c)
     (steps_stopped steps c (effects steps (Some c)) (append_whole c plain name date bytes may) may.cartridge (Torn-all steps (Some c)))
-
-pub appended_is_cartridge : AppendedIsCartridge
-appended_is_cartridge c plain name date bytes ready = done_is_cartridge c plain name date bytes (may_append ready)

@@ -1,7 +1,8 @@
 -- A cartridge that differs in the table's segment alone from one that stands, and says that one's data of the table, comes back
 -- as that one; so does one that an append left, done or stopped, where one sector more of the table's segment is lost.
 use Rattle.std.proofs.Common.{◌∙◌, ℕ, List, ◌≡◌, ◌<◌, arith, ap, ◌-◌, ◌*◌, inl, false, ◌⊎◌, sym, subst, refl, length, Option, Some, IsSomeAnd, inr}
-use Rattle.cartridge_laws.proofs.AppendDone.{appended_stands, some_both, appended_is_whole}
+use Rattle.cartridge_laws.proofs.AppendDead.{ready_settled}
+use Rattle.cartridge_laws.proofs.AppendDone.{done_stands, some_both, appended_is_whole}
 use Rattle.cartridge_laws.proofs.AppendKeeping.{IsKeptBut, AreIn, steps_kept, steps_stopped}
 use Rattle.cartridge_laws.proofs.AppendTable.{ready_count}
 use Rattle.cartridge_laws.proofs.AppendVolume.{stopped_volume, may_append}
@@ -164,7 +165,7 @@ new_stands : (c : Cartridge) (plain : Plain) (name : List ℕ) (date : ℕ) (byt
 new_stands c plain name date bytes ready =
     subst (λ (e : Cartridge). Stands e (with_bytes plain name date bytes))
     (changed_by-append (volume_steps plain name date bytes) (list_steps plain name date bytes) c)
-    (appended_stands c plain name date bytes ready)
+    (done_stands c plain name date bytes (may_append ready) (ready_settled ready))
 
 pub stopped_append_comes_back : StoppedAppendComesBack
 stopped_append_comes_back c d plain name date bytes left ready is torn =

@@ -4,17 +4,14 @@ use Rattle.cartridge_laws.specs.AppendBetween.{IsWhole, IsBegun, IsTurned, Betwe
 use Rattle.cartridge_laws.specs.AppendSteps.{volume_writes, list_writes, append_steps, writes_into, IsNamed}
 use Rattle.cartridge_laws.specs.AppendWrites.{AreWrites, IsFree, KeepsTo, IsOfSector}
 use Rattle.cartridge_laws.specs.Shape.{Carries}
-use Rattle.cartridge_laws.specs.Table.{IsSoundList}
 use Rattle.cartridge_spec.specs.Appending.{has_room, free_segments, part_writes, in_sectors, with_bytes, appended_volume}
-use Rattle.cartridge_spec.specs.Volumes.{volume_bytes, Plain, Stands, entries_of, volume_length}
+use Rattle.cartridge_spec.specs.Volumes.{Plain, Stands, entries_of}
 use Rattle.cartridge_laws.specs.Terms.{last_end, slot_sector}
 use Rattle.cartridge_spec.specs.Formatting.{IsLabel, StandsCleanly}
-use Rattle.cartridge_spec.specs.HeaderCopies.{last_segment}
 use Rattle.cartridge_spec.specs.TableSegment.{TableIs, IsTableLive}
 use Rattle.cartridge_spec.specs.Shape.{IsArea, mask_at, data_count, capacity}
 use Rattle.cartridge_spec.specs.Mounting.{settled, Mounts, mounted_as}
 use Rattle.cartridge_spec.specs.Settling.{changed_by, settling_steps}
-use Rattle.cartridge_spec.specs.Table.{Shows}
 use Rattle.qic_base.specs.Cartridge.{Cartridge, view_at}
 use Rattle.qic_base.specs.Terms.{IsCartridge}
 use Rattle.qic_base.specs.Step.{Step, Torn}
@@ -74,25 +71,6 @@ BeforeReadsOld =
 abbrev pub TurnedReadsNew : Type 0
 TurnedReadsNew = (c : Cartridge) (old new : List (List ℕ)) → IsArea new → IsTurned c old new → TableIs c new
 
--- ---- the table with one slot more
-
--- the new data are 29 sectors, which show the old list and the new entry behind it, in order
-abbrev pub AppendedTableShows : Type 0
-AppendedTableShows =
-    (c : Cartridge) (plain : Plain) (name : List ℕ) (date : ℕ) (bytes : List ℕ) → IsReadyFor c plain name date bytes →
-    IsArea (new_table plain name date bytes) × Shows (new_table plain name date bytes)
-    (entries_of (with_bytes plain name date bytes))
-    × IsSoundList (last_segment c) (entries_of (with_bytes plain name date bytes))
-
--- ---- the new volume
-
--- its length is the number of the bytes that were appended, and its bytes are those
-abbrev pub AppendedBytes : Type 0
-AppendedBytes =
-    (c : Cartridge) (plain : Plain) (name : List ℕ) (date : ℕ) (bytes : List ℕ) → IsReadyFor c plain name date bytes →
-    (volume_length plain.words (appended_volume plain name date bytes).entry ≡ length bytes)
-    × (volume_bytes plain.words (appended_volume plain name date bytes) ≡ bytes)
-
 -- ---- the volume's writes, segment by segment
 
 -- they are those of its bytes into the free segments, ..
@@ -117,35 +95,11 @@ SectorsTakeTheirs = (count : ℕ) (bytes : List ℕ) → in_sectors count (take 
 
 -- ---- all steps done
 
--- the cartridge stands for the plain one with the volume
-abbrev pub AppendedStands : Type 0
-AppendedStands =
-    (c : Cartridge) (plain : Plain) (name : List ℕ) (date : ℕ) (bytes : List ℕ) → IsReadyFor c plain name date bytes →
-    Stands (changed_by (append_steps_of plain name date bytes) c) (with_bytes plain name date bytes)
-
--- and it is mounted as that
-abbrev pub AppendedMounts : Type 0
-AppendedMounts =
-    (c : Cartridge) (plain : Plain) (name : List ℕ) (date : ℕ) (bytes : List ℕ) → IsReadyFor c plain name date bytes →
-    Mounts (changed_by (append_steps_of plain name date bytes) c) (mounted_as (with_bytes plain name date bytes))
-
--- header copies that formatting may begin over stay so
-abbrev pub AppendedIsClean : Type 0
-AppendedIsClean =
-    (c : Cartridge) (plain : Plain) (name : List ℕ) (date : ℕ) (bytes : List ℕ) → IsReadyFor c plain name date bytes → StandsCleanly c plain →
-    StandsCleanly (changed_by (append_steps_of plain name date bytes) c) (with_bytes plain name date bytes)
-
 -- the table's segment is whole
 abbrev pub AppendedIsWhole : Type 0
 AppendedIsWhole =
     (c : Cartridge) (plain : Plain) (name : List ℕ) (date : ℕ) (bytes : List ℕ) → IsReadyFor c plain name date bytes →
     IsWhole (changed_by (append_steps_of plain name date bytes) c) (new_table plain name date bytes)
-
--- what is left is a cartridge
-abbrev pub AppendedIsCartridge : Type 0
-AppendedIsCartridge =
-    (c : Cartridge) (plain : Plain) (name : List ℕ) (date : ℕ) (bytes : List ℕ) → IsReadyFor c plain name date bytes →
-    IsCartridge (changed_by (append_steps_of plain name date bytes) c)
 
 -- it is ready for an append that has room behind it
 abbrev pub AppendedIsReady : Type 0

@@ -1,7 +1,7 @@
 //! What an append leaves, done or stopped. Each law is the contract of a function that does nothing, so that other crates
 //! can rest on it; their proofs import the lemmas of this crate's `proofs`.
 
-ghost use Rattle.cartridge_laws.specs.AppendLaws.{SettledIsReady, BeforeReadsOld, TurnedReadsNew, AppendedTableShows, AppendedBytes, VolumeStepsByBytes, WritesBySegment, SectorsTakeTheirs, AppendedStands, AppendedMounts, AppendedIsClean, AppendedIsWhole, AppendedIsCartridge, AppendedIsReady, FreeWritesStand, FreeWritesLeaveReady, FreeWritesAreClean, SectorWritesAreCartridge, StoppedVolume, StoppedList, StoppedAppend, StoppedFromTheStart, AppendTouchesOnly, StoppedAppendMounts, StoppedAppendIsClean, StoppedAppendIsCartridge};
+ghost use Rattle.cartridge_laws.specs.AppendLaws.{SettledIsReady, BeforeReadsOld, TurnedReadsNew, VolumeStepsByBytes, WritesBySegment, SectorsTakeTheirs, AppendedIsWhole, AppendedIsReady, FreeWritesStand, FreeWritesLeaveReady, FreeWritesAreClean, SectorWritesAreCartridge, StoppedVolume, StoppedList, StoppedAppend, StoppedFromTheStart, AppendTouchesOnly, StoppedAppendMounts, StoppedAppendIsClean, StoppedAppendIsCartridge};
 ghost use Rattle.cartridge_laws.specs.AppendSettled.{SettledIsSettledFor, SettledMayAppendTo, ReadyIsSettledFor, FreeWritesLeaveSettled, DoneTableShows, DoneBytes, DoneStands, DoneMounts, DoneIsSettledFor, DoneIsClean, DoneIsCartridge, DoneTouchesOnly, DoneMayAppendTo};
 
 /// A cartridge that was settled is ready for an append that has room, where each sector of its table's segment takes
@@ -25,11 +25,6 @@ pub fn between_tables()
     ensures new { TurnedReadsNew }
 {}
 
-/// The new volume has just the bytes that were appended.
-pub fn appended_bytes()
-    ensures { AppendedBytes }
-{}
-
 /// The writes of the new volume go segment by segment: each takes the bytes that it has room for, and the rest goes
 /// behind it.
 pub fn by_segments()
@@ -38,20 +33,9 @@ pub fn by_segments()
     ensures sectors { SectorsTakeTheirs }
 {}
 
-/// After all steps of an append the table shows the new volume behind the old ones, and the cartridge stands for the
-/// plain one with that volume.
-pub fn done_append()
-    ensures shows { AppendedTableShows }
-    ensures stands { AppendedStands }
-    ensures mounts { AppendedMounts }
-    ensures clean { AppendedIsClean }
-    ensures table { AppendedIsWhole }
-    ensures whole { AppendedIsCartridge }
-    ensures ready { AppendedIsReady }
-{}
-
-/// The same is so where sectors of the table's segment are defects or were never formatted, but the table can be read:
-/// it is then read as the new one, and the next append may follow.
+/// After all steps of an append the table shows the new volume behind the old ones, with just the bytes that were
+/// appended, and the cartridge stands for the plain one with that volume. It is so, too, where sectors of the table's
+/// segment are defects or were never formatted, but the table can be read. The next append may follow.
 pub fn done_append_over_dead_sectors()
     ensures shows { DoneTableShows }
     ensures bytes { DoneBytes }
@@ -62,6 +46,13 @@ pub fn done_append_over_dead_sectors()
     ensures whole { DoneIsCartridge }
     ensures others { DoneTouchesOnly }
     ensures again { DoneMayAppendTo }
+{}
+
+/// Where each sector of the table's segment takes what is written to it, all of it is written, and so it is for the next
+/// append.
+pub fn done_append()
+    ensures table { AppendedIsWhole }
+    ensures ready { AppendedIsReady }
 {}
 
 /// Whatever is written behind the last volume, stopped or not, leaves what stood; and whatever sectors are written, a
