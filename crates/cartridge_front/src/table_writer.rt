@@ -18,7 +18,7 @@ use drive_states::Unit;
 use gf256_qic::DATA_SECTORS;
 use host_driver::Host;
 use qic_base::{LostSet, Sector, Tape};
-use segment_io::{Workspace, write_sectors};
+use segment_io::{SegFault, Workspace, write_sectors};
 use segment_parity::put_parity;
 use volume_table::{Entry, Table, TableFull};
 
@@ -88,7 +88,10 @@ pub(crate) fn write_places<T: Tape>(
     }
     match write_sectors(host, unit, TABLE_SEGMENT, WHOLE, places, work) {
         Ok(()) => Ok(()),
-        Err(_) => Err(StoreFault::Tape),
+        Err(SegFault::Tape) => Err(StoreFault::Tape),
+        Err(SegFault::Lost { .. } | SegFault::Mismatch { .. }) => {
+            unreachable!("a write reads nothing")
+        }
     }
 }
 

@@ -37,8 +37,12 @@ pub(crate) fn clear<T: Tape>(host: &mut Host, unit: &mut Unit<T>) -> Result<(), 
     ensures rest { result ≢ Err FormatFault.Tape → IsAtRest unit.new.drive }
 {
     host.halt(unit)?;
-    if host.enter(unit, Mode::Format).is_err() {
-        return Err(FormatFault::Protected);
+    match host.enter(unit, Mode::Format) {
+        Ok(()) => {}
+        Err(HostFault::Protected) => return Err(FormatFault::Protected),
+        Err(HostFault::NoCartridge | HostFault::Tape) => {
+            unreachable!("only the protect mark refuses a mode")
+        }
     }
     host.reference(unit)?;
     clear_tracks(host, unit)?;

@@ -131,7 +131,10 @@ fn find_deep<T: Tape>(
 {
     match collect(host, unit, segment, usable, work) {
         Ok(lost) => Ok(locate_collected(segment, usable, lost, work)),
-        Err(_) => Err(ScrubFault::Tape),
+        Err(SegFault::Tape) => Err(ScrubFault::Tape),
+        Err(SegFault::Lost { .. } | SegFault::Mismatch { .. }) => {
+            unreachable!("collecting solves nothing")
+        }
     }
 }
 
