@@ -331,10 +331,6 @@ module _ (h : Head) (bytes : List ℕ) (segment : ℕ) (is : head_of bytes ≡ S
   not-no true is = refl
   not-no false is = cc
 
-  not-yes : (b : Bool) → not b ≡ false → b ≡ true
-  not-yes true is = refl
-  not-yes false is = cc
-
   -- what a fill of a byte leaves of it
   filled : (p : Part) (value : ℕ) (f : ℕ → Bool) (s : List ℕ) → end_of l ≤ length s → (i : ℕ) → i < 32 → f (first + i) ≡ true → width p ≡ 1 → slice_index (after_steps (fill_writes l p value first (those segment f) 0) s) (place l p (first + i)) ≡ value
   filled p value f s there i less picked one =

@@ -171,11 +171,6 @@ module _ {D : Type 0} {g : Ghosts D} (s : ImageTape D g) (l : Layout) (segment s
       ∙ ap (λ y. state_of (view_in y bytes (place_of k.segment sector))) h.2
       ∙ ap (λ t. state_of (view_in l bytes (place_of t sector))) of
 
-  -- a fact of each of the told bytes
-  pub told-each : (P : List ℕ → Type 0) (new : Option (List ℕ)) → ((bytes : List ℕ) → new ≡ Some bytes → P bytes) → IfSome new P
-  told-each P None each = tt
-  told-each P (Some bytes) each = each bytes refl
-
   -- What is known of the segment stays right where a call changes the sector, whose state was x.
   pub changed-right : (k : SegmentStates) (x y : SectorState) (new : D) (step : Step) (f : SectorView → SectorView) → k.segment ≡ segment → ((bytes : List ℕ) → g.means.told s.disk ≡ Some bytes → AreStates k (cartridge_of bytes))
       → ((bytes : List ℕ) → g.means.told s.disk ≡ Some bytes → x ≡ state_of (view_in l bytes (place_of segment sector)))

@@ -21,15 +21,6 @@ pub record Goes {D : Type 0} (m : Meaning D) (old now : D) (l : Layout) (p : Par
   pub ran : Ran m old now done
   pub rest : done ++ fill_writes l p value (first + i) (drop i chosen) under ≡ fill_writes l p value first chosen 0
 
-pub goes-nothing : {D : Type 0} (m : Meaning D) (old : D) (l : Layout) (p : Part) (value first : ℕ) (chosen : List Bool) → Goes m old old l p value first chosen 0 0
-goes-nothing m old l p value first chosen = record {
-  few = omega arith;
-  meet = inr refl;
-  done = [];
-  ran = refl;
-  rest = ap (λ q. fill_writes l p value q chosen 0) (let e : first + 0 ≡ first = omega arith in e);
-}
-
 step-is : (l : Layout) (p : Part) (value sector : ℕ) (c : Bool) (cs : List Bool) (under : ℕ) → fill_writes l p value sector (c ∷ cs) under ≡ step_writes l p value sector c under ++ fill_writes l p value (suc sector) cs (step_under l.kind c under)
 step-is l p value sector false cs under = refl
 step-is l p value sector true cs under = by_touch (touches l.kind)
@@ -166,6 +157,3 @@ halted-is m a b xs ys is halted = let P : List DiskStep → Type 0 = λ ss. Halt
 
 pub ran-is : {D : Type 0} (m : Meaning D) (a b : D) (xs ys : List DiskStep) → xs ≡ ys → Ran m a b xs → Ran m a b ys
 ran-is m a b xs ys is ran = let P : List DiskStep → Type 0 = λ ss. Ran m a b ss in subst P is ran
-
-pub runs-is : {D T E : Type 0} (m : Meaning D) (a b : D) (xs ys : List DiskStep) (r : Result T E) → xs ≡ ys → Runs m a b xs r → Runs m a b ys r
-runs-is m a b xs ys r is runs = let P : List DiskStep → Type 0 = λ ss. Runs m a b ss r in subst P is runs

@@ -199,9 +199,6 @@ module _ (n : ℕ) (long : IsLength n) where
     first6 : (slice_index b6 0 == first_letter) ≡ false
     first6 = ap (λ b. b == first_letter) (get_or-resized whole b5 0 (omega arith)) ∙ first5
 
-    first7 : (slice_index b7 0 == first_letter) ≡ false
-    first7 = let l = length6 in let p = part-length in let o = OnlyIn-written 1 b6 (drop 1 head) (omega arith) in ap (λ b. b == first_letter) (o.below 0 (omega arith)) ∙ first6
-
     zero6 : (k : ℕ) → 64 ≤ k → slice_index b6 k ≡ 0
     zero6 k more =
         let l5 = length5 in

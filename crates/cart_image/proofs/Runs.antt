@@ -61,27 +61,6 @@ Looks-nothing m d = record {
   since = λ t left early is. inl is;
 }
 
-told-look : (told : Option (List ℕ)) → option_map (stored Look) told ≡ told
-told-look None = refl
-told-look (Some bytes) = refl
-
-pub Looks-look : {D : Type 0} {m : Meaning D} {a b c : D} → Looks m a b → Stored m b c Look → Looks m a c
-Looks-look {m = m} {b = b} first next =
-    let both = Passes-Passes (Looks-Passes first) (Stored-Passes next) in
-    record {
-      told = next.told ∙ told-look (m.told b) ∙ first.told;
-      later = both.later;
-      leaves = λ left is. let was = next.leaves left is in first.leaves left (subst (m.may_leave b) (sym was.2) was.1);
-      telling = both.telling;
-      clock = both.clock;
-      kept = both.kept;
-      parted = both.parted;
-      since = λ t left early is. elim (next.crashes.since t left (let e = first.clock in omega arith) is) [
-        | inl earlier ↦ first.since t left early earlier
-        | inr was ↦ inr (first.leaves left (subst (m.may_leave b) (sym was.2) was.1))
-      ];
-    }
-
 pub Looks-Looks : {D : Type 0} {m : Meaning D} {a b c : D} → Looks m a b → Looks m b c → Looks m a c
 Looks-Looks first next =
     let both = Passes-Passes (Looks-Passes first) (Looks-Passes next) in

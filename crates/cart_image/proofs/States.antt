@@ -43,18 +43,6 @@ read-lost Defect old is = cc
 read-lost Lost old is = (refl, refl)
 read-lost (Holds bytes) old is = cc
 
-pub write-blank : (l : Layout) (q : ℕ) (from : List ℕ) (v : SectorView) → state.Blank ≡ state_of v → ([] ≡ write_sector_steps l q from v) × (write.Blank ≡ write_answer v)
-write-blank l q from Blank is = (refl, refl)
-write-blank l q from Defect is = cc
-write-blank l q from Lost is = cc
-write-blank l q from (Holds bytes) is = cc
-
-pub write-defect : (l : Layout) (q : ℕ) (from : List ℕ) (v : SectorView) → state.Defect ≡ state_of v → ([] ≡ write_sector_steps l q from v) × (write.Taken ≡ write_answer v)
-write-defect l q from Blank is = cc
-write-defect l q from Defect is = (refl, refl)
-write-defect l q from Lost is = cc
-write-defect l q from (Holds bytes) is = cc
-
 pub write-lost : (l : Layout) (q : ℕ) (from : List ℕ) (v : SectorView) → state.Lost ≡ state_of v → (overwrite_steps l q false from ≡ write_sector_steps l q from v) × (write.Taken ≡ write_answer v)
 write-lost l q from Blank is = cc
 write-lost l q from Defect is = cc
@@ -73,35 +61,11 @@ wear-readable l q Defect is = cc
 wear-readable l q Lost is = cc
 wear-readable l q (Holds bytes) is = refl
 
-pub wear-other : (l : Layout) (q : ℕ) (s : SectorState) (v : SectorView) → s ≡ state_of v → s ≢ state.Readable → [] ≡ wear_steps l q v
-wear-other l q s Blank is other = refl
-wear-other l q s Defect is other = refl
-wear-other l q s Lost is other = refl
-wear-other l q s (Holds bytes) is other = absurd (other is)
-
 pub spoil-blank : (l : Layout) (q : ℕ) (v : SectorView) → state.Blank ≡ state_of v → (put (place l DefectByte q) (defect_byte ∷ []) ≡ spoil_steps l q v) × (true ≡ spoil_answer v)
 spoil-blank l q Blank is = (refl, refl)
 spoil-blank l q Defect is = cc
 spoil-blank l q Lost is = cc
 spoil-blank l q (Holds bytes) is = cc
-
-pub spoil-defect : (l : Layout) (q : ℕ) (v : SectorView) → state.Defect ≡ state_of v → ([] ≡ spoil_steps l q v) × (true ≡ spoil_answer v)
-spoil-defect l q Blank is = cc
-spoil-defect l q Defect is = (refl, refl)
-spoil-defect l q Lost is = cc
-spoil-defect l q (Holds bytes) is = cc
-
-pub spoil-lost : (l : Layout) (q : ℕ) (v : SectorView) → state.Lost ≡ state_of v → ([] ≡ spoil_steps l q v) × (false ≡ spoil_answer v)
-spoil-lost l q Blank is = cc
-spoil-lost l q Defect is = cc
-spoil-lost l q Lost is = (refl, refl)
-spoil-lost l q (Holds bytes) is = cc
-
-pub spoil-readable : (l : Layout) (q : ℕ) (v : SectorView) → state.Readable ≡ state_of v → ([] ≡ spoil_steps l q v) × (false ≡ spoil_answer v)
-spoil-readable l q Blank is = cc
-spoil-readable l q Defect is = cc
-spoil-readable l q Lost is = cc
-spoil-readable l q (Holds bytes) is = (refl, refl)
 
 readable_by : (d f g : ℕ) (b : List ℕ) → state.Readable ≡ state_of (view_by d f g b) → view_by d f g b ≡ Holds b
 readable_by d f g b is = by_tests (d == defect_byte) (f == formed_byte) (g == open_gate) is

@@ -49,15 +49,6 @@ stale_with stale place i same differs within =
     and_true true = refl
     and_true false = refl
 
-pub stale_without : (stale place i : ℕ) (same : Bool) → same ≡ true → is_lost stale i ≡ (is_lost stale i || (i == place && not same))
-stale_without stale place i same is = none (is_lost stale i) (i == place) ∙ ap (λ (s : Bool). is_lost stale i || (i == place && not s)) (sym is)
-  where
-    none : (a b : Bool) → a ≡ (a || (b && false))
-    none true true = refl
-    none true false = refl
-    none false true = refl
-    none false false = refl
-
 -- ---- the three places of parity
 
 -- a place was looked at

@@ -141,10 +141,6 @@ abbrev pub with_slot : (area : List (List ℕ)) → (i : ℕ) → (bytes : List 
 with_slot area i bytes =
     slice_set area (slot_sector i) (overwritten (sector_at area (slot_sector i)) (128 * (i % 8)) bytes)
 
--- the four signature bytes of a slot, as a number
-abbrev pub signature : List ℕ → ℕ
-signature bytes = number_at bytes 0 4
-
 -- the end of the slot before this one lies at or behind its start
 abbrev pub overlaps_before : List (List ℕ) → ℕ → Bool
 overlaps_before area i = nat_lt 0 i && nat_le (entry_in (slot area i)).start (entry_in (slot area (i - 1))).end

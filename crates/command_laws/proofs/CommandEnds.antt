@@ -53,14 +53,6 @@ fault_no_outcome TapeFails = refl
 fault_no_outcome SourceFails = refl
 fault_no_outcome SinkFails = refl
 
-pub named_outcome : (command : Words) (answer : Status) → may_come_from answer command ≡ true → is_outcome answer ≡ true
-named_outcome command status.Usage is = cc
-named_outcome command status.SourceFault is = cc
-named_outcome command status.SinkFault is = cc
-named_outcome command status.TapeFault is = cc
-named_outcome command status.NoMemory is = cc
-named_outcome command answer is = refl
-
 pub done_or_not : (answer : Status) → (answer ≡ status.Done) ⊎ (answer ≢ status.Done)
 done_or_not status.Done = inl refl
 done_or_not answer = inr (λ is. cc)

@@ -95,10 +95,6 @@ settled_shows c area entries is known shown = record {
 
 -- ---- mounting
 
-forced : (c : Cartridge) (area : List (List ℕ)) → IsInForce c area → has_signature area ≡ true
-forced c area (inl first) = first.signature
-forced c area (inr second) = second.1.signature
-
 pub mounted_listed : MountedListed
 mounted_listed c header words table entries whole mounts =
     let info : (settled table c).info ≡ c.info = (settled_keeps_table c table mounts.reads).info in

@@ -103,10 +103,6 @@ pub entries_behind-append : (entries : List Entry) (xs ys : List Did) → entrie
 entries_behind-append entries [] ys = refl
 entries_behind-append entries (x ∷ xs) ys = entries_behind-append x.entries xs ys
 
-pub cartridge_behind-append : (c : Cartridge) (xs ys : List Did) → cartridge_behind c (xs ++ ys) ≡ cartridge_behind (cartridge_behind c xs) ys
-cartridge_behind-append c [] ys = refl
-cartridge_behind-append c (x ∷ xs) ys = cartridge_behind-append (changed_by (steps_of x.acts) c) xs ys
-
 -- the cartridge behind them is what all their steps make of it
 pub cartridge_is : (c : Cartridge) (xs : List Did) → cartridge_behind c xs ≡ changed_by (steps_of (acts_of xs)) c
 cartridge_is c [] = refl

@@ -22,10 +22,6 @@ use Rattle.drive_states.specs.Unit.{Knows}
 use Rattle.qic117_commands.specs.declared.view.Motion.TheVariants as seen_as
 use Rattle.drive_states.proofs.Taken.{is_taken, stop_taken, primary_taken, reference_taken, segments_taken}
 
-pub and-left : (a b : Bool) → a && b ≡ true → a ≡ true
-and-left true b e = refl
-and-left false b e = e
-
 pub and-right : (a b : Bool) → a && b ≡ true → b ≡ true
 and-right true b e = e
 and-right false b e = cc
@@ -88,10 +84,6 @@ while_stopped d c seek stop taken =
 HasLength-referenced : (on : Bool) (c : Option TapeInfo) → HasLength c → HasLength (referenced_as on c)
 HasLength-referenced on None long = tt
 HasLength-referenced on (Some info) long = long
-
-length-referenced : (on : Bool) (c : Option TapeInfo) → option_map_or (λ i. i.segments_per_track) (referenced_as on c) 0 ≡ option_map_or (λ i. i.segments_per_track) c 0
-length-referenced on None = refl
-length-referenced on (Some info) = refl
 
 is_some-referenced : (on : Bool) (c : Option TapeInfo) → is_some (referenced_as on c) ≡ is_some c
 is_some-referenced on None = refl
@@ -174,22 +166,6 @@ IsSound-accepted EnterPrimary d s taken = record {
   format_segments = s.format_segments;
 }
 IsSound-accepted c d s taken = s
-
-pub IsSound-unreferenced : (d : Deck) → IsSound d → is_streaming d.motion ≡ false → IsSound (record d { cartridge = referenced_as false d.cartridge })
-IsSound-unreferenced d s stands = record {
-  long = HasLength-referenced false d.cartridge s.long;
-  present = λ other. rw (is_some-referenced false d.cartridge) (s.present other);
-  load_point = λ at. let p = s.load_point at in record { primary = p.primary; track = p.track; offset = p.offset; still = p.still };
-  track = s.track;
-  offset = rw (length-referenced false d.cartridge) s.offset;
-  motion = any_limit d.motion stands s.motion;
-  format_segments = s.format_segments;
-}
-  where
-    any_limit : (m : Motion) → is_streaming m ≡ false → IsInMotion (limit d) d.offset m → IsInMotion (limit (record d { cartridge = referenced_as false d.cartridge })) d.offset m
-    any_limit Stopped e h = tt
-    any_limit (Streaming next) e h = cc
-    any_limit (Seeking left) e h = h
 
 pub Knows-accepted : (c : Command) (d : Deck) (size : Option ℕ) → Knows d.cartridge size → Knows (accepted c d).cartridge size
 Knows-accepted WriteReference d size known = Knows-referenced true d.cartridge size known
@@ -326,17 +302,6 @@ IsSound-passed d index s streams fits = record {
   offset = s.offset;
   motion = (before_limit d.motion (limit d) d.offset streams s.motion, omega arith);
   format_segments = s.format_segments;
-}
-
-pub IsSound-power_on : (c : Option TapeInfo) → HasLength c → IsSound (power_on_deck c)
-IsSound-power_on c long = record {
-  long = long;
-  present = λ other. cc;
-  load_point = λ at. record { primary = refl; track = refl; offset = refl; still = refl };
-  track = omega arith;
-  offset = omega arith;
-  motion = tt;
-  format_segments = omega arith;
 }
 
 -- another error word or new cartridge flag

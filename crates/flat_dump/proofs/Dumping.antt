@@ -26,23 +26,6 @@ pub record SoFar {T K : Type 0} (t : tapes.Meaning T) (k : sinks.Meaning K) (fir
   pub seen : SegmentsSeen t first count text mask
   pub wrote : sinks.Wrote k from to text
 
-tells_always : {T : Type 0} (t : tapes.Meaning T) (tape : T) (P : Cartridge → Type 0) → ((c : Cartridge) → P c) → Tells t tape P
-tells_always t tape P holds = by_told (t.told tape) where
-  by_told : (held : Option (Option Cartridge)) → IfSome held (λ h. IfSome h P)
-  by_told None = tt
-  by_told (Some None) = tt
-  by_told (Some (Some c)) = holds c
-
-pub none_seen : {T : Type 0} (t : tapes.Meaning T) (tape : T) → SegmentsSeen t tape 0 [] []
-none_seen t tape = record {
-  views = [];
-  each = All-nil IsView;
-  size = refl;
-  told = tells_always t tape (λ c. (q : ℕ) → q < 0 → get_or [] q Blank ≡ get_or c.views q Blank) (λ c q h. absurd (omega arith));
-  shown = refl;
-  masked = refl;
-}
-
 -- a segment behind others
 segment_behind : (c : Cartridge) (views more : List SectorView) (count : ℕ) → length views ≡ 32 * count →
     ((q : ℕ) → q < 32 * count → get_or views q Blank ≡ get_or c.views q Blank) → ((k : ℕ) → k < 32 → get_or more k Blank ≡ view_at c count k) →

@@ -31,9 +31,6 @@ use Rattle.flat_dump.proofs.Running.{view_by-is}
 
 -- ---- cells, one behind the other
 
-AreLong : List (List ℕ) → Type 0
-AreLong cells = (q : ℕ) → q < length cells → length (get_or cells q []) ≡ 1027
-
 other_cells : (cell : List ℕ) (cells : List (List ℕ)) → ((q : ℕ) → q < length (cell ∷ cells) → length (get_or (cell ∷ cells) q []) ≡ 1027) → (q : ℕ) → q < length cells → length (get_or cells q []) ≡ 1027
 other_cells cell cells each q within = each (suc q) (omega arith)
 

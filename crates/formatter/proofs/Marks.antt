@@ -39,28 +39,6 @@ bit_fits word sector fits within = or_of_32 word (2 ^ sector) fits (pow-lt {i = 
 
 -- ---- the map
 
--- none is marked
-abbrev pub unmarked : ℕ → List ℕ
-unmarked segments = replicate segments 0
-
-pub marks_none : (c : Cartridge) (segments : ℕ) → MarksBelow c (unmarked segments) 0
-marks_none c segments = record {
-  fits = λ segment. let none : get_or (unmarked segments) segment 0 ≡ 0 = no_word segments segment in omega arith;
-  each = λ segment sector there within. (
-    λ is.
-        let none : get_or (unmarked segments) segment 0 ≡ 0 = no_word segments segment in
-        let bit : bit_at (get_or (unmarked segments) segment 0) sector ≡ 0 = ap (λ (word : ℕ). bit_at word sector) none ∙ bit_at-zero sector in
-        absurd (omega arith),
-    λ both. let low : place_of segment sector < 0 = both.0 in absurd (omega arith),
-  );
-}
-  where
-    no_word : (n i : ℕ) → get_or (unmarked n) i 0 ≡ 0
-    no_word n i = elim (cases_lt i n) [
-      | inl below ↦ get_or-replicate n i 0 0 below
-      | inr past ↦ get_or_past (unmarked n) i 0 (omega (arith, length-replicate {A = ℕ} n 0))
-    ]
-
 -- a place is that of one sector
 one_place : (s i t j : ℕ) → i < 32 → j < 32 → place_of t j ≡ place_of s i → (t ≡ s) × (j ≡ i)
 one_place s i t j low high same = (omega arith, omega arith)
@@ -147,16 +125,6 @@ read_bad Blank old now answer bad r = refl
 read_bad Defect old now answer bad r = refl
 read_bad Lost old now answer bad r = refl
 read_bad (Holds bytes) old now answer bad r = absurd (bad r.0)
-
--- all are marked or found readable
-pub marks_all : (c : Cartridge) (words : List ℕ) (n : ℕ) → n ≡ length words → MarksBelow c words (32 * n) → MarksUnreadable c words
-marks_all c words n all m = record {
-  fits = m.fits;
-  each = λ segment sector there within. (
-    λ is. ((m.each segment sector there within).0 is).1,
-    λ unreadable. (m.each segment sector there within).1 (omega arith, unreadable),
-  );
-}
 
 -- ---- a word by its marks
 

@@ -187,7 +187,3 @@ data_sum-push p ds d h all hd =
     ∙ ap (bit_xor (product v p)) last)
     ∙ product_sum_left (product v p) d w
     ∙ ap (λ x. bit_xor x (product d w)) (shifted ∙ ap (λ x. product x p) (sym (data_sum-value p ds h all)))
-
-pub data_sum-none : (p : ℕ) → data_sum p [] ≡ 0
-unfolding data_sum
-data_sum-none p = refl

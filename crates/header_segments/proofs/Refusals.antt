@@ -45,14 +45,6 @@ tested-other area name at width value found is other =
     let unequal : (number_in area at width == value) ≡ false = ne_eqb _ _ (λ e. other (is ∙ e)) in
     rw (is, unequal) refl
 
--- a field without a test is at no fault
-pub field_fault-unread : (area : List (List ℕ)) (at width value : ℕ) → field_fault area (number at width value) ≡ None
-field_fault-unread area at width value = by_value (number_in area at width == value)
-  where
-    by_value : (b : Bool) → cond b None (option_map (λ name. fault_as name (number_in area at width)) None) ≡ None
-    by_value true = refl
-    by_value false = refl
-
 pub refusal-signed : (area : List (List ℕ)) (n : ℕ) → has_signature area ≡ true → refusal area n ≡ option_map foreign (header_fault area n)
 refusal-signed area n signed = ap (λ (b : Bool). cond b (option_map foreign (header_fault area n)) (Some NoSignature)) signed
 

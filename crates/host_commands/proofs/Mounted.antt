@@ -164,13 +164,6 @@ open_failed t a b (open_fault.Refused f) fails = let kind = fails.kind in absurd
 
 -- ---- .. of a cartridge to write on
 
-mark_known : {T : Type 0} (t : tapes.Meaning T) (a b : T) (info : TapeInfo) → Present t a b info → info.protected ≡ true → IfSome (t.told a) (λ held. IsSomeAnd held (λ c. c.info.protected ≡ true))
-mark_known t a b info there locked = told_map (t.told a) _ _ there.known (λ held known. by_held held known)
-  where
-    by_held : (held : Option Cartridge) → Knows (Some info) held → IsSomeAnd held (λ c. c.info.protected ≡ true)
-    by_held None known = cc
-    by_held (Some c) known = let same : info ≡ c.info = cc in ap (λ (i : TapeInfo). i.protected) (sym same) ∙ locked
-
 pub unlocked_known : {T : Type 0} (t : tapes.Meaning T) (a b : T) (info : TapeInfo) → Present t a b info → info.protected ≡ false → IsUnlocked t a
 unlocked_known t a b info there free = told_map (t.told a) _ _ there.known (λ held known. by_held held known)
   where
@@ -187,9 +180,6 @@ pub writable_unstarted : {T : Type 0} (t : tapes.Meaning T) (a : T) (b : UnitVie
 writable_unstarted t a b why (inl (is, (did, none))) =
     inr (inl (absent_unlocked (t.told a) none, record { did = did; sound = ap is_opening is; told = rw is (absent_told (t.told a) none) }))
 writable_unstarted t a b why (inr (is, broke)) = inr (inr (is, cut_first t a b.tape broke))
-
-pub writable_locked : {T : Type 0} (t : tapes.Meaning T) (a : T) (b : UnitView T) (info : TapeInfo) → Present t a b.tape info → info.protected ≡ true → WritableEnds t a b (Err status.Protected)
-writable_locked t a b info there locked = inl (record { answered = refl; did = there.did; told = mark_known t a b.tape info there locked })
 
 pub writable_failed : {T : Type 0} (t : tapes.Meaning T) (a : T) (b : UnitView T) (why : Status) → IsUnlocked t a → OpeningEnds t a b (Err why) → WritableEnds t a b (Err why)
 writable_failed t a b why free (inl turned) = inr (inl (free, turned))

@@ -75,10 +75,6 @@ module _ {T : Type 0} (m : Meaning T) (u v : UnitView T) (steps : List Step) (ke
       tells None e = ap is_some e
       tells (Some held) e = ap is_some e
 
-  pub does_agrees : {R E : Type 0} (r : Result R E) → Does m u.tape v.tape steps r → AgreesWithTape m u → AgreesWithTape m v
-  does_agrees (Ok x) d = done_agrees d
-  does_agrees (Err e) b = broke_agrees b
-
 -- the reference bursts were written, and the drive knows it
 pub reference_agrees : {T : Type 0} (m : Meaning T) (u v : UnitView T) → v.drive.deck.cartridge ≡ referenced_as true u.drive.deck.cartridge →
     Done m u.tape v.tape (SetReferenced ∷ []) → AgreesWithTape m u → AgreesWithTape m v

@@ -204,15 +204,6 @@ pub reads-next : (r : Record) → train_steps r (number_of ReportNextBit) ≡ []
 unfolding train_steps
 reads-next r = gap_steps-none (record r { train = number_of ReportNextBit }) (λ e. cc)
 
-pub is_width : (kind : Kind) → IsWidth (width_of kind)
-is_width Status = inl refl
-is_width Error = inr refl
-is_width Configuration = inl refl
-is_width Rom = inl refl
-is_width Vendor = inr refl
-is_width TapeStatus = inl refl
-is_width FormatSegments = inr refl
-
 bit_where-le : (bit : ℕ) (b : Bool) → bit_where bit b ≤ bit
 bit_where-le bit true = omega arith
 bit_where-le bit false = omega arith

@@ -27,10 +27,6 @@ use Rattle.host_driver.specs.Fits.{Fits, GeneratesAll, parameter_of, segments_of
 use Rattle.host_driver.specs.Place.{StandsAt}
 use Rattle.host_driver.proofs.Refusals.{seek_taken, skip_forward_taken, skip_reverse_taken, forward_taken, format_taken, verify_taken}
 
-pub done : {T E : Type 0} (r : Result T E) (P : Type 0) → IsOk r → OnOk r P → P
-done (Ok x) P ok h = h
-done (Err e) P ok h = cc
-
 pub there : (c : Option TapeInfo) (P : TapeInfo → Type 0) → IsSomeAnd c P → is_some c ≡ true
 there None P h = absurd h
 there (Some info) P h = refl
@@ -39,11 +35,6 @@ stops : (m : Motion) → is_stopped m ≡ true → seen_motion m ≡ seen_as.Sto
 stops Stopped e = refl
 stops (Streaming next) e = cc
 stops (Seeking left) e = cc
-
-pub is_still : (m : Motion) → is_stopped m ≡ true → is_seeking m ≡ false
-is_still Stopped e = refl
-is_still (Streaming next) e = cc
-is_still (Seeking left) e = cc
 
 -- a tape that stands and is known
 pub record StandsKnown (d : Deck) : Type 0 where
@@ -79,14 +70,6 @@ limit_of d g = by_mode (is_format d.mode) refl
     by_mode : (b : Bool) → is_format d.mode ≡ b → (if b then min d.format_segments (segments_per_track d) else segments_per_track d) ≡ segments_per_track d
     by_mode true e = let all = g.segments e in omega arith
     by_mode false e = refl
-
--- the tape begins to stream
-pub forward_streams : (d : Deck) → is_stopped d.motion ≡ true → GeneratesAll d → d.offset < segments_per_track d →
-    accepted LogicalForward d ≡ record d { motion = Streaming 0; at_load_point = false }
-forward_streams d stopped g within =
-    let end = limit_of d g in
-    let before : nat_lt d.offset (limit d) ≡ true = grind (arith, nat_tests) in
-    rw (stopped, before) refl
 
 -- a command's parameter came whole
 pub record IsGiven (r : Record) (d : Deck) : Type 0 where

@@ -45,17 +45,6 @@ module _ {T : Type 0} (t : tapes.Meaning T) (seed count n : ℕ) (few : n < coun
   listed_refused fault.Sink e cut kept = absurd (let rose = cut.cut.broke.cause in omega arith)
   listed_refused fault.Tape e cut kept = tt
 
--- a step behind the appends was refused
-pub listed_behind : (seed count : ℕ) (before after : StoreView) → HoldsAll seed count before after → (f : MakeFault) → NeverFull (Err f) →
-    AreListed (Err f) seed count before after
-listed_behind seed count before after all fault.Protected room = record { appended = count; within = omega arith; list = all }
-listed_behind seed count before after all fault.TableMismatch room = record { appended = count; within = omega arith; list = all }
-listed_behind seed count before after all (fault.Full need have) room = absurd room
-listed_behind seed count before after all (fault.Lost segment lost) room = (record { appended = count; within = omega arith; list = all }, λ other. all)
-listed_behind seed count before after all (fault.Mismatch segment) room = all
-listed_behind seed count before after all fault.Sink room = all
-listed_behind seed count before after all fault.Tape room = tt
-
 -- the append of the present volume of a loop was refused
 pub listed_loop : {T : Type 0} (t : tapes.Meaning T) (seed count v : ℕ) → 1 ≤ v → v ≤ count → (before : StoreView) (words : List ℕ) (es : List Entry) (after : StoreView) →
     words ≡ before.words → es ≡ made_list seed (v - 1) before.words before.entries → (a b : Outside T (Unit {0}) (Unit {0})) → (f : MakeFault) (e : Entry) →

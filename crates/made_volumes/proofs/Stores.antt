@@ -27,12 +27,6 @@ module _ {T : Type 0} (t : tapes.Meaning T) (held : StoreView) (u : UnitView T) 
       let size : length held.words ≡ 28 * segments_of held.host = fits.words in
       record { on_tape = omega (arith, known, size, within); in_segment = small }
 
-  pub has_word : (segment : ℕ) → segment < length held.words → segment < 28 * held.header.segments_per_track
-  has_word segment within =
-      let size : length held.words ≡ 28 * segments_of held.host = fits.words in
-      let same : held.header.segments_per_track ≡ segments_of held.host = fits.header in
-      omega (arith, size, same, within)
-
   pub lies : (index : ℕ) (e : Entry) → slice_get held.entries index ≡ Some e → LiesOn (length held.words - 1) e
   lies index e at =
       let size : length held.words ≡ 28 * segments_of held.host = fits.words in

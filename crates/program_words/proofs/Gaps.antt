@@ -37,9 +37,6 @@ simple : is_simple trace_command ≡ true
 unfolding clap_on_literals
 simple = refl
 
-first_is : (text : List ℕ) (a b : ℕ) → slice_index text 0 ≡ a → slice_index text 0 ≡ b → a ≡ b
-first_is text a b p q = sym p ∙ q
-
 -- the gap's text passed its parser
 passed : (c : Command) (m : ArgMatches) → IsTraceCommand c → IsParsedFrom c m →
     (t : List ℕ) × (one_text (found_of m) (codes "gap") ≡ Some (without_minus t)) × IsSignedIn (pos 1) (pos 1000000) t

@@ -53,11 +53,6 @@ unfolding status_of
 status_of-stopped view error at_bot at_eot =
     eqb-true _ _ (at_each (λ a b c d e f g h. bit_and (sum_all a b c d e f g h) 0x01 == bit_where 0x01 a) refl (is_stopped view.motion) error view.present (view.present && view.protected) view.fresh (view.present && view.referenced) at_bot at_eot)
 
-pub status_of-error : (view : DriveView) (error at_bot at_eot : Bool) → bit_and (status_of view error at_bot at_eot) 0x02 ≡ bit_where 0x02 (error)
-unfolding status_of
-status_of-error view error at_bot at_eot =
-    eqb-true _ _ (at_each (λ a b c d e f g h. bit_and (sum_all a b c d e f g h) 0x02 == bit_where 0x02 b) refl (is_stopped view.motion) error view.present (view.present && view.protected) view.fresh (view.present && view.referenced) at_bot at_eot)
-
 pub status_of-present : (view : DriveView) (error at_bot at_eot : Bool) → bit_and (status_of view error at_bot at_eot) 0x04 ≡ bit_where 0x04 (view.present)
 unfolding status_of
 status_of-present view error at_bot at_eot =
@@ -68,22 +63,7 @@ unfolding status_of
 status_of-protected view error at_bot at_eot =
     eqb-true _ _ (at_each (λ a b c d e f g h. bit_and (sum_all a b c d e f g h) 0x08 == bit_where 0x08 d) refl (is_stopped view.motion) error view.present (view.present && view.protected) view.fresh (view.present && view.referenced) at_bot at_eot)
 
-pub status_of-fresh : (view : DriveView) (error at_bot at_eot : Bool) → bit_and (status_of view error at_bot at_eot) 0x10 ≡ bit_where 0x10 (view.fresh)
-unfolding status_of
-status_of-fresh view error at_bot at_eot =
-    eqb-true _ _ (at_each (λ a b c d e f g h. bit_and (sum_all a b c d e f g h) 0x10 == bit_where 0x10 e) refl (is_stopped view.motion) error view.present (view.present && view.protected) view.fresh (view.present && view.referenced) at_bot at_eot)
-
 pub status_of-referenced : (view : DriveView) (error at_bot at_eot : Bool) → bit_and (status_of view error at_bot at_eot) 0x20 ≡ bit_where 0x20 (view.present && view.referenced)
 unfolding status_of
 status_of-referenced view error at_bot at_eot =
     eqb-true _ _ (at_each (λ a b c d e f g h. bit_and (sum_all a b c d e f g h) 0x20 == bit_where 0x20 f) refl (is_stopped view.motion) error view.present (view.present && view.protected) view.fresh (view.present && view.referenced) at_bot at_eot)
-
-pub status_of-at_bot : (view : DriveView) (error at_bot at_eot : Bool) → bit_and (status_of view error at_bot at_eot) 0x40 ≡ bit_where 0x40 (at_bot)
-unfolding status_of
-status_of-at_bot view error at_bot at_eot =
-    eqb-true _ _ (at_each (λ a b c d e f g h. bit_and (sum_all a b c d e f g h) 0x40 == bit_where 0x40 g) refl (is_stopped view.motion) error view.present (view.present && view.protected) view.fresh (view.present && view.referenced) at_bot at_eot)
-
-pub status_of-at_eot : (view : DriveView) (error at_bot at_eot : Bool) → bit_and (status_of view error at_bot at_eot) 0x80 ≡ bit_where 0x80 (at_eot)
-unfolding status_of
-status_of-at_eot view error at_bot at_eot =
-    eqb-true _ _ (at_each (λ a b c d e f g h. bit_and (sum_all a b c d e f g h) 0x80 == bit_where 0x80 h) refl (is_stopped view.motion) error view.present (view.present && view.protected) view.fresh (view.present && view.referenced) at_bot at_eot)

@@ -154,37 +154,6 @@ settled-since : (log : Option DiskLog) (t : ℕ) (left : List ℕ) → t ≤ mom
 settled-since None t left early was = tt
 settled-since (Some l) t left early was = since-by l (is_pending (point_of l.events)) t left early was
 
-told-by : (l : DiskLog) (pending : Bool) (told : List ℕ) → (point_of l.events).told ≡ told → Stands (one_more l pending) told
-told-by l true told here m is = let same : record l { events = Settled ∷ l.events } ≡ m = cc in ap (λ (n : DiskLog). (point_of n.events).told) (sym same) ∙ here
-told-by l false told here m is = let same : l ≡ m = cc in ap (λ (n : DiskLog). (point_of n.events).told) (sym same) ∙ here
-
--- ---- the record gives what stands
-
-after-told : (s : DiskStep) (p : DiskPoint) → (after_made s p).told ≡ stored s p.told
-after-told Look p = refl
-after-told (WriteAt place part) p = refl
-after-told (SetLen n) p = refl
-after-told Sync p = refl
-
-pub made-stands : (log after : Option DiskLog) (told bytes : List ℕ) (s : DiskStep) → Stands log told → after ≡ logged log (Made s) → bytes ≡ stored s told → Stands after bytes
-made-stands None after told bytes s stands noted is m was = cc
-made-stands (Some l) after told bytes s stands noted is m was =
-    let grown : logged (Some l) (Made s) ≡ Some m = sym noted ∙ was in
-    let same : Made s ∷ l.events ≡ m.events = let f : DiskLog → List DiskEvent = λ n. n.events in cc in
-    ap (λ (es : List DiskEvent). (point_of es).told) (sym same) ∙ after-told s (point_of l.events) ∙ ap (stored s) (stands l refl) ∙ sym is
-
-pub broke-stands : (log after : Option DiskLog) (told bytes : List ℕ) (s : DiskStep) → Stands log told → after ≡ logged log (Broke s) → bytes ≡ broken s told → Stands after bytes
-broke-stands None after told bytes s stands noted is m was = cc
-broke-stands (Some l) after told bytes s stands noted is m was =
-    let grown : logged (Some l) (Broke s) ≡ Some m = sym noted ∙ was in
-    let same : Broke s ∷ l.events ≡ m.events = cc in
-    ap (λ (es : List DiskEvent). (point_of es).told) (sym same) ∙ ap (broken s) (stands l refl) ∙ sym is
-
-pub settled-stands : (log after : Option DiskLog) (told : List ℕ) → Stands log told → after ≡ settled log → Stands after told
-settled-stands None after told stands noted m was = cc
-settled-stands (Some l) after told stands noted m was =
-    told-by l (is_pending (point_of l.events)) told (stands l refl) m (sym noted ∙ was)
-
 -- ---- what a call did
 
 crashes-made : (old new : MemDisk) (s : DiskStep) → new.log ≡ logged old.log (Made s) → Unsynced s (disk_state old).bytes (stored s (disk_state old).bytes) → Crashes disk_means old new s

@@ -32,13 +32,6 @@ changed_at-take views n place change below =
 place_below : (n segment sector : ℕ) → IsPlace n segment sector → place_of segment sector < 896 * n
 place_below n segment sector on = let a = on.on_tape in let b = on.in_segment in omega arith
 
--- what is true of the kept view is true of the cartridge's
-pub view-held : (P : SectorView → Type 0) (told : Bool) (info : Option TapeInfo) (views : List SectorView) (segment sector place : ℕ) → IsOn told info segment sector → place ≡ place_of segment sector → P (view_in views place) → IfSome (held info views) (λ c. P (view_at c segment sector))
-view-held P false info views segment sector place on at p = absurd on
-view-held P true None views segment sector place on at p = absurd on
-view-held P true (Some i) views segment sector place on at p =
-    rw (view_in-take views (896 * i.segments_per_track) (place_of segment sector) (place_below i.segments_per_track segment sector on)) (rw at at p)
-
 change-held : (told : Bool) (info : Option TapeInfo) (views : List SectorView) (segment sector : ℕ) (change : SectorView → SectorView) → IsOn told info segment sector → held info (changed_at views (place_of segment sector) change) ≡ option_map (λ (c : Cartridge). record c { views = changed_at c.views (place_of segment sector) change }) (held info views)
 change-held false info views segment sector change on = absurd on
 change-held true None views segment sector change on = absurd on

@@ -31,14 +31,6 @@ failed-look m old new settled failed = record {
   crashes = failed.crashes;
 }
 
--- and nothing is pending behind one that was done
-pub settled-look : {D : Type 0} (m : Meaning D) (old new : D) → IsSettled m old → Stored m old new Look → IsSettled m new
-settled-look m old new settled looked = record {
-  only = λ bytes left told may.
-      let was = looked.leaves left may in
-      was.2 ∙ settled.only bytes was.0 (sym (told-look (m.told old)) ∙ sym looked.told ∙ told) was.1;
-}
-
 -- a disk that doesn't tell its crashes loses nothing
 pub settled-told : {D : Type 0} (m : Meaning D) (d : D) → IsToldRight m d → (m.tells_stops d ≡ true → IsSettled m d) → IsSettled m d
 settled-told m d right settled = by_telling (m.tells_stops d) refl

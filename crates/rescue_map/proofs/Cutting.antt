@@ -35,19 +35,6 @@ word_at-past list x k past =
     let long : length (list ++ x ∷ []) ≡ length list + 1 = length_push list x in
     word_at-above (list ++ x ∷ []) k (omega arith) ∙ sym (word_at-above list k (omega arith))
 
-pub push_first : (old : LineWords) (word : Word) (list : List (List ℕ)) (x : List ℕ) → AreWords old list → old.count ≡ 0 → word ≡ word_is x →
-    AreWords record { first = word; second = old.second; third = old.third; count = 1 } (list ++ x ∷ [])
-push_first old word list x are count is =
-    let c = are.count in
-    let l = length_push list x in
-    let none : length list ≡ 0 = omega arith in
-    record {
-      first = is ∙ sym (word_at-here list x 0 (sym none));
-      second = are.second ∙ sym (word_at-past list x 1 (omega arith));
-      third = are.third ∙ sym (word_at-past list x 2 (omega arith));
-      count = omega arith;
-    }
-
 pub push_second : (old : LineWords) (word : Word) (list : List (List ℕ)) (x : List ℕ) → AreWords old list → old.count ≡ 1 → word ≡ word_is x →
     AreWords record { first = old.first; second = word; third = old.third; count = 2 } (list ++ x ∷ [])
 push_second old word list x are count is =
@@ -113,16 +100,6 @@ close_some scan words over begun push some are is =
     let e : begun_word begun ≡ begun ∷ [] = rw there refl in
     subst P (sym e) (push over begun are word)
 
--- where none has begun
-pub close_none : (scan : Scan) (over : List (List ℕ)) (begun : List ℕ) → scan.len ≤ 0 → AreWords scan.words over → IsBegun scan begun →
-    AreWords scan.words (over ++ begun_word begun)
-close_none scan over begun none are is =
-    let long = is.long in
-    let there : (length begun == 0) ≡ true = grind (arith, nat_tests) in
-    let P : List (List ℕ) → Type 0 = λ list. AreWords scan.words list in
-    let e : over ++ begun_word begun ≡ over = rw there (append-nil over) in
-    subst P (sym e) are
-
 -- a byte more is kept
 pub keep_some : (begun : List ℕ) (len byte : ℕ) (buffer : List ℕ) → len < 32 → length buffer ≡ 32 → take len buffer ≡ take 32 begun → len ≡ min (length begun) 32 →
     (take (len + 1) (set buffer len byte) ≡ take 32 (begun ++ byte ∷ [])) × (len + 1 ≡ min (length (begun ++ byte ∷ [])) 32)
@@ -157,17 +134,6 @@ Cut-same old new bytes words begun len comment cut = record {
 next_words : (bytes : List ℕ) (byte : ℕ) (rest : List ℕ) → words_from [] ((bytes ++ byte ∷ []) ++ rest) ≡ words_from [] (bytes ++ byte ∷ rest)
 next_words bytes byte rest = ap (words_from []) (append_assoc bytes (byte ∷ []) rest)
 
--- in a comment
-pub push_comment : (scan : Scan) (bytes : List ℕ) (byte : ℕ) → scan.comment ≡ true → Cut scan bytes → Cut scan (bytes ++ byte ∷ [])
-push_comment scan bytes byte comment cut = record {
-  over = cut.over;
-  begun = cut.begun;
-  words = λ rest. next_words bytes byte rest ∙ cut.words (byte ∷ rest) ∙ rw comment refl;
-  are = cut.are;
-  is_begun = cut.is_begun;
-  quiet = cut.quiet;
-}
-
 -- a blank
 pub push_blank : (old new : Scan) (bytes : List ℕ) (byte : ℕ) → is_blank byte ≡ true → old.comment ≡ false → new.comment ≡ old.comment → new.len ≡ 0 →
     ((over : List (List ℕ)) (begun : List ℕ) → AreWords old.words over → IsBegun old begun → AreWords new.words (over ++ begun_word begun)) →
@@ -184,22 +150,6 @@ push_blank old new bytes byte blank none same len closed cut = record {
   are = closed cut.over cut.begun cut.are cut.is_begun;
   is_begun = record { kept = rw len refl; long = len };
   quiet = λ c. len;
-}
-
--- the begin of a comment
-pub push_hash : (old new : Scan) (bytes : List ℕ) → old.comment ≡ false → old.len ≡ 0 → new.words ≡ old.words → new.begun ≡ old.begun → new.len ≡ old.len → new.comment ≡ true →
-    Cut old bytes → Cut new (bytes ++ 35 ∷ [])
-push_hash old new bytes none empty words begun len comment cut = record {
-  over = cut.over;
-  begun = cut.begun;
-  words = λ rest.
-      let long = cut.is_begun.long in
-      let no_word : (length cut.begun == 0) ≡ true = grind (arith, nat_tests) in
-      let next : words_from cut.begun (35 ∷ rest) ≡ [] = rw no_word refl in
-      next_words bytes 35 rest ∙ cut.words (35 ∷ rest) ∙ rw (none, next, comment) refl;
-  are = (let P : LineWords → Type 0 = λ w. AreWords w cut.over in subst P (sym words) cut.are);
-  is_begun = record { kept = rw (len, begun) cut.is_begun.kept; long = len ∙ cut.is_begun.long };
-  quiet = λ c. len ∙ empty;
 }
 
 -- a byte of a word

@@ -31,9 +31,6 @@ pub record SoFar (old new : Option (List ℕ)) (mask : List ℕ) (expected : Exp
   pub behind : (rest : List ℕ) → behind_lines start (lines_of (given ++ rest)) ≡ behind_lines (Going blocks expected (lines + 1)) (lines_of rest)
   pub tracked : Tracked mask blocks expected from
 
-pub begin : (o : Option (List ℕ)) (mask : List ℕ) (from : ℕ) → NoneMarked mask → SoFar o o mask awaits.Status from 0
-begin o mask from none = record { given = []; blocks = []; gave = Gave-nothing o; behind = λ rest. refl; tracked = (refl, none) }
-
 -- ---- a line
 
 -- a line that may stand there

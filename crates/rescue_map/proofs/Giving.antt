@@ -7,35 +7,11 @@ use Rattle.qic_base.specs.SourceCalls.{Gives}
 use Rattle.rescue_map.specs.declared.ahead.Ahead.{Ahead}
 use Rattle.rescue_map.specs.Reads.{left_of, Gave, HasEnded, IsAhead}
 
-pub Gave-nothing : (o : Option (List ℕ)) → Gave o o []
-Gave-nothing None = refl
-Gave-nothing (Some bytes) = refl
-
 -- bytes given one after the other are given as one list
 pub Gave-Gave : (xs ys : List ℕ) (o p q : Option (List ℕ)) → Gave o p xs → Gave p q ys → Gave o q (xs ++ ys)
 Gave-Gave xs ys o p None first next = first ∙ ap (option_map (λ rest. xs ++ rest)) next
 Gave-Gave xs ys o p (Some bytes) first next =
     first ∙ ap (option_map (λ rest. xs ++ rest)) next ∙ ap (λ (text : List ℕ). Some text) (sym (append_assoc xs ys bytes))
-
--- nothing is read ahead
-pub left_none : {S : Type 0} (m : Meaning S) (s : S) (buffer : List ℕ) (ahead : Ahead) → drop ahead.at (take ahead.end buffer) ≡ [] → left_of m s buffer ahead ≡ m.left s
-left_none m s buffer ahead none = by_left (m.left s) where
-  by_left : (o : Option (List ℕ)) → option_map (λ rest. drop ahead.at (take ahead.end buffer) ++ rest) o ≡ o
-  by_left None = refl
-  by_left (Some bytes) = ap (λ (front : List ℕ). Some (front ++ bytes)) none
-
--- what a read gave is read ahead
-pub left_read : {S : Type 0} (m : Meaning S) (a b : S) (into : List ℕ) (ahead : Ahead) → IfSome (m.left a) (λ bytes. Gives bytes into ahead.end) →
-    m.left b ≡ option_map (drop ahead.end) (m.left a) → ahead.at ≡ 0 → left_of m b into ahead ≡ m.left a
-left_read m a b into ahead gives left start = by_left (m.left a) (m.left b) gives left where
-  by_left : (o p : Option (List ℕ)) → IfSome o (λ bytes. Gives bytes into ahead.end) → p ≡ option_map (drop ahead.end) o →
-      option_map (λ rest. drop ahead.at (take ahead.end into) ++ rest) p ≡ o
-  by_left None p gives left = ap (option_map (λ rest. drop ahead.at (take ahead.end into) ++ rest)) left
-  by_left (Some bytes) p gives left =
-      ap (option_map (λ rest. drop ahead.at (take ahead.end into) ++ rest)) left
-      ∙ ap (λ (text : List ℕ). Some text)
-      (ap (λ (n : ℕ). drop n (take ahead.end into) ++ drop ahead.end bytes) start
-      ∙ ap (λ front. front ++ drop ahead.end bytes) gives.front ∙ take-append-drop ahead.end bytes)
 
 -- a byte that is read ahead is taken
 pub left_byte : {S : Type 0} (m : Meaning S) (s : S) (buffer : List ℕ) (old new : Ahead) → IsAhead buffer old → old.at < old.end → new.end ≡ old.end → new.at ≡ old.at + 1 →

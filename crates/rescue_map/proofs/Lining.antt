@@ -21,9 +21,6 @@ pub record LineSoFar (old new : Option (List ℕ)) (scan : Scan) (count : ℕ) :
   pub scanned : Scanned scan line
   pub gave : Gave old new line
 
-pub no_line : (old : Option (List ℕ)) (scan : Scan) → Scanned scan [] → LineSoFar old old scan 0
-no_line old scan scanned = record { line = []; none = λ k d here. absurd (omega arith); long = refl; scanned = scanned; gave = Gave-nothing old }
-
 pub next_byte : (old new now : Option (List ℕ)) (scan next : Scan) (count byte : ℕ) → (far : LineSoFar old new scan count) → byte ≢ 10 → Gave new now (byte ∷ []) →
     ((line : List ℕ) → Scanned scan line → Scanned next (line ++ byte ∷ [])) → LineSoFar old now next (count + 1)
 next_byte old new now scan next count byte far other gave taken = record {

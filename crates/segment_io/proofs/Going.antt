@@ -28,15 +28,6 @@ under_first segment d at = record {
   here = at.here;
 }
 
--- a sector of the segment is left out
-pub under_next : (segment index : ℕ) (d : Deck) → IsUnder d segment index → IsUnder d segment (index + 1)
-under_next segment index d under = record { streams = further d.motion under.streams; here = under.here }
-  where
-    further : (motion : Motion) → StreamsTo motion index → StreamsTo motion (index + 1)
-    further Stopped h = h
-    further (Streaming next) h = omega arith
-    further (Seeking left) h = h
-
 -- the segments of the header copies and of the volume table have 32 usable sectors
 pub front_segment : {T : Type 0} {m : Meaning T} {h : Host} {u : UnitView T} (segment : ℕ) → Fits m h u → is_referenced u.drive.deck ≡ true → segment < 3 →
     HasSegment u.drive.deck segment 4294967295

@@ -127,11 +127,6 @@ writes_of_all segment usable sectors room =
     ∙ ap (λ (ps : List ℕ). writes_of segment ps (map (λ (p : ℕ). sector_at sectors p) (range_with_len 0 n))) indexes
     ∙ ap (writes_of segment (usable_places usable)) bytes
 
--- the mask of the first places, from the mask of all
-pub first_places : (n : ℕ) → n ≤ 32 → (2 ^ 32 - 1) / 2 ^ (32 - n) ≡ 2 ^ n - 1
-first_places n h =
-    ones_shr 32 (32 - n) (omega arith) ∙ ap (λ (k : ℕ). 2 ^ k - 1) (let same : 32 - (32 - n) ≡ n = omega arith in same)
-
 -- so the writes of all usable sectors are those of the block, where it stands before what was there
 pub writes_of_block : (segment usable : ℕ) (sectors : List (List ℕ)) → 4 ≤ usable_count usable → usable_count usable ≤ length sectors →
     named_writes segment usable (2 ^ usable_count usable - 1) (block_in usable sectors ++ drop (usable_count usable) sectors)
@@ -143,12 +138,3 @@ writes_of_block segment usable sectors least room =
     let enough : n ≤ length now = omega (arith, length-append (block_in usable sectors) (drop n sectors)) in
     writes_of_all segment usable now enough
     ∙ ap (writes_of segment (usable_places usable)) (take_at (block_in usable sectors) (drop n sectors) n long)
-
--- the sectors with the parity in its places, by their number
-pub block_shown : (usable count : ℕ) (sectors : List (List ℕ)) → count ≡ usable_count usable → 4 ≤ count →
-    take (count - 3) sectors ++ parity_sectors (take (count - 3) sectors) ++ drop (count - 3 + 3) sectors
-    ≡ block_in usable sectors ++ drop (usable_count usable) sectors
-block_shown usable count sectors all least =
-    let whole : count - 3 + 3 ≡ usable_count usable = omega arith in
-    ap (λ (n : ℕ). take (n - 3) sectors ++ parity_sectors (take (n - 3) sectors) ++ drop (count - 3 + 3) sectors) all
-    ∙ ap (λ (n : ℕ). block_in usable sectors ++ drop n sectors) whole

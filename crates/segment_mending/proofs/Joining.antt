@@ -128,23 +128,6 @@ module _ {T K : Type 0} {t : tapes.Meaning T} {k : sinks.Meaning K} (depth : Dep
         (as_many depth xs first.findings first.are.may) first.counted next.counted;
   }
 
-  -- acts that are those of the findings are cut off whatever is found of the segments
-  pub cut_told : (looked : List Looked) (a b : Outside T (Unit {0}) K) (failing : Failing) (findings : List Finding) (acts : List Act) →
-      AreActs t a.tape depth looked findings acts → Cut t no_source k a b acts failing → LookingCut t k depth looked a b failing
-  cut_told looked a b failing findings acts are cut = record {
-    told = Tells-map t a.tape (λ c. FindInTurn depth c looked findings × (acts ≡ finding_acts c looked findings))
-        (λ c. (others : List Finding) → FindInTurn depth c looked others → Cut t no_source k a b (finding_acts c looked others) failing)
-        (λ c here others found.
-        subst (λ (xs : List Act). Cut t no_source k a b xs failing)
-        (here.1 ∙ ap (finding_acts c looked) (one_turn depth looked c findings others here.0 found)) cut)
-        are.told;
-    findings = findings;
-    acts = acts;
-    may = are.may;
-    text = are.text;
-    cut = cut;
-  }
-
   -- segments behind those
   pub cut_longer : (xs ys : List Looked) (a b : Outside T (Unit {0}) K) (failing : Failing) → LookingCut t k depth xs a b failing → LookingCut t k depth (xs ++ ys) a b failing
   cut_longer xs ys a b failing cut =

@@ -37,21 +37,3 @@ count_with_place lost more place same =
     let most : lost_below (or_place (is_lost lost) place) 32 ≤ lost_below (is_lost lost) 32 + 1 =
     lost_below-or (is_lost lost) place 32 in
     omega arith
-
--- ---- what depends on the test alone
-
-pub agrees_same : (p q : ℕ → Bool) (xs ys : List (List ℕ)) → ((i : ℕ) → p i ≡ q i) → AgreesOutside p xs ys → AgreesOutside q xs ys
-agrees_same p q xs ys same agrees = record {
-  size = agrees.size;
-  others = λ i h kept. agrees.others i h (same i ∙ kept);
-}
-
-pub solvable_same : (p q : ℕ → Bool) (xs : List (List ℕ)) → ((i : ℕ) → p i ≡ q i) → IsSolvable p xs → IsSolvable q xs
-solvable_same p q xs same solvable = record {
-  block = solvable.block;
-  codewords = solvable.codewords;
-  agrees = agrees_same p q xs solvable.block same solvable.agrees;
-}
-
-pub same_back : (p q : ℕ → Bool) → ((i : ℕ) → p i ≡ q i) → (i : ℕ) → q i ≡ p i
-same_back p q same i = sym (same i)

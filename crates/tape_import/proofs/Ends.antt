@@ -45,13 +45,6 @@ found-empty d old new looked settled none = record {
     by None now is none = rw is tt
     by (Some bytes) now is none = rw is (no_bytes bytes none)
 
-pub found-more : {D : Type 0} (d : disks.Meaning D) (old new : D) (n : ℕ) → disks.Stored d old new Look → n ≢ 0 → IfSome (d.told old) (λ bytes. n ≡ length bytes) → FoundMore d old new
-found-more d old new n looked some is = record { looked = looked; more = by (d.told old) is }
-  where
-    by : (told : Option (List ℕ)) → IfSome told (λ bytes. n ≡ length bytes) → IfSome told (λ bytes. bytes ≢ [])
-    by None is = tt
-    by (Some bytes) is = λ none. some (is ∙ ap length none)
-
 -- a file that was to be emptied
 pub emptied-by : {D T E : Type 0} (d : disks.Meaning D) (old new : D) (result : Result T E) → steps.Runs d old new (resize 0) result → Emptied d old new
 emptied-by d old new (Ok x) ran = inl ran

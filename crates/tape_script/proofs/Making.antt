@@ -20,9 +20,6 @@ pub take-made_from : (first count n : ℕ) → n ≤ count → take n (made_from
 unfolding made_from
 take-made_from first count n few = take-map-range_with_len (λ i. (first + i) % 251) 0 count n few
 
-cut_first : (a x : ℕ) → (a % 251 + x) % 251 ≡ (a + x) % 251
-cut_first a x = omega arith
-
 -- what is left behind the first bytes
 pub drop-made_from : (first count n : ℕ) → n ≤ count → drop n (made_from first count) ≡ made_from ((first + n) % 251) (count - n)
 unfolding made_from

@@ -60,11 +60,6 @@ none_left (p ∷ ps) counts none =
     let parts : bytes_held (p ∷ ps) ≡ p.count + bytes_held ps = sum_by-cons (λ (piece : Piece). piece.count) p ps in
     absurd (omega (arith, some, parts, none))
 
-second_empty : (xs ys : List ℕ) → xs ++ ys ≡ [] → length ys ≡ 0
-second_empty xs ys none =
-    let long : length (xs ++ ys) ≡ length xs + length ys = length-append xs ys in
-    let empty : length (xs ++ ys) ≡ 0 = ap length none in omega (arith, long, empty)
-
 -- the volume with a number is among them
 pub numbered_there : (entries : List Entry) (number : ℕ) (e : Entry) → volume_at entries number ≡ Some e → Contains entries e
 numbered_there entries zero e at = absurd (cc)

@@ -11,11 +11,6 @@ from_index xs i x at =
     let there : i < length xs = slice_get_within xs i x at in
     rw add-one (drop-cons xs i x there ∙ ap (λ y. y ∷ drop (suc i) xs) (get_or_from_slice_get xs i x x at))
 
--- none is left of the second list
-pub compared_all : (words : List ℕ) (es : List Entry) (words' : List ℕ) (es' : List Entry) (i n : ℕ) → length es' ≤ i →
-    difference words (drop i es) words' (drop i es') n ≡ None
-compared_all words es words' es' i n all = rw (drop_of_length-le es' {i = i} all) refl
-
 -- the first list has none at the index
 pub differs_beyond : (words : List ℕ) (es : List Entry) (words' : List ℕ) (es' : List Entry) (i n : ℕ) (e' : Entry) → length es ≤ i → slice_get es' i ≡ Some e' →
     difference words (drop i es) words' (drop i es') n ≡ Some n

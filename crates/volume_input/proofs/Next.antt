@@ -109,15 +109,6 @@ module _ {T S : Type 0} (t : tapes.Meaning T) (s : sources.Meaning S) (x y : T) 
             let within : length filled.0 ≤ most - before = took.within in
             omega arith
 
-        pub none_came : read ≡ 0 → 0 < before → NoneCame t s words segment before most exact (reading x a) (reading x b)
-        none_came none behind = by_bytes filled.0 (filled.1 ∙ none) (up_to filled.0 filled.2) whole
-          where
-            by_bytes : (bytes : List ℕ) → length bytes ≡ 0 → GaveUpTo s a b (capacity (mask_at words segment)) (most - before) bytes →
-                (exact ≡ true → length bytes ≡ min (capacity (mask_at words segment)) (most - before)) →
-                NoneCame t s words segment before most exact (reading x a) (reading x b)
-            by_bytes [] long took all = record { took = took; whole = all; behind = behind; went = nothing }
-            by_bytes (e ∷ es) long took all = absurd (omega arith)
-
         came : (before ≡ 0) ⊎ (1 ≤ read) → Came s words segment before most exact a b filled.0
         came some = record { content = content; took = up_to filled.0 filled.2; whole = whole; some = some_of some }
           where

@@ -22,29 +22,6 @@ use Rattle.volume_input.specs.declared.written.Written.{Written}
 use Rattle.volume_input.proofs.Places.{carrying_next, carrying_skips, carrying_none}
 use Rattle.volume_input.proofs.Running.{SoFar}
 
--- ---- the drive
-
--- the cartridge's length, as the host knows it
-length_known : {T : Type 0} {m : tapes.Meaning T} {h : Host} {u : UnitView T} → Fits m h u → segments_of h ≡ segments_per_track u.drive.deck
-length_known {h = h} {u = u} f = by_cartridge u.drive.deck.cartridge f.cartridge
-  where
-    by_cartridge : (o : Option TapeInfo) → IsSomeAnd o (λ info. info.segments_per_track ≡ segments_of h) → segments_of h ≡ option_map_or (λ (c : TapeInfo). c.segments_per_track) o 0
-    by_cartridge None there = absurd there
-    by_cartridge (Some info) there = sym there
-
-length_kept : (a b : Deck) → KeepsMode a b → segments_per_track b ≡ segments_per_track a
-length_kept a b same = ap (λ (o : Option TapeInfo). option_map_or (λ (c : TapeInfo). c.segments_per_track) o 0) same.cartridge
-
--- the drive can go to a carrying segment of the map
-pub has_segment : {T : Type 0} {m : tapes.Meaning T} {h : Host} {u : UnitView T} (d : Deck) (words : List ℕ) (segment : ℕ) → Fits m h u →
-    length words ≡ 28 * segments_of h → is_referenced u.drive.deck ≡ true → KeepsMode u.drive.deck d → segment < length words → Carries (mask_at words segment) →
-    HasSegment d segment (mask_at words segment)
-has_segment {u = u} d words segment fits long referenced same inside carry = record {
-  referenced = cartridge_kept (λ info. info.referenced) true u.drive.deck d same referenced;
-  on_tape = (let known = length_known fits in let kept = length_kept u.drive.deck d same in omega arith);
-  carries = carry;
-}
-
 -- ---- the segments
 
 module _ {T S : Type 0} {t : tapes.Meaning T} {s : sources.Meaning S} (words : List ℕ) (first segment most : ℕ) (start now : Outside T S (Unit {0})) (written : Written) (far : SoFar t s words (carrying words first (length words - 1)) most start now (carrying words segment (length words - 1)) written) where

@@ -53,16 +53,6 @@ module _ (words : List ℕ) (start end bytes number segment left before : ℕ) (
 
 -- ---- a segment that holds some bytes
 
--- it carries data
-pub carries_some : (mask count : ℕ) → 0 < count → count ≤ capacity mask → 4 ≤ usable_count mask
-carries_some mask count some within =
-    elim (cases_Bool (nat_le 4 (usable_count mask))) [
-      | inl passes ↦ leb-true 4 (usable_count mask) passes
-      | inr fails ↦
-          let none : capacity mask ≡ 0 = ap (λ (b : Bool). cond b (1024 * data_count mask) 0) fails in
-          absurd (omega arith)
-    ]
-
 -- in all its data sectors
 pub capacity_some : (mask count : ℕ) → 0 < count → count ≤ capacity mask → capacity mask ≡ 1024 * data_count mask
 capacity_some mask count some within =
@@ -91,29 +81,6 @@ data_first mask sectors room =
     ∙ ap (take (n - 3)) (take-append-drop n sectors)
 
 module _ {T : Type 0} (t : tapes.Meaning T) (words : List ℕ) (segment count mask : ℕ) (is : mask ≡ mask_at words segment) (old new : T) (did : tapes.Done t old new []) where
-  pub piece_lost : (named lost : ℕ) → named ≡ segment → 3 < lost →
-      tape_calls.Tells t old (λ c. (named ≡ segment) × Says (cells_of c segment mask) (LostSectors lost)) →
-      LosesPiece t words (piece_of segment count) old new named lost
-  piece_lost named lost same many told = record {
-    named = same;
-    many = many;
-    did = did;
-    told = Tells-map t old (λ c. (named ≡ segment) × Says (cells_of c segment mask) (LostSectors lost))
-        (λ c. PieceEnds c words (piece_of segment count) (LostIn named lost))
-        (λ c said. (said.0, subst (λ (m : ℕ). Says (cells_of c segment m) (LostSectors lost)) is said.1)) told;
-  }
-
-  pub piece_mismatches : (named : ℕ) → named ≡ segment →
-      tape_calls.Tells t old (λ c. (named ≡ segment) × Says (cells_of c segment mask) saying.Mismatch) →
-      MismatchesPiece t words (piece_of segment count) old new named
-  piece_mismatches named same told = record {
-    named = same;
-    did = did;
-    told = Tells-map t old (λ c. (named ≡ segment) × Says (cells_of c segment mask) saying.Mismatch)
-        (λ c. PieceEnds c words (piece_of segment count) (MismatchIn named))
-        (λ c said. (said.0, subst (λ (m : ℕ). Says (cells_of c segment m) saying.Mismatch) is said.1)) told;
-  }
-
   module _ (some : 0 < count) (within : count ≤ capacity mask) (sectors : List (List ℕ)) (room : length sectors ≡ 32)
       (block : IsCodeBlock (take (usable_count mask) sectors)) where
     said_data : (c : Cartridge) → HasSolved (cells_of c segment mask) sectors →

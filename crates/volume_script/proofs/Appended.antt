@@ -98,10 +98,6 @@ module _ {T S K : Type 0} (t : tapes.Meaning T) (s : sources.Meaning S) (k : sin
     stands : s.faults ran.behind.source.now ≡ s.faults j
     stands = ap s.faults ran.stops
 
-    -- how many of the promised bytes were taken
-    abbrev taken_count : ℕ
-    taken_count = ran.lends.count
-
     counted : promised ≡ left + ran.lends.count
     counted = sym ran.promises ∙ ran.lends.counted ∙ ap (λ (n : ℕ). n + ran.lends.count) ran.leaves
 
@@ -523,17 +519,6 @@ module _ {T S K : Type 0} (t : tapes.Meaning T) (s : sources.Meaning S) (k : sin
       refused_ends (Err fault.TableMismatch) never = absurd never
       refused_ends (Err fault.Tape) never = absurd never
 
-    -- ---- the table did not show the volumes
-
-    pub mismatched : TableRefused t (limited_means s) (reading a ran.before) (reading b ran.behind) (λ c. ⊥) → ItemMismatched t s k (out a i x) (out b j x)
-    mismatched refusal = record {
-      acts = refusal.acts;
-      went = lift refusal.acts refusal.went;
-      told = Tells-map t a (λ c. (refusal.acts ≡ []) × (ran.behind ≡ ran.before) × ⊥) (λ c. ⊥) (λ c says. says.2) refusal.told;
-      bytes = ran.lends.gave.0;
-      gave = was_given;
-    }
-
 -- ---- by the answer
 
 module _ {T S K : Type 0} (t : tapes.Meaning T) (s : sources.Meaning S) (k : sinks.Meaning K) (store after : StoreView) (name : List ℕ) (promised date : ℕ) (both : TakesBoth k) (none : TakesNone k) (u : UnitView T) (b : T) (i j : S) (x : K)
@@ -579,11 +564,6 @@ module _ {T S K : Type 0} (t : tapes.Meaning T) (s : sources.Meaning S) (k : sin
   by_short asked_for got is =
       let as_short = ran_as (Err (store_fault.Short asked_for got)) is in
       came_short t s k store after name promised date both none u.tape b i j x left (Err (store_fault.Short asked_for got)) as_short asked_for got as_short.ends (free (λ e. let no = sym is ∙ e in cc))
-
-  pub by_mismatch : answer ≡ Err store_fault.TableMismatch → ItemMismatched t s k (out u.tape i x) (out b j x)
-  by_mismatch is =
-      let as_mismatch = ran_as (Err store_fault.TableMismatch) is in
-      mismatched t s k store after name promised date both none u.tape b i j x left (Err store_fault.TableMismatch) as_mismatch as_mismatch.ends
 
   pub by_source : answer ≡ Err store_fault.Source → ItemCut t s k store (out u.tape i x) (out b j x) (line.Append name promised date) SourceFails
   by_source is =

@@ -16,16 +16,3 @@ still_some f (Some a) = refl
 
 pub gave_tells : {S : Type 0} (m : Meaning S) (a b : S) (bytes : List ℕ) → Gave m a b bytes → is_some (m.left b) ≡ is_some (m.left a)
 gave_tells m a b bytes gave = sym (ap is_some gave ∙ still_some (λ rest. bytes ++ rest) (m.left b))
-
-pub line_tells : {S E : Type 0} (m : Meaning S) (a b : S) (r : Result LineRead E) → ReadsLine m a b r → is_some (m.left b) ≡ is_some (m.left a)
-line_tells m a b (Ok read.End) is = gave_tells m a b [] is.1
-line_tells m a b (Ok (read.Bad n)) is = gave_tells m a b is.2.0 is.2.2
-line_tells m a b (Ok (read.Line line n)) is = gave_tells m a b is.0 is.3
-line_tells m a b (Err e) is = gave_tells m a b is.0 is.3
-
-pub skip_tells : {S E : Type 0} (m : Meaning S) (a b : S) (asked : ℕ) (r : Result ℕ E) → Skips m a b asked r → is_some (m.left b) ≡ is_some (m.left a)
-skip_tells m a b asked (Ok n) is = gave_tells m a b is.1.0 is.1.2
-skip_tells m a b asked (Err e) is = gave_tells m a b is.2.0 is.2.2
-
-pub lends_tells : {S : Type 0} (m : Meaning S) (a b : Limited S) → Lends m a b → is_some (m.left b.source.now) ≡ is_some (m.left a.source.now)
-lends_tells m a b lends = let gave = lends.gave in gave_tells m a.source.now b.source.now gave.0 gave.2

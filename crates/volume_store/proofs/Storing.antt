@@ -74,15 +74,6 @@ ends_within (x ∷ xs) before last (suc i) e order at =
     let rest = ends_within xs x.end last i e order.3 at in
     (omega (arith, order.0, order.1, rest.0), rest.1)
 
-long_cartridge : (cartridge : Option TapeInfo) (n : ℕ) → IsSomeAnd cartridge (λ info. info.segments_per_track ≡ n) → HasLength cartridge → 3 ≤ n
-long_cartridge None n there long = absurd there
-long_cartridge (Some info) n there long = let least = long.shortest in omega arith
-
--- the last segment is one of the cartridge's
-pub last_below : {T : Type 0} (m : Meaning T) (host : Host) (u : UnitView T) → Fits m host u → 28 * segments_of host - 1 < 28 * segments_of host
-last_below m host u fits =
-    let long : 3 ≤ segments_of host = long_cartridge u.drive.deck.cartridge (segments_of host) fits.cartridge fits.sound.drive.deck.long in omega arith
-
 -- ---- what the mounting did
 
 -- the writes of the workspace settle a cartridge that was learnt

@@ -219,26 +219,8 @@ module _ {T S : Type 0} (t : tapes.Meaning T) (s : sources.Meaning S) (words : L
         ∙ sym (writes_some n input some within))
         has.went)
 
-    pub promised_breaks : (failing : Failing) → InputCut t s words segments n true old new failing → InputBroke t s words entries (Some n) old new failing
-    promised_breaks failing cut = record {
-      input = cut.input;
-      is_told = cut.is_told;
-      content = cut.content;
-      cut = subst (λ (acts : List Act). Cut t s no_sink old new acts failing) (sym (writes_some n cut.input some within)) cut.cut;
-      tells = cut.tells;
-    }
-
   -- ---- with none
   module _ (some : 1 ≤ have) where
-    pub all_breaks : (failing : Failing) → InputCut t s words segments have false old new failing → InputBroke t s words entries None old new failing
-    all_breaks failing cut = record {
-      input = cut.input;
-      is_told = cut.is_told;
-      content = cut.content;
-      cut = subst (λ (acts : List Act). Cut t s no_sink old new acts failing) (sym (writes_none cut.input some)) cut.cut;
-      tells = cut.tells;
-    }
-
     -- the source has ended
     all_written : (bytes : List ℕ) → Gave s old.source new.source bytes → All (λ (b : ℕ). b < 256) bytes → length bytes ≤ have → HasEnded s new.source →
         Went t s no_sink old new (volume_acts words segments bytes) → InputWent t s words entries None old new (Fits bytes)

@@ -110,13 +110,3 @@ SoFar-push area last n taken seen_free entries entry s sound v =
 pub SoFar-used : (area : List (List ℕ)) (last n taken end : ℕ) (seen_free : Bool) (entries more : List table.Entry) (entry : Entry) → SoFar area last n taken seen_free entries → slot_fault area last n ≡ None → ShowsVolume area n entry → end ≡ entry.end → more ≡ entries ++ entry_of entry ∷ [] → SoFar area last (n + 1) end seen_free more
 SoFar-used area last n taken end seen_free entries more entry s sound v ends pushed =
     rw (ends, pushed) (SoFar-push area last n taken seen_free entries entry s sound v)
-
--- behind the last slot
-pub SoFar-all : (area : List (List ℕ)) (last n taken : ℕ) (seen_free : Bool) (entries : List table.Entry) → SoFar area last n taken seen_free entries → n ≡ 232 → Shows area entries
-SoFar-all area last n taken seen_free entries s all =
-    record {
-      room = omega (arith, s.few);
-      used = s.used;
-      shown = s.shown;
-      free = λ i l h. s.free i l (omega arith);
-    }

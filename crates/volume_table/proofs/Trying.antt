@@ -266,16 +266,3 @@ tried_no_more lost used loses two not_29 not_30 =
     (ap (sets_by used) pair.2 ∙ by_two used m pair.1 pair.3
     ∙ ap (λ (b : Bool). if b then with_used used (m ∷ 29 ∷ []) else if pair.1 == 30 then set_of (m ∷ 30 ∷ 31 ∷ []) ∷ [] else []) not_first
     ∙ ap (λ (b : Bool). if b then set_of (m ∷ 30 ∷ 31 ∷ []) ∷ [] else []) not_second)
-
-three_or_more : (used : Option ℕ) (places : List ℕ) → 3 ≤ length places → sets_by used places ≡ []
-three_or_more used [] many = absurd (omega arith)
-three_or_more used (m ∷ []) many = absurd (omega arith)
-three_or_more used (m ∷ other ∷ []) many = absurd (omega arith)
-three_or_more used (m ∷ other ∷ third ∷ more) many = refl
-
-pub tried_of_many : (lost : ℕ) (used : Option ℕ) → 3 ≤ length (lost_places lost 32) → tried lost used ≡ lost ∷ []
-tried_of_many lost used many = ap (λ (sets : List ℕ). lost ∷ sets) (three_or_more used (lost_places lost 32) many)
-
--- a place of data that is lost is one of all of them
-pub some_place : (lost : ℕ) → LosesData lost → 1 ≤ length (lost_places lost 32)
-some_place lost loses = some_below lost 32 loses.place (omega (arith, loses.data_sector)) loses.is_lost
