@@ -13,7 +13,8 @@ use Rattle.qic_base.specs.SourceCalls.{Gave}
 use Rattle.tape_script.proofs.Lined.{IsLined-one_newline}
 use Rattle.command_spec.specs.Pulses.{pulsed_row, train_changes, train_line}
 use Rattle.command_laws.specs.PulseRuns.{train_act, level_line}
-use Rattle.hand_commands.specs.PulseLines.{Heard, GaveNoTrain}
+use Rattle.tape_script.specs.Reading.{GaveNoEnd}
+use Rattle.hand_commands.specs.PulseLines.{Heard}
 use Rattle.command_laws.proofs.PulseTrains.{pulse_line, pulse_short}
 use Rattle.qic_base.specs.Sink as sinks
 use Rattle.qic_base.specs.SinkCalls as sink_calls
@@ -39,7 +40,7 @@ some_bytes text train zero pulse none = absurd (inputs.pulses.some text train pu
 some_bytes text train (suc n) pulse more = omega arith
 
 -- a train, where no more may come
-pub gave_on : {S : Type 0} (s : sources.Meaning S) (old new : S) (train n : ℕ) → GaveTrain s old new train n → GaveNoTrain s old new
+pub gave_on : {S : Type 0} (s : sources.Meaning S) (old new : S) (train n : ℕ) → GaveTrain s old new train n → GaveNoEnd s old new
 gave_on s old new train n read = record {
   n = n;
   some = some_bytes read.0 train n read.1 read.2;

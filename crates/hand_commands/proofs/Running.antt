@@ -19,7 +19,8 @@ use Rattle.hand_commands.specs.declared.pulses.fault.PulseFault.{PulseFault}
 use Rattle.command_spec.specs.Pulses.{pulsed_row, train_acts, train_line, train_lines, pulses_taken}
 use Rattle.command_laws.specs.PulseRuns.{train_act, after_trains, Answer, AllSent, ScriptFault, pulses_answer, outcome_of}
 use Rattle.hand_commands.specs.PulseRuns.{Leaves, Ended, CutOff}
-use Rattle.hand_commands.specs.PulseLines.{Heard, GaveNoTrain, HasNoTrain, Hears, HearsEnd}
+use Rattle.tape_script.specs.Reading.{GaveNoEnd}
+use Rattle.hand_commands.specs.PulseLines.{Heard, HasNoTrain, Hears, HearsEnd}
 use Rattle.hand_commands.proofs.Hearing.{rests, source_cut, steps_cut}
 use Rattle.hand_commands.proofs.Inputs.{ArePulses, ArePulses-push, read_behind, comes_first, stop_rest, fault_rest}
 use Rattle.command_laws.proofs.PulseMachineLaws.{fronts_do_fronts}
@@ -180,7 +181,7 @@ module _ {T S K : Type 0} {t : tapes.Meaning T} {s : sources.Meaning S} {k : sin
         (sym (length-append (train_lines far.trains) (codes "end\n"))))
 
     -- a line is none
-    faulty : (number at : ℕ) → lines ≤ most_items → Went t s k now new [] → after ≡ r → number ≡ lines + 1 → at ≡ place → (on : GaveNoTrain s now.source new.source) →
+    faulty : (number at : ℕ) → lines ≤ most_items → Went t s k now new [] → after ≡ r → number ≡ lines + 1 → at ≡ place → (on : GaveNoEnd s now.source new.source) →
         (lines + 1 ≤ most_items → HasNoTrain s now.source) → Ended t s k start new after (ScriptFault number at)
     faulty number at few none drive same equal on no_train =
         let behind = fault_rest (s.left now.source) (s.left new.source) (lines + 1) on.n on.gave.0 on.some on.gave.1 on.gave.2 on.no_stop no_train in

@@ -1,11 +1,11 @@
 -- What one line of the input did to the outside (this project's own).
-use Rattle.std.specs.Prelude.{◌≡◌, ℕ, ◌<◌, ◌≤◌, [], ◌∷◌, length, Option, Some, None, Result, Ok, Err, codes}
+use Rattle.std.specs.Prelude.{◌≡◌, ℕ, [], ◌∷◌, length, Option, Some, None, Result, Ok, Err}
 use Rattle.qic_base.specs.Tape.{Rose}
 use Rattle.qic_base.specs.Acts.{Outside, TapeFails, SourceFails, SinkFails, Went, Cut}
 use Rattle.drive_spec.specs.Record.{Record}
 use Rattle.command_spec.specs.Input.{IsPulse}
 use Rattle.qic_base.specs.SourceCalls.{Gave}
-use Rattle.tape_script.specs.Reading.{GaveInLine, BeginsWithNo, GaveEnd}
+use Rattle.tape_script.specs.Reading.{BeginsWithNo, GaveEnd, GaveNoEnd}
 use Rattle.hand_commands.specs.declared.pulses.fault.PulseFault.{PulseFault}
 use Rattle.command_spec.specs.Pulses.{pulsed_row, train_line}
 use Rattle.command_laws.specs.PulseRuns.{train_act}
@@ -23,14 +23,6 @@ pub record Heard {S : Type 0} (s : sources.Meaning S) (old new : S) (Came : ℕ 
   pub gave : Gave s old new (train_line train)
   pub came : Came train
 
--- it gave some bytes, no more than a line's and none behind a newline, and the line `end` did not begin there
-pub record GaveNoTrain {S : Type 0} (s : sources.Meaning S) (old new : S) : Type 0 where
-  pub n : ℕ
-  pub some : 0 < n
-  pub few : n ≤ 128
-  pub gave : GaveInLine s old new n
-  pub no_stop : BeginsWithNo s old (λ text. text ≡ codes "end\n")
-
 -- no train's line begins what is left
 abbrev pub HasNoTrain : {S : Type 0} (s : sources.Meaning S) → S → Type 0
 HasNoTrain s old = (train : ℕ) → BeginsWithNo s old (λ text. IsPulse text train)
@@ -47,7 +39,7 @@ Hears t s k old new before after line place (Ok (Some n)) =
 Hears t s k old new before after line place (Ok None) =
     Went t s k old new [] × (after ≡ before) × GaveEnd s old.source new.source
 Hears t s k old new before after line place (Err (fault.Script number at)) =
-    Went t s k old new [] × (after ≡ before) × (number ≡ line) × (at ≡ place) × GaveNoTrain s old.source new.source × HasNoTrain s old.source
+    Went t s k old new [] × (after ≡ before) × (number ≡ line) × (at ≡ place) × GaveNoEnd s old.source new.source × HasNoTrain s old.source
 Hears t s k old new before after line place (Err fault.Source) = Cut t s k old new [] SourceFails
 Hears t s k old new before after line place (Err fault.Sink) =
     Heard s old.source new.source (λ train. Cut t s k old new (train_act before train ∷ []) SinkFails)
@@ -57,7 +49,7 @@ Hears t s k old new before after line place (Err fault.Tape) =
 -- what the line did behind the last that may be a train
 abbrev pub HearsEnd : {S : Type 0} (s : sources.Meaning S) (old new : S) (line place : ℕ) → Result (Unit {0}) PulseFault → Type 0
 HearsEnd s old new line place (Ok done) = GaveEnd s old new
-HearsEnd s old new line place (Err (fault.Script number at)) = (number ≡ line) × (at ≡ place) × GaveNoTrain s old new
+HearsEnd s old new line place (Err (fault.Script number at)) = (number ≡ line) × (at ≡ place) × GaveNoEnd s old new
 HearsEnd s old new line place (Err fault.Source) = Rose (s.faults old) (s.faults new)
 HearsEnd s old new line place (Err fault.Sink) = ⊥
 HearsEnd s old new line place (Err fault.Tape) = ⊥

@@ -34,6 +34,14 @@ BeginsWithNo m s P = IfSome (m.left s) (λ bytes. (text rest : List ℕ) → byt
 abbrev pub GaveEnd : {S : Type 0} → Meaning S → (old new : S) → Type 0
 GaveEnd m old new = (HasEnded m old × Gave m old new []) ⊎ Gave m old new (codes "end\n")
 
+-- it gave some bytes, no more than a line's and none behind one, and the line `end` did not begin there
+pub record GaveNoEnd {S : Type 0} (m : Meaning S) (old new : S) : Type 0 where
+  pub n : ℕ
+  pub some : 0 < n
+  pub few : n ≤ 128
+  pub gave : GaveInLine m old new n
+  pub no_stop : BeginsWithNo m old (λ text. text ≡ codes "end\n")
+
 -- the end of the source before any byte; bytes that begin with no line, taken up to the first newline, or 128, or up to
 -- the end, and none behind that; or a line, with its newline. A failure comes before the line's newline.
 abbrev pub ReadsLine : {S E : Type 0} → Meaning S → (old new : S) → Result LineRead E → Type 0

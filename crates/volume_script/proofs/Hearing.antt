@@ -16,12 +16,11 @@ use Rattle.command_spec.specs.declared.line.Line.{Line}
 use Rattle.command_spec.specs.declared.line.Line.TheVariants as line
 use Rattle.command_spec.specs.Input.{AtEnd, AtStop, AtFault, promised, most_items, IsLineText}
 use Rattle.qic_base.specs.SourceCalls.{Gave}
-use Rattle.tape_script.specs.Reading.{GaveInLine, BeginsWithNo}
+use Rattle.tape_script.specs.Reading.{GaveInLine, GaveNoEnd, BeginsWithNo}
 use Rattle.qic_base.proofs.Giving.{Gave-Gave}
 use Rattle.tape_script.proofs.Lined.{IsLined-one_newline}
 use Rattle.tape_script.proofs.Rests.{whole_told}
 use Rattle.volume_store.specs.Mounting.{StoreView}
-use Rattle.volume_script.specs.Ending.{GaveNoEnd}
 use Rattle.volume_script.specs.Heard.{HeardItem, HeardShort, HeardCut, HeardMismatch, NextDoes}
 use Rattle.command_laws.specs.CommandTerms.{IsLine}
 use Rattle.command_laws.specs.ScriptItems.{EarlyDoes}

@@ -1,21 +1,13 @@
 -- What the line did behind the last that may be an item, and the last reply (this project's own).
-use Rattle.std.specs.Prelude.{◌≡◌, ℕ, ◌<◌, ◌≤◌, Result, Ok, Err, codes}
+use Rattle.std.specs.Prelude.{◌≡◌, ℕ, Result, Ok, Err}
 use Rattle.qic_base.specs.Tape.{Rose}
 use Rattle.qic_base.specs.Sink as sinks
 use Rattle.qic_base.specs.SinkCalls as sink_calls
 use Rattle.qic_base.specs.Source as sources
-use Rattle.tape_script.specs.Reading.{BeginsWithNo, GaveEnd, GaveInLine}
+use Rattle.tape_script.specs.Reading.{GaveEnd, GaveNoEnd}
 use Rattle.volume_script.specs.declared.fault.ScriptFault.{ScriptFault}
 use Rattle.volume_script.specs.declared.fault.ScriptFault.TheVariants as fault
 use Rattle.command_spec.specs.Script.{end_line}
-
--- some bytes were taken, no more than a line's and none behind one, and the line `end` did not begin there
-pub record GaveNoEnd {S : Type 0} (s : sources.Meaning S) (old new : S) : Type 0 where
-  pub n : ℕ
-  pub some : 0 < n
-  pub few : n ≤ 128
-  pub gave : GaveInLine s old new n
-  pub no_stop : BeginsWithNo s old (λ text. text ≡ codes "end\n")
 
 abbrev pub HearsEnd : {S : Type 0} (s : sources.Meaning S) (old new : S) (number place : ℕ) → Result (Unit {0}) ScriptFault → Type 0
 HearsEnd s old new number place (Ok done) = GaveEnd s old new
