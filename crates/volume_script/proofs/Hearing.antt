@@ -21,7 +21,7 @@ use Rattle.qic_base.proofs.Giving.{Gave-Gave}
 use Rattle.tape_script.proofs.Lined.{IsLined-one_newline}
 use Rattle.tape_script.proofs.Rests.{whole_told}
 use Rattle.volume_store.specs.Mounting.{StoreView}
-use Rattle.volume_script.specs.Heard.{HeardItem, HeardShort, HeardCut, HeardMismatch, NextDoes}
+use Rattle.volume_script.specs.Heard.{HeardItem, HeardShort, HeardCut, NextDoes}
 use Rattle.command_laws.specs.CommandTerms.{IsLine}
 use Rattle.command_laws.specs.ScriptItems.{EarlyDoes}
 use Rattle.volume_script.specs.Items.{ItemDone, ItemShort, ItemCut, ItemMismatched, WouldDo}
@@ -135,7 +135,7 @@ module _ {T S K : Type 0} (t : tapes.Meaning T) (s : sources.Meaning S) (k : sin
         told = short.told;
       }
 
-      pub heard_mismatch : ItemMismatched t s k (out a m x) (out b j y) → HeardMismatch t s k (out a i x) (out b j y)
+      pub heard_mismatch : ItemMismatched t s k (out a m x) (out b j y) → ItemMismatched t s k (out a i x) (out b j y)
       heard_mismatch mismatch = record {
         acts = mismatch.acts;
         went = earlier_went a i m x (out b j y) mismatch.acts later mismatch.went;

@@ -8,6 +8,7 @@ use Rattle.command_spec.specs.Input.{Item, IsItem, Ending, ItemsEnd, most_items,
 use Rattle.qic_base.specs.SourceCalls.{Gave, HasEnded}
 use Rattle.tape_script.specs.Reading.{BeginsWithNo, GaveEnd, GaveInLine}
 use Rattle.volume_store.specs.Mounting.{StoreView}
+use Rattle.volume_script.specs.Items.{ItemMismatched}
 use Rattle.volume_script.specs.declared.fault.ScriptFault.{ScriptFault}
 use Rattle.command_laws.specs.ScriptItems.{EarlyDoes}
 use Rattle.command_spec.specs.Script.{Did, EndDoes}
@@ -74,14 +75,6 @@ pub record HeardCut {T S K : Type 0} (t : tapes.Meaning T) (s : sources.Meaning 
   pub acts : List Act
   pub cut : Cut t s k old new acts failing
 
--- the volume table did not show the volumes
-pub record HeardMismatch {T S K : Type 0} (t : tapes.Meaning T) (s : sources.Meaning S) (k : sinks.Meaning K) (old new : Outside T S K) : Type 0 where
-  pub acts : List Act
-  pub went : Went t s k old new acts
-  pub told : tape_calls.Tells t old.tape (λ c. ⊥)
-  pub bytes : List ℕ
-  pub gave : Gave s old.source new.source bytes
-
 -- What a line did that may be an item, with this number and so many bytes before it: it was carried out; the input is
 -- over; it is at fault; or a fault of the outside cut it off.
 abbrev pub Hears : {T S K : Type 0} (t : tapes.Meaning T) (s : sources.Meaning S) (k : sinks.Meaning K) (store after : StoreView) (old new : Outside T S K) (number place : ℕ) → Result (Option ℕ) ScriptFault → Type 0
@@ -90,7 +83,7 @@ Hears t s k store after old new number place (Ok None) =
     Went t s k old new [] × (after ≡ store) × GaveEnd s old.source new.source
 Hears t s k store after old new number place (Err (fault.Input line at)) =
     (line ≡ number) × (at ≡ place) × (HeardNone t s k old new ⊎ HeardShort t s k store old new)
-Hears t s k store after old new number place (Err fault.TableMismatch) = HeardMismatch t s k old new
+Hears t s k store after old new number place (Err fault.TableMismatch) = ItemMismatched t s k old new
 Hears t s k store after old new number place (Err fault.Source) = HeardCut t s k store old new number place SourceFails
 Hears t s k store after old new number place (Err fault.Sink) = HeardCut t s k store old new number place SinkFails
 Hears t s k store after old new number place (Err fault.Tape) = HeardCut t s k store old new number place TapeFails
