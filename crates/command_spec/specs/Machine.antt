@@ -46,11 +46,14 @@ abbrev pub OverTold : {T S K : Type 0} (t : tapes.Meaning T) (s : sources.Meanin
 OverTold t s old P =
     IfSome (t.told old.tape) (λ held. (input : List ℕ) × IfSome (s.left old.source) (λ bytes. input ≡ bytes) × P held input)
 
--- What is left of the input: what stands behind the bytes taken; or, where a line is at fault, an end of the bytes from
--- its place on, of which at most 128 were taken, or all.
-abbrev pub InputLeft : Status → (taken : ℕ) → (before after : Option (List ℕ)) → Type 0
-InputLeft (status.ScriptFault line place) taken before after =
+-- Of the bytes from the place of a fault on an end is left: at most 128 of them were taken, or all.
+abbrev pub LeftAtFault : (place : ℕ) → (before after : Option (List ℕ)) → Type 0
+LeftAtFault place before after =
     (more : ℕ) × (after ≡ option_map (drop (place + more)) before) × ((more ≤ 128) ⊎ IfSome after (λ end. end ≡ []))
+
+-- What is left of the input: what stands behind the bytes taken; or, where a line is at fault, that.
+abbrev pub InputLeft : Status → (taken : ℕ) → (before after : Option (List ℕ)) → Type 0
+InputLeft (status.ScriptFault line place) taken before after = LeftAtFault place before after
 InputLeft answer taken before after = after ≡ option_map (drop taken) before
 
 -- ---- answers

@@ -1,5 +1,5 @@
 -- What a run of `pulses` did to the outside (this project's own).
-use Rattle.std.specs.Prelude.{◌≡◌, ℕ, ◌+◌, ◌≤◌, List, drop, Option, IfSome, Result, Ok, Err}
+use Rattle.std.specs.Prelude.{◌≡◌, ℕ, List, drop, Option, IfSome, Result, Ok, Err}
 use Rattle.std.specs.Option.{option_map}
 use Rattle.qic_base.specs.declared.tape.TapeInfo.{TapeInfo}
 use Rattle.qic_base.specs.Sink as sinks
@@ -9,6 +9,7 @@ use Rattle.qic_base.specs.Acts.{Outside, Failing, TapeFails, SourceFails, SinkFa
 use Rattle.drive_spec.specs.Record.{Record}
 use Rattle.hand_commands.specs.declared.pulses.fault.PulseFault.{PulseFault}
 use Rattle.hand_commands.specs.declared.pulses.fault.PulseFault.TheVariants as fault
+use Rattle.tape_script.specs.Reading.{LeftFromLine}
 use Rattle.command_laws.specs.PulseRuns.{PulseRun, PulsesOutcome, Answer, AllSent, ScriptFault}
 
 -- What the drive learnt when the cartridge was put in, and the input: what the tape and the source told, or some where
@@ -17,12 +18,10 @@ pub record Over {T S K : Type 0} (t : tapes.Meaning T) (s : sources.Meaning S) (
   pub cartridge : IfSome (t.told old.tape) (λ held. known ≡ option_map (λ c. c.info) held)
   pub bytes : IfSome (s.left old.source) (λ bytes. input ≡ bytes)
 
--- What is left of the source: the bytes behind those taken; or, where a line is none, an end of those from that line on,
--- at most 128 of which were taken.
+-- what is left of the source: the bytes behind those taken; or, where a line is none, an end of those from that line on
 abbrev pub Leaves : {S : Type 0} (s : sources.Meaning S) (old new : S) (taken : ℕ) → Answer → Type 0
 Leaves s old new taken AllSent = s.left new ≡ option_map (drop taken) (s.left old)
-Leaves s old new taken (ScriptFault line place) =
-    (more : ℕ) × (more ≤ 128) × (s.left new ≡ option_map (drop (place + more)) (s.left old))
+Leaves s old new taken (ScriptFault line place) = LeftFromLine s old new place
 
 -- It came to its end, with this drive and this answer: the plain machine's outcome, all of whose acts went.
 pub record Ended {T S K : Type 0} (t : tapes.Meaning T) (s : sources.Meaning S) (k : sinks.Meaning K) (old new : Outside T S K) (r : Record) (answer : Answer) : Type 0 where

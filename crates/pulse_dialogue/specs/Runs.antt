@@ -1,9 +1,10 @@
 -- What the telling of a recording did to the outside (this project's own).
-use Rattle.std.specs.Prelude.{◌≡◌, ℕ, ◌+◌, ◌≤◌, List, ◌++◌, length, drop, IfSome, Result, Ok, Err}
+use Rattle.std.specs.Prelude.{◌≡◌, ℕ, List, ◌++◌, length, drop, IfSome, Result, Ok, Err}
 use Rattle.std.specs.Option.{option_map}
 use Rattle.qic_base.specs.Sink as sinks
 use Rattle.qic_base.specs.SinkCalls as sink_calls
 use Rattle.qic_base.specs.Source as sources
+use Rattle.tape_script.specs.Reading.{LeftFromLine}
 use Rattle.pulse_dialogue.specs.declared.fault.TraceFault.{TraceFault}
 use Rattle.pulse_dialogue.specs.declared.fault.TraceFault.TheVariants as fault
 use Rattle.pulse_dialogue.specs.declared.line.Line.{Line}
@@ -15,12 +16,10 @@ pub record Streams (S K : Type 0) : Type 0 where
   pub source : S
   pub sink : K
 
--- What is left of the source: nothing of the input; or an end of it from the line at fault on, at most 128 bytes of which
--- were taken.
+-- what is left of the source: nothing of the input; or an end of it from the line at fault on
 abbrev pub Leaves : {S : Type 0} (s : sources.Meaning S) (old new : S) → (input : List ℕ) → Ending → Type 0
 Leaves s old new input AtEnd = s.left new ≡ option_map (drop (length input)) (s.left old)
-Leaves s old new input (AtFault line place) =
-    (more : ℕ) × (more ≤ 128) × (s.left new ≡ option_map (drop (place + more)) (s.left old))
+Leaves s old new input (AtFault line place) = LeftFromLine s old new place
 
 -- the input: what the source told, or some where it tells none
 abbrev pub IsInput : {S : Type 0} (s : sources.Meaning S) (old : S) → List ℕ → Type 0

@@ -1,5 +1,6 @@
 -- What a reading of a line took from a source, and what it found (this project's own).
-use Rattle.std.specs.Prelude.{◌≡◌, ℕ, ◌-◌, List, length, take, ◌≤◌, ◌++◌, IfSome, ◌<◌, [], Result, Ok, Err, codes, ◌∷◌, Option, Some, None, ◌⊎◌}
+use Rattle.std.specs.Prelude.{◌≡◌, ℕ, ◌+◌, ◌-◌, List, length, take, drop, ◌≤◌, ◌++◌, IfSome, ◌<◌, [], Result, Ok, Err, codes, ◌∷◌, Option, Some, None, ◌⊎◌}
+use Rattle.std.specs.Option.{option_map}
 use Rattle.command_laws.specs.TextReading.{NoNewline}
 use Rattle.command_spec.specs.Input.{IsLineText, IsPulse}
 use Rattle.command_spec.specs.declared.line.Line.{Line}
@@ -25,6 +26,11 @@ GaveInLine m old new n =
 -- it gave the front of a line: at most 127 bytes, none of them a newline
 abbrev pub GaveFront : {S : Type 0} → Meaning S → (old new : S) → Type 0
 GaveFront m old new = (bytes : List ℕ) × (length bytes ≤ 127) × NoNewline bytes × Gave m old new bytes
+
+-- what is left is an end of its bytes from this place on, of which at most a line's were taken
+abbrev pub LeftFromLine : {S : Type 0} → Meaning S → (old new : S) → (place : ℕ) → Type 0
+LeftFromLine m old new place =
+    (more : ℕ) × (more ≤ 128) × (m.left new ≡ option_map (drop (place + more)) (m.left old))
 
 -- where it tells its bytes, no text with this property begins them
 abbrev pub BeginsWithNo : {S : Type 0} → Meaning S → S → (List ℕ → Type 0) → Type 0

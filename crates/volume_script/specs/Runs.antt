@@ -1,9 +1,9 @@
 -- How a run of a script ended (this project's own).
-use Rattle.std.specs.Prelude.{◌≡◌, ℕ, ◌+◌, ◌++◌, ◌<◌, ◌≤◌, ◌⊎◌, All, List, drop, IfSome, IfNone, Result, Ok, Err}
+use Rattle.std.specs.Prelude.{◌≡◌, ℕ, ◌++◌, ◌<◌, All, List, drop, IfSome, IfNone, Result, Ok, Err}
 use Rattle.std.specs.Option.{option_map}
 use Rattle.qic_base.specs.Acts.{Act, text_of, Outside, Failing, TapeFails, SourceFails, SinkFails, Went, Cut}
 use Rattle.command_spec.specs.Input.{Item, Ending, IsScript}
-use Rattle.qic_base.specs.SourceCalls.{HasEnded}
+use Rattle.command_spec.specs.Machine.{LeftAtFault}
 use Rattle.volume_store.specs.Mounting.{StoreView}
 use Rattle.volume_script.specs.declared.fault.ScriptFault.{ScriptFault}
 use Rattle.command_spec.specs.Script.{end_line, ScriptDoes}
@@ -15,12 +15,10 @@ use Rattle.qic_base.specs.Tape as tapes
 use Rattle.qic_base.specs.TapeCalls as tape_calls
 use Rattle.volume_script.specs.declared.fault.ScriptFault.TheVariants as fault
 
--- What is left of the source: the bytes behind those taken; or, after a fault of the input, an end of the bytes from its
--- place on, of which at most 128 were taken, or all.
+-- what is left of the source: the bytes behind those taken; or what a fault of the input leaves
 abbrev pub Leaves : {S : Type 0} (s : sources.Meaning S) (old new : S) (taken : ℕ) → Answer → Type 0
 Leaves s old new taken AllDone = s.left new ≡ option_map (drop taken) (s.left old)
-Leaves s old new taken (FaultIn number place) =
-    (more : ℕ) × (s.left new ≡ option_map (drop (place + more)) (s.left old)) × ((more ≤ 128) ⊎ HasEnded s new)
+Leaves s old new taken (FaultIn number place) = LeftAtFault place (s.left old) (s.left new)
 
 -- It came to its end, with this answer: all acts of the plain machine's outcome went, over the input that the source told,
 -- or some input of bytes where it tells none.
