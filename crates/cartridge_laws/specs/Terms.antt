@@ -1,5 +1,5 @@
 -- Terms of proofs and of contracts over cartridges: parts of what the specs say, by names of their own.
-use Rattle.std.specs.Prelude.{ℕ, List, ◌∷◌, [], ◌+◌, ◌-◌, ◌*◌, ◌^◌, ◌/◌, ◌%◌, ◌≤◌, ◌<◌, ◌==◌, ◌⊎◌, ◌++◌, ◌&&◌, Bool, false, not, Option, None, Some, slice_index, slice_range, slice_set, map, filter, replicate, sum_by, take, length, All, nat_lt, nat_le, if◌then◌else◌}
+use Rattle.std.specs.Prelude.{ℕ, List, ◌∷◌, [], ◌+◌, ◌-◌, ◌*◌, ◌^◌, ◌/◌, ◌%◌, ◌≤◌, ◌<◌, ◌==◌, ◌⊎◌, ◌++◌, ◌&&◌, Bool, false, not, Option, None, Some, slice_index, slice_range, slice_set, map, filter, sum_by, take, length, All, nat_lt, nat_le, if◌then◌else◌}
 use Rattle.std.specs.List.{range_with_len}
 use Rattle.cartridge_spec.specs.Appending.{end_behind, taken_by, free_segments}
 use Rattle.cartridge_spec.specs.Code.{IsCodeBlock}
@@ -203,10 +203,6 @@ abbrev pub table_places : (changed : ℕ) → List ℕ
 table_places changed = changed ∷ 29 ∷ 30 ∷ 31 ∷ []
 
 -- ---- volumes
-
--- bytes of one sector, with zero bytes behind them
-abbrev pub filled_up : List ℕ → List ℕ
-filled_up bytes = bytes ++ replicate (1024 - length bytes) 0
 
 -- the sectors of data that these segments carry
 abbrev pub sectors_in : (words segments : List ℕ) → ℕ

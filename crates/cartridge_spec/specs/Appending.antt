@@ -28,11 +28,14 @@ taken_by words bytes [] = []
 taken_by words bytes (s ∷ ss) =
     s ∷ (if nat_le bytes (capacity (mask_at words s)) then [] else taken_by words (bytes - capacity (mask_at words s)) ss)
 
+-- bytes of one sector, with zero bytes behind them
+abbrev pub filled_up : List ℕ → List ℕ
+filled_up bytes = bytes ++ replicate (1024 - length bytes) 0
+
 -- bytes in so many sectors, one after the other, with zero bytes behind them
 abbrev pub in_sectors : (count : ℕ) → (bytes : List ℕ) → List (List ℕ)
 in_sectors zero bytes = []
-in_sectors (suc count) bytes =
-    (take 1024 bytes ++ replicate (1024 - length (take 1024 bytes)) 0) ∷ in_sectors count (drop 1024 bytes)
+in_sectors (suc count) bytes = filled_up (take 1024 bytes) ∷ in_sectors count (drop 1024 bytes)
 
 -- what a slot says of a volume that was appended: its first and its last segment, its name of 44 bytes, its date word,
 -- and how many bytes it has

@@ -10,8 +10,7 @@ use Rattle.std.proofs.lemmas.Bool.{cases_lt, leb-true, leb-false, le-leb, lt-leb
 use Rattle.std.proofs.lemmas.List.{take_all, take-append-le, drop-append-le, drop-drop, get_or-append_right, length-append, length-drop, length-take-le, length-replicate, append-nil}
 use Rattle.std.proofs.lemmas.List.FromFn.{get_or-map-range_with_len, length-map-range_with_len}
 use Rattle.std.proofs.lemmas.List.Sums.{sum_by-append}
-use Rattle.cartridge_laws.specs.Terms.{filled_up}
-use Rattle.cartridge_spec.specs.Appending.{in_sectors}
+use Rattle.cartridge_spec.specs.Appending.{filled_up, in_sectors}
 use Rattle.qic_base.proofs.Giving.{Gave-Gave, Gave-end, Gave-nothing, Gave-read}
 use Rattle.qic_base.specs.SourceCalls.{Gave, Gives, HasEnded}
 use Rattle.qic_base.specs.declared.tape.SectorView.{SectorView}

@@ -10,7 +10,7 @@ use Rattle.std.proofs.Math.Seq.{take-append-add}
 use borrow.Rule.Slice.PartMut.{put_mid}
 use Rattle.core.proofs.slice.Relends.{length-first_chunks}
 use Rattle.qic_base.specs.Source.{Meaning}
-use Rattle.cartridge_spec.specs.Appending.{in_sectors}
+use Rattle.cartridge_spec.specs.Appending.{filled_up, in_sectors}
 use Rattle.sector_fill.specs.Filling.{GaveUpTo, GaveWithin, IsFilled, FillsBytes, AreFilled, FillsSectors, IsFrontOf}
 
 -- ---- a slice whose rear was written
@@ -38,10 +38,6 @@ cut_next : (count : ℕ) (sector rest : List ℕ) → length sector ≡ 1024 →
 cut_next count sector rest long =
     ap (λ (front : List ℕ). front ∷ first_chunks 1024 count (drop 1024 (sector ++ rest))) (take_at sector rest 1024 long)
     ∙ ap (λ (bytes : List ℕ). sector ∷ first_chunks 1024 count bytes) (lists.drop_at sector rest 1024 long)
-
--- bytes of one sector, with zero bytes behind them
-abbrev filled_up : List ℕ → List ℕ
-filled_up bytes = bytes ++ replicate (1024 - length bytes) 0
 
 length-filled_up : (bytes : List ℕ) → length bytes ≤ 1024 → length (filled_up bytes) ≡ 1024
 length-filled_up bytes few =
