@@ -44,6 +44,11 @@ new_entry segments name date bytes =
     let last : ℕ = slice_index segments (length segments - 1) in
     record { start = slice_index segments 0; end = last; name = name; date = date; flags = 1; sequence = 1; directory = 0; size = bytes }
 
+-- the entry of a volume of these bytes behind the others
+abbrev pub entry_behind : (words : List ℕ) → List Entry → (name : List ℕ) → (date : ℕ) → (bytes : List ℕ) → Entry
+entry_behind words entries name date bytes =
+    new_entry (taken_by words (length bytes) (free_segments words entries)) name date (length bytes)
+
 -- the writes of the table's new data: the changed sector of data, and those of parity
 abbrev pub table_writes : (changed : ℕ) → (new : List (List ℕ)) → List Step
 table_writes changed new = block_writes (with_parity new) (changed ∷ 29 ∷ 30 ∷ 31 ∷ [])
@@ -64,7 +69,7 @@ appended_volume plain name date bytes =
     let free : List ℕ = free_segments plain.words (entries_of plain) in
     let segments : List ℕ = taken_by plain.words (length bytes) free in
     let count : ℕ = sum_by (λ s. data_count (mask_at plain.words s)) segments in
-    record { entry = new_entry segments name date (length bytes); area = in_sectors count bytes }
+    record { entry = entry_behind plain.words (entries_of plain) name date bytes; area = in_sectors count bytes }
 
 -- the plain cartridge with it behind the others, and with its entry in the table
 abbrev pub with_bytes : Plain → (name : List ℕ) → (date : ℕ) → (bytes : List ℕ) → Plain

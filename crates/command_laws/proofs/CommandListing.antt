@@ -28,7 +28,8 @@ use Rattle.command_laws.proofs.ScriptMachineLaws.{one_outcome as one_script}
 use Rattle.command_laws.proofs.TextWords.{one_command}
 use Rattle.command_laws.specs.MountedListed.{IsListed, listed_behind}
 use Rattle.command_laws.specs.MountedListing.{AddsNone}
-use Rattle.command_spec.specs.Append.{Kept, Taking, Fits, TooLong, append_acts, room_in, taking, AppendOutcome, appended, kept_over, entry_behind}
+use Rattle.cartridge_spec.specs.Appending.{entry_behind}
+use Rattle.command_spec.specs.Append.{Kept, Taking, Fits, TooLong, append_acts, room_in, taking, AppendOutcome, appended, kept_over}
 use Rattle.command_laws.specs.CommandTerms.{entry_for, Appends, append_status, Makes, AppendedFrom, Yields, ScriptOutcome, MakeOutcome}
 use Rattle.command_spec.specs.Headline.{ToldNow}
 use Rattle.command_spec.specs.Lines.{reply_behind}

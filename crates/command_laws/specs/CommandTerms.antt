@@ -3,12 +3,12 @@
 use Rattle.std.specs.Prelude.{ℕ, ◌+◌, ◌*◌, ◌%◌, List, [], ◌∷◌, ◌++◌, codes, decimal, length, take, drop, min, Option, None, Some, unwrap_or, Bool, nat_le, ◌==◌, ◌&&◌, ◌||◌, if◌then◌else◌, ◌≡◌, ◌≢◌, ◌<◌, ◌≤◌, ◌⊎◌, slice_get, IsSomeAnd, fold, map, sum_by}
 use Rattle.std.specs.List.{slice_split}
 use Rattle.cartridge_spec.specs.Volumes.{bytes_in, WearSpares, Plain, entries_of, volume_length}
-use Rattle.cartridge_spec.specs.Appending.{free_segments}
+use Rattle.cartridge_spec.specs.Appending.{free_segments, entry_behind}
 use Rattle.cartridge_spec.specs.Shape.{mask_at, usable_places}
 use Rattle.cartridge_spec.specs.Table.{Entry}
 use Rattle.command_spec.specs.declared.words.Words.{Words}
 use Rattle.command_spec.specs.Commands.{command_of}
-use Rattle.command_spec.specs.Append.{Kept, Taking, Fits, TooLong, TooShort, append_acts, appended, entry_behind, kept_over}
+use Rattle.command_spec.specs.Append.{Kept, Taking, Fits, TooLong, TooShort, append_acts, appended, kept_over}
 use Rattle.command_spec.specs.Command.{HasForm, SpellsPart, Number}
 use Rattle.command_spec.specs.Make.{made_bytes, made_length, MakeStep, WearSector, Runs, ScrubAll, appending, made_answer, made_list, made_name, making, sum_acts, wearing_volumes, Making, after_item}
 use Rattle.command_spec.specs.Input.{Item, line_forms, most_items}

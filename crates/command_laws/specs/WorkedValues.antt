@@ -3,12 +3,12 @@
 use Rattle.qic_base.specs.Cartridge.{Cartridge}
 use Rattle.std.specs.Prelude.{ℕ, ◌≡◌, List, [], ◌∷◌, ◌++◌, replicate, length, Some, None, codes, true, false, map, Bool}
 use Rattle.std.specs.List.{range_with_len}
-use Rattle.cartridge_spec.specs.Appending.{taken_by, new_entry}
+use Rattle.cartridge_spec.specs.Appending.{taken_by, new_entry, entry_behind}
 use Rattle.cartridge_spec.specs.Formatting.{fresh_header}
 use Rattle.cartridge_spec.specs.Says.{LostSectors, Mismatch}
 use Rattle.cartridge_spec.specs.Table.{Entry}
 use Rattle.cartridge_spec.specs.Volumes.{carrying}
-use Rattle.command_spec.specs.Append.{append_acts, taking, TooLong, TooShort, entry_behind, kept_over}
+use Rattle.command_spec.specs.Append.{append_acts, taking, TooLong, TooShort, kept_over}
 use Rattle.command_laws.specs.CommandTerms.{bytes_taken, append_status, made_byte, words_of}
 use Rattle.command_spec.specs.Command.{IsNumber}
 use Rattle.command_spec.specs.Make.{made_length, sum_line, made_name, wearing_in, WearSector}

@@ -1,6 +1,6 @@
 -- The plain machine of `append`: what is taken of the input, and the acts that write the volume and its entry (this project's own).
 use Rattle.std.specs.Prelude.{ℕ, List, [], ◌∷◌, length, drop, nat_le, if◌then◌else◌, ◌&&◌, ◌||◌, ◌==◌, Bool, take, nat_lt, Option, Some, None, ◌+◌, min, is_some, ◌++◌, ◌≡◌, ◌/◌, unwrap_or, true, ◌<◌, ◌^◌, codes, IsSomeAnd}
-use Rattle.cartridge_spec.specs.Appending.{part_writes, in_sectors, room, free_segments, new_entry, taken_by, table_writes, has_room}
+use Rattle.cartridge_spec.specs.Appending.{part_writes, in_sectors, room, free_segments, entry_behind, table_writes, has_room}
 use Rattle.cartridge_spec.specs.Mounting.{settled}
 use Rattle.cartridge_spec.specs.Settling.{settling_steps}
 use Rattle.cartridge_spec.specs.Shape.{mask_at, data_count, capacity}
@@ -88,11 +88,6 @@ input_writes words entries promised input =
     let have : ℕ = room words entries in
     if has_promised_room have promised
     then input_acts words (free_segments words entries) (unwrap_or promised have) (is_some promised) input else []
-
--- the entry of a volume of these bytes behind the others
-abbrev pub entry_behind : (words : List ℕ) → List Entry → (name : List ℕ) → (date : ℕ) → (bytes : List ℕ) → Entry
-entry_behind words entries name date bytes =
-    new_entry (taken_by words (length bytes) (free_segments words entries)) name date (length bytes)
 
 -- last, where all bytes are there, the writes of the table, and the reply
 abbrev pub entry_acts : Kept → (name : List ℕ) → (date : ℕ) → (reply : Entry → List ℕ) → Taking → List Act

@@ -2,7 +2,7 @@
 -- print, how many were appended by its answer, and the command (this project's own).
 use Rattle.std.specs.Prelude.{flat_map, fold, ℕ, ◌+◌, ◌*◌, ◌%◌, List, map, ◌++◌, codes, decimal, [], ◌∷◌, take, ◌==◌, if◌then◌else◌, length, drop, Some, ◌≡◌, true, slice_get, IsSomeAnd, ◌^◌, sum, ◌⊎◌, false, ◌≢◌, ◌<◌, ◌≤◌, All, nat_lt}
 use Rattle.std.specs.List.{range_with_len}
-use Rattle.cartridge_spec.specs.Appending.{room, Content}
+use Rattle.cartridge_spec.specs.Appending.{room, entry_behind, Content}
 use Rattle.cartridge_spec.specs.Header.{Header}
 use Rattle.cartridge_spec.specs.TableSegment.{TableIs, table_cells}
 use Rattle.cartridge_spec.specs.Mounting.{settled}
@@ -11,7 +11,7 @@ use Rattle.cartridge_spec.specs.Settling.{changed_by}
 use Rattle.cartridge_spec.specs.Shape.{mask_at, usable_places}
 use Rattle.cartridge_spec.specs.Table.{Entry}
 use Rattle.cartridge_spec.specs.Volumes.{carrying_segments, volume_length, Plain, entries_of}
-use Rattle.command_spec.specs.Append.{entry_behind, append_acts, has_promised_room, kept_over}
+use Rattle.command_spec.specs.Append.{append_acts, has_promised_room, kept_over}
 use Rattle.command_spec.specs.Outcome.{settling_act, CommandOutcome, WritableOutcome}
 use Rattle.command_spec.specs.Restore.{GivingEnd, Restored, RestoresVolume, pieces, volume_at, LosesFew, ending_status}
 use Rattle.command_spec.specs.Scrub.{Counts, looked_at, ScrubsAs, IsTextFor}

@@ -5,7 +5,6 @@ use Rattle.cartridge_spec.specs.Header.{Header}
 use Rattle.cartridge_spec.specs.Mounting.{Lists, settled}
 use Rattle.cartridge_spec.specs.TableSegment.{IsTableLive}
 use Rattle.cartridge_spec.specs.Table.{Entry}
-use Rattle.command_spec.specs.Append.{entry_behind}
 use Rattle.command_spec.specs.Headline.{ToldNow}
 use Rattle.command_spec.specs.Input.{Item}
 use Rattle.command_spec.specs.Machine.{Spells, is_fault}
@@ -16,7 +15,7 @@ use Rattle.command_spec.specs.ScriptLists.{ItemsWearBehind, ListsAnswered, Lists
 use Rattle.command_spec.specs.Volumes.{IsInput, IsCarriedOut}
 use Rattle.command_spec.specs.declared.status.Status.{Status}
 use Rattle.qic_base.specs.Cartridge.{Cartridge}
-use Rattle.cartridge_spec.specs.Appending.{with_all}
+use Rattle.cartridge_spec.specs.Appending.{entry_behind, with_all}
 use Rattle.cartridge_spec.specs.Volumes.{Plain, Stands, entries_of}
 use Rattle.qic_base.specs.Tape as tapes
 use Rattle.qic_base.specs.Sink as sinks

@@ -1,12 +1,12 @@
 -- What an append does, by the map, the list, the table's data and the input; and how the call ended (this project's own).
-use Rattle.cartridge_spec.specs.Appending.{room}
+use Rattle.cartridge_spec.specs.Appending.{room, entry_behind}
 use Rattle.std.specs.Prelude.{◌≡◌, ℕ, ◌<◌, List, drop, Option, All, IfSome, IfNone, [], length, is_some, Result, Ok, Err, ◌≤◌, ◌+◌, ◌∷◌, ◌++◌, ◌⊎◌, Some, true}
 use Rattle.std.specs.Option.{option_map}
 use Rattle.cartridge_spec.specs.TableSegment.{TableIs, table_cells}
 use Rattle.cartridge_spec.specs.Says.{LostSectors, ByCode, TableSays}
 use Rattle.cartridge_spec.specs.Settling.{settling_steps}
 use Rattle.cartridge_spec.specs.Table.{Entry, Shows}
-use Rattle.command_spec.specs.Append.{Taking, taking, room_in, input_writes, Fits, TooLong, TooShort, Kept, append_acts, has_promised_room, entry_behind}
+use Rattle.command_spec.specs.Append.{Taking, taking, room_in, input_writes, Fits, TooLong, TooShort, Kept, append_acts, has_promised_room}
 use Rattle.command_laws.specs.CommandTerms.{entry_for, bytes_taken, silently}
 use Rattle.qic_base.specs.Acts.{Outside, Went, Failing, Cut, TapeFails, SourceFails, Act}
 use Rattle.qic_base.specs.Terms.{no_sink}
