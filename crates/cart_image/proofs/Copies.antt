@@ -17,7 +17,7 @@ use Rattle.cart_image.proofs.Bytes.{range-same}
 use Rattle.cart_image.proofs.Exits.{told-fact, Runs-after}
 use Rattle.cart_image.proofs.Renews.{length-resized, get_or-resized}
 use Rattle.cart_image.proofs.Runs.{Passes-Passes, Looks-Passes, Failed-Passes, Ran-Ran, Ran-Halted, Halted-front, Ran-told, Rose-after}
-use Rattle.cart_image.proofs.Writes.{Kept-all, Spares, Spares-both, spared, Even, Even-both, Reached, Reached-first, Reached-later}
+use Rattle.cart_image.proofs.Writes.{SameAt-all, Spares, Spares-both, spared, Even, Even-both, Reached, Reached-first, Reached-later}
 
 -- the places that stay
 abbrev pub Stays : (n : ℕ) → ℕ → Type 0
@@ -273,7 +273,7 @@ still : {D : Type 0} (m : Meaning D) (old now : D) (n count : ℕ) (bytes : List
     → (b : List ℕ) × (m.told now ≡ Some b) × (copy_segment n count b ≡ copy_segment n count bytes)
 still m old now n count bytes c told long on =
     let is = c.planned bytes told in
-    let kept = spared (Stays n) (copy_steps n bytes count) bytes bytes (Spares-long (Stays n) (upgraded_len n) (length bytes) (copy_steps n bytes count) long (copy-spare n bytes (omega arith) count (omega arith))) (Kept-all _ bytes) in
+    let kept = spared (Stays n) (copy_steps n bytes count) bytes bytes (Spares-long (Stays n) (upgraded_len n) (length bytes) (copy_steps n bytes count) long (copy-spare n bytes (omega arith) count (omega arith))) (SameAt-all _ bytes) in
     let size = kept.size in (
       after_steps c.steps bytes,
       Ran-told m old now c.steps bytes told c.ran,

@@ -9,7 +9,7 @@ use Rattle.cart_image.specs.declared.layout.Part.{Part}
 use Rattle.cart_image.specs.Layout.{sectors, end_of, width, place, touches, run_write, fill_writes, fill}
 use Rattle.cart_image.specs.Run.{after_steps, Crashed}
 use Rattle.cart_image.proofs.Layouts.{laid_out, in-row, width-more, width-less}
-use Rattle.cart_image.proofs.Writes.{Kept, Kept-all, Spares, Spares-both, Spares-synced, spared, spared-crash, Even, Even-both, Reached, Reached-first, Reached-later, has-value}
+use Rattle.cart_image.proofs.Writes.{SameAt, SameAt-all, Spares, Spares-both, Spares-synced, spared, spared-crash, Even, Even-both, Reached, Reached-first, Reached-later, has-value}
 
 -- writes of one value that spare the places of one set, and reach those of another
 record IsFill (P R : ℕ → Type 0) (value len : ℕ) (steps : List DiskStep) : Type 0 where
@@ -198,9 +198,9 @@ module _ (l : Layout) (p : Part) (value len : ℕ) (room : end_of l ≤ len) whe
     pub fill-spares : Spares (OffChosen l p first chosen) len (fill_writes l p value first chosen 0)
     fill-spares = let f = whole-fill in f.spares
 
-    pub fill-kept : (bytes : List ℕ) → length bytes ≡ len → Kept (OffChosen l p first chosen) bytes (after_steps (fill_writes l p value first chosen 0) bytes)
+    pub fill-kept : (bytes : List ℕ) → length bytes ≡ len → SameAt (OffChosen l p first chosen) bytes (after_steps (fill_writes l p value first chosen 0) bytes)
     fill-kept bytes is =
-        spared (OffChosen l p first chosen) (fill_writes l p value first chosen 0) bytes bytes (subst (λ (n : ℕ). Spares (OffChosen l p first chosen) n (fill_writes l p value first chosen 0)) (sym is) fill-spares) (Kept-all _ bytes)
+        spared (OffChosen l p first chosen) (fill_writes l p value first chosen 0) bytes bytes (subst (λ (n : ℕ). Spares (OffChosen l p first chosen) n (fill_writes l p value first chosen 0)) (sym is) fill-spares) (SameAt-all _ bytes)
 
     pub fill-value : (bytes : List ℕ) → length bytes ≡ len → (i : ℕ) → get_or chosen i false ≡ true → (k : ℕ) → place l p (first + i) ≤ k → k < place l p (first + i) + width p
         → get_or (after_steps (fill_writes l p value first chosen 0) bytes) k 0 ≡ value
@@ -208,8 +208,8 @@ module _ (l : Layout) (p : Part) (value len : ℕ) (room : end_of l ≤ len) whe
         let f = whole-fill in
         has-value (λ j. value) k (fill_writes l p value first chosen 0) bytes (subst (λ (n : ℕ). Even (λ k. value) n (fill_writes l p value first chosen 0)) (sym is) f.even) (inr (f.reached k (inr (i, chosen_is, (at_least, less)))))
 
-    pub fill-crash : (bytes left : List ℕ) → length bytes ≡ len → Crashed (λ b. b ≡ bytes) bytes (fill l p value first chosen) left → Kept (OffChosen l p first chosen) bytes left
+    pub fill-crash : (bytes left : List ℕ) → length bytes ≡ len → Crashed (λ b. b ≡ bytes) bytes (fill l p value first chosen) left → SameAt (OffChosen l p first chosen) bytes left
     fill-crash bytes left is crashed =
         spared-crash (OffChosen l p first chosen) (fill l p value first chosen) bytes bytes left (λ b. b ≡ bytes)
         (subst (λ (n : ℕ). Spares (OffChosen l p first chosen) n (fill l p value first chosen)) (sym is) (Spares-synced (OffChosen l p first chosen) len (fill_writes l p value first chosen 0) fill-spares))
-        (Kept-all _ bytes) (λ b same. let Q : List ℕ → Type 0 = λ c. Kept (OffChosen l p first chosen) bytes c in subst Q (sym same) (Kept-all _ bytes)) crashed
+        (SameAt-all _ bytes) (λ b same. let Q : List ℕ → Type 0 = λ c. SameAt (OffChosen l p first chosen) bytes c in subst Q (sym same) (SameAt-all _ bytes)) crashed

@@ -25,7 +25,7 @@ use Rattle.cart_image.proofs.Bytes.{head-same, range-same, view-same, view_in-is
 use Rattle.cart_image.proofs.Changes.{get_or-views, view_at-read}
 use Rattle.cart_image.proofs.Fills.{OffChosen, fill-kept, fill-value, fill-crash}
 use Rattle.cart_image.proofs.Layouts.{laid_out, width-some}
-use Rattle.cart_image.proofs.Writes.{Kept, after-both, after-synced, Crashed-synced}
+use Rattle.cart_image.proofs.Writes.{SameAt, after-both, after-synced, Crashed-synced}
 
 -- a sector's view by the tests of its bytes
 abbrev shown : (bad formed open_is : Bool) (bytes : List ℕ) → SectorView
@@ -102,7 +102,7 @@ Stage-all l first bytes = record { size = refl; head = refl; others = λ j on ou
 
 -- what a change in a part of chosen sectors of a segment keeps
 module _ (l : Layout) (p : Part) (first : ℕ) (chosen : List Bool) (a b : List ℕ) (long : length chosen ≡ 32) (within : first + 32 ≤ sectors l.segments_per_track) (whole : end_of l ≤ length a)
-    (kept : Kept (λ k. (i : ℕ) → get_or chosen i false ≡ true → (k < place l p (first + i)) ⊎ (place l p (first + i) + width p ≤ k)) a b) where
+    (kept : SameAt (λ k. (i : ℕ) → get_or chosen i false ≡ true → (k < place l p (first + i)) ⊎ (place l p (first + i) + width p ≤ k)) a b) where
   -- parts of another kind or of sectors that are not chosen
   abbrev NotChosen : (r : Part) (j : ℕ) → Type 0
   NotChosen r j = (p ≢ r) ⊎ ((i : ℕ) → get_or chosen i false ≡ true → first + i ≢ j)
@@ -336,14 +336,14 @@ module _ (h : Head) (bytes : List ℕ) (segment : ℕ) (is : head_of bytes ≡ S
   filled p value f s there i less picked one =
       fill-value l p value (length s) there first (those segment f) (fits f) s refl i (those-at f i less ∙ picked) (place l p (first + i)) (omega arith) (omega arith)
 
-  keeps : (p : Part) (value : ℕ) (f : ℕ → Bool) (s : List ℕ) → end_of l ≤ length s → Kept (OffChosen l p first (those segment f)) s (after_steps (fill_writes l p value first (those segment f) 0) s)
+  keeps : (p : Part) (value : ℕ) (f : ℕ → Bool) (s : List ℕ) → end_of l ≤ length s → SameAt (OffChosen l p first (those segment f)) s (after_steps (fill_writes l p value first (those segment f) 0) s)
   keeps p value f s there = fill-kept l p value (length s) there first (those segment f) (fits f) s refl
 
   -- the gates are closed
   abbrev b1 : List ℕ
   b1 = after_steps (fill_writes l GateByte closed_gate first readable 0) bytes
 
-  module _ (left : List ℕ) (kept : Kept (OffChosen l GateByte first readable) bytes left) where
+  module _ (left : List ℕ) (kept : SameAt (OffChosen l GateByte first readable) bytes left) where
     gates-stage : Stage l first bytes left
     gates-stage = next-stage l GateByte first readable bytes left (those-length segment (is_open l bytes)) within whole kept bytes (λ e. cc) all-stage
 
@@ -363,7 +363,7 @@ module _ (h : Head) (bytes : List ℕ) (segment : ℕ) (is : head_of bytes ≡ S
         let P : Bool → Type 0 = λ f. ClosingView (shown (bad i) (formed bytes i) (opened bytes i) (held bytes i)) (shown (bad i) f (opened left i) (held left i)) in
         subst P (sym (gates-formed i less)) (closing (bad i) (formed bytes i) (opened bytes i) (opened left i) (held bytes i) (held left i) (gates-shut i less) (gates-data i less)))
 
-  kept1 : Kept (OffChosen l GateByte first readable) bytes b1
+  kept1 : SameAt (OffChosen l GateByte first readable) bytes b1
   kept1 = keeps GateByte closed_gate (is_open l bytes) bytes whole
 
   stage1 : Stage l first bytes b1
@@ -383,7 +383,7 @@ module _ (h : Head) (bytes : List ℕ) (segment : ℕ) (is : head_of bytes ≡ S
   abbrev b2 : List ℕ
   b2 = after_steps (fill_writes l Data 0 first usable 0) b1
 
-  module _ (left : List ℕ) (kept : Kept (OffChosen l Data first usable) b1 left) where
+  module _ (left : List ℕ) (kept : SameAt (OffChosen l Data first usable) b1 left) where
     zeroed-stage : Stage l first bytes left
     zeroed-stage = next-stage l Data first usable b1 left (those-length segment (is_usable l bytes)) within end1 kept bytes (λ e. cc) stage1
 
@@ -398,7 +398,7 @@ module _ (h : Head) (bytes : List ℕ) (segment : ℕ) (is : head_of bytes ≡ S
         let P : Bool → Type 0 = λ f. ClosingView (shown (bad i) (formed bytes i) (opened bytes i) (held bytes i)) (shown (bad i) f (opened left i) (held left i)) in
         subst P (sym (zeroed-formed i less)) (closed (bad i) (formed bytes i) (opened bytes i) (opened left i) (held bytes i) (held left i) (zeroed-shut i less)))
 
-  kept2 : Kept (OffChosen l Data first usable) b1 b2
+  kept2 : SameAt (OffChosen l Data first usable) b1 b2
   kept2 = keeps Data 0 (is_usable l bytes) b1 end1
 
   stage2 : Stage l first bytes b2
@@ -433,7 +433,7 @@ module _ (h : Head) (bytes : List ℕ) (segment : ℕ) (is : head_of bytes ≡ S
   abbrev b3 : List ℕ
   b3 = after_steps (fill_writes l FormedByte formed_byte first unformed 0) b2
 
-  module _ (left : List ℕ) (kept : Kept (OffChosen l FormedByte first unformed) b2 left) where
+  module _ (left : List ℕ) (kept : SameAt (OffChosen l FormedByte first unformed) b2 left) where
     form-stage : Stage l first bytes left
     form-stage = next-stage l FormedByte first unformed b2 left (those-length segment (is_unformed l bytes)) within end2 kept bytes (λ e. cc) stage2
 
@@ -452,7 +452,7 @@ module _ (h : Head) (bytes : List ℕ) (segment : ℕ) (is : head_of bytes ≡ S
     form-torn : HalfFormatted segment (cartridge_of bytes) (cartridge_of left)
     form-torn = opening-half left form-stage (λ i less. forming (bad i) (formed bytes i) (opened bytes i) (formed left i) (opened left i) (held bytes i) (held left i) (form-shut i less) (form-kept i less))
 
-  kept3 : Kept (OffChosen l FormedByte first unformed) b2 b3
+  kept3 : SameAt (OffChosen l FormedByte first unformed) b2 b3
   kept3 = keeps FormedByte formed_byte (is_unformed l bytes) b2 end2
 
   stage3 : Stage l first bytes b3
@@ -472,7 +472,7 @@ module _ (h : Head) (bytes : List ℕ) (segment : ℕ) (is : head_of bytes ≡ S
   abbrev b4 : List ℕ
   b4 = after_steps (fill_writes l GateByte open_gate first usable 0) b3
 
-  module _ (left : List ℕ) (kept : Kept (OffChosen l GateByte first usable) b3 left) where
+  module _ (left : List ℕ) (kept : SameAt (OffChosen l GateByte first usable) b3 left) where
     open-stage : Stage l first bytes left
     open-stage = next-stage l GateByte first usable b3 left (those-length segment (is_usable l bytes)) within end3 kept bytes (λ e. cc) stage3
 
@@ -485,7 +485,7 @@ module _ (h : Head) (bytes : List ℕ) (segment : ℕ) (is : head_of bytes ≡ S
     open-torn : HalfFormatted segment (cartridge_of bytes) (cartridge_of left)
     open-torn = opening-half left open-stage (λ i less. opening (bad i) (formed bytes i) (opened bytes i) (formed left i) (opened left i) (held bytes i) (held left i) (open-formed i less) (open-zero i less))
 
-  kept4 : Kept (OffChosen l GateByte first usable) b3 b4
+  kept4 : SameAt (OffChosen l GateByte first usable) b3 b4
   kept4 = keeps GateByte open_gate (is_usable l bytes) b3 end3
 
   formatted4 : cartridge_of b4 ≡ effect (FormatSegment segment) (cartridge_of bytes)

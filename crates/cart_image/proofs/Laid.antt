@@ -15,7 +15,7 @@ use Rattle.cart_image.proofs.Formats.{in-segment, those-fit}
 use Rattle.cart_image.proofs.Heads.{TellsLayout, layout-same}
 use Rattle.cart_image.proofs.Layouts.{laid_out}
 use Rattle.cart_image.proofs.Runs.{Passes, Passes-Passes, Looks-Passes, Failed-Passes, Ran-Passes, Halted-Passes, Ran-told, Halted-told}
-use Rattle.cart_image.proofs.Writes.{Kept, Kept-all, Spares, Spares-both, Spares-synced, spared, spared-crash}
+use Rattle.cart_image.proofs.Writes.{SameAt, SameAt-all, Spares, Spares-both, Spares-synced, spared, spared-crash}
 
 Spares-less : (P Q : ℕ → Type 0) (len : ℕ) (steps : List DiskStep) → ((k : ℕ) → P k → Q k) → Spares Q len steps → Spares P len steps
 Spares-less P Q len [] less spares = tt
@@ -110,21 +110,21 @@ carried-passes m old new steps (Err e) went = Passes-Passes (Looks-Passes went.1
 ])
 
 went-kept : {D T E : Type 0} (m : Meaning D) (old new : D) (steps : List DiskStep) (result : Result T E) (bytes left : List ℕ) → IsSettled m old → Went m old new steps result → m.told old ≡ Some bytes → m.told new ≡ Some left
-    → Spares TellsLayout (length bytes) steps → Kept TellsLayout bytes left
+    → Spares TellsLayout (length bytes) steps → SameAt TellsLayout bytes left
 went-kept m old new steps (Ok x) bytes left settled went told now spares =
     let e : Some left ≡ Some (after_steps steps bytes) = sym now ∙ Ran-told m went.0 new steps bytes (went.1.told ∙ told) went.2 in
     let same : left ≡ after_steps steps bytes = cc in
-    let P : List ℕ → Type 0 = λ b. Kept TellsLayout bytes b in
-    subst P (sym same) (spared TellsLayout steps bytes bytes spares (Kept-all _ bytes))
+    let P : List ℕ → Type 0 = λ b. SameAt TellsLayout bytes b in
+    subst P (sym same) (spared TellsLayout steps bytes bytes spares (SameAt-all _ bytes))
 went-kept m old new steps (Err e) bytes left settled went told now spares =
     elim went.2 [
       | inl failed ↦
           let inside = failed.torn left now in
           let same : left ≡ bytes = settled.only bytes left told (went.1.leaves left (subst (m.may_leave went.0) (sym inside.2) inside.1)) in
-          let P : List ℕ → Type 0 = λ b. Kept TellsLayout bytes b in
-          subst P (sym same) (Kept-all _ bytes)
+          let P : List ℕ → Type 0 = λ b. SameAt TellsLayout bytes b in
+          subst P (sym same) (SameAt-all _ bytes)
       | inr halted ↦
-          spared-crash TellsLayout steps bytes bytes left (λ b. b ≡ bytes) spares (Kept-all _ bytes) (λ b same. let P : List ℕ → Type 0 = λ c. Kept TellsLayout bytes c in subst P (sym same) (Kept-all _ bytes))
+          spared-crash TellsLayout steps bytes bytes left (λ b. b ≡ bytes) spares (SameAt-all _ bytes) (λ b same. let P : List ℕ → Type 0 = λ c. SameAt TellsLayout bytes c in subst P (sym same) (SameAt-all _ bytes))
           (Halted-told m went.0 new steps bytes left (λ b. b ≡ bytes) (went.1.told ∙ told) (λ b is. settled.only bytes b told (went.1.leaves b is)) halted now)
     ]
 

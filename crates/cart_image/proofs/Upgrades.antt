@@ -26,7 +26,7 @@ use Rattle.cart_image.proofs.Copies.{Stays, copied, copied-at, copy-even, copy-s
 use Rattle.cart_image.proofs.Heads.{head-byte, head-laid, number-same, signed-same, views-kept}
 use Rattle.cart_image.proofs.Renews.{Crashed-resize, length-resized, get_or-resized}
 use Rattle.cart_image.proofs.Sectors.{Crashed-put, byte-written}
-use Rattle.cart_image.proofs.Writes.{Kept, Kept-all, Spares, Spares-both, spared, spared-crash, Crashed-front, after-both, Even, has-value}
+use Rattle.cart_image.proofs.Writes.{SameAt, SameAt-all, Spares, Spares-both, spared, spared-crash, Crashed-front, after-both, Even, has-value}
 
 -- a head of version 1 has no layout mark, and its version word is 1
 planes-kind : (m b v n : ℕ) → (if m == mark_byte then base_kind n b else (if v == 1 then Some Planes else None)) ≡ Some Planes → ((m == mark_byte) ≡ false) × ((v == 1) ≡ true)
@@ -145,8 +145,8 @@ module _ (n : ℕ) (short : 3 ≤ n) (most : n ≤ LONGEST) (bytes : List ℕ) (
   abbrev b2 : List ℕ
   b2 = after_steps (copy (28 * n)) b1
 
-  kept2 : Kept (Stays n) b1 b2
-  kept2 = spared (Stays n) (copy (28 * n)) b1 b1 (subst (λ (len : ℕ). Spares (Stays n) len (copy (28 * n))) (sym length1) (copy-spare n bytes long (28 * n) (omega arith))) (Kept-all _ b1)
+  kept2 : SameAt (Stays n) b1 b2
+  kept2 = spared (Stays n) (copy (28 * n)) b1 b1 (subst (λ (len : ℕ). Spares (Stays n) len (copy (28 * n))) (sym length1) (copy-spare n bytes long (28 * n) (omega arith))) (SameAt-all _ b1)
 
   cell2 : (q i : ℕ) → q < sectors n → i < 1027 → get_or b2 (image_len n + 1027 * q + i) 0 ≡ get_or (cell n bytes q) i 0
   cell2 q i on less =
@@ -282,8 +282,8 @@ module _ (n : ℕ) (short : 3 ≤ n) (most : n ≤ LONGEST) (bytes : List ℕ) (
             before left (omega arith) (λ k at. same_at bytes left k (let less : k < image_len n = ⊎_elim (λ low. omega arith) (λ mid. mid.1) at in torn.kept k (omega arith) (omega arith)))
         | inr (inr later) ↦ elim (Crashed-front (λ b. b ≡ b1) body last b1 left later) [
           | inl in_body ↦
-              let kept = spared-crash (Stays n) (body ++ Sync ∷ []) b1 b1 left (λ b. b ≡ b1) (subst (λ (len : ℕ). Spares (Stays n) len (body ++ Sync ∷ [])) (sym length1) body-spare) (Kept-all _ b1)
-              (λ b same. let Q : List ℕ → Type 0 = λ c. Kept (Stays n) b1 c in subst Q (sym same) (Kept-all _ b1)) in_body in
+              let kept = spared-crash (Stays n) (body ++ Sync ∷ []) b1 b1 left (λ b. b ≡ b1) (subst (λ (len : ℕ). Spares (Stays n) len (body ++ Sync ∷ [])) (sym length1) body-spare) (SameAt-all _ b1)
+              (λ b same. let Q : List ℕ → Type 0 = λ c. SameAt (Stays n) b1 c in subst Q (sym same) (SameAt-all _ b1)) in_body in
               let size = kept.size in
               let l = length1 in
               before left (omega arith) (λ k at. kept.same k at ∙ same1 k (⊎_elim (λ low. omega arith) (λ mid. mid.1) at))

@@ -9,15 +9,15 @@ use Rattle.cart_image.specs.Run.{after_steps, Pending, Crashed}
 use Rattle.cart_image.proofs.Bytes.{OnlyIn, OnlyIn-torn, OnlyIn-written}
 
 -- bytes that are the same at each place of a set
-pub record Kept (P : ℕ → Type 0) (old new : List ℕ) : Type 0 where
+pub record SameAt (P : ℕ → Type 0) (old new : List ℕ) : Type 0 where
   pub size : length new ≡ length old
   pub same : (k : ℕ) → P k → get_or new k 0 ≡ get_or old k 0
 
-pub Kept-all : (P : ℕ → Type 0) (bytes : List ℕ) → Kept P bytes bytes
-Kept-all P bytes = record { size = refl; same = λ k at. refl }
+pub SameAt-all : (P : ℕ → Type 0) (bytes : List ℕ) → SameAt P bytes bytes
+SameAt-all P bytes = record { size = refl; same = λ k at. refl }
 
-pub Kept-only : (P : ℕ → Type 0) (place count : ℕ) (a b c : List ℕ) → ((k : ℕ) → P k → (k < place) ⊎ (place + count ≤ k)) → Kept P a b → OnlyIn place count b c → Kept P a c
-Kept-only P place count a b c off kept only = record {
+pub SameAt-only : (P : ℕ → Type 0) (place count : ℕ) (a b c : List ℕ) → ((k : ℕ) → P k → (k < place) ⊎ (place + count ≤ k)) → SameAt P a b → OnlyIn place count b c → SameAt P a c
+SameAt-only P place count a b c off kept only = record {
   size = only.size ∙ kept.size;
   same = λ k at. ⊎_elim (λ below. only.below k below ∙ kept.same k at) (λ above. only.above k above ∙ kept.same k at) (off k at);
 }
@@ -42,31 +42,31 @@ pub Spares-synced : (P : ℕ → Type 0) (len : ℕ) (writes : List DiskStep) �
 Spares-synced P len [] spares = tt
 Spares-synced P len (w ∷ ws) spares = Spares-both P len (w ∷ ws) (Sync ∷ []) spares tt
 
-pub spared : (P : ℕ → Type 0) (steps : List DiskStep) (origin bytes : List ℕ) → Spares P (length bytes) steps → Kept P origin bytes → Kept P origin (after_steps steps bytes)
+pub spared : (P : ℕ → Type 0) (steps : List DiskStep) (origin bytes : List ℕ) → Spares P (length bytes) steps → SameAt P origin bytes → SameAt P origin (after_steps steps bytes)
 spared P [] origin bytes spares kept = kept
 spared P (Look ∷ steps) origin bytes spares kept = spared P steps origin bytes spares kept
 spared P (Sync ∷ steps) origin bytes spares kept = spared P steps origin bytes spares kept
 spared P (SetLen n ∷ steps) origin bytes spares kept = absurd spares
 spared P (WriteAt place part ∷ steps) origin bytes spares kept =
     let only = OnlyIn-written place bytes part spares.0 in
-    spared P steps origin (overwritten bytes place part) (subst (λ (len : ℕ). Spares P len steps) (sym only.size) spares.2) (Kept-only P place (length part) origin bytes _ spares.1 kept only)
+    spared P steps origin (overwritten bytes place part) (subst (λ (len : ℕ). Spares P len steps) (sym only.size) spares.2) (SameAt-only P place (length part) origin bytes _ spares.1 kept only)
 
-pub spared-crash : (P : ℕ → Type 0) (steps : List DiskStep) (origin bytes left : List ℕ) (may : List ℕ → Type 0) → Spares P (length bytes) steps → Kept P origin bytes → ((b : List ℕ) → may b → Kept P origin b)
-    → Crashed may bytes steps left → Kept P origin left
+pub spared-crash : (P : ℕ → Type 0) (steps : List DiskStep) (origin bytes left : List ℕ) (may : List ℕ → Type 0) → Spares P (length bytes) steps → SameAt P origin bytes → ((b : List ℕ) → may b → SameAt P origin b)
+    → Crashed may bytes steps left → SameAt P origin left
 spared-crash P [] origin bytes left may spares kept only crashed = absurd crashed
 spared-crash P (Look ∷ steps) origin bytes left may spares kept only (inl inside) = only left (subst may (sym inside.2) inside.1)
 spared-crash P (Look ∷ steps) origin bytes left may spares kept only (inr behind) = spared-crash P steps origin bytes left may spares kept only behind
 spared-crash P (Sync ∷ steps) origin bytes left may spares kept only (inl inside) = only left (subst may (sym inside.2) inside.1)
 spared-crash P (Sync ∷ steps) origin bytes left may spares kept only (inr behind) =
-    spared-crash P steps origin bytes left (λ b. b ≡ bytes) spares kept (λ b same. let Q : List ℕ → Type 0 = λ c. Kept P origin c in subst Q (sym same) kept) behind
+    spared-crash P steps origin bytes left (λ b. b ≡ bytes) spares kept (λ b same. let Q : List ℕ → Type 0 = λ c. SameAt P origin c in subst Q (sym same) kept) behind
 spared-crash P (SetLen n ∷ steps) origin bytes left may spares kept only crashed = absurd spares
 spared-crash P (WriteAt place part ∷ steps) origin bytes left may spares kept only (inl inside) =
-    Kept-only P place (length part) origin inside.0 left spares.1 (only inside.0 inside.1) (OnlyIn-torn _ _ _ _ inside.2)
+    SameAt-only P place (length part) origin inside.0 left spares.1 (only inside.0 inside.1) (OnlyIn-torn _ _ _ _ inside.2)
 spared-crash P (WriteAt place part ∷ steps) origin bytes left may spares kept only (inr behind) =
     let written = OnlyIn-written place bytes part spares.0 in
     spared-crash P steps origin (overwritten bytes place part) left (Pending (WriteAt place part) bytes may) (subst (λ (len : ℕ). Spares P len steps) (sym written.size) spares.2)
-    (Kept-only P place (length part) origin bytes _ spares.1 kept written)
-    (λ b pending. Kept-only P place (length part) origin pending.0 b spares.1 (only pending.0 pending.1) (OnlyIn-torn _ _ _ _ pending.2)) behind
+    (SameAt-only P place (length part) origin bytes _ spares.1 kept written)
+    (λ b pending. SameAt-only P place (length part) origin pending.0 b spares.1 (only pending.0 pending.1) (OnlyIn-torn _ _ _ _ pending.2)) behind
 
 -- a crash in steps that end in a sync, or behind them
 pub Crashed-front : (may : List ℕ → Type 0) (steps rest : List DiskStep) (bytes left : List ℕ) → Crashed may bytes ((steps ++ Sync ∷ []) ++ rest) left

@@ -22,7 +22,7 @@ use Rattle.host_driver.specs.Fits.{Fits, parameter_of}
 use Rattle.host_driver.specs.Followed.{followed}
 use Rattle.host_driver.specs.Train.{TakesTrain, after_train}
 use Rattle.host_driver.proofs.Follows.{remembered, followed-remembered, after_train-heard, counted, latches, some_number}
-use Rattle.host_driver.proofs.Kept.{Kept, Kept-unreferenced, after_train-kept}
+use Rattle.host_driver.proofs.Kept.{KeepsCartridge, KeepsCartridge-unreferenced, after_train-kept}
 
 -- the host is what it remembers of the unit that it fits
 pub is_remembered : {T : Type 0} {m : Meaning T} {h : Host} {u : UnitView T} → Fits m h u → h ≡ remembered h.geometry u.drive
@@ -39,7 +39,7 @@ is_there n None e = cc
 is_there n (Some info) e = cc
 
 -- a kept deck, without error and pulse, fits again
-fits_kept : {T : Type 0} {m : Meaning T} {h : Host} {u v : UnitView T} (next : Host) → Fits m h u → Kept u.drive.deck v.drive.deck →
+fits_kept : {T : Type 0} {m : Meaning T} {h : Host} {u v : UnitView T} (next : Host) → Fits m h u → KeepsCartridge u.drive.deck v.drive.deck →
     v.drive.deck.error ≡ 0 → v.drive.train ≡ 0 → (is_format v.drive.deck.mode ≡ true → v.drive.deck.format_segments ≡ segments_per_track v.drive.deck) →
     next ≡ remembered h.geometry v.drive → IsSoundUnit m v → Fits m next v
 fits_kept {h = h} {u = u} {v = v} next f k no_error no_pulse segments is sound = record {
@@ -65,7 +65,7 @@ fits_after {m = m} {h = h} {u = u} {v = v} pulses f taken is sound =
     ap (λ (x : Host). followed x pulses) (is_remembered f) ∙ followed-remembered h.geometry u.drive pulses taken.no_reset taken.no_error
     ∙ ap (remembered h.geometry) (sym is) in
     fits_kept {m = m} {h = h} {u = u} {v = v} (followed h pulses) f
-    (subst (λ (r : Record). Kept u.drive.deck r.deck) (sym is) record { length = k.deck.length; protected = k.deck.protected; known = k.deck.known; formats = k.deck.formats })
+    (subst (λ (r : Record). KeepsCartridge u.drive.deck r.deck) (sym is) record { length = k.deck.length; protected = k.deck.protected; known = k.deck.known; formats = k.deck.formats })
     (ap (λ (r : Record). r.deck.error) is ∙ taken.no_error)
     (ap (λ (r : Record). r.train) is ∙ k.train)
     (subst (λ (r : Record). is_format r.deck.mode ≡ true → r.deck.format_segments ≡ segments_per_track r.deck) (sym is) taken.generates)
@@ -86,9 +86,9 @@ fits_without {m = m} {h = h} {u = u} {v = v} pulses f taken is sound =
     let k = after_train-kept u.drive pulses taken.no_reset in
     let same : followed h pulses ≡ remembered h.geometry (after_train u.drive pulses) =
     ap (λ (x : Host). followed x pulses) (is_remembered f) ∙ followed-remembered h.geometry u.drive pulses taken.no_reset taken.no_error in
-    let kept : Kept u.drive.deck (after_train u.drive pulses).deck = record { length = k.deck.length; protected = k.deck.protected; known = k.deck.known; formats = k.deck.formats } in
+    let kept : KeepsCartridge u.drive.deck (after_train u.drive pulses).deck = record { length = k.deck.length; protected = k.deck.protected; known = k.deck.known; formats = k.deck.formats } in
     fits_kept {m = m} {h = h} {u = u} {v = v} (record (followed h pulses) { deck = unreferenced (followed h pulses).deck }) f
-    (subst (λ (r : Record). Kept u.drive.deck r.deck) (sym is) (Kept-unreferenced u.drive.deck (after_train u.drive pulses).deck kept))
+    (subst (λ (r : Record). KeepsCartridge u.drive.deck r.deck) (sym is) (KeepsCartridge-unreferenced u.drive.deck (after_train u.drive pulses).deck kept))
     (ap (λ (r : Record). r.deck.error) is ∙ taken.no_error)
     (ap (λ (r : Record). r.train) is ∙ k.train)
     (subst (λ (r : Record). is_format r.deck.mode ≡ true → r.deck.format_segments ≡ segments_per_track r.deck) (sym is)

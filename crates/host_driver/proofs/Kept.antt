@@ -30,17 +30,17 @@ abbrev pub length_of : Deck → Option ℕ
 length_of d = option_map (λ info. info.segments_per_track) d.cartridge
 
 -- the cartridge's length and its protect mark stay, it stays known, and Format mode is entered with one that may be written
-pub record Kept (old new : Deck) : Type 0 where
+pub record KeepsCartridge (old new : Deck) : Type 0 where
   pub length : length_of new ≡ length_of old
   pub protected : is_protected new ≡ is_protected old
   pub known : old.fresh ≡ false → new.fresh ≡ false
   pub formats : is_format new.mode ≡ true → (is_format old.mode ≡ true) ⊎ (is_protected old ≡ false)
 
-pub Kept-same : (d : Deck) → Kept d d
-Kept-same d = record { length = refl; protected = refl; known = λ e. e; formats = λ e. inl e }
+pub KeepsCartridge-same : (d : Deck) → KeepsCartridge d d
+KeepsCartridge-same d = record { length = refl; protected = refl; known = λ e. e; formats = λ e. inl e }
 
-pub Kept-error : (d : Deck) (error : ℕ) → Kept d (record d { error = error })
-Kept-error d error = record { length = refl; protected = refl; known = λ e. e; formats = λ e. inl e }
+pub KeepsCartridge-error : (d : Deck) (error : ℕ) → KeepsCartridge d (record d { error = error })
+KeepsCartridge-error d error = record { length = refl; protected = refl; known = λ e. e; formats = λ e. inl e }
 
 length-referenced : (on : Bool) (c : Option TapeInfo) → option_map (λ (i : TapeInfo). i.segments_per_track) (referenced_as on c) ≡ option_map (λ i. i.segments_per_track) c
 length-referenced on None = refl
@@ -50,73 +50,73 @@ protected-referenced : (on : Bool) (c : Option TapeInfo) → option_map_or (λ (
 protected-referenced on None = refl
 protected-referenced on (Some info) = refl
 
-pub Kept-unreferenced : (old d : Deck) → Kept old d → Kept old (unreferenced d)
-Kept-unreferenced old d k = record {
+pub KeepsCartridge-unreferenced : (old d : Deck) → KeepsCartridge old d → KeepsCartridge old (unreferenced d)
+KeepsCartridge-unreferenced old d k = record {
   length = length-referenced false d.cartridge ∙ k.length;
   protected = protected-referenced false d.cartridge ∙ k.protected;
   known = k.known;
   formats = k.formats;
 }
 
-Kept-streaming : (d : Deck) (b : Bool) → Kept d (if b then record d { motion = Streaming 0; at_load_point = false } else d)
-Kept-streaming d true = record { length = refl; protected = refl; known = λ e. e; formats = λ e. inl e }
-Kept-streaming d false = Kept-same d
+KeepsCartridge-streaming : (d : Deck) (b : Bool) → KeepsCartridge d (if b then record d { motion = Streaming 0; at_load_point = false } else d)
+KeepsCartridge-streaming d true = record { length = refl; protected = refl; known = λ e. e; formats = λ e. inl e }
+KeepsCartridge-streaming d false = KeepsCartridge-same d
 
-pub Kept-accepted : (c : Command) (d : Deck) → refusal_of d c ≡ None → Kept d (accepted c d)
-Kept-accepted ReportError d taken = record { length = refl; protected = refl; known = λ e. refl; formats = λ e. inl e }
-Kept-accepted LogicalForward d taken = Kept-streaming d (is_stopped d.motion && nat_lt d.offset (limit d))
-Kept-accepted SeekLoadPoint d taken = record { length = refl; protected = refl; known = λ e. e; formats = λ e. inl e }
-Kept-accepted EnterFormat d taken = record { length = refl; protected = refl; known = λ e. e; formats = λ e. inr (format_writable (view_of d) taken) }
-Kept-accepted WriteReference d taken = record {
+pub KeepsCartridge-accepted : (c : Command) (d : Deck) → refusal_of d c ≡ None → KeepsCartridge d (accepted c d)
+KeepsCartridge-accepted ReportError d taken = record { length = refl; protected = refl; known = λ e. refl; formats = λ e. inl e }
+KeepsCartridge-accepted LogicalForward d taken = KeepsCartridge-streaming d (is_stopped d.motion && nat_lt d.offset (limit d))
+KeepsCartridge-accepted SeekLoadPoint d taken = record { length = refl; protected = refl; known = λ e. e; formats = λ e. inl e }
+KeepsCartridge-accepted EnterFormat d taken = record { length = refl; protected = refl; known = λ e. e; formats = λ e. inr (format_writable (view_of d) taken) }
+KeepsCartridge-accepted WriteReference d taken = record {
   length = length-referenced true d.cartridge;
   protected = protected-referenced true d.cartridge;
   known = λ e. e;
   formats = λ e. inl e;
 }
-Kept-accepted EnterVerify d taken = record { length = refl; protected = refl; known = λ e. e; formats = λ e. cc }
-Kept-accepted StopTape d taken = record { length = refl; protected = refl; known = λ e. e; formats = λ e. inl e }
-Kept-accepted EnterPrimary d taken = record { length = refl; protected = refl; known = λ e. e; formats = λ e. cc }
-Kept-accepted c d taken = Kept-same d
+KeepsCartridge-accepted EnterVerify d taken = record { length = refl; protected = refl; known = λ e. e; formats = λ e. cc }
+KeepsCartridge-accepted StopTape d taken = record { length = refl; protected = refl; known = λ e. e; formats = λ e. inl e }
+KeepsCartridge-accepted EnterPrimary d taken = record { length = refl; protected = refl; known = λ e. e; formats = λ e. cc }
+KeepsCartridge-accepted c d taken = KeepsCartridge-same d
 
-pub Kept-given : (c : Command) (parameter : ℕ) (d : Deck) → Kept d (given c parameter d)
-Kept-given SeekTrack parameter d = record { length = refl; protected = refl; known = λ e. e; formats = λ e. inl e }
-Kept-given SkipReverse parameter d = record { length = refl; protected = refl; known = λ e. e; formats = λ e. inl e }
-Kept-given SkipForward parameter d = record { length = refl; protected = refl; known = λ e. e; formats = λ e. inl e }
-Kept-given SetFormatSegments parameter d = record { length = refl; protected = refl; known = λ e. e; formats = λ e. inl e }
-Kept-given c parameter d = Kept-same d
+pub KeepsCartridge-given : (c : Command) (parameter : ℕ) (d : Deck) → KeepsCartridge d (given c parameter d)
+KeepsCartridge-given SeekTrack parameter d = record { length = refl; protected = refl; known = λ e. e; formats = λ e. inl e }
+KeepsCartridge-given SkipReverse parameter d = record { length = refl; protected = refl; known = λ e. e; formats = λ e. inl e }
+KeepsCartridge-given SkipForward parameter d = record { length = refl; protected = refl; known = λ e. e; formats = λ e. inl e }
+KeepsCartridge-given SetFormatSegments parameter d = record { length = refl; protected = refl; known = λ e. e; formats = λ e. inl e }
+KeepsCartridge-given c parameter d = KeepsCartridge-same d
 
 -- and no pulse is counted then
 pub record KeptRecord (old new : Record) : Type 0 where
-  pub deck : Kept old.deck new.deck
+  pub deck : KeepsCartridge old.deck new.deck
   pub train : new.train ≡ old.train
 
 module _ (b : Record) (pulses : ℕ) where
   by_refusal-kept : (c : Command) (o : Option ErrorCode) → refusal_of b.deck c ≡ o → KeptRecord b (by_refusal b c o)
-  by_refusal-kept c None e = record { deck = Kept-accepted c b.deck e; train = refl }
-  by_refusal-kept c (Some code) e = record { deck = Kept-error b.deck _; train = refl }
+  by_refusal-kept c None e = record { deck = KeepsCartridge-accepted c b.deck e; train = refl }
+  by_refusal-kept c (Some code) e = record { deck = KeepsCartridge-error b.deck _; train = refl }
 
   by_command-kept : (o : Option Command) → KeptRecord b (by_command b pulses o)
-  by_command-kept None = record { deck = Kept-error b.deck _; train = refl }
+  by_command-kept None = record { deck = KeepsCartridge-error b.deck _; train = refl }
   by_command-kept (Some c) = by_refusal-kept c (refusal_of b.deck c) refl
 
   showing-kept : (levels : List Bool) → KeptRecord b (showing b levels)
-  showing-kept [] = record { deck = Kept-same b.deck; train = refl }
-  showing-kept (level ∷ []) = record { deck = Kept-same b.deck; train = refl }
-  showing-kept (level ∷ next ∷ rest) = record { deck = Kept-same b.deck; train = refl }
+  showing-kept [] = record { deck = KeepsCartridge-same b.deck; train = refl }
+  showing-kept (level ∷ []) = record { deck = KeepsCartridge-same b.deck; train = refl }
+  showing-kept (level ∷ next ∷ rest) = record { deck = KeepsCartridge-same b.deck; train = refl }
 
   reported-kept : (levels : List Bool) (next : Bool) → KeptRecord b (if next then showing b levels else latched b IllegalInReport pulses)
   reported-kept levels true = showing-kept levels
-  reported-kept levels false = record { deck = Kept-error b.deck _; train = refl }
+  reported-kept levels false = record { deck = KeepsCartridge-error b.deck _; train = refl }
 
   given_more-kept : (a : Parameter) (whole : Bool) →
       KeptRecord b (if whole then record b { deck = given a.command a.value b.deck; under_way = Nothing } else record b { under_way = Awaited a })
-  given_more-kept a true = record { deck = Kept-given a.command a.value b.deck; train = refl }
-  given_more-kept a false = record { deck = Kept-same b.deck; train = refl }
+  given_more-kept a true = record { deck = KeepsCartridge-given a.command a.value b.deck; train = refl }
+  given_more-kept a false = record { deck = KeepsCartridge-same b.deck; train = refl }
 
   taking-kept : (a : Parameter) (value : Bool) →
       KeptRecord b (if value then given_more b (longer a (pulses - 2)) else latched b (parameter_code a.command) (number_of a.command))
   taking-kept a true = given_more-kept (longer a (pulses - 2)) ((longer a (pulses - 2)).taken == parameter_trains a.command)
-  taking-kept a false = record { deck = Kept-error b.deck _; train = refl }
+  taking-kept a false = record { deck = KeepsCartridge-error b.deck _; train = refl }
 
   heard-kept : (u : UnderWay) → KeptRecord b (heard b pulses u)
   heard-kept Nothing = by_command-kept (command_at pulses)
@@ -125,7 +125,7 @@ module _ (b : Record) (pulses : ℕ) where
 
 idled-kept : (b : Record) (streams : Bool) → is_streaming b.deck.motion ≡ streams → KeptRecord b (idled b)
 idled-kept b true e = rw e record { deck = record { length = refl; protected = refl; known = λ f. f; formats = λ f. inl f }; train = refl }
-idled-kept b false e = rw e record { deck = Kept-same b.deck; train = refl }
+idled-kept b false e = rw e record { deck = KeepsCartridge-same b.deck; train = refl }
 
 -- no train but a reset does
 pub after_train-kept : (r : Record) (pulses : ℕ) → (pulses ≡ 1 → ⊥) → KeptRecord (record r { train = 0 }) (after_train r pulses)
