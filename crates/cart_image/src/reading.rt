@@ -1,6 +1,5 @@
 //! What an image file tells: its head, and what it holds of its sectors.
 ghost use Rattle.std.specs.Prelude.{◌≡◌, ◌≢◌, ℕ, ◌+◌, ◌*◌, ◌<◌, ◌≤◌, List, length, slice_index, slice_index_or, slice_range, IfOk, IfSome, OnErr, false};
-ghost use Rattle.qic_base.specs.Terms.{place_of};
 ghost use Rattle.qic_base.specs.Disk.{IsSettled};
 ghost use Rattle.qic_base.specs.TapeCalls.{Reads};
 ghost use Rattle.cart_image.specs.Image.{cells_by, kind_by, layout_by, head_by as head_told, head_of, view_by, view_in, sector_bytes};

@@ -2,7 +2,7 @@
 ghost use Rattle.std.specs.Prelude.{◌≡◌, ℕ, ◌+◌, ◌*◌, ◌<◌, ◌≤◌, length, IfOk, IfSome, OnOk};
 ghost use Rattle.qic_base.specs.Disk.{IsSettled};
 ghost use Rattle.qic_base.specs.Field.{little_endian_bytes};
-ghost use Rattle.cart_image.specs.Layout.{image_len as length_of, upgraded_len as upgraded_to, base_place, cell, cell_with, cells_by, copy_segment as copy_segment_steps, copy_steps, upgrade_steps, put as put_steps};
+ghost use Rattle.cart_image.specs.Layout.{image_len as length_of, upgraded_len as upgraded_to, cell, cell_with, cells_by, copy_segment as copy_segment_steps, copy_steps, upgrade_steps};
 ghost use Rattle.cart_image.specs.Run.{Runs, Looked, Planned};
 
 use crate::layout::{

@@ -13,7 +13,7 @@ use Rattle.cartridge_spec.specs.Settling.{holds, holds_other}
 use Rattle.cartridge_spec.specs.Table.{Entry, slot, entry_in}
 use Rattle.cartridge_spec.specs.Volumes.{Part, Plain, entries_of}
 use Rattle.qic_base.specs.Cartridge.{Cartridge, view_at, lost_places}
-use Rattle.qic_base.specs.Field.{number_at, overwritten}
+use Rattle.qic_base.specs.Field.{overwritten}
 use Rattle.qic_base.specs.Terms.{IsLost}
 use Rattle.qic_base.specs.Step.{Step, FormatSegment}
 use Rattle.qic_base.specs.declared.foreign.ForeignField.{ForeignField}

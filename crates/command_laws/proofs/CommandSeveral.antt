@@ -36,7 +36,7 @@ use Rattle.command_laws.specs.CommandTerms.{Yields, AppendedFrom, Makes, ScriptO
 use Rattle.command_spec.specs.Machine.{HasValues, Spells, may_come_from, fault_of, is_fault, CommandEnds, IsOfBytes}
 use Rattle.command_spec.specs.Make.{AppendedBy, made_contents, Making}
 use Rattle.command_spec.specs.Outcome.{Going, CommandOutcome, refused, Opened, OpenOutcome}
-use Rattle.command_spec.specs.Script.{ScriptDoes, Scripting}
+use Rattle.command_spec.specs.Script.{Scripting}
 use Rattle.command_spec.specs.ScriptLists.{CameFurther, ItemsSpare, StandsAnswered}
 use Rattle.command_spec.specs.Volumes.{IsCarriedOut}
 use Rattle.command_spec.specs.declared.status.Status.{Status}

@@ -1,5 +1,5 @@
 -- A cartridge whose volume table holds a list, behind its mounting, an append, a worn sector or a scrub.
-use Rattle.std.proofs.Common.{◌≡◌, ◌-◌, List, length, ◌∙◌, arith, sym, subst, inl, inr, refl, ℕ, true, ◌*◌, ap, ◌<◌, ◌+◌, ◌/◌, ◌^◌, ◌≤◌, false, [], ◌∷◌, ◌++◌, nat_le, Option, append-nil}
+use Rattle.std.proofs.Common.{◌≡◌, ◌-◌, List, length, ◌∙◌, arith, sym, subst, inl, inr, refl, ℕ, ◌*◌, ap, ◌<◌, ◌+◌, ◌/◌, ◌^◌, ◌≤◌, false, [], ◌∷◌, ◌++◌, nat_le, Option, append-nil}
 use Rattle.std.proofs.lemmas.List.{length-take-le}
 use Rattle.std.proofs.lemmas.List.Elements.{All-take}
 use Rattle.std.proofs.lemmas.Bool.{cases_lt, le-leb}
@@ -25,10 +25,9 @@ use Rattle.cartridge_laws.specs.AppendSettled.{IsSettledFor}
 use Rattle.cartridge_laws.specs.Slots.{FitsSlot}
 use Rattle.cartridge_laws.specs.Table.{IsSoundList}
 use Rattle.cartridge_spec.specs.Appending.{table_writes, free_segments, room, taken_by}
-use Rattle.cartridge_laws.specs.Terms.{last_end, IsInForce, HasList, data_of, unreadable_data, slot_sector, with_slot}
+use Rattle.cartridge_laws.specs.Terms.{last_end, HasList, data_of, unreadable_data, slot_sector, with_slot}
 use Rattle.qic_base.specs.Cartridge.{IsSector, Cartridge, IsLength, view_at}
 use Rattle.cartridge_spec.specs.Formatting.{IsLabel}
-use Rattle.cartridge_spec.specs.Header.{has_signature}
 use Rattle.cartridge_spec.specs.Shape.{IsArea}
 use Rattle.cartridge_spec.specs.TableSegment.{table_cells, TableIs}
 use Rattle.cartridge_spec.specs.HeaderCopies.{last_segment}

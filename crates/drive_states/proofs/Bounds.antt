@@ -13,7 +13,7 @@ use Rattle.drive_spec.specs.declared.deck.Deck.{Deck}
 use Rattle.drive_spec.specs.declared.deck.Motion.{Motion}
 use Rattle.drive_spec.specs.declared.deck.Motion.TheVariants.{Stopped, Streaming, Seeking}
 use Rattle.drive_spec.specs.Deck.{segments_per_track, limit, is_stopped, is_streaming, seen_motion, view_of}
-use Rattle.drive_spec.specs.Terms.{refusal_of, power_on_deck, referenced_as, run_on}
+use Rattle.drive_spec.specs.Terms.{refusal_of, referenced_as, run_on}
 use Rattle.drive_spec.specs.Effects.{accepted, given, reset, ticked, ticked_motion}
 use Rattle.drive_states.specs.Typed.{is_seeking}
 use Rattle.drive_states.specs.Sound.{IsParameter, HasLength, IsInMotion, IsSound}

@@ -4,7 +4,7 @@ use Rattle.std.specs.Prelude.{slice_range}
 use Rattle.std.proofs.Math.ListN.{get_or-append}
 use Rattle.std.proofs.Math.Seq.{drop-append-add}
 use Rattle.std.proofs.lemmas.Bool.{cases_lt, le-leb}
-use Rattle.std.proofs.lemmas.List.{take_all, take_at, drop_at, same_lists, get_or_default, get_or-take, get_or-drop, get_or-append_right, get_or-replicate, length-replicate, length-append, length-drop, replicate-append-replicate}
+use Rattle.std.proofs.lemmas.List.{take_at, drop_at, same_lists, get_or_default, get_or-take, get_or-drop, get_or-append_right, get_or-replicate, length-replicate, length-append, replicate-append-replicate}
 use Rattle.std.proofs.lemmas.List.Concat.{flat_map-append}
 use Rattle.std.proofs.lemmas.List.Edits.{length-between, get_or-between}
 use Rattle.std.proofs.lemmas.List as lists

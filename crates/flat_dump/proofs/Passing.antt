@@ -3,7 +3,7 @@ use Rattle.std.proofs.Common.{◌≡◌, ℕ, zero, suc, ◌+◌, ◌-◌, ◌*�
 use Rattle.std.specs.Prelude.{◌==◌, slice_index}
 use Rattle.std.specs.Option.{option_map}
 use Rattle.std.proofs.lemmas.Bool.{eqb-true}
-use Rattle.std.proofs.lemmas.List.{take_all, drop_all, take_at, same_lists, get_or_default, length-replicate, length-append, length-take-le, length-drop}
+use Rattle.std.proofs.lemmas.List.{take_all, drop_all, take_at, same_lists, get_or_default, length-take-le}
 use Rattle.std.proofs.lemmas.List as lists
 use Rattle.qic_base.proofs.Steps.{Rose-after}
 use Rattle.qic_base.specs.Disk.{Meaning, DiskStep, WriteAt, SetLen, Sync, stored, resized, TornRange, Unsynced, Inside, Crashes, Stored, Failed, IsSettled, IsToldRight, IsLeftNow}

@@ -1,15 +1,9 @@
 -- A file whose first byte is zero is no image, and a step that keeps that byte leaves such a file, in a crash, too.
-use Rattle.std.proofs.Common.{◌≡◌, ℕ, inl, inr, true, false, List, refl, sym, ◌∙◌, ap, arith, Option, Some, None}
-use Rattle.std.specs.Prelude.{◌==◌, slice_index, slice_range, slice_get}
-use Rattle.std.proofs.lemmas.Bool.{eq-eqb}
-use Rattle.std.proofs.lemmas.Slice.Eq.{bytes_eq-Decides}
-use Rattle.std.proofs.lemmas.List.Edits.{length-between, get_or-between}
+use Rattle.std.proofs.Common.{ℕ, inl, inr, List, ◌∙◌, ap}
+use Rattle.std.specs.Prelude.{◌==◌, slice_get}
 use Rattle.std.proofs.lemmas.Option.{slice_get_within, get_or_from_slice_get}
 use Rattle.qic_base.specs.Disk.{DiskStep, Look, WriteAt, SetLen, Sync, Unsynced}
-use Rattle.cart_image.specs.declared.layout.Head.{Head}
-use Rattle.cart_image.specs.Layout.{signature, first_letter}
-use Rattle.cart_image.specs.Image.{read_len, head_of, cartridge_of}
-use Rattle.cart_image.specs.Whole.{head_of-parts, cartridge_of-none}
+use Rattle.cart_image.specs.Layout.{first_letter}
 use Rattle.cart_image.proofs.Renews.{none-by-first}
 use Rattle.flat_dump.specs.Stops.{IsUnsigned, UnsignedIsNone, KeepsFirst}
 

@@ -1,11 +1,10 @@
 -- The map of the unreadable sectors, sector by sector.
-use Rattle.std.proofs.Common.{refl, ◌≡◌, ◌≢◌, ◌↔◌, ℕ, ◌+◌, ◌*◌, ◌^◌, ◌<◌, inl, inr, sym, ◌∙◌, ap, subst, arith, List, length, get_or, set, max, replicate, get_or-set_same, get_or-set_other, w32, Option, Some, None, IfSome}
+use Rattle.std.proofs.Common.{refl, ◌≡◌, ◌≢◌, ◌↔◌, ℕ, ◌+◌, ◌^◌, ◌<◌, inl, inr, sym, ◌∙◌, ap, subst, arith, List, length, get_or, set, max, get_or-set_same, get_or-set_other, w32, Option, Some, None, IfSome}
 use Rattle.std.specs.Int.RustNames.{bit_or}
 use Rattle.std.specs.Int.{bit_at, trailing_zeros}
 use Rattle.std.proofs.Math.ListN.{length-set}
 use Rattle.std.proofs.Math.Pow.{pow-lt}
-use Rattle.std.proofs.lemmas.Bool.{cases_eq, cases_lt, false≢true}
-use Rattle.std.proofs.lemmas.List.{get_or-replicate, get_or_past, length-replicate}
+use Rattle.std.proofs.lemmas.Bool.{cases_eq, false≢true}
 use Rattle.std.proofs.lemmas.Nat.{or_of_32}
 use Rattle.std.proofs.lemmas.Nat.Bits.{bit_at-zero, bit_at-lt, bit_at_or, bit_at-pow_same, bit_at-pow_other, bit_at-trailing_zeros}
 use Rattle.qic_base.specs.Cartridge.{Cartridge, view_at}
@@ -17,7 +16,7 @@ use Rattle.qic_base.specs.declared.tape.SectorView.{SectorView}
 use Rattle.qic_base.specs.declared.tape.SectorView.TheVariants.{Blank, Defect, Lost, Holds}
 use Rattle.cartridge_laws.specs.Segment.{IsUnreadable}
 use Rattle.cartridge_laws.specs.Terms.{IsMarked}
-use Rattle.formatter.specs.Marking.{MarksBelow, MarksUnreadable, HasNoMark}
+use Rattle.formatter.specs.Marking.{MarksBelow, HasNoMark}
 use Rattle.qic_base.specs.declared.tape.SectorRead.TheVariants as read
 
 -- ---- a word with one bit more

@@ -4,7 +4,7 @@ use Rattle.std.proofs.lemmas.Option.{unwrap_or-slice_get}
 use Rattle.std.specs.Option.{option_map}
 use Rattle.std.proofs.lemmas.Bool.{ne_eqb}
 use Rattle.cartridge_laws.proofs.HeaderRefusals.{fault-segments}
-use Rattle.cartridge_spec.specs.Header.{number_in, tested, number, header_fault, has_signature, HeaderFault, word_in}
+use Rattle.cartridge_spec.specs.Header.{number_in, tested, header_fault, has_signature, HeaderFault, word_in}
 use Rattle.cartridge_laws.specs.Terms.{field_fault, fault_as, map_fault}
 use Rattle.header_segments.specs.Refusal.{foreign, refusal}
 use Rattle.header_segments.specs.declared.fault.HeaderFault.TheVariants.{Foreign, NoSignature}

@@ -1,10 +1,9 @@
 -- The marks that the drive knows of stay those of the tape's cartridge.
-use Rattle.std.proofs.Common.{◌≡◌, ℕ, ◌⊎◌, inl, inr, true, false, List, [], ◌∷◌, refl, sym, ap, ◌∙◌, subst, Some, None, Option, is_some, IfSome, IsSomeAnd, Result, Ok, Err}
+use Rattle.std.proofs.Common.{◌≡◌, ℕ, ◌⊎◌, inl, inr, true, false, List, [], ◌∷◌, refl, sym, ap, ◌∙◌, subst, Some, None, Option, is_some, IfSome, IsSomeAnd}
 use Rattle.std.specs.Option.{option_map}
 use Rattle.qic_base.specs.Cartridge.{Cartridge}
 use Rattle.qic_base.specs.Step.{Step, WriteSector, FormatSegment, SetReferenced, Wear, effects, Torn, SegmentBecame, ClosingView, OpeningView}
 use Rattle.qic_base.specs.Tape.{Meaning, Done, Broke}
-use Rattle.qic_base.specs.TapeCalls.{Does}
 use Rattle.qic_base.specs.declared.tape.TapeInfo.{TapeInfo}
 use Rattle.qic_base.proofs.Steps.{Torn-all}
 use Rattle.drive_spec.specs.Terms.{referenced_as}

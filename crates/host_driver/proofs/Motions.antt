@@ -1,14 +1,11 @@
 -- How a seek goes on while trains are sent.
-use Rattle.std.proofs.Common.{◌≡◌, ℕ, ◌+◌, ◌-◌, ◌*◌, ◌<◌, ◌≤◌, Bool, true, false, if◌then◌else◌, nat_le, refl, ap, arith}
+use Rattle.std.proofs.Common.{◌≡◌, ℕ, ◌+◌, ◌-◌, Bool, true, false, if◌then◌else◌, nat_le, refl, ap, arith}
 use Rattle.std.proofs.lemmas.Bool.Decides.{nat_tests}
 use Rattle.drive_spec.specs.declared.deck.Deck.{Deck}
 use Rattle.drive_spec.specs.declared.deck.Motion.{Motion}
 use Rattle.drive_spec.specs.declared.deck.Motion.TheVariants.{Stopped, Streaming, Seeking}
-use Rattle.drive_spec.specs.Deck.{is_stopped, is_streaming}
 use Rattle.drive_spec.specs.Effects.{ticked, ticked_motion}
 use Rattle.drive_states.specs.Typed.{is_seeking}
-use Rattle.drive_states.specs.Sound.{IsInMotion}
-use Rattle.host_driver.specs.Reports.{reports_until_ready}
 use Rattle.host_driver.specs.Train.{moved_for, waited}
 
 pub ticked-one : (m : Motion) → ticked_motion m ≡ moved_for 1 m

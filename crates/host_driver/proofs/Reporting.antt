@@ -1,11 +1,11 @@
 -- A report of the drive, level by level.
-use Rattle.std.proofs.Common.{◌≡◌, ◌≢◌, ℕ, ◌+◌, ◌<◌, ◌≤◌, ◌^◌, inl, inr, Bool, true, false, List, [], ◌∷◌, ◌++◌, length, take, drop, get_or, if◌then◌else◌, ◌==◌, refl, sym, ap, ◌∙◌, arith, subst, Some, None, Option, add-one, length-append}
+use Rattle.std.proofs.Common.{◌≡◌, ◌≢◌, ℕ, ◌+◌, ◌<◌, ◌≤◌, ◌^◌, Bool, true, false, List, [], ◌∷◌, ◌++◌, length, take, drop, get_or, if◌then◌else◌, ◌==◌, refl, sym, ap, ◌∙◌, arith, subst, Some, None, Option, add-one, length-append}
 use Rattle.std.proofs.Math.Seq.{drop-cons, drop-length}
 use Rattle.std.proofs.lemmas.List.{take_more, take_all, length-take}
 use Rattle.std.specs.Option.{option_map_or}
 use Rattle.qic_base.specs.declared.tape.TapeInfo.{TapeInfo}
 use Rattle.qic117_commands.specs.Digits.{digits}
-use Rattle.qic117_commands.specs.Report.{Collected, IsWidth, levels_of, report_of, word_of}
+use Rattle.qic117_commands.specs.Report.{Collected, levels_of, report_of, word_of}
 use Rattle.qic117_commands.proofs.DigitFacts.{length-digits}
 use Rattle.qic117_commands.proofs.ReportFacts.{word_of-levels_of}
 use Rattle.qic117_commands.specs.Commands.{number_of, command_at, commands}

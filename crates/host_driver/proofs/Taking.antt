@@ -1,6 +1,5 @@
 -- What no row refuses of a drive that the host fits.
-use Rattle.std.proofs.Common.{◌≡◌, ℕ, ◌+◌, ◌*◌, ◌^◌, ◌<◌, Bool, true, false, if◌then◌else◌, nat_lt, min, refl, sym, ap, ◌∙◌, subst, Some, None, Option, is_some, IsOk, OnOk, Result, Ok, Err, IfSome, IsSomeAnd, arith}
-use Rattle.std.proofs.lemmas.Bool.Decides.{nat_tests}
+use Rattle.std.proofs.Common.{◌≡◌, ℕ, ◌+◌, ◌*◌, ◌^◌, ◌<◌, Bool, true, false, if◌then◌else◌, min, refl, sym, ap, ◌∙◌, subst, Some, None, Option, is_some, IfSome, IsSomeAnd, arith}
 use Rattle.qic_base.specs.declared.tape.TapeInfo.{TapeInfo}
 use Rattle.qic117_commands.specs.Views.{is_format, is_verify}
 use Rattle.qic117_commands.specs.declared.command.Command.TheVariants.{LogicalForward, SeekTrack, EnterFormat, EnterVerify, SkipReverse, SkipForward, EnterPrimary}

@@ -10,7 +10,7 @@ use Rattle.made_volumes.specs.declared.fault.MakeFault.TheVariants as fault
 use Rattle.cartridge_spec.specs.Appending.{room}
 use Rattle.command_spec.specs.Append.{has_promised_room}
 use Rattle.command_spec.specs.Make.{AppendMade, made_length, made_list, made_answer}
-use Rattle.made_volumes.specs.Runs.{RunEnds, IsListed, HoldsAll, HoldsSome, AreListed, NeverFull}
+use Rattle.made_volumes.specs.Runs.{RunEnds, IsListed, HoldsSome, AreListed}
 use Rattle.command_laws.proofs.MadeMayLaws.{may_done}
 use Rattle.command_spec.specs.declared.status.Status.TheVariants as status
 

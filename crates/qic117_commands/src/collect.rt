@@ -17,7 +17,7 @@ pub struct Collector {
 }
 
 impl Model for Collector {
-    ghost use Rattle.std.specs.Prelude.{ℕ, ◌+◌, ◌^◌, ◌<◌, ◌≤◌};
+    ghost use Rattle.std.specs.Prelude.{◌+◌, ◌^◌, ◌<◌, ◌≤◌};
     ghost use Rattle.qic117_commands.specs.Digits.{digits};
     ghost use Rattle.qic117_commands.specs.Report.{Collected, IsWidth};
 

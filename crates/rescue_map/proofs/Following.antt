@@ -17,7 +17,7 @@ use Rattle.rescue_map.specs.Marking.{Tracked, Moves, NoneMarked}
 use Rattle.rescue_map.specs.Mask.{IsMaskOf}
 use Rattle.rescue_map.specs.Reads.{left_of, Gave, HasEnded, NoNewline, ReadFault, Reads, Ends}
 use Rattle.rescue_map.specs.Scanning.{AreWords}
-use Rattle.rescue_map.proofs.Giving.{Gave-Gave, Gave-nothing}
+use Rattle.rescue_map.proofs.Giving.{Gave-Gave}
 use Rattle.rescue_map.proofs.Lining.{TookLine, lines_of-ended, lines_of-last, lines_of-long, first_line}
 
 abbrev pub start : State

@@ -1,9 +1,8 @@
 -- What a source gave, call after call.
-use Rattle.std.proofs.Common.{◌≡◌, ℕ, ◌+◌, ◌<◌, List, [], ◌∷◌, ◌++◌, length, take, drop, get_or, Option, Some, None, IfSome, refl, sym, ap, ◌∙◌, arith, append_assoc}
+use Rattle.std.proofs.Common.{◌≡◌, ℕ, ◌+◌, ◌<◌, List, [], ◌∷◌, ◌++◌, length, take, drop, get_or, Option, Some, None, refl, sym, ap, ◌∙◌, arith, append_assoc}
 use Rattle.std.specs.Option.{option_map}
-use Rattle.std.proofs.lemmas.List.{take-append-drop, drop_more, length-take-le, get_or-take}
+use Rattle.std.proofs.lemmas.List.{drop_more, length-take-le, get_or-take}
 use Rattle.qic_base.specs.Source.{Meaning}
-use Rattle.qic_base.specs.SourceCalls.{Gives}
 use Rattle.rescue_map.specs.declared.ahead.Ahead.{Ahead}
 use Rattle.rescue_map.specs.Reads.{left_of, Gave, HasEnded, IsAhead}
 

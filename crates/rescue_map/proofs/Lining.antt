@@ -9,7 +9,7 @@ use Rattle.rescue_map.specs.Lines.{Line, lines_from, lines_of, words_of}
 use Rattle.rescue_map.specs.Map.{endless}
 use Rattle.rescue_map.specs.Scanning.{AreWords, Scanned}
 use Rattle.rescue_map.specs.Reads.{Gave, HasEnded, NoNewline, newline_of}
-use Rattle.rescue_map.proofs.Giving.{Gave-nothing, Gave-Gave, ended_same}
+use Rattle.rescue_map.proofs.Giving.{Gave-Gave, ended_same}
 
 -- ---- a line that is read
 

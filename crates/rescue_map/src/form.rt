@@ -2,7 +2,7 @@
 
 ghost use Rattle.std.specs.Prelude.{◌≡◌, List, ℕ, IfSome};
 ghost use Rattle.std.specs.Option.{ForSome};
-ghost use Rattle.rescue_map.specs.Form.{is_status, is_block_mark, block_form, first_block, next_block, words_say, is_missing, says, line_says};
+ghost use Rattle.rescue_map.specs.Form.{is_status, is_block_mark, block_form, first_block, next_block, words_say, is_missing, line_says};
 ghost use Rattle.rescue_map.specs.Marking.{IsBlock, IsSound};
 ghost use Rattle.rescue_map.specs.Scanning.{AreWords};
 

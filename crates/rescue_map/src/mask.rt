@@ -1,6 +1,6 @@
 //! Masks of sectors.
 
-ghost use Rattle.std.specs.Prelude.{◌≡◌, ◌⊎◌, ◌↔◌, ◌≤◌, ◌<◌, ◌+◌, ◌*◌, ◌++◌, ◌∷◌, [], List, ℕ, length, slice_index};
+ghost use Rattle.std.specs.Prelude.{◌≡◌, ◌⊎◌, ◌↔◌, ◌≤◌, ◌<◌, ◌+◌, ◌*◌, ◌++◌, ◌∷◌, [], List, ℕ, length};
 ghost use Rattle.rescue_map.specs.Mask.{IsMarked};
 ghost use Rattle.rescue_map.specs.Marking.{IsBlock, Marks};
 ghost use Rattle.rescue_map.specs.declared.form.Block.{Block};

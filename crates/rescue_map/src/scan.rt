@@ -26,7 +26,7 @@ pub struct Scan {
 }
 
 impl Scan {
-    ghost use Rattle.rescue_map.specs.Lines.{begun_word, content_of, words_from, words_of};
+    ghost use Rattle.rescue_map.specs.Lines.{begun_word, content_of, words_of};
     ghost use Rattle.rescue_map.specs.Scanning.{AreWords, Cut, IsBegun, Scanned};
 
     /// No byte of a line.

@@ -1,7 +1,7 @@
 //! The words of a map.
 
-ghost use Rattle.std.specs.Prelude.{◌≡◌, ◌<◌, ◌≤◌, length, slice_index, drop, IfSome};
-ghost use Rattle.rescue_map.specs.Spelling.{digit_value, digits_from, digits_word, number_word, is_mark, word_is, limited};
+ghost use Rattle.std.specs.Prelude.{◌≡◌, ◌<◌, ◌≤◌, length};
+ghost use Rattle.rescue_map.specs.Spelling.{digit_value, digits_word, number_word, is_mark, word_is};
 
 /// A word: none where a line has no more of them; a number below 2^63, and whether it is written in decimal digits; a
 /// mark; or anything else.

@@ -1,5 +1,5 @@
 -- How a call goes to its segment and through its sectors.
-use Rattle.std.proofs.Common.{◌≡◌, ℕ, ◌+◌, ◌≤◌, sym, subst, arith, Option, Some, None, [], Result, Ok, Err, ◌*◌, ◌<◌, true}
+use Rattle.std.proofs.Common.{◌≡◌, ℕ, ◌≤◌, sym, subst, arith, Option, Some, None, [], Result, Ok, Err, ◌*◌, ◌<◌, true}
 use Rattle.std.specs.Prelude.{IfSome, IsSomeAnd, OnOk}
 use Rattle.std.specs.Option.{option_map_or}
 use Rattle.qic_base.specs.Cartridge.{Cartridge}
@@ -11,7 +11,6 @@ use Rattle.cartridge_spec.specs.Shape.{usable_count}
 use Rattle.cartridge_laws.proofs.Segments.{count_of_whole}
 use Rattle.drive_spec.specs.declared.deck.Deck.{Deck}
 use Rattle.drive_spec.specs.declared.deck.Motion.{Motion}
-use Rattle.drive_spec.specs.declared.deck.Motion.TheVariants.{Stopped, Streaming, Seeking}
 use Rattle.drive_spec.specs.Terms.{is_referenced}
 use Rattle.drive_states.specs.Reach.{StreamsTo, IsUnder}
 use Rattle.drive_states.specs.Sound.{HasLength}

@@ -5,7 +5,6 @@ use Rattle.std.specs.List.{range_with_len}
 use Rattle.std.proofs.lemmas.Bool.{cases_eq, ne_eqb}
 use Rattle.std.proofs.lemmas.List.{append-nil, map-append, map_push, length-append, get_or-take, length-take-le, take_at}
 use Rattle.std.proofs.lemmas.List.FromFn.{fill_by_all}
-use Rattle.std.proofs.lemmas.Nat.Bits.{ones_shr}
 use Rattle.std.proofs.lemmas.Option.{unwrap_or-slice_get}
 use Rattle.qic_base.specs.Terms.{IsLost}
 use Rattle.qic_base.specs.Cartridge.{lost_places}
@@ -14,7 +13,6 @@ use Rattle.qic_base.proofs.LostSetLaws.{lost_places-lost, lost_places-kept}
 use Rattle.cartridge_spec.specs.Shape.{sector_at, usable_places, usable_count}
 use Rattle.cartridge_spec.specs.Settling.{writes_of}
 use Rattle.cartridge_laws.specs.Writes.{block_in, segment_writes, named_writes}
-use Rattle.cartridge_spec.specs.Code.{parity_sectors}
 use Rattle.segment_io.specs.Writes.{named_write, usable_write}
 use Rattle.cartridge_laws.proofs.Places.{place_of_sector, count_more, Front, places_within, all_places, count_same, front_of_all, count_below}
 use Rattle.cartridge_laws.proofs.Writing.{length-block_in}

@@ -1,8 +1,7 @@
 //! The opening of an image file.
 
-ghost use Rattle.std.specs.Prelude.{◌≡◌, ◌≢◌, ◌↔◌, true, false, Err, Some, IfErr, IfOk, IsErr, IsOk, IsTrue};
+ghost use Rattle.std.specs.Prelude.{◌≡◌, ◌≢◌, ◌↔◌, true, false, Err, Some, IfErr, IfOk, IsOk, IsTrue};
 ghost use Rattle.std.specs.Fs.{IsFile, file_type};
-ghost use Rattle.std.specs.IoError.{error_kind};
 ghost use Rattle.tape_files.specs.Answers.{ForbidsWriting, IsUnlocked, KnowsNoLocks};
 ghost use Rattle.tape_files.specs.Apart.{IsApart};
 ghost use Rattle.tape_files.specs.Streams.{IsNoStream};

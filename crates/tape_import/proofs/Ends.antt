@@ -1,11 +1,11 @@
 -- The parts of a run.
-use Rattle.std.proofs.Common.{◌≡◌, ◌≢◌, ℕ, true, false, Bool, List, [], ◌∷◌, length, refl, sym, ◌∙◌, ap, arith, Option, Some, None, IfSome, Result, Ok, Err, inl, inr}
+use Rattle.std.proofs.Common.{◌≡◌, ℕ, true, false, Bool, List, [], ◌∷◌, length, refl, sym, ◌∙◌, arith, Option, Some, None, IfSome, Result, Ok, Err, inl, inr}
 use Rattle.qic_base.specs.Disk as disks
 use Rattle.qic_base.specs.Disk.{IsSettled, Look, stored}
 use Rattle.std.specs.Option.{option_map}
 use Rattle.cart_image.specs.Layout.{resize}
 use Rattle.cart_image.specs.Run as steps
-use Rattle.tape_import.specs.Runs.{Emptied, FoundEmpty, FoundMore}
+use Rattle.tape_import.specs.Runs.{Emptied, FoundEmpty}
 
 -- a disk of which this holds where it tells its crashes is settled
 pub settled-by : {D : Type 0} (d : disks.Meaning D) (disk : D) → disks.IsToldRight d disk → (d.tells_stops disk ≡ true → IsSettled d disk) → IsSettled d disk

@@ -1,5 +1,5 @@
 -- How a copy ends, by how its calls did.
-use Rattle.std.proofs.Common.{◌≡◌, ◌≢◌, ◌⊎◌, ℕ, ◌+◌, ◌≤◌, Bool, true, false, List, [], ◌∷◌, length, Option, Some, None, Result, Ok, Err, refl, ap, sym, subst, ◌∙◌, arith, inl, inr, add-one, length-append}
+use Rattle.std.proofs.Common.{◌≡◌, ℕ, ◌+◌, ◌≤◌, Bool, true, false, List, [], ◌∷◌, length, Option, Some, None, Result, Ok, Err, refl, ap, sym, subst, ◌∙◌, arith, add-one, length-append}
 use Rattle.std.specs.Prelude.{if◌then◌else◌}
 use Rattle.cartridge_spec.specs.Table.{Entry}
 use Rattle.cartridge_spec.specs.Volumes.{volume_length}
@@ -7,21 +7,15 @@ use Rattle.command_spec.specs.Copying.{difference, is_alike}
 use Rattle.command_spec.specs.declared.copy_status.CopyStatus.{CopyStatus}
 use Rattle.drive_states.specs.Unit.{UnitView}
 use Rattle.qic_base.specs.Terms.{reading}
-use Rattle.qic_base.specs.Tape.{Rose}
-use Rattle.volume_store.specs.Opening.{OpenFails}
-use Rattle.volume_store.specs.declared.opening.OpenFault.{OpenFault}
-use Rattle.volume_copy.specs.Faults.{from_status, is_of_cartridge, is_of_opening, to_status}
-use Rattle.volume_copy.specs.Runs.{BothRefused, CopiesOne, CopyRuns, CopyView, HasCopied, HaveCopied, IsCounted, IsRefused, IsUnprinted, MissingEnds, PrintsCount, RunEnds, SideFits, SideView, Units, append_answer, append_status, is_append_fault, is_asked}
-use Rattle.volume_copy.specs.Source.{IsOfPart, IsSoundSource, SourceView, new_source, source_means}
+use Rattle.volume_copy.specs.Runs.{CopiesOne, CopyRuns, CopyView, HasCopied, HaveCopied, RunEnds, SideFits, SideView, Units, append_answer, is_asked}
+use Rattle.volume_copy.specs.Source.{SourceView, new_source, source_means}
 use Rattle.volume_store.specs.Appending.{AppendEnds, FaultsUnread, InOrder}
-use Rattle.cartridge_front.specs.Finding.{is_of_mounting}
 use Rattle.volume_store.specs.Mounting.{StoreView}
 use Rattle.volume_store.specs.declared.appended.Appended.{Appended}
 use Rattle.cartridge_front.specs.declared.fault.StoreFault.{StoreFault}
 use Rattle.command_spec.specs.declared.copy_status.CopyStatus.TheVariants as status
 use Rattle.qic_base.specs.Sink as sinks
 use Rattle.qic_base.specs.Tape as tapes
-use Rattle.volume_store.specs.declared.opening.OpenFault.TheVariants as open_fault
 use Rattle.cartridge_front.specs.declared.fault.StoreFault.TheVariants as fault
 
 -- ---- the lists

@@ -7,7 +7,7 @@ ghost use Rattle.volume_store.specs.Mounting.{StoreFits};
 
 use crate::fault::copy_fault;
 use crate::source::VolumeSource;
-use command_spec::{CopyFault, CopyStatus};
+use command_spec::CopyStatus;
 use drive_states::Unit;
 use qic_base::{Name, Sink, SinkFailed, Tape};
 use tape_script::{number_text, place_text, write_text};

@@ -16,7 +16,7 @@ use Rattle.cartridge_laws.proofs.AppendBytes.{carried_all, bytes_of_sectors}
 use Rattle.qic_base.specs.Cartridge.{IsSector}
 use Rattle.sector_fill.specs.Filling.{GaveUpTo, GaveWithin, AreFilled}
 use Rattle.command_spec.specs.Append.{segment_act}
-use Rattle.volume_input.specs.Next.{Came, NextWritten, NextBroken, NoneCame, CameShort}
+use Rattle.volume_input.specs.Next.{Came, NextWritten, NextBroken, CameShort}
 use Rattle.qic_base.specs.Source as sources
 use Rattle.qic_base.specs.Tape as tapes
 

@@ -1,23 +1,12 @@
 -- The segments of a volume that are gone through, up to the last one of the cartridge.
-use Rattle.std.proofs.Common.{◌≡◌, ◌⊎◌, inl, inr, ℕ, ◌+◌, ◌-◌, ◌*◌, ◌<◌, ◌≤◌, true, List, [], ◌∷◌, ◌++◌, length, Option, Some, None, IsSomeAnd, sym, ap, ◌∙◌, subst, arith, append-nil}
-use Rattle.std.specs.Option.{option_map_or}
+use Rattle.std.proofs.Common.{◌≡◌, ◌⊎◌, inl, inr, ℕ, ◌+◌, ◌-◌, ◌<◌, ◌≤◌, List, [], ◌∷◌, ◌++◌, length, ap, ◌∙◌, subst, arith, append-nil}
 use Rattle.qic_base.specs.Source as sources
 use Rattle.qic_base.specs.Tape as tapes
-use Rattle.qic_base.specs.declared.tape.TapeInfo.{TapeInfo}
 use Rattle.qic_base.specs.Acts.{Outside}
 use Rattle.cartridge_laws.specs.Shape.{Carries}
 use Rattle.cartridge_spec.specs.Shape.{mask_at, capacity}
 use Rattle.cartridge_spec.specs.Volumes.{carrying, capacity_between}
 use Rattle.cartridge_laws.proofs.AppendBytes.{capacity_of, between_carries}
-use Rattle.drive_spec.specs.declared.deck.Deck.{Deck}
-use Rattle.drive_spec.specs.Terms.{is_referenced}
-use Rattle.drive_spec.specs.Deck.{segments_per_track}
-use Rattle.drive_states.specs.Unit.{UnitView}
-use Rattle.host_driver.specs.declared.host.Host.{Host}
-use Rattle.host_driver.specs.Fits.{Fits, segments_of}
-use Rattle.host_driver.specs.Place.{KeepsMode}
-use Rattle.host_driver.proofs.Keeping.{cartridge_kept}
-use Rattle.segment_io.specs.Calls.{HasSegment}
 use Rattle.volume_input.specs.declared.written.Written.{Written}
 use Rattle.volume_input.proofs.Places.{carrying_next, carrying_skips, carrying_none}
 use Rattle.volume_input.proofs.Running.{SoFar}

@@ -1,23 +1,22 @@
 -- One piece of a volume, by its number.
 use Rattle.std.proofs.Common.{◌≡◌, ℕ, zero, suc, ◌+◌, ◌-◌, ◌*◌, ◌/◌, ◌<◌, ◌≤◌, inl, inr, nat_le, Bool, cond, List, [], ◌∷◌, length, take, drop, All, Some, None, slice_get, refl, sym, ap, ◌∙◌, subst, arith}
 use Rattle.std.specs.Prelude.{min}
-use Rattle.std.proofs.lemmas.Bool.{cases_Bool, leb-true}
+use Rattle.std.proofs.lemmas.Bool.{cases_Bool}
 use Rattle.std.proofs.lemmas.List.{length-take-le, take-append-le, take-append-drop}
 use Rattle.std.proofs.lemmas.List.Elements.{All-take}
 use Rattle.qic_base.proofs.Steps.{Tells-map}
 use Rattle.qic_base.specs.Cartridge.{Cartridge, IsSector}
 use Rattle.cartridge_spec.specs.Code.{IsCodeBlock}
-use Rattle.cartridge_spec.specs.Says.{Says, Data, LostSectors, cells_of}
+use Rattle.cartridge_spec.specs.Says.{Says, Data, cells_of}
 use Rattle.cartridge_laws.specs.Terms.{data_of}
 use Rattle.cartridge_spec.specs.Shape.{mask_at, usable_count, data_count, capacity}
 use Rattle.cartridge_laws.proofs.Places.{count_below}
 use Rattle.cartridge_laws.proofs.Segments.{count_of_cells}
-use Rattle.command_spec.specs.Restore.{Piece, PieceEnds, LostIn, MismatchIn, piece_cells}
+use Rattle.command_spec.specs.Restore.{Piece, piece_cells}
 use Rattle.segment_io.specs.Reading.{HasSolved}
-use Rattle.volume_output.specs.Part.{ReadsPiece, LosesPiece, MismatchesPiece}
+use Rattle.volume_output.specs.Part.{ReadsPiece}
 use Rattle.volume_output.specs.Piece.{piece_of}
 use Rattle.volume_output.proofs.Walking.{left_from, left_behind, left_skipped, left_given}
-use Rattle.cartridge_spec.specs.Says as saying
 use Rattle.qic_base.specs.Tape as tapes
 use Rattle.qic_base.specs.TapeCalls as tape_calls
 

@@ -35,7 +35,7 @@ use Rattle.volume_script.specs.declared.fault.ItemFault.{ItemFault}
 use Rattle.volume_script.specs.declared.limited.Limited.{Limited}
 use Rattle.command_spec.specs.declared.refusal.Refusal.{Refusal}
 use Rattle.command_laws.specs.ScriptItems.{EarlyDoes}
-use Rattle.volume_script.specs.Items.{ItemDone, ItemShort, ItemCut, ItemMismatched, ItemEnds, WouldDo}
+use Rattle.volume_script.specs.Items.{ItemDone, ItemShort, ItemCut, ItemEnds, WouldDo}
 use Rattle.volume_script.specs.Limited.{limited_means}
 use Rattle.command_spec.specs.Script.{refusal_line, Did, LineDoes, Meeting, Finds, Meets, acts_on, line_refused, reply, taken_as}
 use Rattle.volume_script.specs.Promised.{RanPromised, Refuses, replied_so}

@@ -1,14 +1,9 @@
 -- A source tells its bytes behind each of its calls just where it did before.
-use Rattle.std.proofs.Common.{◌≡◌, ℕ, List, [], ◌++◌, Option, Some, None, Result, Ok, Err, refl, sym, ap, ◌∙◌}
+use Rattle.std.proofs.Common.{◌≡◌, ℕ, List, ◌++◌, Option, Some, None, refl, sym, ap, ◌∙◌}
 use Rattle.std.specs.Option.{option_map}
 use Rattle.std.specs.Prelude.{is_some}
 use Rattle.qic_base.specs.Source.{Meaning}
-use Rattle.tape_script.specs.declared.line.LineRead.{LineRead}
-use Rattle.tape_script.specs.declared.line.LineRead.TheVariants as read
 use Rattle.qic_base.specs.SourceCalls.{Gave}
-use Rattle.tape_script.specs.Reading.{ReadsLine, Skips}
-use Rattle.volume_script.specs.declared.limited.Limited.{Limited}
-use Rattle.volume_script.specs.Limited.{Lends}
 
 still_some : {A B : Type 0} (f : A → B) (o : Option A) → is_some (option_map f o) ≡ is_some o
 still_some f None = refl

@@ -1,5 +1,5 @@
 -- What a store is made of: where its volumes end, and what the mounting of its cartridge did.
-use Rattle.std.proofs.Common.{◌≡◌, zero, ℕ, suc, ◌+◌, ◌-◌, ◌*◌, ◌<◌, ◌≤◌, ◌++◌, Bool, true, false, List, [], ◌∷◌, length, map, take, Option, Some, None, IfSome, IsSomeAnd, refl, sym, ap, ◌∙◌, subst, arith, slice_get}
+use Rattle.std.proofs.Common.{◌≡◌, zero, ℕ, suc, ◌+◌, ◌-◌, ◌<◌, ◌≤◌, ◌++◌, Bool, true, false, List, [], ◌∷◌, length, map, take, Option, Some, None, IfSome, IsSomeAnd, refl, sym, ap, ◌∙◌, subst, arith, slice_get}
 use Rattle.std.specs.Prelude.{sum_by, if◌then◌else◌}
 use Rattle.std.specs.List.{range_with_len}
 use Rattle.std.specs.Option.{option_map, option_map_or}
@@ -22,7 +22,6 @@ use Rattle.cartridge_spec.specs.Shape.{sector_at, usable_places}
 use Rattle.cartridge_spec.specs.Says.{whole_mask, with_parity}
 use Rattle.cartridge_spec.specs.Code.{parity_sectors}
 use Rattle.drive_spec.specs.Terms.{is_protected, is_referenced}
-use Rattle.drive_states.specs.Sound.{HasLength}
 use Rattle.drive_states.specs.Unit.{UnitView}
 use Rattle.host_driver.specs.declared.host.Host.{Host}
 use Rattle.host_driver.specs.Fits.{Fits, AgreesWithTape, segments_of, deck_of}

@@ -22,7 +22,7 @@ use Rattle.qic_base.specs.Tape.{Rose}
 use Rattle.qic_base.specs.SourceCalls.{Gave, HasEnded}
 use Rattle.tape_script.specs.Reading.{Skips}
 use Rattle.volume_input.proofs.Inputs.{left_of, whole_told, still_tells, none_left}
-use Rattle.volume_input.specs.Input.{HasWritten, EndedShort, InputCut}
+use Rattle.volume_input.specs.Input.{HasWritten, EndedShort}
 use Rattle.volume_input.specs.declared.written.Written.{Written}
 use Rattle.volume_store.specs.Appending.{InputWent, InputWritten, InputBroke, InputIs, TakesNone}
 use Rattle.cartridge_front.specs.declared.fault.StoreFault.{StoreFault}

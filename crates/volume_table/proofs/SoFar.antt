@@ -3,7 +3,7 @@ use Rattle.std.proofs.Common.{◌≡◌, ℕ, ◌+◌, ◌<◌, ◌≤◌, ◌||
 use Rattle.std.specs.List.{slice_get}
 use Rattle.std.proofs.lemmas.List.{length-append}
 use Rattle.std.proofs.lemmas.Bool.Decides.{nat_tests}
-use Rattle.cartridge_spec.specs.Table.{slot, slot_fault, some_free_below, entry_in, is_free, is_used, has_bad_range, Shows}
+use Rattle.cartridge_spec.specs.Table.{slot, slot_fault, some_free_below, entry_in, is_free, is_used, has_bad_range}
 use Rattle.cartridge_laws.specs.Terms.{BadRange}
 use Rattle.cartridge_spec.specs.Table as table
 use Rattle.volume_table.specs.declared.entry.Entry.{Entry}
