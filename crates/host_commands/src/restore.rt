@@ -7,7 +7,7 @@ use crate::opening::{open, store_status};
 use command_spec::Status;
 use drive_states::Unit;
 use qic_base::{Sink, Tape};
-use volume_store::Room;
+use volume_store::{Form, Room};
 
 /// Opens the cartridge and gives the bytes of a volume, counted from 1, and nothing else.
 pub fn restore<T: Tape, K: Sink>(
@@ -23,7 +23,7 @@ pub fn restore<T: Tape, K: Sink>(
         Ok(store) => store,
         Err(status) => return status,
     };
-    match store.restore(unit, number, false, sink) {
+    match store.restore(unit, number, Form::Alone, sink) {
         Ok(_) => Status::Done,
         Err(fault) => store_status(fault),
     }

@@ -11,7 +11,7 @@ use crate::fault::{MakeFault, step_fault};
 use drive_states::Unit;
 use qic_base::{Sink, SinkFailed, Tape};
 use tape_script::{Summed, TextLine, write_text};
-use volume_store::Store;
+use volume_store::{Form, Store};
 
 #[tactic(auto, unfolding(command_spec::specs::Make::sum_line))]
 fn sum_text(number: u32, bytes: u64, total: u32) -> TextLine
@@ -45,7 +45,7 @@ fn sum_volume<T: Tape, K: Sink>(
     ensures fits { result ≢ Err tape_fault → StoreFits T.means store.new unit.new }
 {
     let mut summed = Summed::new();
-    let bytes = match store.restore(unit, number, false, &mut summed) {
+    let bytes = match store.restore(unit, number, Form::Alone, &mut summed) {
         Ok(bytes) => bytes,
         Err(fault) => return Err(step_fault(fault)),
     };

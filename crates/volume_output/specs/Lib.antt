@@ -1,3 +1,4 @@
+pub mod Form
 pub mod Output
 pub mod Part
 pub mod Piece

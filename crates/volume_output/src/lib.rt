@@ -3,12 +3,14 @@
 #![tactic(auto)]
 
 mod fault;
+mod form;
 mod output;
 mod part;
 mod piece;
 mod sectors;
 
 pub use fault::OutputFault;
+pub use form::Form;
 pub use output::give_volume;
 pub use part::{PartRead, read_part};
 pub use sectors::write_bytes;

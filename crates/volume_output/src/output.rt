@@ -8,9 +8,11 @@ ghost use Rattle.drive_states.specs.Reach.{reads_in};
 ghost use Rattle.host_driver.specs.Calls.{IsReady, Keeps};
 ghost use Rattle.host_driver.specs.Fits.{segments_of};
 ghost use Rattle.command_spec.specs.Restore.{pieces_of};
+ghost use Rattle.volume_output.specs.Form.{is_lined};
 ghost use Rattle.volume_output.specs.Output.{OutputEnds};
 
 use crate::fault::OutputFault;
+use crate::form::Form;
 use crate::piece::write_piece;
 use bad_sector_map::BadMap;
 use drive_states::Unit;
@@ -19,9 +21,8 @@ use qic_base::{Sink, Tape};
 use segment_io::Workspace;
 
 /// Reads the first `bytes` bytes of the volume in the segments `start` to `end`, segment by segment, and hands each
-/// segment's bytes to the sink once the whole segment agrees; with `lined`, behind a line `part K`, where K is their
-/// number. A segment that holds none of these bytes is not read. The first one that doesn't read ends it. The tape is
-/// only read.
+/// segment's bytes to the sink in this form, once the whole segment agrees. A segment that holds none of these bytes
+/// is not read. The first one that doesn't read ends it. The tape is only read.
 pub fn give_volume<T: Tape, K: Sink>(
     host: &mut Host,
     unit: &mut Unit<T>,
@@ -29,7 +30,7 @@ pub fn give_volume<T: Tape, K: Sink>(
     start: u16,
     end: u16,
     bytes: u64,
-    lined: bool,
+    form: Form,
     work: &mut Workspace,
     sink: &mut K,
 ) -> Result<(), OutputFault>
@@ -40,7 +41,7 @@ pub fn give_volume<T: Tape, K: Sink>(
     requires on_tape { end < length map.now }
     requires within { bytes ≤ capacity_between map.now start end }
     ensures ends { OutputEnds T.means K.means map.now
-        (pieces_of map.now (carrying map.now start end) bytes) lined
+        (pieces_of map.now (carrying map.now start end) bytes) (is_lined form)
         (around unit.old.tape sink.old) (around unit.new.tape sink.new) result }
     ensures keeps { Keeps T.means host.new unit.old unit.new }
 {
@@ -49,7 +50,7 @@ pub fn give_volume<T: Tape, K: Sink>(
         let usable = map.usable(segment);
         let count = left.min(u64::from(map.capacity(segment))) as u32;
         if count > 0 {
-            write_piece(host, unit, segment, usable, count, lined, work, sink)?;
+            write_piece(host, unit, segment, usable, count, form, work, sink)?;
             left -= u64::from(count);
         }
     }

@@ -7,10 +7,12 @@ ghost use Rattle.cartridge_spec.specs.Shape.{mask_at, capacity};
 ghost use Rattle.drive_states.specs.Reach.{reads_in};
 ghost use Rattle.host_driver.specs.Calls.{IsReady, Keeps};
 ghost use Rattle.segment_io.specs.Calls.{HasSegment};
+ghost use Rattle.volume_output.specs.Form.{is_lined};
 ghost use Rattle.volume_output.specs.Output.{OutputEnds};
 ghost use Rattle.volume_output.specs.Piece.{piece_of, part_text};
 
 use crate::fault::OutputFault;
+use crate::form::Form;
 use crate::sectors::write_bytes;
 use drive_states::Unit;
 use host_driver::Host;
@@ -25,7 +27,7 @@ pub fn write_piece<T: Tape, K: Sink>(
     segment: u32,
     usable: u32,
     count: u32,
-    lined: bool,
+    form: Form,
     work: &mut Workspace,
     sink: &mut K,
 ) -> Result<(), OutputFault>
@@ -34,7 +36,7 @@ pub fn write_piece<T: Tape, K: Sink>(
     requires mode { reads_in unit.old.drive.deck.mode ≡ true }
     requires within { count ≤ capacity usable }
     ensures ends { (words : List ℕ) → usable ≡ mask_at words segment →
-        OutputEnds T.means K.means words (piece_of segment count ∷ []) lined
+        OutputEnds T.means K.means words (piece_of segment count ∷ []) (is_lined form)
         (around unit.old.tape sink.old) (around unit.new.tape sink.new) result }
     ensures keeps { Keeps T.means host.new unit.old unit.new }
 {
@@ -44,25 +46,26 @@ pub fn write_piece<T: Tape, K: Sink>(
         Err(SegFault::Mismatch { segment }) => return Err(OutputFault::Mismatch { segment }),
         Err(SegFault::Tape) => return Err(OutputFault::Tape),
     }
-    match write_part(work.sectors(), count, lined, sink) {
+    match write_part(work.sectors(), count, form, sink) {
         Ok(()) => Ok(()),
         Err(SinkFailed) => Err(OutputFault::Sink),
     }
 }
 
-/// Writes the first `count` bytes of the sectors; with `lined`, behind a line with their number.
+/// Writes the first `count` bytes of the sectors in this form.
 fn write_part<K: Sink>(
     sectors: &[Sector],
     count: u32,
-    lined: bool,
+    form: Form,
     sink: &mut K,
 ) -> Result<(), SinkFailed>
     requires { count ≤ 1024 * length sectors.now }
     ensures { (segment : ℕ) → Writes K.means sink.old sink.new
-        (part_text lined (piece_of segment count) sectors.now) result }
+        (part_text (is_lined form) (piece_of segment count) sectors.now) result }
 {
-    if lined {
-        write_line(count, sink)?;
+    match form {
+        Form::Alone => {}
+        Form::Lined => write_line(count, sink)?,
     }
     write_bytes(sectors, count, sink)
 }

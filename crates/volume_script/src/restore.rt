@@ -10,7 +10,7 @@ use crate::replies::{replied, write_refusal, write_restored};
 use command_spec::Refusal;
 use drive_states::Unit;
 use qic_base::{Sink, Source, Tape};
-use volume_store::{Store, StoreFault};
+use volume_store::{Form, Store, StoreFault};
 
 /// Gives a volume's bytes segment by segment, each behind a line with their number, and last the volume's number and
 /// length.
@@ -29,7 +29,7 @@ pub fn restore<T: Tape, S: Source, K: Sink>(
     ensures store { KeepsStore store.old store.new }
     ensures source { source.new ≡ source.old }
 {
-    match store.restore(unit, number, true, sink) {
+    match store.restore(unit, number, Form::Lined, sink) {
         Ok(bytes) => replied(write_restored(number, bytes, sink)),
         Err(StoreFault::NoVolume { number, count }) => {
             replied(write_refusal(Refusal::NoVolume { number, count }, sink))

@@ -31,7 +31,7 @@ is_refused info f (Some c) known refuses = refuses
 pub cut_first : {T : Type 0} (t : tapes.Meaning T) (a b : T) → tapes.Broke t a b [] → IsCutOff t a b
 cut_first t a b broke = record { steps = []; broke = broke; front = nothing_begins (t.told a) }
   where
-    nothing_begins : (told : Option (Option Cartridge)) → IfSome told (λ held. ([] ≡ []) ⊎ IsSomeAnd held (λ c. IsSettling c []))
+    nothing_begins : (told : Option (Option Cartridge)) → IfSome told (λ held. (◌≡◌ {A = List TapeStep} [] []) ⊎ IsSomeAnd held (λ c. IsSettling c []))
     nothing_begins None = tt
     nothing_begins (Some h) = inl refl
 

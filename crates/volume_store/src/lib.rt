@@ -18,4 +18,5 @@ pub use opening::{OpenFault, open, start};
 pub use room::Room;
 pub use segment_mending::ScrubReport;
 pub use store::Store;
+pub use volume_output::Form;
 pub use volume_text::appended_text;

@@ -11,6 +11,7 @@ ghost use Rattle.host_driver.specs.Fits.{AgreesWithTape, deck_of, segments_of};
 ghost use Rattle.cartridge_spec.specs.Shape.{mask_at, marked_sectors};
 ghost use Rattle.cartridge_spec.specs.Volumes.{capacity_between, volume_length};
 ghost use Rattle.header_segments.specs.Header.{header_of};
+ghost use Rattle.volume_output.specs.Form.{is_lined};
 ghost use Rattle.volume_store.specs.Appending.{AppendEnds, FaultsUnread, KeepsFormat, KeepsList, InOrder};
 ghost use Rattle.volume_store.specs.Mounting.{MountDoes, StoreFits, KeepsStore};
 ghost use Rattle.volume_store.specs.Restoring.{RestoreEnds, ReadsPart, fault_of_output};
@@ -30,7 +31,7 @@ use qic_base::{Name, Sector, Sink, Source, Tape};
 use segment_io::Workspace;
 use segment_mending::{ScrubFault, ScrubReport, scrub_segments};
 use std::marker::Model;
-use volume_output::{OutputFault, give_volume, read_part};
+use volume_output::{Form, OutputFault, give_volume, read_part};
 use volume_table::{Entry, Table};
 
 /// A mounted cartridge's volumes: its header in force, its map of bad sectors and the list of its volumes. It doesn't
@@ -189,19 +190,19 @@ impl Store {
         })
     }
 
-    /// Gives the bytes of a volume, counted from 1, segment by segment, each once the whole segment agrees; with
-    /// `lined` behind a line `part K`, where K is their number. The answer is the volume's length. `NoVolume` where
-    /// there is none of this number; `Lost` or `Mismatch` at the first segment that holds some of its length and
-    /// doesn't read, and what was given is then the data of the segments before it. The tape is only read.
+    /// Gives the bytes of a volume, counted from 1, segment by segment in this form, each once the whole segment
+    /// agrees. The answer is the volume's length. `NoVolume` where there is none of this number; `Lost` or `Mismatch`
+    /// at the first segment that holds some of its length and doesn't read, and what was given is then the data of the
+    /// segments before it. The tape is only read.
     pub fn restore<T: Tape, K: Sink>(
         &mut self,
         unit: &mut Unit<T>,
         number: u32,
-        lined: bool,
+        form: Form,
         sink: &mut K,
     ) -> Result<u64, StoreFault>
         requires fits { StoreFits T.means self.old unit.old }
-        ensures ends { RestoreEnds T.means K.means self.old number lined
+        ensures ends { RestoreEnds T.means K.means self.old number (is_lined form)
             (around unit.old.tape sink.old) (around unit.new.tape sink.new) result }
         ensures store { KeepsStore self.old self.new }
         ensures fits { result ≢ Err StoreFault.Tape → StoreFits T.means self.new unit.new }
@@ -221,7 +222,7 @@ impl Store {
             start,
             end,
             length,
-            lined,
+            form,
             &mut self.work,
             sink,
         ) {

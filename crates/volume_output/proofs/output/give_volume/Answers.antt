@@ -6,6 +6,7 @@ use Rattle.cartridge_spec.specs.Shape.{mask_at, capacity}
 use Rattle.host_driver.proofs.Keeping.{keeps_both}
 use Rattle.command_spec.specs.Restore.{Piece}
 use Rattle.volume_output.specs.declared.fault.OutputFault.{OutputFault}
+use Rattle.volume_output.specs.Form.{is_lined}
 use Rattle.volume_output.specs.Output.{OutputEnds}
 use Rattle.volume_output.specs.Piece.{piece_of}
 use Rattle.volume_output.proofs.Walking.{count_is, left_from, left_behind, left_skipped, left_given, same_left, one_given, one_failed, all_given}
@@ -26,11 +27,11 @@ returns-in_err-write_piece-clause-ends g c =
     let some : 0 < count = c.if-count-gt0.true in
     let rest : List Piece = left_from words (segment + 1) c.args.end (c.loop-segment.left - count) in
     let failed : (why : OutputFault) → why ≡ c.in_err-write_piece.field-0.0 →
-    OutputEnds g.T.Tape.means g.K.Sink.means words (left_from words c.args.start c.args.end c.args.bytes) c.args.lined
+    OutputEnds g.T.Tape.means g.K.Sink.means words (left_from words c.args.start c.args.end c.args.bytes) (is_lined c.args.form)
     (around c.args.unit.now.tape c.args.sink.now) (around c.write_piece.new.unit.tape c.write_piece.new.sink) (Err why) =
     λ why same.
     one_failed g.T.Tape.means g.K.Sink.means words (left_from words c.args.start c.args.end c.args.bytes)
-    (left_from words segment c.args.end c.loop-segment.left) c.args.lined (around c.args.unit.now.tape c.args.sink.now)
+    (left_from words segment c.args.end c.loop-segment.left) (is_lined c.args.form) (around c.args.unit.now.tape c.args.sink.now)
     (around c.loop-segment.unit.tape c.loop-segment.sink) c.loop-segment.invariant.goes (piece_of segment count) rest
     (around c.write_piece.new.unit.tape c.write_piece.new.sink) why (left_given words segment c.args.end within c.loop-segment.left count is some)
     (rw same (c.in_err-write_piece.ensures.ends words c.usable-usable.ensures)) in
@@ -53,7 +54,7 @@ loop-segment-preserved g c =
           let rest : List Piece = left_from words (segment + 1) c.args.end (left - count) in
           let some : 0 < count = w.if-count-gt0.true in
           rw w.left-is (rw w.unit-is (rw w.sink-is (rw w.host-is (rw w.from-left.ensures (record {
-            goes = one_given g.T.Tape.means g.K.Sink.means words all (left_from words segment c.args.end left) c.args.lined
+            goes = one_given g.T.Tape.means g.K.Sink.means words all (left_from words segment c.args.end left) (is_lined c.args.form)
                 (around c.args.unit.now.tape c.args.sink.now) (around c.loop-segment.unit.tape c.loop-segment.sink) c.loop-segment.invariant.goes
                 g.met.K.Sink.took_both (piece_of segment count) rest (around w.write_piece.new.unit.tape w.write_piece.new.sink)
                 (left_given words segment c.args.end within left count is some)
@@ -63,7 +64,7 @@ loop-segment-preserved g c =
       | else-count-gt0 w ↦
           let none : count ≤ 0 = w.if-count-gt0.false in
           rw w.left-is (rw w.unit-is (rw w.sink-is (rw w.host-is (record {
-            goes = same_left g.T.Tape.means g.K.Sink.means words all (left_from words segment c.args.end left) c.args.lined
+            goes = same_left g.T.Tape.means g.K.Sink.means words all (left_from words segment c.args.end left) (is_lined c.args.form)
                 (around c.args.unit.now.tape c.args.sink.now) (around c.loop-segment.unit.tape c.loop-segment.sink) c.loop-segment.invariant.goes
                 (left_from words (segment + 1) c.args.end left) (left_skipped words segment c.args.end within left (omega arith));
             keeps = c.loop-segment.invariant.keeps;
@@ -73,7 +74,7 @@ loop-segment-preserved g c =
 pub returns-clause-ends : goal.returns-clause-ends
 returns-clause-ends g c =
     all_given g.T.Tape.means g.K.Sink.means c.args.map.now (left_from c.args.map.now c.args.start c.args.end c.args.bytes)
-    (left_from c.args.map.now c.loop-segment.segment c.args.end c.loop-segment.left) c.args.lined
+    (left_from c.args.map.now c.loop-segment.segment c.args.end c.loop-segment.left) (is_lined c.args.form)
     (around c.args.unit.now.tape c.args.sink.now) (around c.loop-segment.unit.tape c.loop-segment.sink) c.loop-segment.invariant.goes
     g.met.K.Sink.took_nothing
     (left_behind c.args.map.now c.loop-segment.segment c.args.end c.loop-segment.left
