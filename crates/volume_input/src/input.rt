@@ -7,8 +7,10 @@ ghost use Rattle.drive_spec.specs.Terms.{is_referenced};
 ghost use Rattle.host_driver.specs.Calls.{IsReady, MayWrite, Keeps};
 ghost use Rattle.host_driver.specs.Fits.{segments_of};
 ghost use Rattle.volume_input.specs.Input.{InputEnds};
+ghost use Rattle.volume_input.specs.Length.{is_exact};
 
 use crate::fault::InputFault;
+use crate::length::Length;
 use crate::segment::write_next;
 use crate::written::Written;
 use bad_sector_map::BadMap;
@@ -19,7 +21,7 @@ use segment_io::Workspace;
 
 /// Writes the bytes of the source, at most `most`, into the carrying segments from `first` on, each segment once its
 /// bytes have come: all its usable sectors, with zero bytes behind the last byte, and their parity. One segment is
-/// written for no byte. With `exact` a source that ends before `most` bytes is a fault, and the segment that it doesn't
+/// written for no byte. With `Exact` a source that ends before `most` bytes is a fault, and the segment that it doesn't
 /// fill is left.
 pub fn take_volume<T: Tape, S: Source>(
     host: &mut Host,
@@ -27,7 +29,7 @@ pub fn take_volume<T: Tape, S: Source>(
     map: &BadMap,
     first: u32,
     most: u32,
-    exact: bool,
+    asked: Length,
     work: &mut Workspace,
     source: &mut S,
 ) -> Result<Written, InputFault>
@@ -38,7 +40,7 @@ pub fn take_volume<T: Tape, S: Source>(
     requires room { 1 ≤ capacity_between map.now first (length map.now - 1) }
     requires within { most ≤ capacity_between map.now first (length map.now - 1) }
     ensures ends { InputEnds T.means S.means map.now (carrying map.now first (length map.now - 1))
-        most exact (reading unit.old.tape source.old) (reading unit.new.tape source.new) result }
+        most (is_exact asked) (reading unit.old.tape source.old) (reading unit.new.tape source.new) result }
     ensures kept { S.means.keeps source.old source.new }
     ensures keeps { Keeps T.means host.new unit.old unit.new }
 {
@@ -59,7 +61,7 @@ pub fn take_volume<T: Tape, S: Source>(
             segment,
             written.bytes,
             most,
-            exact,
+            asked,
             work,
             source,
         ) {

@@ -4,9 +4,11 @@
 mod fault;
 mod filling;
 mod input;
+mod length;
 mod segment;
 mod written;
 
 pub use fault::InputFault;
 pub use input::take_volume;
+pub use length::Length;
 pub use written::Written;

@@ -5,10 +5,12 @@ ghost use Rattle.qic_base.specs.Terms.{reading};
 ghost use Rattle.cartridge_spec.specs.Shape.{mask_at};
 ghost use Rattle.host_driver.specs.Calls.{IsReady, MayWrite, Keeps};
 ghost use Rattle.segment_io.specs.Calls.{HasSegment};
+ghost use Rattle.volume_input.specs.Length.{is_exact};
 ghost use Rattle.volume_input.specs.Next.{NextEnds};
 
 use crate::fault::InputFault;
 use crate::filling::{are_sectors, fill_work};
+use crate::length::Length;
 use bad_sector_map::BadMap;
 use drive_states::Unit;
 use host_driver::Host;
@@ -25,7 +27,7 @@ pub fn write_next<T: Tape, S: Source>(
     segment: u32,
     before: u32,
     most: u32,
-    exact: bool,
+    asked: Length,
     work: &mut Workspace,
     source: &mut S,
 ) -> Result<Option<u32>, InputFault>
@@ -34,7 +36,7 @@ pub fn write_next<T: Tape, S: Source>(
     requires segment { HasSegment unit.old.drive.deck segment (mask_at map.now segment) }
     requires map { segment < length map.now }
     requires within { before ≤ most }
-    ensures ends { NextEnds T.means S.means map.now segment before most exact
+    ensures ends { NextEnds T.means S.means map.now segment before most (is_exact asked)
         (reading unit.old.tape source.old) (reading unit.new.tape source.new) result }
     ensures kept { S.means.keeps source.old source.new }
     ensures keeps { Keeps T.means host.new unit.old unit.new }
@@ -46,7 +48,7 @@ pub fn write_next<T: Tape, S: Source>(
         Err(SourceFailed) => return Err(InputFault::Source),
     };
     are_sectors(work.sectors());
-    if exact && read < capacity.min(left) {
+    if asked == Length::Exact && read < capacity.min(left) {
         return Err(InputFault::Short {
             read: before + read,
         });

@@ -20,7 +20,7 @@ use host_driver::Host;
 use qic_base::{Name, Source, SourceFailed, Tape};
 use segment_io::Workspace;
 use tape_script::skip;
-use volume_input::{InputFault, Written, take_volume};
+use volume_input::{InputFault, Length, Written, take_volume};
 use volume_table::{SLOTS, TABLE_SEGMENT, Table};
 
 /// The last segment that is taken: that of the volume table, where there is no volume.
@@ -88,7 +88,7 @@ fn take_promised<T: Tape, S: Source>(
         map,
         first_free(table),
         count,
-        true,
+        Length::Exact,
         work,
         source,
     ) {
@@ -129,7 +129,7 @@ fn take_all<T: Tape, S: Source>(
         map,
         first_free(table),
         have,
-        false,
+        Length::AtMost,
         work,
         source,
     ) {

@@ -6,6 +6,7 @@ use Rattle.cartridge_spec.specs.Volumes.{carrying}
 use Rattle.host_driver.proofs.Keeping.{keeps_none, keeps_both}
 use Rattle.volume_input.specs.declared.written.Written.{Written}
 use Rattle.volume_input.specs.Input.{HasWritten}
+use Rattle.volume_input.specs.Length.{is_exact}
 use Rattle.volume_input.specs.Next.{NextWritten}
 use Rattle.volume_input.proofs.Places.{capacity_carries}
 use Rattle.volume_input.proofs.Running.{SoFar, begin, next, last, none_came, failed}
@@ -46,9 +47,9 @@ returns-then-read-capacity-clause-ends g c =
       | then-read-capacity-via-then-read-capacity w ↦ inl (omega arith)
       | then-read-capacity-via-else-read-capacity+then-written-most w ↦ inr (omega arith)
     ] in
-    subst (λ (w : Written). HasWritten g.T.Tape.means g.S.Source.means words (carrying words c.args.first (length words - 1)) c.args.most c.args.exact start new w)
+    subst (λ (w : Written). HasWritten g.T.Tape.means g.S.Source.means words (carrying words c.args.first (length words - 1)) c.args.most (is_exact c.args.asked) start new w)
     (sym c.with-written.ensures)
-    (last words (carrying words c.args.first (length words - 1)) segment c.args.most c.args.exact start now new
+    (last words (carrying words c.args.first (length words - 1)) segment c.args.most (is_exact c.args.asked) start now new
     (carrying words (segment + 1) (length words - 1)) c.loop-segment.written carry far c.in-Ok-Some.read
     (rw c.in-Ok-Some.field-0-is at c.in-Ok-Some.ensures.ends) ends)
 
@@ -62,7 +63,7 @@ returns-in-Ok-None-clause-ends g c =
     let now = reading c.loop-segment.unit.tape c.loop-segment.source in
     let new = reading c.write_next.new.unit.tape c.write_next.new.source in
     let far = here_next words c.args.first segment c.args.most start now c.loop-segment.written c.loop-segment.invariant.far (omega arith) carry in
-    none_came words (carrying words c.args.first (length words - 1)) segment c.args.most c.args.exact start now new
+    none_came words (carrying words c.args.first (length words - 1)) segment c.args.most (is_exact c.args.asked) start now new
     (carrying words (segment + 1) (length words - 1)) c.loop-segment.written carry far
     (rw c.in-Ok-None.field-0-is at c.in-Ok-None.ensures.ends)
 
@@ -76,7 +77,7 @@ returns-in-Err-clause-ends g c =
     let now = reading c.loop-segment.unit.tape c.loop-segment.source in
     let new = reading c.write_next.new.unit.tape c.write_next.new.source in
     let far = here_next words c.args.first segment c.args.most start now c.loop-segment.written c.loop-segment.invariant.far (omega arith) carry in
-    failed words (carrying words c.args.first (length words - 1)) segment c.args.most c.args.exact start now new
+    failed words (carrying words c.args.first (length words - 1)) segment c.args.most (is_exact c.args.asked) start now new
     (carrying words (segment + 1) (length words - 1)) c.loop-segment.written carry far
     c.in-Err.fault c.in-Err.ensures.ends
 
@@ -93,7 +94,7 @@ loop-segment-preserved g c =
     let sum : c.with-written.result.bytes ≡ c.loop-segment.written.bytes + c.in-Ok-Some.read = ap (λ (w : Written). w.bytes) c.with-written.ensures in
     let before : c.loop-segment.written.bytes ≤ c.args.most =
     written_within words c.args.first segment c.args.most start now c.loop-segment.written c.loop-segment.invariant.far in
-    let come : NextWritten g.T.Tape.means g.S.Source.means words segment c.loop-segment.written.bytes c.args.most c.args.exact now new c.in-Ok-Some.read =
+    let come : NextWritten g.T.Tape.means g.S.Source.means words segment c.loop-segment.written.bytes c.args.most (is_exact c.args.asked) now new c.in-Ok-Some.read =
     rw c.in-Ok-Some.field-0-is at c.in-Ok-Some.ensures.ends in
     let few : length come.bytes ≤ c.args.most - c.loop-segment.written.bytes = come.came.took.within in
     let count : c.in-Ok-Some.read ≡ length come.bytes = come.count in
@@ -101,7 +102,7 @@ loop-segment-preserved g c =
       far = subst (λ (w : Written). SoFar g.T.Tape.means g.S.Source.means words (carrying words c.args.first (length words - 1)) c.args.most start new
           (carrying words (segment + 1) (length words - 1)) w)
           (sym c.with-written.ensures)
-          (next words (carrying words c.args.first (length words - 1)) segment c.args.most c.args.exact start now new
+          (next words (carrying words c.args.first (length words - 1)) segment c.args.most (is_exact c.args.asked) start now new
           (carrying words (segment + 1) (length words - 1)) c.loop-segment.written carry far c.in-Ok-Some.read come (omega arith) (omega arith));
       kept = g.met.S.Source.keeps_on c.args.source.now c.loop-segment.source c.write_next.new.source c.loop-segment.invariant.kept c.in-Ok-Some.ensures.kept;
       keeps = keeps_both c.loop-segment.invariant.keeps c.in-Ok-Some.ensures.keeps;
