@@ -1,8 +1,8 @@
 #!/usr/bin/env bash
 # Hands its words on to the program. Where that isn't built yet, or its sources are newer, it is proved and built first: in a
 # folder of its own, with just the crates that it needs, as many side by side as the machine has processors and memory for.
-# What was proved is kept there, so a build that was broken off goes on where it was. A word for help alone is answered here,
-# and builds nothing.
+# What was proved is kept there, crate by crate, so a build that was broken off goes on where it was. A word for help alone is
+# answered here, and builds nothing.
 set -euo pipefail
 top=$(cd "$(dirname "$0")" && pwd)
 program=$top/crates/tape/out/tape
@@ -56,26 +56,21 @@ is_built() {
         -newer "$program" \( -name '*.rt' -o -name '*.antt' \) -print -quit)" ]
 }
 
-# Makes the sources in a folder those of these crates as they stand, and leaves what was proved of them there.
+# Makes the sources in the folder those of the crates as they stand.
 copy_sources() {
-    local place=$1 folder crate part
-    mkdir -p "$place/crates"
-    cp "$top/HANDLES" "$place/HANDLES"
-    needed > "$place/crates.txt"
-    for folder in "$place"/crates/*/; do
-        grep -q "^$(basename "$folder"):" "$place/crates.txt" || rm -rf "$folder"
-    done
-    for crate in $(cut -d : -f 1 "$place/crates.txt"); do
-        mkdir -p "$place/crates/$crate"
+    local crate part
+    rm -rf "$room/crates"
+    needed > "$room/crates.txt"
+    for crate in $(cut -d : -f 1 "$room/crates.txt"); do
+        mkdir -p "$room/crates/$crate"
         for part in src specs proofs; do
-            rm -rf "$place/crates/$crate/$part"
-            [ ! -d "$top/crates/$crate/$part" ] || cp -r "$top/crates/$crate/$part" "$place/crates/$crate/"
+            [ ! -d "$top/crates/$crate/$part" ] || cp -r "$top/crates/$crate/$part" "$room/crates/$crate/"
         done
     done
 }
 
 lines_of() {
-    find "$@" -path '*/out' -prune -o -type f -exec cat {} + | wc -l
+    find "$@" -type f -exec cat {} + | wc -l
 }
 
 # The crates, a line each with what it costs and what it stands on. The first has the longest way to the program: that of each is
@@ -84,7 +79,7 @@ lines_of() {
 by_longest_way() {
     local crate
     for crate in $(cut -d : -f 1 "$room/crates.txt"); do
-        echo "$crate $(lines_of "$room/1/crates/$crate")"
+        echo "$crate $(lines_of "$room/crates/$crate")"
     done | awk '
         function way(crate,    i, most) {
             if (crate in known) return known[crate]
@@ -107,54 +102,70 @@ by_longest_way() {
     ' "$([ -r "$top/docs/GATE.md" ] && echo "$top/docs/GATE.md" || echo /dev/null)" - "$room/crates.txt" | sort -k 1,1nr -k 2,2
 }
 
-# Proves one crate in a folder, by so many processors, and so far behind others that want one. A library is built as well:
-# the crates above it are proved over it. The program is made for this machine's processor, by a run without words, which
-# ends with the usage line and status 2.
-prove() {
-    local place=$1 crate=$2 jobs=$3 behind=$4
-    cd "$room/$place/crates/$crate" || return
-    if [ "$crate" != tape ]; then
-        nice -n "$behind" rt lib --jobs "$jobs" > "$room/log.$crate" 2>&1
-    else
-        rm -f out/tape
-        nice -n "$behind" rt run --jobs "$jobs" "--cpu=$("$top/bench/processor")" < /dev/null \
-            > "$room/log.$crate" 2>&1 || true
-        [ -x out/tape ] && cp out/tape "$room/program"
-    fi
+sum_of_files() {
+    find "$1" -type f -exec sha256sum {} + | sort -k 2 | sha256sum
 }
 
-# Gives each of the folders the library that was built in one of them.
-share() {
-    local place=$1 crate=$2 other
-    [ -d "$room/$place/crates/$crate/out/rlib" ] || return 0
-    for ((other = 1; other <= at_once; other++)); do
-        if [ "$other" != "$place" ]; then
-            mkdir -p "$room/$other/crates/$crate/out"
-            rm -rf "$room/$other/crates/$crate/out/rlib"
-            cp -al "$room/$place/crates/$crate/out/rlib" "$room/$other/crates/$crate/out/"
+# A sum of all that the proof of a crate reads: the kit, the crate, and what was made of those that it stands on.
+sum_of() {
+    local crate=$1 name
+    shift
+    {
+        echo "$kit_version"
+        grep "^$crate:" "$room/crates.txt"
+        for name in "$@"; do cat "$room/made/$name.made"; done
+        sum_of_files "$room/crates/$crate"
+    } | sha256sum
+}
+
+# Proves one crate over those that it stands on, by so many processors, and so far behind others that want one; nothing is done
+# where it was proved as it is. The prover is called itself, since a library is kept by its statements alone: what other crates
+# can cite of it, without the proofs. Each check above loads it, and with its proofs that would be most of the time. The program
+# is made for this machine's processor.
+prove() {
+    local crate=$1 jobs=$2 behind=$3 made=$room/made/$1 words name sum
+    shift 3
+    sum=$(sum_of "$crate" "$@") || return
+    [ ! -e "$made.sum" ] || [ "$sum" != "$(cat "$made.sum")" ] || return 0
+    rm -f "$made.sum"
+    words=(--crate-name "$crate" --links "$crate=" --antt-project "$kit_folder/rattle/logic/antt-project.json"
+        --logic-built "$kit_folder/logic_built" --jobs "$jobs" -L "dependency=$room/made" -L "dependency=$kit_folder/rlibs")
+    for name in std $(sed -n "s/^$crate://p" "$room/crates.txt"); do
+        if [ -d "$room/crates/$name" ]; then
+            words+=(--extern "$name=$room/made/$name.rlib")
+        else
+            words+=(--extern "$name=$kit_folder/rlibs/$name.rlib")
         fi
     done
+    cd "$room/crates/$crate" || return
+    if [ "$crate" != tape ]; then
+        nice -n "$behind" "$kit_folder/bin/rattle" build src/lib.rt "${words[@]}" --statements -o "$made.rlib" || return
+        sum_of_files "$made.rlib" > "$made.made" || return
+    else
+        words+=(--toolchain "$kit_folder/toolchain" --backend llvm "--cpu=$("$top/bench/processor")")
+        nice -n "$behind" "$kit_folder/bin/rattle" build src/main.rt "${words[@]}" -o "$made.o" || return
+        "$kit_folder/bin/rattle-link" --target x86_64-unknown-linux-gnu --toolchain "$kit_folder/toolchain" -o "$made" \
+            "$made.o" "$kit_folder/c/libos_c.a" "$kit_folder/c/liblibc_c.a" || return
+    fi
+    echo "$sum" > "$made.sum"
 }
 
 # Proves all crates: as many side by side as there are processors, those with the longest way to the program first. One whose
 # way is nearly the longest of what is left gets as many processors as that way is longer than what is left for each of them;
-# the others get one each, and stand behind it. Each processor loads first what the crate stands on, so one whose cost is small
-# gets one. A check holds the libraries below its crate, so each works in a folder of its own. Prints a line when a crate is
-# done.
+# the others get one each, and stand behind it, and so does one whose cost is small. Prints a line when a crate is done.
 prove_all() {
-    local -A way=() cost=() below=() is_begun=() is_done=() crate_of=() place_of=()
-    local order=() places=() left=0 longest crate low long jobs behind pid status
+    local -A way=() cost=() below=() is_begun=() is_done=() crate_of=()
+    local order=() free=$at_once left=0 longest crate low long jobs behind pid status
     while read -r long crate low; do
         order+=("$crate") way[$crate]=$long cost[$crate]=${low%% *} below[$crate]=${low#"${low%% *}"}
         left=$((left + cost[$crate]))
     done < <(by_longest_way)
-    for ((pid = at_once; pid >= 1; pid--)); do places+=("$pid"); done
     while [ ${#is_done[@]} -lt ${#order[@]} ]; do
         longest=0
         for crate in "${order[@]}"; do
             [ -z "${is_done[$crate]-}" ] || continue
             [ "$longest" -ge "${way[$crate]}" ] || longest=${way[$crate]}
-            [ -z "${is_begun[$crate]-}" ] && [ ${#places[@]} -gt 0 ] || continue
+            [ -z "${is_begun[$crate]-}" ] && [ "$free" -gt 0 ] || continue
             for low in ${below[$crate]}; do
                 [ -n "${is_done[$low]-}" ] || continue 2
             done
@@ -164,9 +175,8 @@ prove_all() {
                 [ "${cost[$crate]}" -lt 25 ] || jobs=$(((longest * at_once + left - 1) / left))
                 [ $jobs -le $at_once ] || jobs=$at_once
             fi
-            prove "${places[-1]}" "$crate" $jobs $behind &
-            crate_of[$!]=$crate place_of[$!]=${places[-1]} is_begun[$crate]=1
-            unset 'places[-1]'
+            prove "$crate" $jobs $behind ${below[$crate]} > "$room/log.$crate" 2>&1 &
+            crate_of[$!]=$crate is_begun[$crate]=1 free=$((free - 1))
         done
         status=0
         wait -n -p pid "${!crate_of[@]}" || status=$?
@@ -177,9 +187,7 @@ prove_all() {
             wait
             return 1
         fi
-        share "${place_of[$pid]}" "$crate"
-        is_done[$crate]=1
-        places+=("${place_of[$pid]}") left=$((left - cost[$crate]))
+        is_done[$crate]=1 free=$((free + 1)) left=$((left - cost[$crate]))
         echo "$crate ${cost[$crate]} $left $(grep -c '^logic=proved' "$room/log.$crate")"
         rm -f "$room/log.$crate"
         unset "crate_of[$pid]"
@@ -217,13 +225,16 @@ build() {
     # One crate for each processor, and for each three gigabytes of free memory.
     at_once=$(awk -v most="$(nproc)" '/^MemAvailable:/ { n = int($2 / 3000000); print n < 1 ? 1 : n < most ? n : most }' \
         /proc/meminfo)
-    mkdir -p "$room"
-    needed > "$room/crates.txt"
+    kit_folder=$(dirname "$(rt doc)")
+    kit_version=$(rt version)
+    mkdir -p "$room/made"
+    # What this script kept while it proved in a folder for each processor.
+    rm -rf "$room"/[0-9]*
     : > "$room/log"
-    for ((place = 1; place <= at_once; place++)); do copy_sources "$room/$place"; done
+    copy_sources
     prove_all | tell || return
     mkdir -p "$(dirname "$program")"
-    cp "$room/program" "$program"
+    cp "$room/made/tape" "$program"
 }
 
 case $#:${1-} in

@@ -2,7 +2,7 @@ The script at the top
 =====================
 
 `./tape` of a checkout: its help, a machine without `rt`, and what it tells while it builds. `TOP` is the checkout. The page
-tries the script in a small one of its own, with a stub in place of `rt`, so nothing is proved here.
+tries the script in a small one of its own, with stubs in place of the kit, so nothing is proved here.
 
   $ mkdir -p small/bench small/docs small/crates/{first,second,kept,tape,rows}/src
   $ cp "$TOP/tape" small/
@@ -19,7 +19,7 @@ tries the script in a small one of its own, with a stub in place of `rt`, so not
 What it keeps goes into a folder of the page's. `tools` has what the script calls before it builds, and no `rt`.
 
   $ export XDG_CACHE_HOME=$PWD/cache
-  $ mkdir tools stub
+  $ mkdir -p tools stub kit/bin
   $ for tool in awk bash cat cksum cut dirname find tr; do ln -s "$(command -v $tool)" tools/; done
 
 Help
@@ -47,6 +47,7 @@ No file was made, and nothing was built or kept.
 
   $ ls
   help
+  kit
   manual
   short
   small
@@ -77,29 +78,50 @@ The first line tells what is wanting, and which kit has it: the one that the REA
 A build
 -------
 
-The stub says what `rt` does: nothing of a crate that was proved before. What it makes prints its words; it is run without
-any, and ends as the program does then, with status 2.
+The stubs say what the kit does. `rt` tells where it is. The prover proves each crate but the one that `fails` names, says over
+which libraries, and makes its sources of it; it takes longer for all but `kept`. What is linked prints its words.
 
+  $ export KIT=$PWD/kit
   $ cat > stub/rt << 'END'
   > #!/usr/bin/env bash
-  > crate=$(basename "$PWD")
-  > case $1:$crate in
-  > lib:kept) ;;
-  > lib:*) sleep 0.5; mkdir -p out/rlib; printf '%s\n' "fn $crate::one: proved" 'logic=proved functions=1' ;;
-  > run:*)
-  >   ls -d ../*/out/rlib
-  >   printf '%s\n' 'logic=proved functions=1'
-  >   mkdir -p out
-  >   printf '%s\n' '#!/usr/bin/env bash' 'echo "words: $*"' > out/tape
-  >   chmod +x out/tape
-  >   exit 2 ;;
+  > case $1 in
+  > doc) echo "$KIT/START-HERE.md" ;;
+  > version) echo a kit ;;
   > esac
   > END
-  $ chmod +x stub/rt
+  $ cat > kit/bin/rattle << 'END'
+  > #!/usr/bin/env bash
+  > crate=$(basename "$PWD")
+  > [ "$crate" = kept ] || sleep 0.5
+  > echo "$crate over $(printf '%s\n' "$@" | sed -n 's|^\([a-z]*\)=.*/made/.*|\1|p' | xargs)."
+  > [ "$crate" != "$(cat "$KIT/fails")" ] || { echo 'logic=not-proved'; exit 1; }
+  > echo 'logic=proved functions=1'
+  > cat src/* > "${!#}"
+  > END
+  $ cat > kit/bin/rattle-link << 'END'
+  > #!/usr/bin/env bash
+  > while [ "$1" != -o ]; do shift; done
+  > printf '%s\n' '#!/usr/bin/env bash' 'echo "words: $*"' > "$2"
+  > chmod +x "$2"
+  > END
+  $ chmod +x stub/rt kit/bin/*
 
-How long it takes is not told before a tenth of the lines that were to be proved is: behind `first` 5 of 100 are, and behind
-`second` 20. The 900 lines of the crate that is kept count for nothing, and so do the crates that the program doesn't need.
+Where a proof fails nothing is made, and a file tells why.
 
+  $ echo first > kit/fails
+  $ PATH=$PWD/stub:$PATH small/tape cart.img new 3 2> said
+  [1]
+  $ tail -n 1 said | sed "s|$PWD/cache/tape/[-0-9]*/|WHERE/|"
+  tape: the program could not be built; WHERE/log tells why
+  $ tail -n 2 cache/tape/*/log
+  first over .
+  logic=not-proved
+
+The next build goes on from what was proved. How long it takes is not told before a tenth of the lines that were to be proved
+is: behind `first` 5 of 100 are, and behind `second` 20. The 900 lines of the crate that is kept count for nothing, and so do
+the crates that the program doesn't need.
+
+  $ echo none > kit/fails
   $ PATH=$PWD/stub:$PATH small/tape cart.img new 3 2> said
   words: cart.img new 3
   $ sed 's/ *$//' said
@@ -109,17 +131,21 @@ How long it takes is not told before a tenth of the lines that were to be proved
   tape: proved 2 of 4 crates
   tape: proved 3 of 4 crates, (less than a minute|about [0-9]+ minutes) to go (re)
   tape: proved 4 of 4 crates, less than a minute to go
-  $ ls cache/tape/*/1/crates
+  $ ls cache/tape/*/crates
   first
   kept
   second
   tape
 
-A crate is proved in a folder that has the libraries of those below it, wherever they were built.
+Each crate was proved over those that its line names, and `kept` was proved before.
 
-  $ grep rlib cache/tape/*/log
-  ../first/out/rlib
-  ../second/out/rlib
+  $ cat cache/tape/*/log
+  first over .
+  logic=proved functions=1
+  second over first.
+  logic=proved functions=1
+  tape over first second kept.
+  logic=proved functions=1
 
 Built, it is just called, also without `rt`. The word `help` with others behind it is an image's path.
 
@@ -128,22 +154,27 @@ Built, it is just called, also without `rt`. The word `help` with others behind 
   $ PATH=$PWD/tools small/tape
   words: 
 
-A proof that fails
-------------------
+Where proofs alone changed, they are checked, and what stands on their crate stays as it was.
 
-Nothing is run then, though a program was built before.
+  $ mkdir small/crates/second/proofs
+  $ echo '-- a proof' > small/crates/second/proofs/One.antt
+  $ PATH=$PWD/stub:$PATH small/tape cart.img info 2> said
+  words: cart.img info
+  $ cat cache/tape/*/log
+  second over first.
+  logic=proved functions=1
 
-  $ cat > stub/rt << 'END'
-  > #!/usr/bin/env bash
-  > case $1 in
-  > lib) echo 'logic=proved functions=1' ;;
-  > run) echo 'logic=not-proved'; exit 1 ;;
-  > esac
-  > END
-  $ seq 81 > small/crates/tape/src/main.rt
+Else what stands on a crate that changed is proved once more, too. Nothing is run where a proof fails then, though a program
+was built before.
+
+  $ echo tape > kit/fails
+  $ seq 16 > small/crates/second/src/lib.rt
   $ PATH=$PWD/stub:$PATH small/tape cart.img new 3 2> said
   [1]
   $ tail -n 1 said | sed "s|$PWD/cache/tape/[-0-9]*/|WHERE/|"
   tape: the program could not be built; WHERE/log tells why
-  $ tail -n 1 cache/tape/*/log
+  $ cat cache/tape/*/log
+  second over first.
+  logic=proved functions=1
+  tape over first second kept.
   logic=not-proved
