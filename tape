@@ -120,8 +120,8 @@ sum_of() {
 
 # Proves one crate over those that it stands on, by so many processors, and so far behind others that want one; nothing is done
 # where it was proved as it is. The prover is called itself, since a library is kept by its statements alone: what other crates
-# can cite of it, without the proofs. Each check above loads it, and with its proofs that would be most of the time. The program
-# is made for this machine's processor.
+# can cite of it, without the proofs. Each check above loads it, and its proofs were a third of all the time. The program is made
+# for this machine's processor.
 prove() {
     local crate=$1 jobs=$2 behind=$3 made=$room/made/$1 words name sum
     shift 3
@@ -221,13 +221,20 @@ build() {
         echo "tape: rt proves and builds the program; $top/README.md tells what that takes" >&2
         exit 1
     fi
+    # One build at a time; who waited for another one finds what that made.
+    mkdir -p "$room/made"
+    exec {held}> "$room/lock"
+    flock "$held" || return
+    if is_built; then
+        exec {held}>&-
+        return
+    fi
     echo 'tape: proving and building, which takes long the first time; it may be broken off and started again' >&2
     # One crate for each processor, and for each three gigabytes of free memory.
     at_once=$(awk -v most="$(nproc)" '/^MemAvailable:/ { n = int($2 / 3000000); print n < 1 ? 1 : n < most ? n : most }' \
         /proc/meminfo)
     kit_folder=$(dirname "$(rt doc)")
     kit_version=$(rt version)
-    mkdir -p "$room/made"
     # What this script kept while it proved in a folder for each processor.
     rm -rf "$room"/[0-9]*
     : > "$room/log"
@@ -235,6 +242,8 @@ build() {
     prove_all | tell || return
     mkdir -p "$(dirname "$program")"
     cp "$room/made/tape" "$program"
+    # The program is called without the lock.
+    exec {held}>&-
 }
 
 case $#:${1-} in

@@ -164,11 +164,25 @@ Where proofs alone changed, they are checked, and what stands on their crate sta
   second over first.
   logic=proved functions=1
 
-Else what stands on a crate that changed is proved once more, too. Nothing is run where a proof fails then, though a program
+Of two calls at once the one that comes first builds, and the other waits for what it makes.
+
+  $ seq 16 > small/crates/second/src/lib.rt
+  $ (PATH=$PWD/stub:$PATH small/tape cart.img list > one 2> /dev/null &
+  >   PATH=$PWD/stub:$PATH small/tape cart.img info > other 2> /dev/null; wait)
+  $ cat one other
+  words: cart.img list
+  words: cart.img info
+  $ cat cache/tape/*/log
+  second over first.
+  logic=proved functions=1
+  tape over first second kept.
+  logic=proved functions=1
+
+What stands on a crate that changed is proved once more, as here. Nothing is run where a proof fails then, though a program
 was built before.
 
   $ echo tape > kit/fails
-  $ seq 16 > small/crates/second/src/lib.rt
+  $ seq 17 > small/crates/second/src/lib.rt
   $ PATH=$PWD/stub:$PATH small/tape cart.img new 3 2> said
   [1]
   $ tail -n 1 said | sed "s|$PWD/cache/tape/[-0-9]*/|WHERE/|"
