@@ -2,7 +2,7 @@
 use Rattle.std.proofs.Common.{◌≡◌, ℕ, ◌+◌, ◌-◌, List, [], ◌∷◌, ◌++◌, arith}
 use Rattle.std.proofs.lemmas.List.FromFn.{map-range_with_len_more}
 use Rattle.cartridge_spec.specs.Header.{word_in}
-use Rattle.cartridge_laws.specs.Terms.{words_in}
+use Rattle.cartridge_laws.specs.HeaderTerms.{words_in}
 
 -- one word more
 pub words_in-more : (area : List (List ℕ)) (n : ℕ) → words_in area (n + 1) ≡ words_in area n ++ word_in area n ∷ []

@@ -1,11 +1,12 @@
 //! The bad sector map of a cartridge.
 
 ghost use Rattle.std.specs.Prelude.{◌≡◌, ◌*◌, ◌^◌, ◌<◌, ◌≤◌, [], ℕ, length, replicate, slice_index, slice_set, bit_or, IfOk};
-ghost use Rattle.cartridge_laws.specs.Terms.{sectors_of, byte_in, words_in, IsInMap};
+ghost use Rattle.cartridge_laws.specs.HeaderTerms.{byte_in, words_in, IsInMap};
+ghost use Rattle.cartridge_laws.specs.Segment.{sectors_of};
 ghost use Rattle.cartridge_spec.specs.Shape.{mask_at, capacity, marked_sectors};
 
 use crate::words::{SEGMENTS, clear_words, read_words, write_words};
-use qic_base::{LONGEST, NoMemory, Sector};
+use qic_base::{LONGEST, NoMemory, SECTOR, Sector};
 use std::alloc::Global;
 use std::marker::Model;
 
@@ -77,7 +78,7 @@ impl BadMap {
         requires { segment < length self.now }
         ensures { result ≡ capacity (mask_at self.now segment) }
     {
-        1024 * count_sectors(self.usable(segment)).saturating_sub(3)
+        SECTOR as u32 * count_sectors(self.usable(segment)).saturating_sub(3)
     }
 
     /// The number of marked sectors.

@@ -2,7 +2,7 @@
 
 ghost use Rattle.std.specs.Prelude.{◌≡◌, ◌+◌, ◌*◌, ◌<◌, ◌≤◌, ℕ, length, replicate};
 ghost use Rattle.std.specs.Vec.{vec_len, vec_capacity};
-ghost use Rattle.cartridge_laws.specs.Terms.{byte_in, words_in, IsInMap};
+ghost use Rattle.cartridge_laws.specs.HeaderTerms.{byte_in, words_in, IsInMap};
 ghost use Rattle.cartridge_spec.specs.Header.{word_in};
 
 use qic_base::{MOST_SEGMENTS, Sector, push_within, read_u32, write_u32};

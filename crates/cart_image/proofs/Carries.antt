@@ -1,5 +1,5 @@
 -- From what a call does to the disk to what it does to the cartridge that the disk's bytes are read as.
-use Rattle.std.proofs.Common.{◌≡◌, ℕ, ◌≤◌, ◌⊎◌, inl, inr, List, [], ◌∷◌, refl, sym, ◌∙◌, ap, arith, Option, Some, None, is_some, subst, Result, Ok, Err}
+use Rattle.std.proofs.Common.{◌≡◌, ℕ, ◌≤◌, ◌⊎◌, inl, inr, List, refl, sym, ◌∙◌, ap, arith, Option, Some, None, is_some, subst, Result, Ok, Err}
 use Rattle.std.specs.Option.{option_map}
 use Rattle.qic_base.specs.Cartridge.{Cartridge}
 use Rattle.qic_base.specs.Step.{Step, effects, Torn}
@@ -9,12 +9,8 @@ use Rattle.qic_base.specs.Disk.{Meaning, DiskStep, Look, IsSettled, Failed}
 use Rattle.cart_image.specs.Image.{cartridge_of}
 use Rattle.cart_image.specs.Run.{Looks, Ran, Halted, Carried, after_steps, Crashed}
 use Rattle.cart_image.specs.Tape.{disk_means}
-use Rattle.cart_image.proofs.Runs.{Passes, Passes-Passes, Looks-Passes, Failed-Passes, Ran-Passes, Halted-Passes, Halted-cause, Rose-after, Ran-told, Ran-since, Halted-since, Halted-told}
-
--- a stop may come before the first step
-Torn-nothing : (ss : List Step) (held : Option Cartridge) → Torn ss held held
-Torn-nothing [] held = refl
-Torn-nothing (s ∷ ss) held = inl refl
+use Rattle.cart_image.proofs.Runs.{Passes, Passes-Passes, Looks-Passes, Failed-Passes, Ran-Passes, Halted-Passes, Halted-cause, Ran-told, Ran-since, Halted-since, Halted-told}
+use Rattle.qic_base.proofs.Steps.{Rose-after, Torn-nothing}
 
 some_bytes : (told : Option (List ℕ)) (held : Option Cartridge) → option_map cartridge_of told ≡ Some held → (bytes : List ℕ) × (told ≡ Some bytes) × (cartridge_of bytes ≡ held)
 some_bytes None held is = cc

@@ -8,7 +8,7 @@ use Rattle.std.proofs.lemmas.Option.{unwrap_or-slice_get}
 use Rattle.qic_base.specs.declared.tape.SectorView.{SectorView}
 use Rattle.qic_base.specs.declared.tape.SectorView.TheVariants.{Blank}
 use Rattle.qic_base.specs.Cartridge.{with_view, view_at}
-use Rattle.qic_base.specs.Terms.{place_of}
+use Rattle.qic_base.specs.CartridgeTerms.{place_of}
 use Rattle.cart_image.specs.declared.layout.Head.{Head}
 use Rattle.cart_image.specs.declared.layout.Layout.{Layout}
 use Rattle.cart_image.specs.declared.layout.Part.{Part}
@@ -54,7 +54,7 @@ Beside-part l p sector old new whole on only = record {
 }
 
 -- .. so that the cartridge changed there alone
-pub views-beside : (l : Layout) (sector : ℕ) (old new : List ℕ) → sector < sectors l.segments_per_track → Beside l sector old new → views_in l new ≡ slice_set (views_in l old) sector (view_in l new sector)
+views-beside : (l : Layout) (sector : ℕ) (old new : List ℕ) → sector < sectors l.segments_per_track → Beside l sector old new → views_in l new ≡ slice_set (views_in l old) sector (view_in l new sector)
 views-beside l sector old new on beside =
     same_lists _ _ (length-views l new ∙ sym (length-set (views_in l old) sector (view_in l new sector) ∙ length-views l old))
     (λ k d h.

@@ -16,7 +16,8 @@ use Rattle.cart_image.specs.State.{AreMarks}
 use Rattle.cart_image.proofs.Bytes.{range-same}
 use Rattle.cart_image.proofs.Exits.{told-fact, Runs-after}
 use Rattle.cart_image.proofs.Renews.{length-resized, get_or-resized}
-use Rattle.cart_image.proofs.Runs.{Passes-Passes, Looks-Passes, Failed-Passes, Ran-Ran, Ran-Halted, Halted-front, Ran-told, Rose-after}
+use Rattle.cart_image.proofs.Runs.{Passes-Passes, Looks-Passes, Failed-Passes, Ran-Ran, Ran-Halted, Halted-front, Ran-told}
+use Rattle.qic_base.proofs.Steps.{Rose-after}
 use Rattle.cart_image.proofs.Writes.{SameAt-all, Spares, Spares-both, spared, Even, Even-both, Reached, Reached-first, Reached-later}
 
 -- the places that stay
@@ -98,17 +99,17 @@ module _ (n : ℕ) (bytes : List ℕ) (long : image_len n ≤ length bytes) wher
       by_parts g g' f f' d d' s s' e1 e2 e3 e4 = rw (e1, e2, e3, e4) refl
 
 -- the same writes
-pub cells-same : (n sector : ℕ) (f g : ℕ → List ℕ) (count : ℕ) → ((i : ℕ) → i < count → f i ≡ g i) → cells_by n sector f count ≡ cells_by n sector g count
+cells-same : (n sector : ℕ) (f g : ℕ → List ℕ) (count : ℕ) → ((i : ℕ) → i < count → f i ≡ g i) → cells_by n sector f count ≡ cells_by n sector g count
 cells-same n sector f g zero same = refl
 cells-same n sector f g (suc count) same =
     ap (λ ss. ss ++ WriteAt (cell_place (image_len n) GateByte (sector + count)) (f count) ∷ []) (cells-same n sector f g count (λ i less. same i (omega arith)))
     ∙ ap (λ c. cells_by n sector g count ++ WriteAt (cell_place (image_len n) GateByte (sector + count)) c ∷ []) (same count (omega arith))
 
-pub segment-same : (n : ℕ) (bytes b : List ℕ) (segment : ℕ) → image_len n ≤ length bytes → image_len n ≤ length b → ((k : ℕ) → 64 ≤ k → k < image_len n → get_or b k 0 ≡ get_or bytes k 0) → segment < 28 * n → copy_segment n segment b ≡ copy_segment n segment bytes
+segment-same : (n : ℕ) (bytes b : List ℕ) (segment : ℕ) → image_len n ≤ length bytes → image_len n ≤ length b → ((k : ℕ) → 64 ≤ k → k < image_len n → get_or b k 0 ≡ get_or bytes k 0) → segment < 28 * n → copy_segment n segment b ≡ copy_segment n segment bytes
 segment-same n bytes b segment long there same on =
     ap (λ ss. Look ∷ ss) (cells-same n (32 * segment) (λ i. cell n b (32 * segment + i)) (λ i. cell n bytes (32 * segment + i)) 32 (λ i less. cell-kept n bytes long b (32 * segment + i) there same (omega arith)))
 
-pub copy-same : (n : ℕ) (bytes b : List ℕ) (count : ℕ) → image_len n ≤ length bytes → image_len n ≤ length b → ((k : ℕ) → 64 ≤ k → k < image_len n → get_or b k 0 ≡ get_or bytes k 0) → count ≤ 28 * n → copy_steps n b count ≡ copy_steps n bytes count
+copy-same : (n : ℕ) (bytes b : List ℕ) (count : ℕ) → image_len n ≤ length bytes → image_len n ≤ length b → ((k : ℕ) → 64 ≤ k → k < image_len n → get_or b k 0 ≡ get_or bytes k 0) → count ≤ 28 * n → copy_steps n b count ≡ copy_steps n bytes count
 copy-same n bytes b zero long there same on = refl
 copy-same n bytes b (suc count) long there same on =
     ap (λ ss. ss ++ copy_segment n count b) (copy-same n bytes b count long there same (omega arith)) ∙ ap (λ ss. copy_steps n bytes count ++ ss) (segment-same n bytes b count long there same (omega arith))
@@ -144,7 +145,7 @@ option_same : (told : Option (List ℕ)) → told ≡ option_map (stored Look) t
 option_same None = refl
 option_same (Some bytes) = refl
 
-pub looks-stored : {D : Type 0} (m : Meaning D) (a b : D) → Looks m a b → Stored m a b Look
+looks-stored : {D : Type 0} (m : Meaning D) (a b : D) → Looks m a b → Stored m a b Look
 looks-stored m a b looks = record {
   told = looks.told ∙ option_same (m.told a);
   later = looks.later;
@@ -161,7 +162,7 @@ looks-stored m a b looks = record {
   };
 }
 
-pub looks-failed : {D : Type 0} (m : Meaning D) (a b c : D) → Looks m a b → Failed m b c Look → Failed m a c Look
+looks-failed : {D : Type 0} (m : Meaning D) (a b c : D) → Looks m a b → Failed m b c Look → Failed m a c Look
 looks-failed m a b c looks failed =
     let both = Passes-Passes (Looks-Passes looks) (Failed-Passes failed) in
     record {

@@ -11,7 +11,7 @@ use Rattle.qic_base.specs.declared.tape.SectorView.TheVariants.{Blank, Defect, L
 use Rattle.qic_base.specs.Cartridge.{Cartridge, view_at, zero_sector}
 use Rattle.qic_base.specs.Disk.{DiskStep}
 use Rattle.qic_base.specs.Step.{FormatSegment, effect, formatted_view, Torn, ClosingView, OpeningView, SegmentBecame}
-use Rattle.qic_base.specs.Terms.{HalfFormatted}
+use Rattle.qic_base.specs.CartridgeTerms.{HalfFormatted}
 use Rattle.cart_image.specs.declared.layout.Head.{Head}
 use Rattle.cart_image.specs.declared.layout.Layout.{Layout}
 use Rattle.cart_image.specs.declared.layout.Part.{Part}

@@ -26,7 +26,7 @@ use Rattle.cart_image.proofs.Sectors.{Crashed-put, byte-written}
 abbrev pub TellsLayout : ℕ → Type 0
 TellsLayout k = (k < 12) ⊎ ((14 ≤ k) × (k < 24))
 
-pub layout_of-is : (bytes : List ℕ) → layout_of bytes ≡ layout_by (length bytes) (slice_range bytes 0 read_len)
+layout_of-is : (bytes : List ℕ) → layout_of bytes ≡ layout_by (length bytes) (slice_range bytes 0 read_len)
 unfolding layout_of head_of
 layout_of-is bytes = by_layout (layout_by (length bytes) (slice_range bytes 0 read_len))
   where
@@ -44,7 +44,7 @@ head-long : (bytes : List ℕ) → 24 ≤ length bytes → length (slice_range b
 head-long bytes long = length-between bytes 0 24 long
 
 -- a part of the head whose bytes are the same
-pub head-part : (old new : List ℕ) (i j : ℕ) → 24 ≤ length old → 24 ≤ length new → i ≤ j → j ≤ 24 → ((k : ℕ) → i ≤ k → k < j → get_or new k 0 ≡ get_or old k 0)
+head-part : (old new : List ℕ) (i j : ℕ) → 24 ≤ length old → 24 ≤ length new → i ≤ j → j ≤ 24 → ((k : ℕ) → i ≤ k → k < j → get_or new k 0 ≡ get_or old k 0)
     → slice_range (slice_range new 0 read_len) i j ≡ slice_range (slice_range old 0 read_len) i j
 head-part old new i j long there order within same =
     let a = head-long old long in

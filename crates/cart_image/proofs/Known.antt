@@ -11,7 +11,7 @@ use Rattle.qic_base.specs.declared.disk.Disk.{Ghosts}
 use Rattle.qic_base.specs.declared.tape.SectorView.{SectorView}
 use Rattle.qic_base.specs.declared.tape.SectorView.TheVariants.{Blank}
 use Rattle.qic_base.specs.Cartridge.{Cartridge, IsPlace, view_at, with_view}
-use Rattle.qic_base.specs.Terms.{place_of}
+use Rattle.qic_base.specs.CartridgeTerms.{place_of}
 use Rattle.qic_base.specs.Step.{Step, changed, effects}
 use Rattle.qic_base.specs.Tape.{Done}
 use Rattle.cart_image.specs.declared.layout.Head.{Head}

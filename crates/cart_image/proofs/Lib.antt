@@ -2,7 +2,7 @@ pub mod Bytes
 mod Carries
 pub mod Changes
 mod Copies
-mod Exits
+pub mod Exits
 mod FailedLooks
 mod Fills
 mod Formats
@@ -11,7 +11,7 @@ mod Infos
 mod Known
 mod Laid
 mod Layouts
-mod Loops
+pub mod Loops
 pub mod Renews
 pub mod Runs
 mod Sectors

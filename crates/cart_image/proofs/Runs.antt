@@ -4,6 +4,7 @@ use Rattle.std.specs.Option.{option_map}
 use Rattle.qic_base.specs.Tape.{Rose}
 use Rattle.qic_base.specs.Disk.{Meaning, DiskStep, Look, WriteAt, SetLen, Sync, stored, Unsynced, Inside, IsSettled, Stored, Failed}
 use Rattle.cart_image.specs.Run.{Looks, Ran, Halted, after_steps, Pending, Crashed}
+use Rattle.qic_base.proofs.Steps.{Rose-after}
 
 -- whatever a run does, time goes on, and the disk tells its bytes as before
 pub record Passes {D : Type 0} (m : Meaning D) (old new : D) : Type 0 where
@@ -104,10 +105,6 @@ pub Halted-Passes : {D : Type 0} (m : Meaning D) (a b : D) (steps : List DiskSte
 Halted-Passes m a b [] halted = absurd halted
 Halted-Passes m a b (s ∷ ss) (inl failed) = Failed-Passes failed
 Halted-Passes m a b (s ∷ ss) (inr rest) = Passes-Passes (Stored-Passes rest.1) (Halted-Passes m rest.0 b ss rest.2)
-
--- a fault in a later part of a run is a fault in the run
-pub Rose-after : (a b c : ℕ) → a ≤ b → Rose b c → Rose a c
-Rose-after a b c earlier rose = omega arith
 
 pub Halted-cause : {D : Type 0} (m : Meaning D) (a b : D) (steps : List DiskStep) → Halted m a b steps → Rose (m.faults a) (m.faults b)
 Halted-cause m a b [] halted = absurd halted

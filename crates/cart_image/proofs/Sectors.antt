@@ -4,7 +4,7 @@ use Rattle.std.specs.Prelude.{slice_index, ◌==◌, if◌then◌else◌}
 use Rattle.qic_base.specs.declared.tape.SectorView.{SectorView}
 use Rattle.qic_base.specs.declared.tape.SectorView.TheVariants.{Blank, Defect, Lost, Holds}
 use Rattle.qic_base.specs.Cartridge.{Cartridge, with_view, view_at}
-use Rattle.qic_base.specs.Terms.{place_of}
+use Rattle.qic_base.specs.CartridgeTerms.{place_of}
 use Rattle.qic_base.specs.Disk.{DiskStep, TornRange}
 use Rattle.qic_base.specs.Field.{overwritten}
 use Rattle.qic_base.specs.Step.{Step, WriteSector, Wear, Spoil, effect, written_view, worn_view, spoiled_view, Torn}

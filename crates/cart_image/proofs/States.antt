@@ -76,7 +76,7 @@ readable_by d f g b is = by_tests (d == defect_byte) (f == formed_byte) (g == op
     by_tests false true false is = cc
     by_tests false true true is = refl
 
-pub read-good : (l : Layout) (q : ℕ) (bytes old into : List ℕ) → state.Readable ≡ state_of (view_in l bytes q) → into ≡ sector_bytes l bytes q → Reads (view_in l bytes q) old into read.Good
+read-good : (l : Layout) (q : ℕ) (bytes old into : List ℕ) → state.Readable ≡ state_of (view_in l bytes q) → into ≡ sector_bytes l bytes q → Reads (view_in l bytes q) old into read.Good
 unfolding view_in
 read-good l q bytes old into is given =
     let v = readable_by (slice_index bytes (place l DefectByte q)) (slice_index bytes (place l FormedByte q)) (slice_index bytes (place l GateByte q)) (sector_bytes l bytes q) is in
@@ -99,7 +99,7 @@ read-good-told (Some b) t1 l q old bytes s found same readable is seen given = �
     read-good l q b old bytes (sym readable ∙ seen) (same_Some _ _ e)
 
 -- the parts of a sector in its cell
-pub in-cell : (l : Layout) (q : ℕ) → touches l.kind ≡ false
+in-cell : (l : Layout) (q : ℕ) → touches l.kind ≡ false
     → (place l FormedByte q ≡ place l GateByte q + 1) × (place l DefectByte q ≡ place l GateByte q + 2) × (place l Data q ≡ place l GateByte q + 3)
 in-cell l q cells = by_kind l.kind cells
   where
@@ -128,7 +128,7 @@ cell-state (Some b) l q p w part s cells on at least most fact by = λ long.
     ∙ ap state_of (sym (view_in-is l b q))
 
 -- .. and its other bytes
-pub cell-data : (l : Layout) (b part : List ℕ) (q p : ℕ) → touches l.kind ≡ false → q < sectors l.segments_per_track → p ≡ place l GateByte q → end_of l ≤ length b → part ≡ slice_range b p (p + 1027) → drop 3 part ≡ sector_bytes l b q
+cell-data : (l : Layout) (b part : List ℕ) (q p : ℕ) → touches l.kind ≡ false → q < sectors l.segments_per_track → p ≡ place l GateByte q → end_of l ≤ length b → part ≡ slice_range b p (p + 1027) → drop 3 part ≡ sector_bytes l b q
 cell-data l b part q p cells on at long is =
     let c = in-cell l q cells in
     let e = (laid_out l).before Data q on in

@@ -8,7 +8,7 @@ use Rattle.qic_base.specs.declared.tape.SectorView.{SectorView}
 use Rattle.qic_base.specs.declared.tape.TapeInfo.{TapeInfo}
 use Rattle.qic_base.specs.declared.TheConstants.{LONGEST}
 use Rattle.qic_base.specs.Cartridge.{Cartridge, IsPlace, IsLength, view_at}
-use Rattle.qic_base.specs.Terms.{place_of}
+use Rattle.qic_base.specs.CartridgeTerms.{place_of}
 use Rattle.qic_base.specs.Disk as disk
 use Rattle.qic_base.specs.Disk.{DiskStep, Look, Failed, IsSettled}
 use Rattle.qic_base.specs.Step.{Step, WriteSector, FormatSegment, SetReferenced, SetProtected, Renew, Wear, Spoil, Upgrade, effect}
@@ -54,7 +54,7 @@ pub tape-settled : {D : Type 0} {g : Ghosts D} (s : ImageTape D g) → IsSettled
 tape-settled s = record { only = s.settled }
 
 -- a call that only looked
-pub looked-does : {D T E : Type 0} (m : disk.Meaning D) (old new : D) (result : Result T E) → IsSettled m old → Looked m old new result → Does (disk_means m) old new [] result
+looked-does : {D T E : Type 0} (m : disk.Meaning D) (old new : D) (result : Result T E) → IsSettled m old → Looked m old new result → Does (disk_means m) old new [] result
 looked-does m old new result settled looked =
     Does-carried m old new (λ bytes. []) [] result settled (Carried-looked m old new result looked) (λ bytes told. record { done = refl; torn = λ left crashed. absurd crashed })
 
@@ -179,7 +179,7 @@ IsTape m d layout known =
       right : IsRight m d known;
     }
 
-pub some_layout : (o : Option Layout) → IsSome (size_by o) → (l : Layout) × (o ≡ Some l)
+some_layout : (o : Option Layout) → IsSome (size_by o) → (l : Layout) × (o ≡ Some l)
 some_layout None is = cc
 some_layout (Some l) is = (l, refl)
 
@@ -304,7 +304,7 @@ open-settled m d right settled = by_telling (m.tells_stops d) refl
     by_telling false is = right.untold is
 
 -- a run of a plan made this layout
-pub made-laid : {D : Type 0} (m : disk.Meaning D) (old mid new : D) (steps : List DiskStep) (plan : List ℕ → List DiskStep) (l : Layout) → Looks m old mid → Ran m mid new steps → ((bytes : List ℕ) → m.told old ≡ Some bytes → steps ≡ plan bytes)
+made-laid : {D : Type 0} (m : disk.Meaning D) (old mid new : D) (steps : List DiskStep) (plan : List ℕ → List DiskStep) (l : Layout) → Looks m old mid → Ran m mid new steps → ((bytes : List ℕ) → m.told old ≡ Some bytes → steps ≡ plan bytes)
     → ((bytes : List ℕ) → m.told old ≡ Some bytes → layout_of (after_steps (plan bytes) bytes) ≡ Some l) → ((left : List ℕ) → m.told new ≡ Some left → (bytes : List ℕ) × (m.told old ≡ Some bytes))
     → (k : Layout) (left : List ℕ) → Some l ≡ Some k → m.told new ≡ Some left → layout_of left ≡ Some k
 made-laid m old mid new steps plan l looks ran planned makes some k left same now =

@@ -16,7 +16,7 @@ pub record SameAt (P : ℕ → Type 0) (old new : List ℕ) : Type 0 where
 pub SameAt-all : (P : ℕ → Type 0) (bytes : List ℕ) → SameAt P bytes bytes
 SameAt-all P bytes = record { size = refl; same = λ k at. refl }
 
-pub SameAt-only : (P : ℕ → Type 0) (place count : ℕ) (a b c : List ℕ) → ((k : ℕ) → P k → (k < place) ⊎ (place + count ≤ k)) → SameAt P a b → OnlyIn place count b c → SameAt P a c
+SameAt-only : (P : ℕ → Type 0) (place count : ℕ) (a b c : List ℕ) → ((k : ℕ) → P k → (k < place) ⊎ (place + count ≤ k)) → SameAt P a b → OnlyIn place count b c → SameAt P a c
 SameAt-only P place count a b c off kept only = record {
   size = only.size ∙ kept.size;
   same = λ k at. ⊎_elim (λ below. only.below k below ∙ kept.same k at) (λ above. only.above k above ∙ kept.same k at) (off k at);

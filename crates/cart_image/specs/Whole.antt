@@ -9,7 +9,7 @@ use Rattle.std.proofs.lemmas.List.FromFn.{length-map-range_with_len, get_or-rang
 use Rattle.qic_base.specs.declared.tape.SectorView.TheVariants.{Blank, Defect, Lost, Holds}
 use Rattle.qic_base.specs.declared.TheConstants.{LONGEST}
 use Rattle.qic_base.specs.Cartridge.{Cartridge, IsSector}
-use Rattle.qic_base.specs.Terms.{IsVersion, IsCartridge, IsView}
+use Rattle.qic_base.specs.CartridgeTerms.{IsVersion, IsCartridge, IsView}
 use Rattle.qic_base.specs.Disk.{AreBytes}
 use Rattle.qic_base.specs.Field.{number_at}
 use Rattle.cart_image.specs.declared.layout.Head.{Head}

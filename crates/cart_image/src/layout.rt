@@ -1,7 +1,7 @@
 //! Where the head of an image file stands and, in each of its layouts, the parts of a sector; and what their bytes say
 //! (this project's profile, versions 1 and 2).
 ghost use Rattle.std.specs.Prelude.{◌≡◌, ◌<◌};
-ghost use Rattle.qic_base.specs.Terms.{IsVersion};
+ghost use Rattle.qic_base.specs.CartridgeTerms.{IsVersion};
 ghost use Rattle.cart_image.specs.Layout.{sectors, image_len as length_of, upgraded_len as upgraded_to, place as place_at, plane_place as plane_at, cell_place as cell_at, end_of, width, touches as touch, version_of};
 
 /// The first bytes of an image.

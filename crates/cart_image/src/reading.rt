@@ -12,7 +12,7 @@ use crate::layout::{
     DEFECT, FORMED, HEAD_LEN, Head, Kind, Layout, MARK, OPEN, Part, SIGNATURE, image_len,
 };
 use crate::segment::SegmentMarks;
-use qic_base::{Disk, DiskFailed, LONGEST, Sector, SectorRead, read_u16, read_u64};
+use qic_base::{Disk, DiskFailed, LONGEST, SECTOR, Sector, SectorRead, read_u16, read_u64};
 
 /// The fewest segments per track of a cartridge.
 const SHORTEST: u16 = 3;
@@ -378,7 +378,7 @@ fn read_bytes<D: Disk>(
         end_of layout ≤ length bytes → found ≡ Some (sector_bytes layout bytes sector))) }
     ensures seen { D.means.seen_len disk.new ≡ D.means.seen_len disk.old }
 {
-    let mut bytes = [0; 1024];
+    let mut bytes = [0; SECTOR];
     let count = disk.read_at(layout.place(Part::Data, sector), &mut bytes)?;
     Ok(if count == bytes.len() {
         Some(bytes)

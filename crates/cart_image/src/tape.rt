@@ -3,7 +3,7 @@
 ghost use Rattle.std.specs.Prelude.{◌≡◌, ◌≢◌, ◌<◌, ◌≤◌, ℕ, List, [], ◌∷◌, true, Some, None, length, slice_index, IsSome, IfOk, IfSome, OnOk, OnErr};
 ghost use Rattle.std.specs.Option.{option_map};
 ghost use Rattle.qic_base.specs.Cartridge.{IsLength, view_at};
-ghost use Rattle.qic_base.specs.Terms.{IsVersion, place_of};
+ghost use Rattle.qic_base.specs.CartridgeTerms.{IsVersion, place_of};
 ghost use Rattle.qic_base.specs.Disk.{IsSettled};
 ghost use Rattle.qic_base.specs.Step.{WriteSector, FormatSegment, SetReferenced, SetProtected, Renew, Wear, Spoil, Upgrade};
 ghost use Rattle.qic_base.specs.TapeCalls.{Does, Tells, IsPlaceOf, Reads, write_answer};

@@ -12,7 +12,7 @@ use crate::layout::{
 use crate::reading::{read_block, read_planes};
 use crate::segment::SegmentMarks;
 use crate::synced::{put, put_len};
-use qic_base::{Disk, DiskFailed, write_u64};
+use qic_base::{Disk, DiskFailed, SECTOR, TRACKS, write_u64};
 
 /// A segment: the state bytes of its sectors, and their bytes.
 #[derive(Clone, Copy)]
@@ -56,7 +56,7 @@ fn cell_of(segment: &Segment, i: usize) -> [u8; 1027]
     cell[0] = segment.marks.gates[i];
     cell[1] = segment.marks.formed[i];
     cell[2] = segment.marks.defects[i];
-    cell[3..].copy_from_slice(&segment.block[1024 * i..1024 * i + 1024]);
+    cell[3..].copy_from_slice(&segment.block[SECTOR * i..SECTOR * i + SECTOR]);
     cell
 }
 
@@ -108,7 +108,7 @@ fn copy_all<D: Disk>(disk: &mut D, segments_per_track: u16) -> Result<(), DiskFa
         (λ bytes. copy_steps segments_per_track bytes (28 * segments_per_track)) result }
     ensures seen { D.means.seen_len disk.new ≡ D.means.seen_len disk.old }
 {
-    let count = 28 * segments_per_track as u32;
+    let count = TRACKS as u32 * segments_per_track as u32;
     for segment in 0..count {
         copy_segment(disk, segments_per_track, segment)?;
     }

@@ -14,7 +14,7 @@ use Rattle.erasure_solve.specs.Lost.{is_lost}
 use Rattle.erasure_solve.proofs.Places.{is_lost_from}
 use Rattle.cartridge_spec.specs.Shape.{sector_at}
 use Rattle.cartridge_spec.specs.Says.{with_parity}
-use Rattle.cartridge_laws.specs.Terms.{sectors_of}
+use Rattle.cartridge_laws.specs.Segment.{sectors_of}
 use Rattle.cartridge_spec.specs.Settling.{writes_of, block_writes}
 use Rattle.cartridge_laws.specs.Writes.{named_writes}
 use Rattle.cartridge_spec.specs.Appending.{table_writes}
@@ -44,7 +44,7 @@ one_below mask place (suc n) within here others =
           ∙ ap (λ (k : ℕ). k ∷ []) same
     ]
 
-pub single : (place : ℕ) → place < 32 → sectors_of (1 * 2 ^ place % 2 ^ 32) ≡ place ∷ []
+single : (place : ℕ) → place < 32 → sectors_of (1 * 2 ^ place % 2 ^ 32) ≡ place ∷ []
 single place within = one_below mask place 32 within here others
   where
     mask : ℕ

@@ -4,7 +4,7 @@ use Rattle.std.proofs.lemmas.List.Elements.{All-head}
 use Rattle.std.proofs.lemmas.List.{append-nil}
 use Rattle.cartridge_laws.proofs.Hiding.{nothing_is_hidden}
 use Rattle.cartridge_spec.specs.TableSegment.{TableIs, table_cells}
-use Rattle.cartridge_laws.specs.Terms.{HasList}
+use Rattle.cartridge_laws.specs.TableCells.{HasList}
 use Rattle.cartridge_spec.specs.Says.{HasNoBlock, ByCode, LostSectors, TableSays, hidden_from}
 use Rattle.cartridge_spec.specs.Settling.{settling_steps}
 use Rattle.cartridge_spec.specs.Table.{Entry, Shows, table_with}
@@ -47,7 +47,7 @@ finds_fault c sectors entries seg.Tape found = found
 -- ---- a call that was refused by its reading
 
 -- a fault of the tape before the first step
-pub broken_before : {T : Type 0} (m : Meaning T) (old new : T) (wanted : (area : List (List ℕ)) → Cartridge → List Step) → Broke m old new [] → IsBrokenOff m old new wanted
+broken_before : {T : Type 0} (m : Meaning T) (old new : T) (wanted : (area : List (List ℕ)) → Cartridge → List Step) → Broke m old new [] → IsBrokenOff m old new wanted
 broken_before m old new wanted broke = record {
   steps = [];
   broke = broke;
@@ -102,7 +102,7 @@ told_mending m host old u sectors unread fits agrees read room has =
     (Tells-read (IsLearnt host) read (told_learnt m host u fits agrees)) has
 
 -- all steps that data call for are those that other data of the cartridge do
-pub all_wanted : (wanted : (area : List (List ℕ)) → Cartridge → List Step) (c : Cartridge) (area : List (List ℕ)) (steps : List Step) → TableIs c area → steps ≡ wanted area c →
+all_wanted : (wanted : (area : List (List ℕ)) → Cartridge → List Step) (c : Cartridge) (area : List (List ℕ)) (steps : List Step) → TableIs c area → steps ≡ wanted area c →
     (other : List (List ℕ)) → TableIs c other → (rest : List Step) × (steps ++ rest ≡ wanted other c)
 all_wanted wanted c area steps table are other again =
     ([], append-nil steps ∙ are ∙ ap (λ (a : List (List ℕ)). wanted a c) (table_one c area other table again))

@@ -6,13 +6,14 @@ use Rattle.std.proofs.lemmas.Bool.{cases_eq}
 use Rattle.std.proofs.lemmas.List.{length-append, length-drop, length-take-le, take_at, take_all}
 use Rattle.std.proofs.lemmas.Nat.{one_shl}
 use Rattle.std.proofs.lemmas.Nat.Bits.{bit_at-pow_same, bit_at-pow_other}
-use Rattle.qic_base.specs.Terms.{IsLost}
+use Rattle.qic_base.specs.CartridgeTerms.{IsLost}
 use Rattle.qic_base.specs.Cartridge.{lost_places}
 use Rattle.qic_base.specs.declared.tape.SectorView.{SectorView}
 use Rattle.qic_base.specs.declared.tape.SectorView.TheVariants.{Holds}
 use Rattle.cartridge_spec.specs.Code.{IsCodeBlock}
 use Rattle.cartridge_laws.specs.Says.{LosesData}
-use Rattle.cartridge_laws.specs.Terms.{hidden, last_used, sets_by_one}
+use Rattle.cartridge_laws.specs.TableCells.{last_used, sets_by_one}
+use Rattle.cartridge_laws.specs.Segment.{hidden}
 use Rattle.cartridge_spec.specs.Says.{set_of, sets_by, with_used}
 use Rattle.cartridge_spec.specs.Shape.{usable_count}
 use Rattle.cartridge_laws.proofs.Segments.{count_of_whole}

@@ -14,7 +14,7 @@ use Rattle.qic_base.proofs.Steps.{Done-after_reads, Broke-after_reads}
 use Rattle.cartridge_spec.specs.Header.{number, header_fault, has_signature, number_in}
 use Rattle.cartridge_spec.specs.Says.{Saying, Says, Data}
 use Rattle.cartridge_spec.specs.HeaderCopies.{copy_cells, CopyReads, CopyDoesNotRead}
-use Rattle.cartridge_laws.specs.Terms.{IsInForce}
+use Rattle.cartridge_laws.specs.HeaderTerms.{IsInForce}
 use Rattle.cartridge_laws.proofs.Sayings.{says_is_function}
 use Rattle.cartridge_laws.proofs.Segments.{length-whole_cells}
 use Rattle.header_segments.specs.declared.header.Header.{Header}
@@ -81,7 +81,7 @@ copy_says c copy sectors room solved =
     subst (λ (area : List (List ℕ)). Says (copy_cells c copy) (Data area)) (data_of-whole sectors (length (copy_cells c copy)) (length-whole_cells c copy) room) solved.says
 
 -- a copy that says something else than data doesn't read
-pub unread : (c : Cartridge) (copy : ℕ) (saying : Saying) → Says (copy_cells c copy) saying → ((area : List (List ℕ)) → saying ≡ Data area → has_signature area ≡ false) → CopyDoesNotRead c copy
+unread : (c : Cartridge) (copy : ℕ) (saying : Saying) → Says (copy_cells c copy) saying → ((area : List (List ℕ)) → saying ≡ Data area → has_signature area ≡ false) → CopyDoesNotRead c copy
 unread c copy saying says unsigned area reads =
     let none : has_signature area ≡ false = unsigned area (says_is_function (copy_cells c copy) saying (Data area) says reads.says) in
     let there : has_signature area ≡ true = reads.signature in

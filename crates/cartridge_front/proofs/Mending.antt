@@ -1,34 +1,23 @@
 -- The writes of a settling, as those of a set of places and as those of a cartridge.
-use Rattle.std.proofs.Common.{◌≡◌, ℕ, zero, suc, ◌+◌, ◌<◌, ◌≤◌, ◌++◌, refl, sym, ◌∙◌, ap, arith, Bool, true, false, cond, List, [], ◌∷◌, length, take, map, get_or, filter, add-zero, zero-add}
+use Rattle.std.proofs.Common.{◌≡◌, ℕ, zero, suc, ◌+◌, ◌<◌, ◌≤◌, ◌++◌, refl, sym, ◌∙◌, ap, arith, Bool, true, false, cond, List, [], ◌∷◌, length, take, map, get_or, filter, zero-add}
 use Rattle.std.specs.Prelude.{slice_index, if◌then◌else◌}
 use Rattle.std.specs.List.{range_with_len}
 use Rattle.std.proofs.lemmas.List.{map-append, length-take-le, take_at}
 use Rattle.cartridge_spec.specs.Code.{parity_sectors}
-use Rattle.std.proofs.lemmas.List.Elements.{filter-append}
 use Rattle.std.proofs.lemmas.List.FromFn.{get_or-range_with_len}
 use Rattle.qic_base.specs.Cartridge.{lost_places}
 use Rattle.erasure_solve.specs.Lost.{is_lost}
 use Rattle.cartridge_spec.specs.Shape.{sector_at, usable_places}
 use Rattle.cartridge_spec.specs.Says.{whole_mask}
-use Rattle.cartridge_laws.specs.Terms.{sectors_of, places_where}
+use Rattle.cartridge_laws.specs.Segment.{sectors_of, places_where}
 use Rattle.cartridge_laws.proofs.Segments.{places_of_whole}
 use Rattle.cartridge_spec.specs.Settling.{block_writes}
 use Rattle.cartridge_front.specs.declared.table_reader.Unread.{Unread}
 use Rattle.cartridge_front.specs.Settling.{collected_block, is_stale, mending_steps}
 use Rattle.qic_base.specs.Step.{Step, WriteSector}
+use Rattle.command_laws.proofs.ScrubNamed.{filter_more}
 
 -- ---- the places of a set
-
-pub range_more : (a n : ℕ) → range_with_len a (suc n) ≡ range_with_len a n ++ (a + n) ∷ []
-range_more a zero = ap (λ (k : ℕ). k ∷ []) (sym (add-zero a))
-range_more a (suc n) =
-    let next : a + 1 + n ≡ a + suc n = omega arith in
-    ap (λ (l : List ℕ). a ∷ l) (range_more (a + 1) n) ∙ ap (λ (k : ℕ). a ∷ (range_with_len (a + 1) n ++ k ∷ [])) next
-
-filter_more : (test : ℕ → Bool) (n : ℕ) → filter test (range_with_len 0 (suc n)) ≡ filter test (range_with_len 0 n) ++ (if test n then n ∷ [] else [])
-filter_more test n =
-    ap (filter test) (range_more 0 n ∙ ap (λ (k : ℕ). range_with_len 0 n ++ k ∷ []) (zero-add n))
-    ∙ filter-append test (range_with_len 0 n) (n ∷ [])
 
 places_filter : (mask n : ℕ) (test : ℕ → Bool) → ((i : ℕ) → i < n → is_lost mask i ≡ test i) → lost_places mask n ≡ filter test (range_with_len 0 n)
 unfolding lost_places

@@ -1,7 +1,7 @@
 -- What is known of the mounting of a cartridge whose header and volume table were read.
 use Rattle.std.proofs.Common.{◌≡◌, ℕ, ◌-◌, ◌*◌, List, Err, sym, ap, subst, inr}
 use Rattle.qic_base.specs.Cartridge.{Cartridge}
-use Rattle.cartridge_laws.specs.Terms.{fault_as}
+use Rattle.cartridge_laws.specs.HeaderTerms.{fault_as}
 use Rattle.cartridge_spec.specs.Table.{Entry, IsFirstFault}
 use Rattle.cartridge_spec.specs.Mounting.{IsSoundlyFormatted}
 use Rattle.cartridge_spec.specs.HeaderCopies.{last_segment}
@@ -19,7 +19,7 @@ sound_format : (c : Cartridge) (words : List ℕ) (header : Header) → HasForma
 sound_format c words header has = record { area = has.area; header = header_of header; words = words; formatted = has.formatted }
 
 -- the last segment, by what the host has learnt
-pub last_learnt : (host : Host) (c : Cartridge) → IsLearnt host c → 28 * segments_of host - 1 ≡ last_segment c
+last_learnt : (host : Host) (c : Cartridge) → IsLearnt host c → 28 * segments_of host - 1 ≡ last_segment c
 last_learnt host c learnt = ap (λ (n : ℕ). 28 * n - 1) (sym learnt.length_told)
 
 -- a refusal of the volume table, on a cartridge with a sound header

@@ -8,16 +8,16 @@ use Rattle.std.proofs.lemmas.Slice.Eq.{bytes_eq-Decides}
 use Rattle.cartridge_laws.proofs.MountLeftOut.{left_out_data, left_out_parity}
 use Rattle.cartridge_laws.proofs.MountParts.{sector_there}
 use Rattle.cartridge_laws.proofs.Segments.{cells_of_whole}
-use Rattle.cartridge_laws.specs.Segment.{IsUnreadable}
+use Rattle.cartridge_laws.specs.Segment.{IsUnreadable, places_where}
 use Rattle.cartridge_spec.specs.Code.{parity_sectors}
 use Rattle.cartridge_spec.specs.TableSegment.{table_cells}
 use Rattle.cartridge_spec.specs.Settling.{holds, holds_other, block_writes, settling_places, settling_steps, writes_of, changed_by}
-use Rattle.cartridge_laws.specs.Terms.{places_where, is_unsettled, is_left_out}
+use Rattle.cartridge_laws.specs.TableCells.{is_unsettled, is_left_out}
 use Rattle.cartridge_spec.specs.Shape.{is_unreadable, sector_at}
 use Rattle.erasure_solve.proofs.Places.{is_lost_from}
 use Rattle.erasure_solve.specs.Lost.{is_lost}
 use Rattle.qic_base.specs.Cartridge.{Cartridge, view_at}
-use Rattle.qic_base.specs.Terms.{IsLost}
+use Rattle.qic_base.specs.CartridgeTerms.{IsLost}
 use Rattle.qic_base.specs.Step.{WriteSector, changed}
 use Rattle.qic_base.specs.declared.tape.SectorView.{SectorView}
 use Rattle.qic_base.specs.declared.tape.SectorView.TheVariants.{Blank, Defect, Lost, Holds}

@@ -1,7 +1,7 @@
 -- The slot that a fault of the volume table names is one of the table's.
 use Rattle.std.proofs.Common.{◌≡◌, ℕ, ◌<◌, Bool, true, false, cond, not, ◌||◌, List, Some, None, sym, ap, subst}
 use Rattle.std.proofs.lemmas.Option.{same_Some}
-use Rattle.cartridge_laws.specs.Terms.{TableFault, ForeignSlot, BadRange}
+use Rattle.cartridge_laws.specs.Slots.{TableFault, ForeignSlot, BadRange}
 use Rattle.cartridge_spec.specs.Table.{IsFirstFault, slot_fault, slot, is_free, is_used, some_free_below, has_bad_range}
 
 abbrev pub fault_number : TableFault → ℕ

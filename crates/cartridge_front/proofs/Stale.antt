@@ -10,7 +10,7 @@ use borrow.Rule.Slice.PartMut.{put_mid, post_of}
 use Rattle.std.proofs.lemmas.Option.{unwrap_or-slice_get}
 use Rattle.std.proofs.lemmas.Nat.Bits.{bit_at_set_same, bit_at_set_other}
 use Rattle.std.proofs.lemmas.Slice.Eq.{bytes_eq-Decides}
-use Rattle.qic_base.specs.Terms.{IsLost}
+use Rattle.qic_base.specs.CartridgeTerms.{IsLost}
 use Rattle.erasure_solve.specs.Lost.{is_lost}
 use Rattle.erasure_solve.proofs.Places.{is_lost_from}
 use Rattle.cartridge_spec.specs.Shape.{sector_at}
@@ -70,7 +70,7 @@ look_same before after place same looked =
 pub bytes_same : (xs ys : List ℕ) → xs ≡ ys → bytes_eq xs ys ≡ true
 bytes_same xs ys same = (bytes_eq-Decides xs ys).1 same
 
-pub put_stale : (lost one two three : ℕ) (old block : List (List ℕ)) →
+put_stale : (lost one two three : ℕ) (old block : List (List ℕ)) →
     LookedAt lost one 29 (bytes_eq (sector_at old 29) (sector_at block 29)) →
     LookedAt one two 30 (bytes_eq (sector_at old 30) (sector_at block 30)) →
     LookedAt two three 31 (bytes_eq (sector_at old 31) (sector_at block 31)) →

@@ -5,16 +5,15 @@ use Rattle.std.proofs.lemmas.Nat.Bits.{bit_at-zero}
 use Rattle.std.proofs.lemmas.List.{get_or-take, take_all}
 use Rattle.std.proofs.lemmas.Option.{slice_get-get_or, slice_get_within}
 use Rattle.qic_base.specs.Cartridge.{Cartridge, lost_places}
-use Rattle.qic_base.specs.Terms.{IsLost}
+use Rattle.qic_base.specs.CartridgeTerms.{IsLost}
 use Rattle.qic_base.specs.Tape.{Meaning}
 use Rattle.qic_base.specs.TapeCalls.{Tells}
 use Rattle.qic_base.proofs.Steps.{Tells-map}
 use Rattle.qic_base.specs.declared.tape.SectorView.{SectorView}
 use Rattle.qic_base.specs.declared.tape.SectorView.TheVariants.{Blank, Defect, Lost, Holds}
-use Rattle.cartridge_laws.specs.Segment.{IsUnreadable}
+use Rattle.cartridge_laws.specs.Segment.{IsUnreadable, unreadable_data, data_of}
 use Rattle.cartridge_spec.specs.Shape.{is_unreadable}
 use Rattle.cartridge_spec.specs.Says.{unreadable_count, ReadsAll, TableSays, ByCode, LostSectors}
-use Rattle.cartridge_laws.specs.Terms.{unreadable_data, data_of}
 use Rattle.cartridge_laws.specs.Says.{LosesData}
 use Rattle.cartridge_spec.specs.TableSegment.{table_cells, TableIs}
 use Rattle.cartridge_laws.proofs.Cells.{unreadable_count-first}
@@ -53,7 +52,7 @@ slice_get-take sectors n i bytes within there =
     ∙ there
 
 -- where no data sector was lost, all can be read, and stand in their places
-pub collected_reads : (cells : List SectorView) (lost : ℕ) (sectors : List (List ℕ)) → length cells ≡ 32 → length sectors ≡ 32 →
+collected_reads : (cells : List SectorView) (lost : ℕ) (sectors : List (List ℕ)) → length cells ≡ 32 → length sectors ≡ 32 →
     Gathered cells lost sectors → ¬ (LosesData lost) → ReadsAll cells (take 29 sectors)
 collected_reads cells lost sectors count room gathered none = record {
   size = omega (arith, length-take 29 sectors);

@@ -3,13 +3,13 @@ use Rattle.std.proofs.Common.{◌≡◌, ◌≢◌, ◌↔◌, ℕ, zero, suc, �
 use Rattle.std.proofs.lemmas.Bool.{cases_eq, cases_lt, eqb-true, eq-eqb, false≢true}
 use Rattle.std.proofs.lemmas.List.{length-take-le, take_at, take_all}
 use Rattle.std.proofs.lemmas.List.Elements.{All-nil, All-cons}
-use Rattle.qic_base.specs.Terms.{IsLost}
+use Rattle.qic_base.specs.CartridgeTerms.{IsLost}
 use Rattle.qic_base.specs.Cartridge.{lost_places}
 use Rattle.qic_base.specs.declared.tape.SectorView.{SectorView}
 use Rattle.qic_base.specs.declared.tape.SectorView.TheVariants.{Holds}
-use Rattle.cartridge_laws.specs.Segment.{IsUnreadable}
+use Rattle.cartridge_laws.specs.Segment.{IsUnreadable, HasNoBlocks, hidden}
 use Rattle.cartridge_spec.specs.Says.{Mismatch, ByCode, TableSays, HasBlock, HasNoBlock, HasFirstBlock, Agrees, unreadable_count, set_of, sets_by}
-use Rattle.cartridge_laws.specs.Terms.{HasNoBlocks, hidden, unreadable_places, last_used, table_sets}
+use Rattle.cartridge_laws.specs.TableCells.{unreadable_places, last_used, table_sets}
 use Rattle.cartridge_laws.specs.Says.{LosesData}
 use Rattle.cartridge_laws.proofs.Hiding.{nothing_is_hidden}
 use Rattle.cartridge_laws.proofs.Readings.{AreSmall, small_sets}

@@ -5,15 +5,16 @@ use Rattle.std.specs.List.{range_with_len}
 use Rattle.std.specs.Option.{option_map}
 use Rattle.std.proofs.lemmas.Bool.{cases_Bool, cases_eq, eqb-true, eq-eqb, ne_eqb, false≢true}
 use Rattle.std.proofs.lemmas.Option.{slice_get_within, slice_get-get_or}
-use Rattle.qic_base.specs.Terms.{IsLost}
+use Rattle.qic_base.specs.CartridgeTerms.{IsLost}
 use Rattle.qic_base.specs.Cartridge.{lost_places}
 use Rattle.qic_base.specs.declared.tape.SectorView.{SectorView}
 use Rattle.qic_base.specs.declared.tape.SectorView.TheVariants.{Blank, Defect, Lost, Holds}
 use Rattle.erasure_solve.specs.Lost.{is_lost}
 use Rattle.erasure_solve.proofs.Places.{is_lost_from}
-use Rattle.cartridge_laws.specs.Segment.{IsUnreadable}
+use Rattle.cartridge_laws.specs.Segment.{IsUnreadable, hidden}
 use Rattle.cartridge_spec.specs.Shape.{is_unreadable}
-use Rattle.cartridge_laws.specs.Terms.{hidden, sets_by_one, sets_by_two, unreadable_places, last_used, has_used_slot}
+use Rattle.cartridge_laws.specs.TableCells.{sets_by_one, sets_by_two, unreadable_places, last_used}
+use Rattle.cartridge_laws.specs.Slots.{has_used_slot}
 use Rattle.cartridge_spec.specs.Says.{hidden_from, set_of, with_used, sets_by, unreadable_from, last_used_below, shows_used_slot}
 use Rattle.cartridge_laws.proofs.Cells.{unreadable_at}
 use Rattle.cartridge_laws.proofs.Sets.{names, IsOneOf, named_is_one, one_is_named}
@@ -104,7 +105,7 @@ hidden_lost set cells i within is =
     ∙ ap (λ (b : Bool). Some (if b then Lost else get_or cells i Blank)) (eq-eqb (set / 2 ^ i % 2) 1 is)
 
 -- a cell that is seen to hold bytes is outside the set
-pub held_kept : (set : ℕ) (cells : List SectorView) (i : ℕ) (bytes : List ℕ) → slice_get (hidden set cells) i ≡ Some (Holds bytes) → ¬ (IsLost set i)
+held_kept : (set : ℕ) (cells : List SectorView) (i : ℕ) (bytes : List ℕ) → slice_get (hidden set cells) i ≡ Some (Holds bytes) → ¬ (IsLost set i)
 held_kept set cells i bytes seen = λ is.
     let within : i < length (hidden set cells) = slice_get_within (hidden set cells) i (Holds bytes) seen in
     by_cell (slice_get cells i) is (sym (hidden_at set cells i) ∙ seen)

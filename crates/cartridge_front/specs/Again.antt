@@ -1,7 +1,8 @@
 -- The volume table read again, settled again, and written with one entry more, by the answers of the calls (this project's
 -- own).
 use Rattle.std.specs.Prelude.{◌≡◌, ◌⊎◌, ℕ, ◌<◌, ◌++◌, List, [], ◌∷◌, length, take, Result, Ok, Err}
-use Rattle.cartridge_laws.specs.Terms.{HasList, slot_sector}
+use Rattle.cartridge_laws.specs.TableCells.{HasList}
+use Rattle.cartridge_laws.specs.Slots.{slot_sector}
 use Rattle.qic_base.specs.Cartridge.{Cartridge}
 use Rattle.qic_base.specs.Step.{Step}
 use Rattle.qic_base.specs.Tape.{Meaning, Done, Broke}

@@ -7,7 +7,7 @@ use Rattle.qic_base.specs.Tape.{Meaning, Done, Broke}
 use Rattle.qic_base.specs.declared.foreign.ForeignField.{ForeignField}
 use Rattle.qic_base.specs.declared.foreign.ForeignField.TheVariants.{FormatCode, FirstHeader, SecondHeader, FirstData, LastData, SegmentsPerTrack, Tracks, TrackMaximum, SectorMaximum, Map, Slot, Range}
 use Rattle.cartridge_spec.specs.Header.{HeaderFault, has_signature, header_fault, Shows}
-use Rattle.cartridge_laws.specs.Terms.{fault_as}
+use Rattle.cartridge_laws.specs.HeaderTerms.{fault_as}
 use Rattle.cartridge_spec.specs.Says.{TableSays}
 use Rattle.cartridge_spec.specs.Says as says
 use Rattle.cartridge_spec.specs.Table.{Entry, HasNoFault, IsFirstFault}

@@ -1,6 +1,6 @@
 -- What a cartridge says, learnt by reads, or why its mounting is refused (this project's own).
 use Rattle.std.specs.Prelude.{◌≡◌, ℕ, List, take, Result, Ok, Err}
-use Rattle.cartridge_laws.specs.Terms.{fault_as}
+use Rattle.cartridge_laws.specs.HeaderTerms.{fault_as}
 use Rattle.cartridge_spec.specs.TableSegment.{table_cells}
 use Rattle.cartridge_spec.specs.Mounting.{Mounts}
 use Rattle.cartridge_spec.specs.Table.{Entry}

@@ -1,7 +1,7 @@
 -- How the sectors of the volume table's segment that were collected are solved, by the sets that its reading tries (this
 -- project's own).
 use Rattle.std.specs.Prelude.{◌≡◌, ◌≢◌, ◌↔◌, ℕ, ◌<◌, ◌≤◌, List, length, take, Option, Some, None, slice_get, Result, Ok, Err}
-use Rattle.qic_base.specs.Terms.{IsLost}
+use Rattle.qic_base.specs.CartridgeTerms.{IsLost}
 use Rattle.qic_base.specs.declared.tape.SectorView.{SectorView}
 use Rattle.qic_base.specs.declared.tape.SectorView.TheVariants.{Holds}
 use Rattle.cartridge_spec.specs.Code.{IsCodeBlock}

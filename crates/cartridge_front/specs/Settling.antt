@@ -5,7 +5,7 @@ use Rattle.qic_base.specs.Step.{Step}
 use Rattle.erasure_solve.specs.Lost.{is_lost}
 use Rattle.cartridge_spec.specs.Shape.{sector_at}
 use Rattle.cartridge_spec.specs.Says.{with_parity}
-use Rattle.cartridge_laws.specs.Terms.{places_where}
+use Rattle.cartridge_laws.specs.Segment.{places_where}
 use Rattle.cartridge_spec.specs.Settling.{block_writes}
 use Rattle.cartridge_front.specs.declared.table_reader.Unread.{Unread}
 

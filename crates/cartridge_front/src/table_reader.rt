@@ -1,7 +1,7 @@
 //! The volume table's segment read.
 
 ghost use Rattle.std.specs.Prelude.{◌≡◌, ◌≢◌, ◌<◌, ◌≤◌, ◌↔◌, ◌++◌, ℕ, List, Some, true, length, take, drop, IfOk, IfSome, IsOkUnless};
-ghost use Rattle.qic_base.specs.Terms.{IsLost};
+ghost use Rattle.qic_base.specs.CartridgeTerms.{IsLost};
 ghost use Rattle.qic_base.specs.Cartridge.{lost_places};
 ghost use Rattle.qic_base.specs.TapeCalls.{Tells};
 ghost use Rattle.qic_base.specs.declared.tape.SectorView.{SectorView};

@@ -4,7 +4,8 @@ ghost use Rattle.std.specs.Prelude.{◌≡◌, ◌<◌, ◌^◌, ◌++◌, ◌�
 ghost use Rattle.qic_base.specs.TapeCalls.{Does};
 ghost use Rattle.cartridge_spec.specs.Appending.{table_writes};
 ghost use Rattle.cartridge_spec.specs.Says.{with_parity};
-ghost use Rattle.cartridge_laws.specs.Terms.{sectors_of, slot_sector, with_slot};
+ghost use Rattle.cartridge_laws.specs.Slots.{slot_sector, with_slot};
+ghost use Rattle.cartridge_laws.specs.Segment.{sectors_of};
 ghost use Rattle.cartridge_spec.specs.Table.{slot_bytes, Shows};
 ghost use Rattle.drive_spec.specs.Terms.{is_referenced};
 ghost use Rattle.host_driver.specs.Calls.{IsReady, MayWrite, Keeps};

@@ -16,6 +16,8 @@ use qic_base::{ForeignField, Sector, Tape};
 use segment_io::{SegFault, Workspace};
 use volume_table::{Table, TableFault};
 
+const TRACKS: u32 = qic_base::TRACKS as u32;
+
 /// Why the table's segment has no data.
 pub(crate) fn table_fault(fault: SegFault) -> StoreFault
     ensures { result ≡ refusal_of fault }
@@ -69,7 +71,7 @@ pub(crate) fn read_volumes<T: Tape>(
     ensures room { length work.new ≡ 32 }
     ensures keeps { Keeps T.means host.new unit.old unit.new }
 {
-    let last = 28 * u32::from(host.geometry().segments_per_track()) - 1;
+    let last = TRACKS * u32::from(host.geometry().segments_per_track()) - 1;
     match read_table(host, unit, work) {
         Ok(unread) => {
             decode_table(table, data_sectors(work), last)?;

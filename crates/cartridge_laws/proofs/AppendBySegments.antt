@@ -5,7 +5,7 @@ use Rattle.std.proofs.lemmas.List.Sums.{sum_by-cons}
 use Rattle.cartridge_laws.proofs.AppendBytes.{carried_all}
 use Rattle.cartridge_laws.specs.AppendLaws.{WritesBySegment, VolumeStepsByBytes, SectorsTakeTheirs}
 use Rattle.cartridge_laws.specs.AppendSteps.{parts_writes}
-use Rattle.cartridge_laws.specs.Terms.{sectors_in}
+use Rattle.cartridge_laws.specs.VolumeParts.{sectors_in}
 use Rattle.cartridge_spec.specs.Appending.{filled_up, in_sectors, part_writes, taken_by}
 use Rattle.cartridge_spec.specs.Shape.{mask_at, data_count, capacity}
 use Rattle.cartridge_spec.specs.Volumes.{parts_of}

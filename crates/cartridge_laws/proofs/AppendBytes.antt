@@ -14,7 +14,8 @@ use Rattle.cartridge_laws.specs.AppendSettled.{DoneBytes}
 use Rattle.cartridge_laws.specs.Shape.{Carries}
 use Rattle.cartridge_spec.specs.Appending.{taken_by, filled_up, in_sectors, appended_volume, free_segments}
 use Rattle.cartridge_spec.specs.Volumes.{bytes_in, carrying, capacity_between, Volume, entries_of, volume_length}
-use Rattle.cartridge_laws.specs.Terms.{new_segments, last_end, sectors_in}
+use Rattle.cartridge_laws.specs.VolumeParts.{new_segments, sectors_in}
+use Rattle.cartridge_laws.specs.Table.{last_end}
 use Rattle.cartridge_spec.specs.HeaderCopies.{last_segment}
 use Rattle.cartridge_spec.specs.Shape.{mask_at, capacity, data_count, usable_count}
 use Rattle.cartridge_spec.specs.Table.{Entry}

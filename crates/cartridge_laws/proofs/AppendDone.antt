@@ -1,5 +1,5 @@
 -- What all steps of an append leave, and what a stop among them leaves.
-use Rattle.std.proofs.Common.{◌≡◌, ℕ, ◌-◌, List, length, sym, ap, ◌∙◌, All, subst, ◌<◌, arith, ◌≤◌, ◌⊎◌, [], ◌∷◌, ◌++◌, refl, inl, Option, Some, None, IsSomeAnd, inr}
+use Rattle.std.proofs.Common.{◌≡◌, ℕ, ◌-◌, List, length, sym, ap, ◌∙◌, All, subst, ◌<◌, arith, ◌≤◌, ◌⊎◌, [], ◌∷◌, ◌++◌, refl, inl, Option, Some, IsSomeAnd, inr}
 use Rattle.std.specs.Prelude.{slice_index}
 use Rattle.std.proofs.lemmas.List.Elements.{All-weaker, All-append, All-cons, All-nil}
 use Rattle.cartridge_laws.proofs.AppendBetween.{begun_written, before_reads_old, turned_reads_new}
@@ -21,7 +21,9 @@ use Rattle.cartridge_laws.specs.AppendLaws.{IsReadyFor, StoppedList, AppendedIsW
 use Rattle.cartridge_laws.specs.AppendSettled.{MayAppendTo, IsSettledFor, DoneIsSettledFor, DoneStands}
 use Rattle.cartridge_laws.specs.AppendSteps.{volume_writes, list_writes, append_steps}
 use Rattle.cartridge_laws.specs.Shape.{Carries}
-use Rattle.cartridge_laws.specs.Terms.{new_segments, last_end, slot_sector, PartStands, sectors_in}
+use Rattle.cartridge_laws.specs.VolumeParts.{new_segments, PartStands, sectors_in}
+use Rattle.cartridge_laws.specs.Table.{last_end}
+use Rattle.cartridge_laws.specs.Slots.{slot_sector}
 use Rattle.cartridge_spec.specs.Appending.{appended_volume, with_bytes}
 use Rattle.cartridge_spec.specs.HeaderCopies.{last_segment}
 use Rattle.cartridge_spec.specs.TableSegment.{table_cells, TableIs}
@@ -33,6 +35,7 @@ use Rattle.cartridge_spec.specs.Volumes.{carrying, Plain, Volume, VolumeStands, 
 use Rattle.qic_base.proofs.Steps.{Torn-append}
 use Rattle.qic_base.specs.Cartridge.{Cartridge, IsSector}
 use Rattle.qic_base.specs.Step.{Step, Torn}
+use Rattle.cartridge_laws.proofs.MountStops.{some_both}
 
 -- ---- the new volume
 
@@ -73,7 +76,7 @@ begin_behind c plain stood =
     (λ (volume : Volume) lies. let from : 2 < volume.entry.start = lies.behind in omega arith)
     plain.volumes (old_volumes c plain stood)
 
-abbrev OfTable : (segment sector : ℕ) → Type 0
+abbrev pub OfTable : (segment sector : ℕ) → Type 0
 OfTable segment sector = segment ≡ 2
 
 behind_table : (d e : Cartridge) → IsKeptBut OfTable d e → AreKept d e
@@ -139,7 +142,7 @@ stands_new c e plain name date bytes ready next reads =
 
 -- ---- the four writes
 
-list_in : (plain : Plain) (volume : Volume) → length plain.volumes < 232 → AreIn OfTable (list_writes plain volume)
+pub list_in : (plain : Plain) (volume : Volume) → length plain.volumes < 232 → AreIn OfTable (list_writes plain volume)
 list_in plain volume few = ((refl, omega arith), ((refl, omega arith), ((refl, omega arith), ((refl, omega arith), tt))))
 
 table_kept : (c : Cartridge) (plain : Plain) (name : List ℕ) (date : ℕ) (bytes : List ℕ) → MayAppendTo c plain name date bytes →
@@ -208,10 +211,6 @@ done_stands c plain name date bytes may known =
     (stands_new c (changed_by next d) plain name date bytes may
     (steps_kept OfTable next d (list_in plain volume (ready_count c plain name date bytes may)))
     (inl (live_written (changed_by next d) (new_table plain name date bytes) (done_table_shows c plain name date bytes may).0 then.live)))
-
-pub some_both : (P Q : Cartridge → Type 0) (left : Option Cartridge) → IsSomeAnd left P → IsSomeAnd left Q → IsSomeAnd left (λ d. P d × Q d)
-some_both P Q None p q = absurd p
-some_both P Q (Some d) p q = (p, q)
 
 -- ---- a stop among them
 

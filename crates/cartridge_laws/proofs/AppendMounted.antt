@@ -2,7 +2,8 @@
 use Rattle.std.proofs.Common.{ℕ, ◌≤◌, ◌<◌, List, arith, ◌≡◌, ◌⊎◌, sym, subst, refl, inl, inr, Contains, length, Option, Some, IsSomeAnd, ◌∙◌}
 use Rattle.std.proofs.lemmas.List.Elements.{All-weaker, All-contains_itself, Contains-get_or}
 use Rattle.cartridge_laws.proofs.AppendDead.{settled_kept}
-use Rattle.cartridge_laws.proofs.AppendDone.{IsReadAs, done_stands, done_is_settled_for, either_of, stopped_reads, some_both, stopped_append}
+use Rattle.cartridge_laws.proofs.AppendDone.{IsReadAs, done_stands, done_is_settled_for, either_of, stopped_reads, stopped_append}
+use Rattle.cartridge_laws.proofs.MountStops.{some_both}
 use Rattle.cartridge_laws.proofs.AppendKeeping.{AreIn, in_append, parts_of_segments, IsKeptBut, steps_kept, steps_stopped, AllowsUsable, parts_in}
 use Rattle.cartridge_laws.proofs.AppendTable.{ready_count}
 use Rattle.cartridge_laws.proofs.AppendVolume.{may_append, last_end_least, ready_taken, taken_behind, free_writes_stand, is_ready}
@@ -15,7 +16,11 @@ use Rattle.cartridge_laws.specs.AppendSettled.{DoneMounts, MayAppendTo, DoneIsCl
 use Rattle.cartridge_laws.specs.AppendSteps.{append_steps, volume_writes, list_writes, IsNamed}
 use Rattle.cartridge_laws.specs.AppendWrites.{KeepsTo, AreWrites, IsFree, IsOfSector}
 use Rattle.cartridge_spec.specs.Appending.{appended_volume, with_bytes}
-use Rattle.cartridge_laws.specs.Terms.{new_segments, last_end, table_places, slot_sector, IsCleanCopy}
+use Rattle.cartridge_laws.specs.VolumeParts.{new_segments}
+use Rattle.cartridge_laws.specs.TableCells.{table_places}
+use Rattle.cartridge_laws.specs.Table.{last_end}
+use Rattle.cartridge_laws.specs.Slots.{slot_sector}
+use Rattle.cartridge_laws.specs.HeaderTerms.{IsCleanCopy}
 use Rattle.cartridge_spec.specs.Formatting.{StandsCleanly}
 use Rattle.cartridge_spec.specs.HeaderCopies.{last_segment, copy_cells}
 use Rattle.cartridge_spec.specs.Mounting.{Mounts, mounted_as}
@@ -23,7 +28,7 @@ use Rattle.cartridge_spec.specs.Says.{whole_mask, Written, Zero}
 use Rattle.cartridge_spec.specs.Settling.{changed_by}
 use Rattle.cartridge_spec.specs.Volumes.{Plain, Volume, entries_of, Stands}
 use Rattle.qic_base.specs.Cartridge.{Cartridge}
-use Rattle.qic_base.specs.Terms.{IsCartridge}
+use Rattle.qic_base.specs.CartridgeTerms.{IsCartridge}
 use Rattle.qic_base.specs.Step.{Step, Torn}
 use Rattle.qic_base.specs.declared.tape.SectorView.{SectorView}
 

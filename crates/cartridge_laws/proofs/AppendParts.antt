@@ -11,7 +11,7 @@ use Rattle.cartridge_laws.proofs.Writing.{writes_leave_data}
 use Rattle.cartridge_laws.specs.AppendSteps.{parts_writes}
 use Rattle.cartridge_laws.specs.Shape.{Carries}
 use Rattle.cartridge_spec.specs.Appending.{part_writes, filled_up, in_sectors}
-use Rattle.cartridge_laws.specs.Terms.{PartStands, sectors_in}
+use Rattle.cartridge_laws.specs.VolumeParts.{PartStands, sectors_in}
 use Rattle.cartridge_spec.specs.Says.{cells_of, Written, with_parity}
 use Rattle.cartridge_spec.specs.Settling.{writes_of, changed_by}
 use Rattle.cartridge_spec.specs.Shape.{mask_at, usable_places, usable_count, data_count}

@@ -8,7 +8,7 @@ use Rattle.cartridge_laws.proofs.MountWriting.{places_that, places_none, places_
 use Rattle.cartridge_laws.proofs.Places.{count_below}
 use Rattle.cartridge_laws.specs.Shape.{Carries}
 use Rattle.cartridge_spec.specs.Appending.{taken_by, room, free_segments}
-use Rattle.cartridge_laws.specs.Terms.{last_end}
+use Rattle.cartridge_laws.specs.Table.{last_end}
 use Rattle.cartridge_spec.specs.Shape.{mask_at, capacity, usable_count, data_count}
 use Rattle.cartridge_spec.specs.Table.{Entry}
 use Rattle.cartridge_spec.specs.Volumes.{carrying, capacity_between}

@@ -12,7 +12,7 @@ use Rattle.cartridge_spec.specs.HeaderCopies.{copy_cells, last_segment}
 use Rattle.cartridge_spec.specs.Says.{Written, ReadsAll, whole_mask}
 use Rattle.cartridge_spec.specs.Table.{Shows, HasNoFault, slot_fault}
 use Rattle.cartridge_spec.specs.Volumes.{Part, parts_of, Volume, VolumeStands, carrying, Plain, Stands}
-use Rattle.cartridge_laws.specs.Terms.{PartStands}
+use Rattle.cartridge_laws.specs.VolumeParts.{PartStands}
 use Rattle.qic_base.specs.Cartridge.{Cartridge, view_at, IsSector}
 use Rattle.qic_base.specs.declared.tape.SectorView.{SectorView}
 use Rattle.qic_base.specs.declared.tape.TapeInfo.{TapeInfo}
@@ -23,7 +23,7 @@ use Rattle.qic_base.specs.declared.tape.TapeInfo.{TapeInfo}
 abbrev pub AreKeptTo : (to : ℕ) (c d : Cartridge) → Type 0
 AreKeptTo to c d = (s i : ℕ) → s ≤ to → i < 32 → view_at d s i ≡ view_at c s i
 
-range_within : (n from to : ℕ) → (1 ≤ n → from + n ≤ to + 1) → All (λ s. s ≤ to) (range_with_len from n)
+pub range_within : (n from to : ℕ) → (1 ≤ n → from + n ≤ to + 1) → All (λ s. s ≤ to) (range_with_len from n)
 range_within zero from to h = All-nil (λ (s : ℕ). s ≤ to)
 range_within (suc n) from to h =
     let room : from + suc n ≤ to + 1 = h (omega arith) in

@@ -12,9 +12,9 @@ use Rattle.cartridge_laws.proofs.SlotBytes.{length-slot_bytes, slot_is_used, slo
 use Rattle.cartridge_laws.proofs.Slots.{slot_area, area_is_long, shows_more}
 use Rattle.cartridge_laws.specs.AppendLaws.{new_table}
 use Rattle.cartridge_laws.specs.AppendSettled.{MayAppendTo, DoneTableShows}
-use Rattle.cartridge_laws.specs.Slots.{FitsSlot}
-use Rattle.cartridge_laws.specs.Table.{IsSoundList}
-use Rattle.cartridge_laws.specs.Terms.{new_segments, last_end, slot_sector, with_slot}
+use Rattle.cartridge_laws.specs.Slots.{FitsSlot, slot_sector, with_slot}
+use Rattle.cartridge_laws.specs.Table.{IsSoundList, last_end}
+use Rattle.cartridge_laws.specs.VolumeParts.{new_segments}
 use Rattle.cartridge_spec.specs.Appending.{appended_volume}
 use Rattle.cartridge_spec.specs.Shape.{IsArea, sector_at}
 use Rattle.cartridge_spec.specs.HeaderCopies.{last_segment}

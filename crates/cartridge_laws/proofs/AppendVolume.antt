@@ -13,8 +13,8 @@ use Rattle.cartridge_laws.specs.AppendBetween.{IsWhole}
 use Rattle.cartridge_laws.specs.AppendLaws.{IsReadyFor, FreeWritesStand, StoppedVolume}
 use Rattle.cartridge_laws.specs.AppendSettled.{MayAppendTo}
 use Rattle.cartridge_laws.specs.AppendSteps.{volume_writes}
-use Rattle.cartridge_laws.specs.Table.{LieBehind}
-use Rattle.cartridge_laws.specs.Terms.{last_end, new_segments}
+use Rattle.cartridge_laws.specs.Table.{LieBehind, last_end}
+use Rattle.cartridge_laws.specs.VolumeParts.{new_segments}
 use Rattle.cartridge_spec.specs.Appending.{appended_volume, has_room}
 use Rattle.cartridge_spec.specs.HeaderCopies.{last_segment}
 use Rattle.cartridge_spec.specs.TableSegment.{table_cells}

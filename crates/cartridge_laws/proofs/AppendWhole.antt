@@ -14,7 +14,8 @@ use Rattle.cartridge_laws.specs.AppendSettled.{MayAppendTo, DoneIsCartridge}
 use Rattle.cartridge_laws.specs.AppendSteps.{parts_writes, volume_writes, list_writes, append_steps}
 use Rattle.cartridge_laws.specs.AppendWrites.{AreWrites, IsOfSector, IsWrite}
 use Rattle.cartridge_spec.specs.Appending.{part_writes, appended_volume}
-use Rattle.cartridge_laws.specs.Terms.{new_segments, slot_sector, sectors_in}
+use Rattle.cartridge_laws.specs.VolumeParts.{new_segments, sectors_in}
+use Rattle.cartridge_laws.specs.Slots.{slot_sector}
 use Rattle.cartridge_spec.specs.Code.{parity_sectors}
 use Rattle.cartridge_spec.specs.Shape.{IsArea, mask_at, usable_places, data_count, sector_at}
 use Rattle.cartridge_spec.specs.HeaderCopies.{last_segment}
@@ -24,12 +25,12 @@ use Rattle.cartridge_spec.specs.Volumes.{Part, parts_of, Plain, Volume}
 use Rattle.gf256_qic.proofs.Parities.{parity_sectors-are_sectors}
 use Rattle.qic_base.proofs.Steps.{Torn-all}
 use Rattle.qic_base.specs.Cartridge.{Cartridge, view_at, IsSector}
-use Rattle.qic_base.specs.Terms.{IsCartridge}
+use Rattle.qic_base.specs.CartridgeTerms.{IsCartridge}
 use Rattle.qic_base.specs.Step.{Step, WriteSector, FormatSegment, SetReferenced, SetProtected, Renew, Wear, Spoil, Upgrade, changed, written_view, worn_view, effects, Halfway, Torn}
 
 -- ---- writes of whole sectors
 
-writes_more : (xs ys : List Step) → AreWrites IsOfSector xs → AreWrites IsOfSector ys → AreWrites IsOfSector (xs ++ ys)
+pub writes_more : (xs ys : List Step) → AreWrites IsOfSector xs → AreWrites IsOfSector ys → AreWrites IsOfSector (xs ++ ys)
 writes_more [] ys front rear = rear
 writes_more (x ∷ xs) ys front rear = (front.0, writes_more xs ys front.1 rear)
 
@@ -92,7 +93,7 @@ parts_whole words (s ∷ ss) area are =
     (writes_whole s (usable_places (mask_at words s)) (with_parity (take n area)) (block_sectors (take n area) (All-take IsSector n area are)))
     (parts_whole words ss (drop n area) (All-drop IsSector n area are))
 
-block_sector : (area : List (List ℕ)) (i : ℕ) → IsArea area → i < 32 → IsSector (sector_at (with_parity area) i)
+pub block_sector : (area : List (List ℕ)) (i : ℕ) → IsArea area → i < 32 → IsSector (sector_at (with_parity area) i)
 block_sector area i is h =
     subst IsSector (sym (unwrap_or-slice_get (with_parity area) i []))
     (All-get_or IsSector (with_parity area) i [] (omega (arith, length-block area is)) (block_sectors area is.sectors))

@@ -13,9 +13,9 @@ use Rattle.cartridge_laws.specs.SayingLaws.{SaysAlways}
 use Rattle.qic_base.specs.Cartridge.{IsSector}
 use Rattle.cartridge_spec.specs.Code.{column, IsCodeword, IsCodeBlock}
 use Rattle.cartridge_spec.specs.Says.{Agrees, HasNoBlock, Data, LostSectors, Mismatch, unreadable_count}
-use Rattle.cartridge_laws.specs.Terms.{data_of}
+use Rattle.cartridge_laws.specs.Segment.{data_of}
 use Rattle.gf256_qic.proofs.Agreement.{length-column, get_or-column}
-use Rattle.qic_base.specs.Terms.{IsView}
+use Rattle.qic_base.specs.CartridgeTerms.{IsView}
 use Rattle.qic_base.specs.declared.tape.SectorView.{SectorView}
 use Rattle.qic_base.specs.declared.tape.SectorView.TheVariants.{Blank, Defect, Lost, Holds}
 
@@ -205,7 +205,7 @@ pub record HasSomeBlock (cells : List SectorView) : Type 0 where
   pub agrees : Agrees cells block
 
 -- some code block agrees with the cells, or none does
-pub decide_block : (cells : List SectorView) → All IsView cells → HasSomeBlock cells ⊎ HasNoBlock cells
+decide_block : (cells : List SectorView) → All IsView cells → HasSomeBlock cells ⊎ HasNoBlock cells
 decide_block cells views =
     elim (decide_each_below 1024 (HasColumn cells) (decide_column cells)) [
       | inl all ↦ inl (record {

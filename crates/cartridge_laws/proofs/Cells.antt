@@ -1,10 +1,10 @@
 -- The cells of a segment by place: which of them are unreadable, and how many.
-use Rattle.std.proofs.Common.{ℕ, zero, suc, Bool, false, List, [], ◌∷◌, cond, ◌≡◌, ◌+◌, refl, arith, sym, ◌∙◌, ap, length, slice_get, Some, ◌<◌, ◌≤◌, take, zero-add}
+use Rattle.std.proofs.Common.{ℕ, zero, suc, Bool, false, List, [], ◌∷◌, ◌≡◌, ◌+◌, refl, arith, sym, ◌∙◌, ap, length, slice_get, Some, ◌<◌, ◌≤◌, take, zero-add}
 use Rattle.std.proofs.lemmas.List.Sums.{sum_by-cons}
 use Rattle.cartridge_spec.specs.Code.{IsCodeBlock}
 use Rattle.cartridge_spec.specs.Says.{unreadable_count, Agrees}
 use Rattle.cartridge_spec.specs.Shape.{is_unreadable}
-use Rattle.gf256_qic.proofs.Agreement.{one_block}
+use Rattle.gf256_qic.proofs.Agreement.{one_block, one_if, lost_below-first}
 use Rattle.gf256_qic.specs.Code.{lost_below, AgreesOutside}
 use Rattle.qic_base.specs.declared.tape.SectorView.{SectorView}
 use Rattle.qic_base.specs.declared.tape.SectorView.TheVariants.{Holds, Blank, Defect, Lost}
@@ -14,19 +14,6 @@ unfoldable pub unreadable_at : List SectorView → ℕ → Bool
 unreadable_at [] i = false
 unreadable_at (cell ∷ cells) zero = is_unreadable cell
 unreadable_at (cell ∷ cells) (suc i) = unreadable_at cells i
-
-abbrev one_if : Bool → ℕ
-one_if t = cond t 1 0
-
--- the lost places, the first of them apart
-lost_below-first : (lost : ℕ → Bool) (n : ℕ) →
-    lost_below lost (suc n) ≡ one_if (lost 0) + lost_below (λ i. lost (suc i)) n
-unfolding lost_below
-lost_below-first lost zero = refl
-lost_below-first lost (suc n) =
-    let before : lost_below lost (suc n) ≡ one_if (lost 0) + lost_below (λ i. lost (suc i)) n =
-    lost_below-first lost n in
-    omega arith
 
 -- the unreadable cells, the first of them apart
 pub unreadable_count-first : (cell : SectorView) (cells : List SectorView) →
@@ -57,7 +44,7 @@ readable_at (Holds bytes ∷ cells) zero h kept = (bytes, refl)
 readable_at (cell ∷ cells) (suc i) h kept = readable_at cells i (omega arith) kept
 
 -- blocks that agree with the cells agree with each other outside the unreadable ones
-pub blocks_agree : (cells : List SectorView) (ss ts : List (List ℕ)) → Agrees cells ss → Agrees cells ts →
+blocks_agree : (cells : List SectorView) (ss ts : List (List ℕ)) → Agrees cells ss → Agrees cells ts →
     AgreesOutside (unreadable_at cells) ss ts
 blocks_agree cells ss ts hs ht = record {
   size = hs.size ∙ sym ht.size;

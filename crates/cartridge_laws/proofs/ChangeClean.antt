@@ -4,7 +4,7 @@ use Rattle.cartridge_laws.proofs.ChangeStanding.{written_less, zero_less, count_
 use Rattle.cartridge_laws.proofs.ChangeViews.{ReadsNoMore, worn_reads_no_more, spoiled_alike}
 use Rattle.cartridge_laws.specs.ChangeLaws.{WornIsClean, WornIsBare, SpoiledIsClean, SpoiledIsBare, ProtectedIsClean, ProtectedIsBare, ReferencedIsClean, ReferencedIsBare}
 use Rattle.cartridge_spec.specs.Formatting.{StandsCleanly, HasNoHeader}
-use Rattle.cartridge_laws.specs.Terms.{IsBareCopy, IsCleanCopy}
+use Rattle.cartridge_laws.specs.HeaderTerms.{IsBareCopy, IsCleanCopy}
 use Rattle.cartridge_spec.specs.HeaderCopies.{copy_cells}
 use Rattle.cartridge_spec.specs.Says.{whole_mask, unreadable_count}
 use Rattle.cartridge_spec.specs.Volumes.{Plain, Stands, worn}

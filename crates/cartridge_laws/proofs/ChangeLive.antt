@@ -12,7 +12,7 @@ use Rattle.cartridge_laws.specs.ChangeSteps.{IsNoRenew}
 use Rattle.cartridge_spec.specs.TableSegment.{IsTableLive}
 use Rattle.cartridge_spec.specs.Shape.{IsLive}
 use Rattle.qic_base.specs.Cartridge.{Cartridge, view_at, with_view}
-use Rattle.qic_base.specs.Terms.{with_segment, HalfFormatted}
+use Rattle.qic_base.specs.CartridgeTerms.{with_segment, HalfFormatted}
 use Rattle.qic_base.specs.Step.{Step, WriteSector, FormatSegment, SetReferenced, SetProtected, Renew, Wear, Spoil, Upgrade, changed, written_view, formatted_view, worn_view, spoiled_view, ClosingView, OpeningView, SegmentBecame, Halfway}
 use Rattle.qic_base.specs.declared.tape.SectorView.{SectorView}
 use Rattle.qic_base.specs.declared.tape.SectorView.TheVariants.{Blank, Defect, Lost, Holds}
@@ -31,7 +31,7 @@ formatted_live Defect live = live
 formatted_live Lost live = tt
 formatted_live (Holds old) live = tt
 
-worn_live : (view : SectorView) → IsLive view → IsLive (worn_view view)
+pub worn_live : (view : SectorView) → IsLive view → IsLive (worn_view view)
 worn_live Blank live = live
 worn_live Defect live = live
 worn_live Lost live = tt

@@ -14,11 +14,12 @@ use Rattle.cartridge_spec.specs.Header.{has_signature}
 use Rattle.cartridge_spec.specs.HeaderCopies.{CopyReads, copy_cells, HasHeader, CopyDoesNotRead}
 use Rattle.cartridge_spec.specs.TableSegment.{table_cells}
 use Rattle.cartridge_spec.specs.Shape.{IsArea, mask_at, usable_places}
-use Rattle.cartridge_laws.specs.Terms.{IsInForce, CopiesAre, PartStands}
+use Rattle.cartridge_laws.specs.VolumeParts.{PartStands}
+use Rattle.cartridge_laws.specs.HeaderTerms.{IsInForce, CopiesAre}
 use Rattle.cartridge_spec.specs.Says.{cells_of, Written, Zero, whole_mask, unreadable_count, Says, Data, ReadsAll}
 use Rattle.cartridge_spec.specs.Volumes.{Volume, VolumeStands, parts_of, carrying_segments, Plain, Stands, worn, WearSpares}
 use Rattle.qic_base.specs.Cartridge.{Cartridge, view_at}
-use Rattle.qic_base.specs.Terms.{place_of}
+use Rattle.qic_base.specs.CartridgeTerms.{place_of}
 use Rattle.qic_base.specs.Step.{worn_view, Spoil, changed, SetProtected, SetReferenced}
 use Rattle.qic_base.specs.declared.tape.SectorView.{SectorView}
 use Rattle.qic_base.specs.declared.tape.SectorView.TheVariants.{Holds, Blank}

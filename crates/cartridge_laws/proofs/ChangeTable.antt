@@ -8,7 +8,8 @@ use Rattle.cartridge_laws.proofs.ChangeViews.{ReadsAlike, same_count_front}
 use Rattle.cartridge_laws.proofs.Sets.{length-hidden, held_outside, seen_outside}
 use Rattle.cartridge_spec.specs.TableSegment.{table_cells, TableIs}
 use Rattle.cartridge_spec.specs.Says.{whole_mask, Agrees, HasBlock, HasNoBlock, HasFirstBlock, ReadsAll, shows_used_slot, last_used_below, unreadable_from, sets_by}
-use Rattle.cartridge_laws.specs.Terms.{hidden, unreadable_data, last_used, unreadable_places, table_sets}
+use Rattle.cartridge_laws.specs.TableCells.{last_used, unreadable_places, table_sets}
+use Rattle.cartridge_laws.specs.Segment.{hidden, unreadable_data}
 use Rattle.cartridge_spec.specs.Shape.{is_unreadable, usable_places}
 use Rattle.qic_base.specs.Cartridge.{Cartridge, view_at}
 use Rattle.qic_base.specs.declared.tape.SectorView.{SectorView}

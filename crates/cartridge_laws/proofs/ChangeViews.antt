@@ -9,7 +9,7 @@ use Rattle.cartridge_laws.proofs.Cells.{unreadable_count-first}
 use Rattle.cartridge_spec.specs.Says.{cells_of, unreadable_count}
 use Rattle.cartridge_spec.specs.Shape.{is_unreadable, usable_places}
 use Rattle.qic_base.specs.Cartridge.{Cartridge, view_at, with_view}
-use Rattle.qic_base.specs.Terms.{place_of}
+use Rattle.qic_base.specs.CartridgeTerms.{place_of}
 use Rattle.qic_base.specs.Step.{worn_view, spoiled_view}
 use Rattle.qic_base.specs.declared.tape.SectorView.{SectorView}
 use Rattle.qic_base.specs.declared.tape.SectorView.TheVariants.{Blank, Holds, Defect, Lost}

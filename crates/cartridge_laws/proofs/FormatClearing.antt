@@ -10,7 +10,7 @@ use Rattle.cartridge_laws.specs.Segment.{IsUnreadable}
 use Rattle.cartridge_spec.specs.Formatting.{clearing_steps, IsDefect}
 use Rattle.cartridge_spec.specs.Settling.{changed_by}
 use Rattle.qic_base.specs.Cartridge.{Cartridge, view_at, zero_sector}
-use Rattle.qic_base.specs.Terms.{IsCartridge}
+use Rattle.qic_base.specs.CartridgeTerms.{IsCartridge}
 use Rattle.qic_base.specs.Step.{formatted_view, SetReferenced, changed, FormatSegment, Step}
 use Rattle.qic_base.specs.declared.tape.SectorView.{SectorView}
 use Rattle.qic_base.specs.declared.tape.SectorView.TheVariants.{Blank, Defect, Lost, Holds}
@@ -53,7 +53,7 @@ cleared_more k c d cleared room =
 abbrev pub formats_from : (k m : ℕ) → List Step
 formats_from k m = map (λ s. FormatSegment s) (range_with_len k m)
 
-pub cleared_all : (m k n : ℕ) (c d : Cartridge) → k + m ≡ n → IsClearedTo k c d → 32 * n ≤ length c.views →
+cleared_all : (m k n : ℕ) (c d : Cartridge) → k + m ≡ n → IsClearedTo k c d → 32 * n ≤ length c.views →
     IsClearedTo n c (changed_by (formats_from k m) d)
 cleared_all zero k n c d sum cleared room = let same : k ≡ n = omega arith in subst (λ (j : ℕ). IsClearedTo j c d) same cleared
 cleared_all (suc m) k n c d sum cleared room =
@@ -79,7 +79,7 @@ formatted_zeros Defect bytes same = absurd (cc)
 formatted_zeros Lost bytes same = cc
 formatted_zeros (Holds old) bytes same = cc
 
-pub cleared_segment : (old new : Cartridge) (segment : ℕ) → IsClearedFrom old new → segment < 28 * old.info.segments_per_track →
+cleared_segment : (old new : Cartridge) (segment : ℕ) → IsClearedFrom old new → segment < 28 * old.info.segments_per_track →
     HoldsZeros new segment
 cleared_segment old new segment cleared on = record {
   each = λ i bytes h view. formatted_zeros (view_at old segment i) bytes (sym (cleared.sectors segment i on h) ∙ view);

@@ -7,7 +7,7 @@ use Rattle.cartridge_laws.proofs.Cells.{unreadable_count-first, IsReadable, coun
 use Rattle.cartridge_laws.proofs.Sayings.{written_is_said}
 use Rattle.cartridge_laws.proofs.Segments.{cells_of_whole, length-whole_cells, zero_does_not_read}
 use Rattle.cartridge_laws.specs.FormatLaws.{NewHasNoHeader}
-use Rattle.cartridge_laws.specs.Terms.{IsBareCopy}
+use Rattle.cartridge_laws.specs.HeaderTerms.{IsBareCopy}
 use Rattle.cartridge_spec.specs.Formatting.{HasNoHeader}
 use Rattle.cartridge_spec.specs.Header.{has_signature}
 use Rattle.cartridge_spec.specs.Shape.{IsArea, is_unreadable, sector_at}
@@ -90,7 +90,7 @@ bare_does_not_read c copy (inr many) = lost_does_not_read c copy many
 pub unformatted_from_bare : (c : Cartridge) → HasNoHeader c → IsUnformatted c
 unformatted_from_bare c none = inr (bare_does_not_read c 0 none.first, bare_does_not_read c 1 none.second)
 
-one_at_most : (b : Bool) → cond b 1 0 ≤ 1
+pub one_at_most : (b : Bool) → cond b 1 0 ≤ 1
 one_at_most true = omega arith
 one_at_most false = omega arith
 

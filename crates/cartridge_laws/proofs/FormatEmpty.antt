@@ -15,19 +15,16 @@ use Rattle.cartridge_spec.specs.Shape.{sector_at}
 use Rattle.cartridge_spec.specs.Table.{slot, is_free, slot_fault, HasNoFault}
 use Rattle.cartridge_spec.specs.Volumes.{Volume, IsPlain, VolumeStands, Stands}
 use Rattle.qic_base.specs.Cartridge.{zero_sector, Cartridge, IsSector}
-use Rattle.qic_base.specs.Terms.{IsCartridge}
+use Rattle.qic_base.specs.CartridgeTerms.{IsCartridge}
 use Rattle.qic_base.specs.Field.{number_at, little_endian}
 use Rattle.qic_base.specs.declared.tape.TapeInfo.{TapeInfo}
+use Rattle.cartridge_laws.proofs.FreshBuilding.{zero_bytes}
 use Rattle.cartridge_spec.specs.Table as tables
 
 -- ---- the empty table
 
 abbrev empty_table : List (List ℕ)
 empty_table = replicate 29 zero_sector
-
-zero_bytes : zero_sector ≡ replicate 1024 0
-unfolding zero_sector
-zero_bytes = refl
 
 -- no signature stands among zero bytes
 unsigned : (m k : ℕ) (bytes : List ℕ) → bytes ≡ replicate m 0 → k + 128 ≤ m → number_at (take 128 (drop k bytes)) 0 4 ≡ 0

@@ -9,13 +9,15 @@ use Rattle.std.proofs.lemmas.Option.{unwrap_or-slice_get}
 use Rattle.std.proofs.lemmas.Nat.Bits.{same_from_bits_below, bit_at-zero}
 use Rattle.std.proofs.lemmas.List.FromFn.{get_or-map-range_with_len}
 use Rattle.cartridge_spec.specs.Formatting.{IsFreshFor}
-use Rattle.cartridge_spec.specs.Header.{Value, Number, Text, number_in, HoldsValue, value_fault, Field, HeaderFault, Holds, first_fault, word_in, header_fault, has_signature, number, profile_fields}
-use Rattle.cartridge_laws.specs.Terms.{field_fault, map_fault, words_in}
+use Rattle.cartridge_spec.specs.Header.{Value, Number, Text, number_in, HoldsValue, value_fault, Field, HeaderFault, Holds, first_fault, word_in, header_fault, has_signature, profile_fields}
+use Rattle.cartridge_laws.specs.HeaderTerms.{field_fault, map_fault, words_in}
 use Rattle.cartridge_spec.specs.Shape.{sector_at}
 use Rattle.qic_base.specs.Cartridge.{IsSector, Cartridge}
-use Rattle.qic_base.specs.Terms.{IsCartridge, IsLost}
+use Rattle.qic_base.specs.CartridgeTerms.{IsCartridge, IsLost}
 use Rattle.qic_base.specs.Field.{little_endian, number_at}
 use Rattle.qic_base.specs.declared.foreign.ForeignField.{ForeignField}
+use Rattle.cartridge_laws.proofs.HeaderReadingLaws.{any}
+use Rattle.cartridge_laws.proofs.HeaderRefusals.{map_fault-none}
 
 -- ---- the fields
 
@@ -32,13 +34,6 @@ first_fault-holds [] area holds = refl
 first_fault-holds (f ∷ fs) area holds =
     let none : field_fault area f ≡ None = value_fault-holds area f.offset f.width f.value f.test (All-head (Holds area) f fs holds) in
     ap (λ (o : Option HeaderFault). option_or o (first_fault area fs)) none ∙ first_fault-holds fs area (All-tail (Holds area) f fs holds)
-
-map_fault-none : (area : List (List ℕ)) → ((s : ℕ) → s < 3 → word_in area s ≡ 0) → map_fault area ≡ None
-map_fault-none area good =
-    let zero_word : word_in area 0 ≡ 0 = good 0 (omega arith) in
-    let one_word : word_in area 1 ≡ 0 = good 1 (omega arith) in
-    let two_word : word_in area 2 ≡ 0 = good 2 (omega arith) in
-    rw (eq-eqb _ 0 zero_word, eq-eqb _ 0 one_word, eq-eqb _ 0 two_word) refl
 
 -- ---- the words of the map
 
@@ -86,9 +81,6 @@ word_without_bits w small none =
 pub record AreSound (area : List (List ℕ)) (n : ℕ) : Type 0 where
   pub signature : has_signature area ≡ true
   pub sound : header_fault area n ≡ None
-
-any : Field
-any = number 0 0 0
 
 front_words : (c : Cartridge) (label : List ℕ) (date : ℕ) (words : List ℕ) (area : List (List ℕ)) (s : ℕ) → IsCartridge c →
     IsFreshFor c label date words area → s < 3 → word_in area s ≡ 0

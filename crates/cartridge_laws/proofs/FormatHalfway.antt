@@ -6,7 +6,7 @@ use Rattle.cartridge_laws.proofs.FormatViews.{view_of_other_stopped}
 use Rattle.cartridge_laws.proofs.FormatWriting.{some_and}
 use Rattle.cartridge_spec.specs.Formatting.{HasNoHeader, clearing_steps}
 use Rattle.qic_base.specs.Cartridge.{Cartridge, view_at, zero_sector}
-use Rattle.qic_base.specs.Terms.{IsCartridge, HalfFormatted}
+use Rattle.qic_base.specs.CartridgeTerms.{IsCartridge, HalfFormatted}
 use Rattle.qic_base.specs.Step.{formatted_view, FormatSegment, changed, SetReferenced, ClosingView, OpeningView, SegmentBecame, Torn}
 use Rattle.qic_base.specs.declared.tape.SectorView.{SectorView}
 use Rattle.qic_base.specs.declared.tape.SectorView.TheVariants.{Blank, Defect, Lost, Holds}
@@ -30,7 +30,7 @@ pub record IsKept (c d : Cartridge) : Type 0 where
 abbrev pub IsKeptOrBare : (c d : Cartridge) → Type 0
 IsKeptOrBare c d = IsKept c d ⊎ HasNoHeader d
 
-pub shrank_from_same : {c d : Cartridge} (segment : ℕ) → ((i : ℕ) → i < 32 → view_at d segment i ≡ view_at c segment i) → Shrank segment c d
+shrank_from_same : {c d : Cartridge} (segment : ℕ) → ((i : ℕ) → i < 32 → view_at d segment i ≡ view_at c segment i) → Shrank segment c d
 shrank_from_same segment same = record { each = λ i bytes h view. sym (same i h) ∙ view }
 
 -- before the first step

@@ -9,7 +9,7 @@ use Rattle.cartridge_laws.specs.FormatLaws.{CopyWritesByPlaces}
 use Rattle.cartridge_laws.specs.Writes.{named_writes}
 use Rattle.cartridge_spec.specs.Says.{whole_mask}
 use Rattle.cartridge_spec.specs.Settling.{writes_of}
-use Rattle.cartridge_laws.specs.Terms.{sectors_of}
+use Rattle.cartridge_laws.specs.Segment.{sectors_of}
 use Rattle.cartridge_spec.specs.Shape.{usable_places, sector_at}
 use Rattle.qic_base.specs.Cartridge.{lost_places}
 use Rattle.qic_base.specs.Step.{Step}

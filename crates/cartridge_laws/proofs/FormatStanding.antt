@@ -1,24 +1,26 @@
 -- A cartridge that was kept but for its header copies stands for what it stood for, where a copy still reads, and else has bare
 -- copies.
-use Rattle.std.proofs.Common.{ℕ, suc, ◌-◌, ◌<◌, Bool, true, false, [], ◌∷◌, cond, arith, All, zero, ◌/◌, ◌%◌, ◌^◌, ◌==◌, ◌≡◌, List, map, refl, ap, ◌∙◌, codes, ◌||◌, not, Some, None, ◌≤◌, nat_lt, length, slice_get, sym, subst, ◌+◌, take, drop, nat_le, inl, inr, ◌⊎◌, ◌*◌}
+use Rattle.std.proofs.Common.{ℕ, suc, ◌-◌, ◌<◌, Bool, true, false, [], ◌∷◌, cond, arith, All, zero, ◌/◌, ◌%◌, ◌^◌, ◌==◌, ◌≡◌, List, map, refl, ap, ◌∙◌, ◌||◌, Some, ◌≤◌, nat_lt, length, slice_get, sym, subst, ◌+◌, take, drop, nat_le, inl, inr, ◌⊎◌, ◌*◌}
 use Rattle.std.proofs.lemmas.List.Elements.{All-nil, All-cons, All-append, All-weaker, All-head, All-tail, All-filter}
-use Rattle.std.proofs.lemmas.Bool.{eqb-true, ne_eqb, ltb-false, or_parts, cases_lt}
+use Rattle.std.proofs.lemmas.Bool.{ltb-false, or_parts, cases_lt}
 use Rattle.std.proofs.lemmas.Option.{slice_get_within}
 use Rattle.std.specs.List.{range_with_len}
 use Rattle.cartridge_laws.proofs.FormatCopies.{zero_from_views, zero_shrank, written_shrank, written_reads, lost_does_not_read}
 use Rattle.cartridge_laws.proofs.FormatHalfway.{IsKeptCopy, IsKept}
 use Rattle.cartridge_laws.proofs.Segments.{zero_does_not_read}
 use Rattle.cartridge_spec.specs.Formatting.{HasNoHeader, StandsCleanly}
-use Rattle.cartridge_laws.specs.Terms.{IsBareCopy, IsInForce, overlaps_before, PartStands, CopiesAre, ForeignSlot, BadRange, IsCleanCopy}
+use Rattle.cartridge_laws.specs.VolumeParts.{PartStands}
+use Rattle.cartridge_laws.specs.Slots.{overlaps_before}
+use Rattle.cartridge_laws.specs.HeaderTerms.{IsBareCopy, IsInForce, CopiesAre, IsCleanCopy}
 use Rattle.cartridge_spec.specs.Header.{has_signature, header_fault}
 use Rattle.cartridge_spec.specs.HeaderCopies.{CopyDoesNotRead, CopyReads, copy_cells, last_segment}
 use Rattle.cartridge_spec.specs.Shape.{IsArea, usable_places, mask_at, data_count, usable_count}
 use Rattle.cartridge_spec.specs.Says.{cells_of, Written, unreadable_count, ReadsAll, whole_mask}
-use Rattle.cartridge_spec.specs.Table.{is_used, is_free, slot, slot_fault, some_free_below, has_bad_range, entry_in, Entry, HasNoFault}
+use Rattle.cartridge_spec.specs.Table.{slot, slot_fault, has_bad_range, entry_in, Entry, HasNoFault}
 use Rattle.cartridge_spec.specs.Volumes.{Volume, Part, parts_of, VolumeStands, carrying, Plain, Stands, entries_of}
 use Rattle.qic_base.specs.Cartridge.{Cartridge, view_at, lost_places}
-use Rattle.qic_base.specs.Field.{number_at, little_endian}
 use Rattle.qic_base.specs.declared.tape.SectorView.{SectorView}
+use Rattle.cartridge_laws.proofs.TableOrders.{good_range}
 use Rattle.cartridge_spec.specs.Table as tables
 
 -- ---- the cells of a segment that is as it was
@@ -48,25 +50,6 @@ same_cells c d segment mask same =
     (All-weaker (λ (i : ℕ). i < 32) (λ (i : ℕ). view_at d segment i ≡ view_at c segment i) same (usable_places mask) (small_places mask 32))
 
 -- ---- the volumes
-
-used_not_free : (bytes : List ℕ) → is_used bytes ≡ true → is_free bytes ≡ false
-used_not_free bytes used =
-    let is : number_at bytes 0 4 ≡ little_endian (codes "VTBL") = eqb-true _ _ used in
-    ne_eqb _ 0 (λ e. omega (arith, is, e))
-
-sound_slot : (used below bad : Bool) (i : ℕ) → used ≡ true →
-    cond (not used || below) (Some (ForeignSlot i)) (cond bad (Some (BadRange i)) None) ≡ None → bad ≡ false
-sound_slot false below bad i used sound = absurd (cc)
-sound_slot true true bad i used sound = absurd (cc)
-sound_slot true false true i used sound = absurd (cc)
-sound_slot true false false i used sound = refl
-
--- a used slot that is not at fault has no bad range
-good_range : (area : List (List ℕ)) (last i : ℕ) → is_used (slot area i) ≡ true → slot_fault area last i ≡ None → has_bad_range area last i ≡ false
-unfolding slot_fault
-good_range area last i used sound =
-    sound_slot (is_used (slot area i)) (some_free_below area i) (has_bad_range area last i) i used
-    (rw (used_not_free (slot area i) used) at sound)
 
 start_behind_table : (area : List (List ℕ)) (last i : ℕ) → has_bad_range area last i ≡ false → 3 ≤ (entry_in (slot area i)).start
 start_behind_table area last i good =

@@ -9,7 +9,7 @@ use Rattle.cartridge_laws.proofs.FormatWriting.{some_weaker, IsUntouched, IsAlmo
 use Rattle.cartridge_laws.proofs.Segments.{zero_does_not_read}
 use Rattle.cartridge_laws.specs.FormatLaws.{StoppedClearing, StoppedClearingNew, StoppedFormat, StoppedFormatNew}
 use Rattle.cartridge_spec.specs.Formatting.{StandsCleanly, HasNoHeader, HasNoDefectInFront, IsFreshFor, fresh_plain, clearing_steps, copy_writes, format_steps}
-use Rattle.cartridge_laws.specs.Terms.{IsBareCopy}
+use Rattle.cartridge_laws.specs.HeaderTerms.{IsBareCopy}
 use Rattle.cartridge_spec.specs.HeaderCopies.{IsUnformatted}
 use Rattle.cartridge_spec.specs.TableSegment.{IsTableLive}
 use Rattle.cartridge_spec.specs.Says.{with_parity}
@@ -17,7 +17,7 @@ use Rattle.cartridge_spec.specs.Shape.{IsLive}
 use Rattle.cartridge_spec.specs.Volumes.{Plain, Stands}
 use Rattle.qic_base.proofs.Steps.{Torn-append}
 use Rattle.qic_base.specs.Cartridge.{Cartridge, view_at, zero_sector}
-use Rattle.qic_base.specs.Terms.{IsCartridge}
+use Rattle.qic_base.specs.CartridgeTerms.{IsCartridge}
 use Rattle.qic_base.specs.Step.{Step, effects, Torn}
 use Rattle.qic_base.specs.declared.tape.SectorView.TheVariants.{Holds}
 
@@ -27,7 +27,7 @@ kept_or_bare_stands : (c d : Cartridge) (plain : Plain) → StandsCleanly c plai
 kept_or_bare_stands c d plain stood (inl kept) = kept_stands c d plain stood kept
 kept_or_bare_stands c d plain stood (inr bare) = inr bare
 
-bare_kept : (copy : ℕ) (c d : Cartridge) → IsBareCopy c copy → IsKeptCopy copy c d → IsBareCopy d copy
+pub bare_kept : (copy : ℕ) (c d : Cartridge) → IsBareCopy c copy → IsKeptCopy copy c d → IsBareCopy d copy
 bare_kept copy c d bare (inl shrank) = bare_shrank shrank bare
 bare_kept copy c d bare (inr zeros) = inl (zero_from_views zeros)
 

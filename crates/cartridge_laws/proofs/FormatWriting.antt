@@ -37,7 +37,7 @@ pub record IsUntouched (segment from : ℕ) (c d : Cartridge) : Type 0 where
   pub version : d.version ≡ c.version
   pub others : (s i : ℕ) → i < 32 → (s ≡ segment → i < from) → view_at d s i ≡ view_at c s i
 
-pub untouched : (segment from : ℕ) (c : Cartridge) → IsUntouched segment from c c
+untouched : (segment from : ℕ) (c : Cartridge) → IsUntouched segment from c c
 untouched segment from c = record { info = refl; version = refl; others = λ s i h other. refl }
 
 untouched_then : {segment from : ℕ} {c d e : Cartridge} → IsUntouched segment from c d → IsUntouched segment (from + 1) d e →
@@ -77,7 +77,7 @@ writes_untouched (suc m) from (bytes ∷ sectors) segment c room =
     (writes_untouched m (from + 1) sectors segment (changed (WriteSector segment from bytes) c) (omega arith))
 
 -- a stop among them changes nothing else either
-pub writes_stopped : (m from : ℕ) (sectors : List (List ℕ)) (segment : ℕ) (c : Cartridge) (left : Option Cartridge) → from + m ≤ 32 →
+writes_stopped : (m from : ℕ) (sectors : List (List ℕ)) (segment : ℕ) (c : Cartridge) (left : Option Cartridge) → from + m ≤ 32 →
     Torn (writes_of segment (range_with_len from m) sectors) (Some c) left → IsSomeAnd left (IsUntouched segment from c)
 writes_stopped zero from sectors segment c left room is = some_and (IsUntouched segment from c) c left (untouched segment from c) is
 writes_stopped (suc m) from [] segment c left room is = some_and (IsUntouched segment from c) c left (untouched segment from c) is

@@ -11,11 +11,11 @@ use Rattle.cartridge_laws.proofs.HeaderSpellingLaws.{all_fields, IsEncoded, enco
 use Rattle.cartridge_laws.specs.FreshLaws.{FreshAreaExists}
 use Rattle.cartridge_laws.specs.HeaderWriting.{with_fields, FieldFits, told_fields}
 use Rattle.cartridge_spec.specs.Formatting.{IsDefect, MarksDefects, IsLabel, fresh_header}
-use Rattle.cartridge_laws.specs.Terms.{IsFreshArea, words_in}
+use Rattle.cartridge_laws.specs.HeaderTerms.{IsFreshArea, words_in}
 use Rattle.cartridge_spec.specs.Header.{Header, word_in}
 use Rattle.cartridge_spec.specs.Shape.{IsArea}
 use Rattle.qic_base.specs.Cartridge.{Cartridge, view_at, IsSector}
-use Rattle.qic_base.specs.Terms.{IsCartridge}
+use Rattle.qic_base.specs.CartridgeTerms.{IsCartridge}
 use Rattle.qic_base.specs.declared.tape.SectorView.{SectorView}
 use Rattle.qic_base.specs.declared.tape.SectorView.TheVariants.{Blank, Defect, Lost, Holds}
 

@@ -7,7 +7,7 @@ use Rattle.cartridge_laws.proofs.FreshFields.{are_first, first-head, first-tail}
 use Rattle.cartridge_laws.proofs.HeaderSpellingLaws.{all_clear}
 use Rattle.cartridge_laws.proofs.MapAreaLaws.{byte_in-other_word, word_in-others, IsInMap-more}
 use Rattle.cartridge_laws.specs.HeaderWriting.{value_bytes, with_fields}
-use Rattle.cartridge_laws.specs.Terms.{byte_in, IsInMap}
+use Rattle.cartridge_laws.specs.HeaderTerms.{byte_in, IsInMap}
 use Rattle.cartridge_spec.specs.Header.{word_in, Value, Number, Text, Field}
 use Rattle.cartridge_spec.specs.Shape.{IsArea}
 use Rattle.qic_base.proofs.FieldLaws.{length-overwritten, length-little_endian_bytes, number_at-overwritten}
@@ -28,7 +28,7 @@ overwritten_is_sector sector part at whole within small =
           (All-drop (λ b. b < 256) (at + length part) sector whole.each);
     }
 
-number_bytes : (width value : ℕ) → All (λ b. b < 256) (little_endian_bytes width value)
+pub number_bytes : (width value : ℕ) → All (λ b. b < 256) (little_endian_bytes width value)
 unfolding little_endian_bytes
 number_bytes zero value = All-nil (λ b. b < 256)
 number_bytes (suc width) value =
@@ -43,7 +43,7 @@ zero_sector_is : IsSector zero_sector
 unfolding zero_sector
 zero_sector_is = record { size = length-replicate {A = ℕ} 1024 0; each = All-replicate (λ b. b < 256) 1024 0 (omega arith) }
 
-zero_bytes : zero_sector ≡ replicate 1024 0
+pub zero_bytes : zero_sector ≡ replicate 1024 0
 unfolding zero_sector
 zero_bytes = refl
 

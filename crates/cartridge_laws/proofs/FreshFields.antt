@@ -7,11 +7,11 @@ abbrev pub are_first : List Field → Bool
 are_first [] = true
 are_first (f ∷ fs) = nat_le (f.offset + f.width) 1024 && are_first fs
 
-and-left : (a b : Bool) → (a && b) ≡ true → a ≡ true
+pub and-left : (a b : Bool) → (a && b) ≡ true → a ≡ true
 and-left true b h = refl
 and-left false b h = h
 
-and-right : (a b : Bool) → (a && b) ≡ true → b ≡ true
+pub and-right : (a b : Bool) → (a && b) ≡ true → b ≡ true
 and-right true b h = h
 and-right false b h = absurd (cc)
 

@@ -10,7 +10,7 @@ use Rattle.std.proofs.lemmas.Nat.Bits.{same_from_bits_below}
 use Rattle.cartridge_laws.proofs.FreshSpelled.{sector_is, word_of, spelled_is_one}
 use Rattle.cartridge_laws.specs.FreshLaws.{AreWords, ShownAreWords, MarksAreOne, FreshAreaIsOne}
 use Rattle.cartridge_spec.specs.Formatting.{MarksDefects, fresh_header, IsFreshWith}
-use Rattle.cartridge_laws.specs.Terms.{IsFreshArea, words_in}
+use Rattle.cartridge_laws.specs.HeaderTerms.{IsFreshArea, words_in}
 use Rattle.cartridge_spec.specs.Header.{word_in}
 use Rattle.cartridge_spec.specs.Shape.{IsArea, sector_at}
 use Rattle.qic_base.specs.Cartridge.{Cartridge}

@@ -10,7 +10,7 @@ use Rattle.std.proofs.lemmas.List.{same_lists, get_or_default}
 use Rattle.cartridge_laws.proofs.FreshFields.{are_first, first-head, first-tail}
 use Rattle.cartridge_laws.specs.FreshLaws.{SpelledIsOne}
 use Rattle.cartridge_spec.specs.Header.{Value, Number, Text, HoldsValue, Field, Holds, word_in, Header, SpellsHeader, profile_fields, header_fields}
-use Rattle.cartridge_laws.specs.Terms.{byte_in, IsInField, IsInMap, words_in}
+use Rattle.cartridge_laws.specs.HeaderTerms.{byte_in, IsInField, IsInMap, words_in}
 use Rattle.cartridge_spec.specs.Shape.{IsArea, sector_at}
 use Rattle.qic_base.specs.Cartridge.{IsSector}
 use Rattle.qic_base.specs.Field.{little_endian, number_at}

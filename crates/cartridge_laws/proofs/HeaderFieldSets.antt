@@ -6,9 +6,10 @@ use Rattle.std.proofs.lemmas.List.Elements.{All-head, All-tail, All-nil, All-con
 use Rattle.std.proofs.lemmas.Bool.{cases_lt}
 use Rattle.cartridge_laws.specs.HeaderWriting.{HasRoom, value_bytes, FieldFits, with_fields}
 use Rattle.cartridge_spec.specs.Header.{Value, Number, Text, Field}
-use Rattle.cartridge_laws.specs.Terms.{IsInField}
+use Rattle.cartridge_laws.specs.HeaderTerms.{IsInField}
 use Rattle.qic_base.proofs.FieldLaws.{length-little_endian_bytes, number_at-overwritten, slice_range-overwritten, number_at-overwritten_below, number_at-overwritten_above, slice_range-overwritten_below, slice_range-overwritten_above, length-overwritten, get_or-overwritten_below, get_or-overwritten_above}
 use Rattle.qic_base.specs.Field.{number_at, overwritten}
+use Rattle.cartridge_laws.proofs.FreshFields.{and-left, and-right}
 
 -- what a sector holds in a field
 abbrev pub HoldsHere : List ℕ → (offset width : ℕ) → Value → Type 0
@@ -32,14 +33,6 @@ is_apart_from f (g ∷ gs) = are_apart f g && is_apart_from f gs
 abbrev pub are_placed : List Field → Bool
 are_placed [] = true
 are_placed (f ∷ fs) = nat_le (f.offset + f.width) 1024 && is_apart_from f fs && are_placed fs
-
-pub and-left : (a b : Bool) → (a && b) ≡ true → a ≡ true
-and-left true b h = refl
-and-left false b h = h
-
-pub and-right : (a b : Bool) → (a && b) ≡ true → b ≡ true
-and-right true b h = h
-and-right false b h = absurd (cc)
 
 apart-cases : (a b c d : ℕ) → (nat_le a b || nat_le c d) ≡ true → (a ≤ b) ⊎ (c ≤ d)
 apart-cases a b c d h = by_test (nat_le a b) refl

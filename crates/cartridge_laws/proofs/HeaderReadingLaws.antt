@@ -4,9 +4,9 @@ use Rattle.std.specs.Option.{option_or}
 use Rattle.cartridge_laws.proofs.HeaderRefusals.{first_fault-holds, map_fault-none, word_in-read}
 use Rattle.cartridge_laws.specs.HeaderLaws.{HeaderIsDetermined, SpelledIsRead}
 use Rattle.cartridge_spec.specs.Header.{Field, number, Header, number_in, Shows, HeaderFault, first_fault, profile_fields}
-use Rattle.cartridge_laws.specs.Terms.{text_in, words_in, map_fault}
+use Rattle.cartridge_laws.specs.HeaderTerms.{text_in, words_in, map_fault}
 
-any : Field
+pub any : Field
 any = number 0 0 0
 
 -- the header that data show, field by field

@@ -6,7 +6,7 @@ use Rattle.std.proofs.lemmas.List.Elements.{All-head, All-tail, All-nil, All-con
 use Rattle.std.proofs.lemmas.Bool.{eqb-true}
 use Rattle.std.proofs.lemmas.List.FromFn.{get_or-map-range_with_len, length-map-range_with_len}
 use Rattle.cartridge_spec.specs.Header.{Value, Number, Text, number_in, HoldsValue, value_fault, Field, HeaderFault, Holds, first_fault, tested, header_fault, number, profile_fields, word_in, Header}
-use Rattle.cartridge_laws.specs.Terms.{field_fault, fault_as, map_fault, words_in}
+use Rattle.cartridge_laws.specs.HeaderTerms.{field_fault, fault_as, map_fault, words_in}
 use Rattle.cartridge_spec.specs.HeaderCopies.{IsFormatted, last_segment}
 use Rattle.cartridge_spec.specs.Volumes.{Plain, Stands}
 use Rattle.qic_base.specs.Cartridge.{Cartridge}
@@ -37,7 +37,7 @@ or-none-right None b h = h
 or-none-right (Some x) b h = absurd (cc)
 
 -- where there is no first fault there is none
-pub first_fault-none : (fs : List Field) (area : List (List ℕ)) → first_fault area fs ≡ None → All (λ (f : Field). field_fault area f ≡ None) fs
+first_fault-none : (fs : List Field) (area : List (List ℕ)) → first_fault area fs ≡ None → All (λ (f : Field). field_fault area f ≡ None) fs
 first_fault-none [] area none = All-nil (λ (f : Field). field_fault area f ≡ None)
 first_fault-none (f ∷ fs) area none =
     All-cons (λ (g : Field). field_fault area g ≡ None) f fs (or-none-left _ _ none) (first_fault-none fs area (or-none-right _ _ none))

@@ -1,5 +1,5 @@
 -- What an encoder writes spells the header and its map.
-use Rattle.std.proofs.Common.{◌≡◌, ◌⊎◌, inl, inr, ℕ, ◌/◌, ◌%◌, ◌<◌, ◌≤◌, List, [], length, get_or, replicate, ap, ◌∙◌, arith, ◌+◌, ◌++◌, true, refl, drop, ◌&&◌, Bool, ◌∷◌, nat_lt, false, ◌*◌, set, get_or-set_same, ◌≢◌, sym, get_or-set_other, map}
+use Rattle.std.proofs.Common.{◌≡◌, ◌⊎◌, inl, inr, ℕ, ◌/◌, ◌%◌, ◌<◌, ◌≤◌, List, [], length, get_or, replicate, ap, ◌∙◌, arith, ◌+◌, ◌++◌, true, refl, drop, ◌&&◌, Bool, ◌∷◌, nat_lt, ◌*◌, set, get_or-set_same, ◌≢◌, sym, get_or-set_other, map}
 use Rattle.std.proofs.lemmas.Bool.{cases_lt, cases_eq}
 use Rattle.std.proofs.lemmas.List.{get_or_past, get_or-replicate}
 use Rattle.std.proofs.lemmas.Option.{unwrap_or-slice_get}
@@ -8,11 +8,13 @@ use Rattle.std.proofs.lemmas.List.Elements.{All-from_recursion, All-append, All-
 use Rattle.std.proofs.lemmas.Bool.Decides.{nat_tests}
 use Rattle.cartridge_laws.proofs.HeaderFieldSets.{are_placed, HoldsHere, HoldsIn, HoldsIn-with_fields, get_or-with_fields}
 use Rattle.cartridge_laws.specs.HeaderWriting.{told_fields, FieldFits, with_fields}
-use Rattle.cartridge_laws.specs.Terms.{byte_in, words_in, IsInMap, IsInField}
-use Rattle.cartridge_spec.specs.Header.{Header, Field, profile_fields, Value, Number, Text, HoldsValue, Holds, number, header_fields, word_in, SpellsHeader}
+use Rattle.cartridge_laws.specs.HeaderTerms.{byte_in, words_in, IsInMap, IsInField}
+use Rattle.cartridge_spec.specs.Header.{Header, Field, profile_fields, Value, Number, Text, HoldsValue, Holds, header_fields, word_in, SpellsHeader}
 use Rattle.cartridge_spec.specs.Shape.{sector_at}
 use Rattle.qic_base.specs.Cartridge.{IsLength}
 use Rattle.qic_base.specs.Field.{number_at}
+use Rattle.cartridge_laws.proofs.FreshFields.{and-left, and-right}
+use Rattle.cartridge_laws.proofs.HeaderReadingLaws.{any}
 
 -- sectors of zero bytes
 pub all_clear : (area : List (List ℕ)) → ((i : ℕ) → i < length area → get_or area i [] ≡ replicate 1024 0) → (k : ℕ) → byte_in area k ≡ 0
@@ -45,14 +47,6 @@ fields_fit h long told = All-append FieldFits (profile_fields h.segments_per_tra
 abbrev are_first : List Field → Bool
 are_first [] = true
 are_first (f ∷ fs) = nat_lt f.offset 1024 && are_first fs
-
-and-left : (a b : Bool) → (a && b) ≡ true → a ≡ true
-and-left true b h = refl
-and-left false b h = h
-
-and-right : (a b : Bool) → (a && b) ≡ true → b ≡ true
-and-right true b h = h
-and-right false b h = absurd (cc)
 
 HoldsValue-first : (area : List (List ℕ)) (sector : List ℕ) (offset width : ℕ) (value : Value) → offset < 1024 → sector_at area 0 ≡ sector → HoldsHere sector offset width value → HoldsValue area offset width value
 HoldsValue-first area sector offset width (Number value) h is holds =
@@ -101,9 +95,6 @@ holds_all h words sector clean mapped e =
     Holds-first (all_fields h) (set mapped 0 sector) (with_fields (all_fields h) (get_or mapped 0 [])) refl
     (first_written mapped sector e.sectors ∙ e.fields)
     (HoldsIn-with_fields (all_fields h) (get_or mapped 0 []) (fields_placed h) (fields_fit h e.tracks e.told) e.long)
-
-any : Field
-any = number 0 0 0
 
 holds_told : (h : Header) (area : List (List ℕ)) → All (Holds area) (all_fields h) → All (Holds area) (header_fields h)
 holds_told h area all =

@@ -2,7 +2,7 @@
 use Rattle.std.proofs.Common.{◌≡◌, ℕ, ◌-◌, ◌<◌, List, [], length, set, ◌∙◌, get_or-set_same, ◌≢◌, sym, get_or-set_other, ◌⊎◌, inl, inr, ◌+◌, ◌*◌, ◌/◌, ◌%◌, ◌≤◌, get_or, ap, arith, zero, suc, take, drop, refl, ◌∷◌}
 use Rattle.std.proofs.lemmas.Option.{unwrap_or-slice_get}
 use Rattle.std.proofs.lemmas.Bool.{cases_eq, cases_lt}
-use Rattle.cartridge_laws.specs.Terms.{byte_in, IsInMap}
+use Rattle.cartridge_laws.specs.HeaderTerms.{byte_in, IsInMap}
 use Rattle.cartridge_spec.specs.Header.{number_in, word_in}
 use Rattle.cartridge_spec.specs.Shape.{sector_at}
 use Rattle.qic_base.proofs.FieldLaws.{get_or-overwritten_below, get_or-overwritten_above, length-little_endian_bytes}
@@ -83,7 +83,7 @@ number-same xs ys (suc width) at same =
     ∙ sym (little_endian-take ys at width)
 
 -- a number whose bytes stay stays; no field lies in two sectors
-pub number_in-same : (area other : List (List ℕ)) (offset width : ℕ) → offset % 1024 + width ≤ 1024 →
+number_in-same : (area other : List (List ℕ)) (offset width : ℕ) → offset % 1024 + width ≤ 1024 →
     ((k : ℕ) → offset ≤ k → k < offset + width → byte_in other k ≡ byte_in area k) →
     number_in other offset width ≡ number_in area offset width
 unfolding number_at

@@ -15,12 +15,12 @@ use Rattle.cartridge_laws.proofs.Sayings.{said_are_sectors, said_is_written}
 use Rattle.cartridge_laws.proofs.Segments.{length-whole_cells}
 use Rattle.cartridge_laws.proofs.Sets.{IsOneOf, none_is_unnamed, one_is_named, length-hidden, seen_outside, few_outside, unreadable_is_named}
 use Rattle.cartridge_laws.specs.MountBlocks.{HoldsPart}
-use Rattle.cartridge_laws.specs.Segment.{IsUnreadable}
+use Rattle.cartridge_laws.specs.Segment.{IsUnreadable, hidden}
 use Rattle.cartridge_spec.specs.Code.{parity_sectors}
 use Rattle.cartridge_spec.specs.TableSegment.{table_cells, TableIs, ReadsPlainly}
 use Rattle.cartridge_spec.specs.Shape.{IsArea, is_unreadable}
 use Rattle.cartridge_spec.specs.Says.{Says, Data, Agrees, HasBlock, unreadable_count, with_parity, HasFirstBlock, unreadable_from, set_of, shows_used_slot, last_used_below, with_used, sets_by}
-use Rattle.cartridge_laws.specs.Terms.{hidden, unreadable_places, last_used, sets_by_one, sets_by_two}
+use Rattle.cartridge_laws.specs.TableCells.{unreadable_places, last_used, sets_by_one, sets_by_two}
 use Rattle.gf256_qic.proofs.Parities.{length-parity_sectors}
 use Rattle.qic_base.specs.Cartridge.{Cartridge, view_at}
 use Rattle.qic_base.specs.declared.tape.SectorView.{SectorView}

@@ -13,7 +13,7 @@ use Rattle.cartridge_spec.specs.Formatting.{StandsCleanly}
 use Rattle.cartridge_spec.specs.Header.{header_fault, Header}
 use Rattle.cartridge_spec.specs.HeaderCopies.{copy_cells, CopyReads, CopyDoesNotRead, HasHeader, last_segment}
 use Rattle.cartridge_spec.specs.TableSegment.{table_cells, TableIs, ReadsPlainly}
-use Rattle.cartridge_laws.specs.Terms.{IsInForce, CopiesAre}
+use Rattle.cartridge_laws.specs.HeaderTerms.{IsInForce, CopiesAre}
 use Rattle.cartridge_spec.specs.Mounting.{IsMounted}
 use Rattle.cartridge_spec.specs.Says.{whole_mask, Data, Says, Written, Zero, ReadsAll}
 use Rattle.cartridge_spec.specs.Settling.{settling_steps}
@@ -85,7 +85,7 @@ table_stands : (d : Cartridge) (area : List (List ℕ)) → ReadsPlainly d area 
 table_stands d area (inl reads) = inr reads
 table_stands d area (inr says) = inl (said_is_written (table_cells d) area says)
 
-pub standing_kept : (c d : Cartridge) (plain : Plain) → KeepsTable plain.table_area c d → ReadsPlainly d plain.table_area → Stands c plain →
+standing_kept : (c d : Cartridge) (plain : Plain) → KeepsTable plain.table_area c d → ReadsPlainly d plain.table_area → Stands c plain →
     Stands d plain
 standing_kept c d plain kept reads stood =
     let table : List (List ℕ) = plain.table_area in
@@ -129,7 +129,7 @@ stopped_stands c plain area left stood table torn =
 
 -- ---- header copies
 
-clean_copy : (xs ys : List SectorView) (area : List (List ℕ)) → ys ≡ xs → Written xs area ⊎ Zero xs → Written ys area ⊎ Zero ys
+pub clean_copy : (xs ys : List SectorView) (area : List (List ℕ)) → ys ≡ xs → Written xs area ⊎ Zero xs → Written ys area ⊎ Zero ys
 clean_copy xs ys area same clean = subst (λ (cells : List SectorView). Written cells area ⊎ Zero cells) (sym same) clean
 
 pub clean_kept : (c d : Cartridge) (plain : Plain) (area : List (List ℕ)) → StandsCleanly c plain → TableIs c area → KeepsTable area c d →

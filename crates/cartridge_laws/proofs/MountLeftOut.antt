@@ -13,11 +13,11 @@ use Rattle.cartridge_laws.proofs.MountStops.{holds_same}
 use Rattle.cartridge_laws.proofs.MountWriting.{unsettled_data, unsettled_parity, held_there, solved_agree}
 use Rattle.cartridge_laws.proofs.Segments.{cells_of_whole}
 use Rattle.cartridge_laws.specs.MountBlocks.{HoldsPart}
-use Rattle.cartridge_laws.specs.Segment.{IsUnreadable}
+use Rattle.cartridge_laws.specs.Segment.{IsUnreadable, places_where}
 use Rattle.cartridge_spec.specs.TableSegment.{ReadsPlainly}
 use Rattle.cartridge_spec.specs.Says.{with_parity}
 use Rattle.cartridge_spec.specs.Settling.{holds_other, settling_places, holds}
-use Rattle.cartridge_laws.specs.Terms.{places_where, is_left_out, is_unsettled}
+use Rattle.cartridge_laws.specs.TableCells.{is_left_out, is_unsettled}
 use Rattle.cartridge_spec.specs.Shape.{sector_at}
 use Rattle.qic_base.specs.Cartridge.{Cartridge, view_at}
 use Rattle.qic_base.specs.declared.tape.SectorView.{SectorView}

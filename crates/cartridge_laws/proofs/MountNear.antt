@@ -14,7 +14,7 @@ use Rattle.cartridge_laws.specs.Segment.{IsUnreadable}
 use Rattle.cartridge_spec.specs.TableSegment.{TableIs, table_cells}
 use Rattle.cartridge_spec.specs.Shape.{IsArea, is_unreadable, sector_at}
 use Rattle.cartridge_spec.specs.Says.{whole_mask, TableSays, AsRead, ByCode, Data, unreadable_count, with_parity, sets_by, set_of}
-use Rattle.cartridge_laws.specs.Terms.{sets_by_one, last_used}
+use Rattle.cartridge_laws.specs.TableCells.{sets_by_one, last_used}
 use Rattle.qic_base.specs.Cartridge.{Cartridge, view_at}
 use Rattle.qic_base.specs.declared.tape.SectorView.{SectorView}
 use Rattle.qic_base.specs.declared.tape.SectorView.TheVariants.{Holds, Blank, Defect, Lost}
@@ -35,7 +35,7 @@ gone_or_read (Holds bytes) = inr (bytes, refl)
 pub gone_not_read : {P : Type 0} (view : SectorView) (bytes : List ℕ) → IsUnreadable view → view ≡ Holds bytes → P
 gone_not_read view bytes gone read = let kept = ap is_unreadable read in absurd (cc)
 
-pub same_or_not : (xs ys : List ℕ) → (xs ≡ ys) ⊎ (xs ≢ ys)
+same_or_not : (xs ys : List ℕ) → (xs ≡ ys) ⊎ (xs ≢ ys)
 same_or_not xs ys =
     elim (cases_Bool (bytes_eq xs ys)) [
       | inl same ↦ inl ((bytes_eq-Decides xs ys).0 same)

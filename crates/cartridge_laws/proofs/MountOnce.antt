@@ -10,14 +10,15 @@ use Rattle.cartridge_laws.proofs.TableSayings.{table_says_is_function, table_say
 use Rattle.cartridge_laws.proofs.TableTotals.{sound_data_show_volumes, data_are_sound_or_faulty}
 use Rattle.cartridge_laws.specs.MountLaws.{MountsIsFunction, MountsAlways}
 use Rattle.cartridge_spec.specs.Header.{HeaderFault, header_fault, Header, number_in, Field, Holds, number, has_signature}
-use Rattle.cartridge_laws.specs.Terms.{text_in, words_in, text, IsInForce, TableFault}
+use Rattle.cartridge_laws.specs.Slots.{TableFault}
+use Rattle.cartridge_laws.specs.HeaderTerms.{text_in, words_in, text, IsInForce}
 use Rattle.cartridge_spec.specs.HeaderCopies.{CopyReads, copy_cells, HasHeader, CopyDoesNotRead, IsUnformatted, last_segment, IsFormatted}
 use Rattle.cartridge_spec.specs.TableSegment.{table_cells, TableIs}
 use Rattle.cartridge_spec.specs.Mounting.{IsSoundlyFormatted, RefusesHeader, RefusesTable, Mounting, NotFormatted, Foreign, TableLost, TableMismatch, Mounted, Mounts, IsMounted}
 use Rattle.cartridge_spec.specs.Says.{Data, AsRead, ByCode, Saying, TableSays, LostSectors, Mismatch, Says, whole_mask, TableSaying}
 use Rattle.cartridge_spec.specs.Table.{IsFirstFault, slot_fault, HasNoFault, Entry}
 use Rattle.qic_base.specs.Cartridge.{Cartridge}
-use Rattle.qic_base.specs.Terms.{IsCartridge}
+use Rattle.qic_base.specs.CartridgeTerms.{IsCartridge}
 use Rattle.cartridge_spec.specs.Header as headers
 use Rattle.cartridge_spec.specs.Table as tables
 
@@ -34,7 +35,7 @@ one_in_force c xs ys (inl hx) (inr hy) = absurd (hy.0 xs hx)
 one_in_force c xs ys (inr hx) (inl hy) = absurd (hx.0 ys hy)
 one_in_force c xs ys (inr hx) (inr hy) = one_copy c 1 xs ys hx.1 hy.1
 
-pub one_header : (c : Cartridge) (xs ys : List (List ℕ)) → HasHeader c xs → HasHeader c ys → xs ≡ ys
+one_header : (c : Cartridge) (xs ys : List (List ℕ)) → HasHeader c xs → HasHeader c ys → xs ≡ ys
 one_header c xs ys hx hy = one_in_force c xs ys hx.in_force hy.in_force
 
 not_in_force : (c : Cartridge) (area : List (List ℕ)) → CopyDoesNotRead c 0 → CopyDoesNotRead c 1 → IsInForce c area → ⊥
@@ -149,7 +150,7 @@ unformatted_alone c (TableLost n) bare h = absurd (not_unformatted c h.0.area ba
 unformatted_alone c TableMismatch bare h = absurd (not_unformatted c h.0.area bare h.0.formatted.has_header)
 unformatted_alone c (Mounted header words table entries) bare h = absurd (not_unformatted c h.area bare h.formatted.has_header)
 
-pub soundly : {c : Cartridge} {header : Header} {words : List ℕ} {table : List (List ℕ)} {entries : List Entry} →
+soundly : {c : Cartridge} {header : Header} {words : List ℕ} {table : List (List ℕ)} {entries : List Entry} →
     IsMounted c header words table entries → IsSoundlyFormatted c
 soundly {header = header} {words = words} h = record { area = h.area; header = header; words = words; formatted = h.formatted }
 

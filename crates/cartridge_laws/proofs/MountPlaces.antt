@@ -3,7 +3,7 @@ use Rattle.std.proofs.Common.{◌≡◌, ℕ, zero, suc, ◌+◌, ◌<◌, ◌�
 use Rattle.std.proofs.lemmas.Bool.{cases_eq, cases_Bool}
 use Rattle.cartridge_laws.proofs.MountWriting.{places_that, places_none, places_fails, places_passes, places_are}
 use Rattle.cartridge_laws.proofs.Sets.{IsOneOf, IsNoneOf}
-use Rattle.cartridge_laws.specs.Terms.{places_where}
+use Rattle.cartridge_laws.specs.Segment.{places_where}
 
 -- ---- none, or one
 

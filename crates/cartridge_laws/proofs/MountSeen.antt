@@ -10,11 +10,11 @@ use Rattle.cartridge_laws.proofs.Sayings.{data_of-parity}
 use Rattle.cartridge_laws.proofs.Segments.{length-whole_cells, cells_of_whole}
 use Rattle.cartridge_laws.proofs.Sets.{IsOneOf, IsNoneOf, few_unreadable, unnamed_is_none, held_outside, length-hidden, none_is_unnamed, seen_outside}
 use Rattle.cartridge_laws.specs.MountBlocks.{HoldsPart}
-use Rattle.cartridge_laws.specs.Segment.{IsUnreadable}
+use Rattle.cartridge_laws.specs.Segment.{IsUnreadable, unreadable_data, hidden}
 use Rattle.cartridge_spec.specs.TableSegment.{table_cells, TableIs}
 use Rattle.cartridge_spec.specs.Shape.{IsArea, is_unreadable, sector_at}
 use Rattle.cartridge_spec.specs.Says.{unreadable_count, HasBlock, with_parity, HasNoBlock, HasFirstBlock, unreadable_from, shows_used_slot, last_used_below, set_of, sets_by}
-use Rattle.cartridge_laws.specs.Terms.{unreadable_data, hidden, unreadable_places, sets_by_one, sets_by_two, last_used}
+use Rattle.cartridge_laws.specs.TableCells.{unreadable_places, sets_by_one, sets_by_two, last_used}
 use Rattle.qic_base.specs.Cartridge.{Cartridge, view_at}
 use Rattle.qic_base.specs.declared.tape.SectorView.{SectorView}
 use Rattle.qic_base.specs.declared.tape.SectorView.TheVariants.{Holds, Lost}
@@ -65,7 +65,7 @@ not_both (cell ∷ cells) zero un held = let kept : is_unreadable cell ≡ false
 not_both (cell ∷ cells) (suc i) un held = not_both cells i un held
 
 -- cells of which each but those at some places can be read
-pub few_of_readable : (cells : List SectorView) (ps : List ℕ) → ((i : ℕ) → i < length cells → IsNoneOf ps i → IsReadable cells i) →
+few_of_readable : (cells : List SectorView) (ps : List ℕ) → ((i : ℕ) → i < length cells → IsNoneOf ps i → IsReadable cells i) →
     unreadable_count cells ≤ length ps
 few_of_readable cells ps each =
     few_unreadable cells ps (λ i un.
@@ -175,7 +175,7 @@ two_in_table d m other order within lost gone reads =
     ∙ ap (λ (p : ℕ). m ∷ p ∷ []) behind
 
 -- a sector of data is unreadable
-pub some_lost : (d : Cartridge) (m : ℕ) → m < 29 → IsUnreadable (view_at d 2 m) → 0 < unreadable_data (table_cells d)
+some_lost : (d : Cartridge) (m : ℕ) → m < 29 → IsUnreadable (view_at d 2 m) → 0 < unreadable_data (table_cells d)
 some_lost d m small lost =
     elim (cases_lt 0 (unreadable_data (table_cells d))) [
       | inl some ↦ some

@@ -18,14 +18,16 @@ use Rattle.cartridge_spec.specs.TableSegment.{TableIs, ReadsPlainly, IsTableLive
 use Rattle.cartridge_spec.specs.Mounting.{settled}
 use Rattle.cartridge_spec.specs.Says.{whole_mask, with_parity}
 use Rattle.cartridge_spec.specs.Settling.{settling_steps, writes_of, changed_by, holds, block_writes}
-use Rattle.cartridge_laws.specs.Terms.{places_where, is_unsettled, is_left_out}
-use Rattle.cartridge_spec.specs.Shape.{usable_places, sector_at, IsLive, is_unreadable}
+use Rattle.cartridge_laws.specs.TableCells.{is_unsettled, is_left_out}
+use Rattle.cartridge_laws.specs.Segment.{places_where}
+use Rattle.cartridge_spec.specs.Shape.{usable_places, sector_at, is_unreadable}
 use Rattle.qic_base.proofs.Steps.{Torn-all}
 use Rattle.qic_base.specs.Cartridge.{Cartridge, view_at}
-use Rattle.qic_base.specs.Step.{Step, effects, written_view}
+use Rattle.qic_base.specs.Step.{Step, effects}
 use Rattle.qic_base.specs.declared.tape.SectorView.{SectorView}
-use Rattle.qic_base.specs.declared.tape.SectorView.TheVariants.{Blank, Defect, Lost, Holds}
+use Rattle.qic_base.specs.declared.tape.SectorView.TheVariants.{Holds}
 use Rattle.qic_base.specs.declared.tape.TapeInfo.{TapeInfo}
+use Rattle.cartridge_laws.proofs.Writing.{live_holds}
 
 -- ---- it says the same
 
@@ -93,12 +95,6 @@ settled_reads_plainly c area table is =
           plainly_read (settled area c) area (far_area c area far) (inl (settled_is_written c area table is))
           (can_be_read (settled area c) area (settled_keeps_table c area table).table)
     ]
-
-live_holds : (view : SectorView) (bytes : List ℕ) → IsLive view → written_view bytes view ≡ Holds bytes
-live_holds Blank bytes live = absurd live
-live_holds Defect bytes live = absurd live
-live_holds Lost bytes live = refl
-live_holds (Holds old) bytes live = refl
 
 pub settled_is_whole : SettledIsWhole
 settled_is_whole c area i table is live h =

@@ -17,7 +17,8 @@ use Rattle.cartridge_laws.specs.MountBlocks.{HoldsPart}
 use Rattle.cartridge_laws.specs.MountLaws.{SettlingSettles}
 use Rattle.cartridge_spec.specs.Says.{with_parity, whole_mask}
 use Rattle.cartridge_spec.specs.Settling.{changed_by, block_writes, settling_places, writes_of}
-use Rattle.cartridge_laws.specs.Terms.{places_where, is_left_out, is_unsettled}
+use Rattle.cartridge_laws.specs.TableCells.{is_left_out, is_unsettled}
+use Rattle.cartridge_laws.specs.Segment.{places_where}
 use Rattle.cartridge_spec.specs.Shape.{sector_at, usable_places}
 use Rattle.qic_base.specs.Cartridge.{Cartridge, view_at}
 use Rattle.qic_base.specs.Step.{written_view, WriteSector, changed, Step}

@@ -13,11 +13,11 @@ use Rattle.cartridge_laws.proofs.MountStops.{plain_stopped, written_mild, worn_m
 use Rattle.cartridge_laws.proofs.MountWriting.{places_that, places_are, unsettled_data}
 use Rattle.cartridge_laws.specs.MountBlocks.{HoldsPart}
 use Rattle.cartridge_laws.specs.MountLaws.{StoppedSettling}
-use Rattle.cartridge_laws.specs.Segment.{IsUnreadable}
+use Rattle.cartridge_laws.specs.Segment.{IsUnreadable, places_where}
 use Rattle.cartridge_spec.specs.TableSegment.{TableIs, ReadsPlainly}
 use Rattle.cartridge_spec.specs.Says.{with_parity}
 use Rattle.cartridge_spec.specs.Settling.{block_writes, settling_places, settling_steps}
-use Rattle.cartridge_laws.specs.Terms.{places_where, is_unsettled, is_left_out}
+use Rattle.cartridge_laws.specs.TableCells.{is_unsettled, is_left_out}
 use Rattle.cartridge_spec.specs.Shape.{is_unreadable, sector_at}
 use Rattle.qic_base.specs.Cartridge.{Cartridge, view_at}
 use Rattle.qic_base.specs.Step.{Step, WriteSector, changed, written_view, Wear, worn_view, Torn}
@@ -200,7 +200,7 @@ by_marks : (P : Cartridge → Type 0) (c : Cartridge) (area : List (List ℕ)) (
 by_marks P c area left true here behind torn = some_and P c left here torn
 by_marks P c area left false here behind torn = behind torn
 
-pub stopped_reads : (c : Cartridge) (area : List (List ℕ)) (left : Option Cartridge) → TableIs c area →
+stopped_reads : (c : Cartridge) (area : List (List ℕ)) (left : Option Cartridge) → TableIs c area →
     Torn (settling_steps area c) (Some c) left → IsSomeAnd left (λ d. TableIs d area)
 stopped_reads c area left reads torn =
     by_marks (λ d. TableIs d area) c area left c.info.protected reads (by_reading c area left reads (is_far c area reads)) torn

@@ -135,7 +135,7 @@ all_same c d area n m base far here parity =
     ]) base.reads
 
 -- so the reading is the same
-pub so_far_reads : (c d : Cartridge) (area : List (List ℕ)) (n m : ℕ) → IsBase c area m → IsSoFar c d area n → TableIs d area
+so_far_reads : (c d : Cartridge) (area : List (List ℕ)) (n m : ℕ) → IsBase c area m → IsSoFar c d area n → TableIs d area
 so_far_reads c d area n m base far =
     let small : m < 29 = base.small in
     let all : AllBut d area m = all_stay c d area n m base far in

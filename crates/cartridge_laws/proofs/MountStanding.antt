@@ -14,7 +14,7 @@ use Rattle.cartridge_spec.specs.Shape.{IsArea}
 use Rattle.cartridge_spec.specs.TableSegment.{table_cells, TableIs, CanBeRead, ReadsPlainly}
 use Rattle.cartridge_spec.specs.Mounting.{IsSoundlyFormatted, TableLost, mounted_as}
 use Rattle.cartridge_spec.specs.Says.{Says, Data, Written, ReadsAll, unreadable_count}
-use Rattle.cartridge_laws.specs.Terms.{unreadable_data}
+use Rattle.cartridge_laws.specs.Segment.{unreadable_data}
 use Rattle.cartridge_spec.specs.Volumes.{Plain, Stands}
 use Rattle.qic_base.specs.Cartridge.{Cartridge}
 use Rattle.qic_base.specs.declared.tape.SectorView.{SectorView}

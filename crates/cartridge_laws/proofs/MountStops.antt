@@ -16,7 +16,7 @@ use Rattle.cartridge_spec.specs.TableSegment.{table_cells, ReadsPlainly}
 use Rattle.cartridge_spec.specs.Shape.{IsArea, sector_at, is_unreadable, usable_places}
 use Rattle.cartridge_spec.specs.Says.{ReadsAll, Says, Data, Written, unreadable_count, whole_mask}
 use Rattle.cartridge_spec.specs.Settling.{holds, writes_of, changed_by}
-use Rattle.cartridge_laws.specs.Terms.{is_unsettled}
+use Rattle.cartridge_laws.specs.TableCells.{is_unsettled}
 use Rattle.qic_base.specs.Cartridge.{Cartridge, view_at, with_view}
 use Rattle.qic_base.specs.Step.{WriteSector, Wear, changed, Step, written_view, worn_view, Torn}
 use Rattle.qic_base.specs.declared.tape.SectorView.{SectorView}
@@ -37,7 +37,7 @@ first_stopped P test block i rest c left kept small passes holds then (inr (inl 
     some_and P (changed (Wear 2 i) c) left (kept.worn i c small passes holds) inside
 first_stopped P test block i rest c left kept small passes holds then (inr (inr behind)) = then behind
 
-pub steps_stopped : (P : Cartridge → Type 0) (test : ℕ → Bool) (block : List (List ℕ)) (m from : ℕ) (c : Cartridge) (left : Option Cartridge) →
+steps_stopped : (P : Cartridge → Type 0) (test : ℕ → Bool) (block : List (List ℕ)) (m from : ℕ) (c : Cartridge) (left : Option Cartridge) →
     IsKept P test block → from + m ≤ 32 → P c → Torn (steps_that test block from m) (Some c) left → IsSomeAnd left P
 steps_stopped P test block zero from c left kept room holds torn =
     some_and P c left holds (subst (λ (ss : List Step). Torn ss (Some c) left) (steps_none test block from) torn)

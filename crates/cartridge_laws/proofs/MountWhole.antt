@@ -18,7 +18,7 @@ use Rattle.cartridge_spec.specs.Settling.{settling_steps}
 use Rattle.gf256_qic.proofs.Parities.{parity_block}
 use Rattle.qic_base.proofs.Steps.{Torn-all}
 use Rattle.qic_base.specs.Cartridge.{Cartridge, IsSector, view_at}
-use Rattle.qic_base.specs.Terms.{IsCartridge}
+use Rattle.qic_base.specs.CartridgeTerms.{IsCartridge}
 use Rattle.qic_base.specs.Step.{written_view, worn_view, Step, effects}
 
 -- ---- the data
@@ -34,7 +34,7 @@ pub table_is_area : TableIsArea
 table_is_area c area whole table =
     elim (is_far c area table) [ inl plain ↦ plain_area c area whole plain | inr far ↦ far_area c area far ]
 
-block_sectors : (area : List (List ℕ)) → IsArea area → All IsSector (with_parity area)
+pub block_sectors : (area : List (List ℕ)) → IsArea area → All IsSector (with_parity area)
 block_sectors area is_area =
     let size : length area ≡ 29 = is_area.size in
     (parity_block area (omega arith) (omega arith) is_area.sectors).sectors

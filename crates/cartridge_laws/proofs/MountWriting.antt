@@ -13,7 +13,8 @@ use Rattle.cartridge_laws.proofs.Segments.{places_of_whole}
 use Rattle.cartridge_spec.specs.TableSegment.{table_cells}
 use Rattle.cartridge_spec.specs.Says.{with_parity, whole_mask, Written, Says, Data}
 use Rattle.cartridge_spec.specs.Settling.{block_writes, writes_of, changed_by, holds}
-use Rattle.cartridge_laws.specs.Terms.{places_where, is_unsettled}
+use Rattle.cartridge_laws.specs.TableCells.{is_unsettled}
+use Rattle.cartridge_laws.specs.Segment.{places_where}
 use Rattle.cartridge_spec.specs.Shape.{sector_at, usable_places, is_unreadable}
 use Rattle.qic_base.specs.Cartridge.{Cartridge, view_at}
 use Rattle.qic_base.specs.Step.{Step, WriteSector, written_view, changed}
@@ -80,7 +81,7 @@ same_parts : (c : Cartridge) (info : TapeInfo) (version : ℕ) (views : List Sec
 same_parts c info version views i n v = rw (sym i, sym n, sym v) refl
 
 -- two cartridges with the same marks, the same version and the same views are one
-pub same_cartridge : (c d : Cartridge) → c.info ≡ d.info → c.version ≡ d.version → length c.views ≡ length d.views →
+same_cartridge : (c d : Cartridge) → c.info ≡ d.info → c.version ≡ d.version → length c.views ≡ length d.views →
     ((s i : ℕ) → i < 32 → view_at c s i ≡ view_at d s i) → c ≡ d
 same_cartridge c d info version long same = same_parts c d.info d.version d.views info version (same_views c.views d.views long same)
 

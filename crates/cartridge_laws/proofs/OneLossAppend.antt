@@ -15,7 +15,7 @@ use Rattle.cartridge_laws.specs.OneLossTables.{IsLastInUse}
 use Rattle.cartridge_spec.specs.Appending.{with_bytes, appended_volume}
 use Rattle.cartridge_spec.specs.Shape.{sector_at}
 use Rattle.cartridge_spec.specs.Table.{slot, is_used, is_free, Entry, Shows, slot_bytes}
-use Rattle.cartridge_laws.specs.Terms.{slot_sector}
+use Rattle.cartridge_laws.specs.Slots.{slot_sector}
 use Rattle.cartridge_spec.specs.Says.{some_used_below}
 use Rattle.cartridge_spec.specs.Volumes.{Volume, entries_of}
 use Rattle.qic_base.specs.Field.{overwritten}

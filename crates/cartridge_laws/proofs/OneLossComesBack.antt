@@ -2,20 +2,20 @@
 -- as that one; so does one that an append left, done or stopped, where one sector more of the table's segment is lost.
 use Rattle.std.proofs.Common.{◌∙◌, ℕ, List, ◌≡◌, ◌<◌, arith, ap, ◌-◌, ◌*◌, inl, false, ◌⊎◌, sym, subst, refl, length, Option, Some, IsSomeAnd, inr}
 use Rattle.cartridge_laws.proofs.AppendDead.{ready_settled}
-use Rattle.cartridge_laws.proofs.AppendDone.{done_stands, some_both, appended_is_whole}
+use Rattle.cartridge_laws.proofs.AppendDone.{done_stands, appended_is_whole, OfTable, list_in}
+use Rattle.cartridge_laws.proofs.MountStops.{some_both}
 use Rattle.cartridge_laws.proofs.AppendKeeping.{IsKeptBut, AreIn, steps_kept, steps_stopped}
 use Rattle.cartridge_laws.proofs.AppendTable.{ready_count}
 use Rattle.cartridge_laws.proofs.AppendVolume.{stopped_volume, may_append}
 use Rattle.cartridge_laws.proofs.FormatStanding.{same_cells, entry_starts, volumes_behind, volumes_kept}
 use Rattle.cartridge_laws.proofs.FormatWriting.{effects-some, some_weaker, changed_by-append}
-use Rattle.cartridge_laws.proofs.MountKeeping.{in_force, copies_are, stopped_mounts}
+use Rattle.cartridge_laws.proofs.MountKeeping.{in_force, copies_are, stopped_mounts, clean_copy}
 use Rattle.cartridge_laws.proofs.MountSettled.{settled_keeps_table, settled_is_written, settled_reads_plainly, settled_is_whole}
 use Rattle.cartridge_laws.proofs.MountWhole.{table_is_area}
 use Rattle.cartridge_laws.proofs.OneLossAppend.{stopped_append_reads_either, append_changes_one_sector}
 use Rattle.cartridge_laws.proofs.OneLossRead.{before_reads_old_still}
 use Rattle.cartridge_laws.specs.AppendBetween.{IsWhole}
 use Rattle.cartridge_laws.specs.AppendLaws.{volume_steps, IsReadyFor, list_steps, new_table}
-use Rattle.cartridge_laws.specs.AppendSteps.{list_writes}
 use Rattle.cartridge_laws.specs.OneLossLaws.{TableAloneComesBack, TableAloneIsClean, StoppedAppendComesBack, DoneAppendReadsNew, DoneAppendComesBack, SettledComesBack}
 use Rattle.cartridge_spec.specs.Appending.{with_bytes, appended_volume}
 use Rattle.cartridge_spec.specs.Header.{header_fault}
@@ -23,15 +23,14 @@ use Rattle.cartridge_spec.specs.TableSegment.{TableIs, table_cells, ChangesTable
 use Rattle.cartridge_spec.specs.HeaderCopies.{copy_cells, HasHeader, last_segment}
 use Rattle.cartridge_spec.specs.Shape.{IsArea}
 use Rattle.cartridge_spec.specs.Mounting.{settled, IsMounted, ComesBackAs}
-use Rattle.cartridge_spec.specs.Says.{whole_mask, Written, Zero}
+use Rattle.cartridge_spec.specs.Says.{whole_mask, Written}
 use Rattle.cartridge_spec.specs.Settling.{changed_by}
 use Rattle.cartridge_spec.specs.Table.{HasNoFault, slot_fault}
-use Rattle.cartridge_laws.specs.Terms.{slot_sector}
-use Rattle.cartridge_spec.specs.Volumes.{Plain, Stands, entries_of, Volume}
+use Rattle.cartridge_laws.specs.Slots.{slot_sector}
+use Rattle.cartridge_spec.specs.Volumes.{Plain, Stands, entries_of}
 use Rattle.qic_base.proofs.Steps.{Torn-all}
 use Rattle.qic_base.specs.Cartridge.{Cartridge}
 use Rattle.qic_base.specs.Step.{Step, effects}
-use Rattle.qic_base.specs.declared.tape.SectorView.{SectorView}
 use Rattle.qic_base.specs.declared.tape.TapeInfo.{TapeInfo}
 
 -- ---- the table's segment alone
@@ -120,9 +119,6 @@ settled_comes_back c plain cartridge stood live unprotected table f lost loses =
     whole_comes_back (settled plain.table_area c) plain (settled_stands c c plain (record { info = refl; others = λ s i h apart. refl }) stood table unprotected)
     (λ i h. settled_is_whole c plain.table_area i table unprotected live h) (table_is_area c plain.table_area cartridge table) f lost loses
 
-clean_copy : (xs ys : List SectorView) (area : List (List ℕ)) → ys ≡ xs → Written xs area ⊎ Zero xs → Written ys area ⊎ Zero ys
-clean_copy xs ys area same clean = subst (λ (cells : List SectorView). Written cells area ⊎ Zero cells) (sym same) clean
-
 pub table_alone_is_clean : TableAloneIsClean
 table_alone_is_clean c d plain clean alone reads is =
     let e : Cartridge = settled plain.table_area d in
@@ -137,17 +133,11 @@ table_alone_is_clean c d plain clean alone reads is =
 
 -- ---- an append
 
-abbrev OfTable : (segment sector : ℕ) → Type 0
-OfTable segment sector = segment ≡ 2
-
 kept_alone : (c d : Cartridge) → IsKeptBut OfTable c d → ChangesTableAlone c d
 kept_alone c d kept = record { info = kept.info; others = λ s i h apart. kept.others s i h apart }
 
 alone_back : (c d : Cartridge) → ChangesTableAlone c d → ChangesTableAlone d c
 alone_back c d alone = record { info = sym alone.info; others = λ s i h apart. sym (alone.others s i h apart) }
-
-list_in : (plain : Plain) (volume : Volume) → length plain.volumes < 232 → AreIn OfTable (list_writes plain volume)
-list_in plain volume few = ((refl, omega arith), ((refl, omega arith), ((refl, omega arith), ((refl, omega arith), tt))))
 
 -- what the volume's writes left, and what the table's writes leave behind them
 old_stands : (c : Cartridge) (plain : Plain) (name : List ℕ) (date : ℕ) (bytes : List ℕ) → IsReadyFor c plain name date bytes →

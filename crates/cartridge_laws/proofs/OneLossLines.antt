@@ -12,7 +12,8 @@ use Rattle.cartridge_laws.specs.OneLossTables.{DifferInOne, IsLastInUse}
 use Rattle.cartridge_spec.specs.Shape.{IsArea, sector_at, is_unreadable}
 use Rattle.cartridge_spec.specs.TableSegment.{table_cells, TableIs}
 use Rattle.cartridge_spec.specs.Says.{with_parity, HasFirstBlock, unreadable_count, shows_used_slot, sets_by, with_used, set_of}
-use Rattle.cartridge_laws.specs.Terms.{has_used_slot, last_used, unreadable_places, sets_by_one, sets_by_two}
+use Rattle.cartridge_laws.specs.TableCells.{last_used, unreadable_places, sets_by_one, sets_by_two}
+use Rattle.cartridge_laws.specs.Slots.{has_used_slot}
 use Rattle.qic_base.specs.Cartridge.{Cartridge, view_at}
 use Rattle.qic_base.specs.declared.tape.SectorView.{SectorView}
 use Rattle.qic_base.specs.declared.tape.SectorView.TheVariants.{Lost, Holds}
@@ -101,7 +102,7 @@ by_sets : (d : Cartridge) (area : List (List ℕ)) (m : ℕ) (sets : List ℕ) �
 by_sets d area m sets small lost = by_gone d area m sets small (ap is_unreadable lost)
 
 -- the block of an area agrees at once
-pub at_once : (d : Cartridge) (area : List (List ℕ)) (m : ℕ) (rs : List ℕ) → IsArea area → m < 29 → view_at d 2 m ≡ Lost → length rs ≤ 3 →
+at_once : (d : Cartridge) (area : List (List ℕ)) (m : ℕ) (rs : List ℕ) → IsArea area → m < 29 → view_at d 2 m ≡ Lost → length rs ≤ 3 →
     HoldsOutside d area rs → ((i : ℕ) → IsOneOf rs i → view_at d 2 i ≡ Lost) → TableIs d area
 at_once d area m rs is small lost few holds gone =
     let count : unreadable_count (table_cells d) ≤ length rs =

@@ -9,7 +9,7 @@ use Rattle.std.proofs.lemmas.Nat.{pow_pos}
 use Rattle.cartridge_spec.specs.Shape.{usable_count, usable_places}
 use Rattle.qic_base.proofs.LostSetLaws.{lost_places-lost, lost_places-kept, lost_places-above}
 use Rattle.qic_base.specs.Cartridge.{lost_places}
-use Rattle.qic_base.specs.Terms.{IsLost}
+use Rattle.qic_base.specs.CartridgeTerms.{IsLost}
 
 -- ---- the places of a set
 

@@ -8,9 +8,10 @@ use Rattle.cartridge_laws.proofs.Cells.{unreadable_at}
 use Rattle.cartridge_laws.proofs.Hiding.{nothing_is_hidden}
 use Rattle.cartridge_laws.proofs.Sayings.{says_is_function}
 use Rattle.cartridge_laws.proofs.Sets.{IsOneOf, few_outside, unreadable_is_named, views_hidden}
-use Rattle.cartridge_laws.specs.Terms.{hidden, sets_by_one, sets_by_two, last_used, unreadable_places, HasNoBlocks, table_sets}
+use Rattle.cartridge_laws.specs.TableCells.{sets_by_one, sets_by_two, last_used, unreadable_places, table_sets}
+use Rattle.cartridge_laws.specs.Segment.{hidden, HasNoBlocks}
 use Rattle.cartridge_spec.specs.Says.{unreadable_count, Data, HasBlock, HasNoBlock, HasFirstBlock, Saying, LostSectors, Mismatch, SaysBy, Says, set_of, with_used, sets_by}
-use Rattle.qic_base.specs.Terms.{IsView}
+use Rattle.qic_base.specs.CartridgeTerms.{IsView}
 use Rattle.qic_base.specs.declared.tape.SectorView.{SectorView}
 
 -- ---- sets that leave enough sectors

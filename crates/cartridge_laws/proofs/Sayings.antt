@@ -8,7 +8,7 @@ use Rattle.cartridge_laws.specs.SayingLaws.{SaysIsFunction, WrittenIsSaid, Writt
 use Rattle.cartridge_spec.specs.Code.{parity_sectors, IsCodeBlock}
 use Rattle.qic_base.specs.Cartridge.{IsSector}
 use Rattle.cartridge_spec.specs.Says.{HasBlock, unreadable_count, Data, LostSectors, Mismatch, with_parity, Agrees}
-use Rattle.cartridge_laws.specs.Terms.{data_of}
+use Rattle.cartridge_laws.specs.Segment.{data_of}
 use Rattle.gf256_qic.proofs.Parities.{length-parity_sectors, parity_block, block_count, parity_block_only}
 use Rattle.qic_base.specs.declared.tape.SectorView.{SectorView}
 

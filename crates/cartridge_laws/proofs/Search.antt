@@ -13,12 +13,12 @@ pub record BothOf (P Q : Type 0) : Type 0 where
   pub first : P
   pub second : Q
 
-pub decide_both : (P Q : Type 0) → Decided P → Decided Q → Decided (BothOf P Q)
+decide_both : (P Q : Type 0) → Decided P → Decided Q → Decided (BothOf P Q)
 decide_both P Q (inl p) (inl q) = inl (record { first = p; second = q })
 decide_both P Q (inl p) (inr not_so) = inr (λ both. not_so both.second)
 decide_both P Q (inr not_so) d = inr (λ both. not_so both.first)
 
-pub decide_as : (P Q : Type 0) → (P → Q) → (Q → P) → Decided P → Decided Q
+decide_as : (P Q : Type 0) → (P → Q) → (Q → P) → Decided P → Decided Q
 decide_as P Q to from (inl p) = inl (to p)
 decide_as P Q to from (inr not_so) = inr (λ q. not_so (from q))
 
@@ -29,7 +29,7 @@ pub record SomeBelow (n : ℕ) (P : ℕ → Type 0) : Type 0 where
   pub below : number < n
   pub holds : P number
 
-pub decide_some_below : (n : ℕ) (P : ℕ → Type 0) → ((i : ℕ) → Decided (P i)) → Decided (SomeBelow n P)
+decide_some_below : (n : ℕ) (P : ℕ → Type 0) → ((i : ℕ) → Decided (P i)) → Decided (SomeBelow n P)
 decide_some_below zero P d = inr (λ some. let h : some.number < 0 = some.below in omega arith)
 decide_some_below (suc n) P d =
     elim (d n) [

@@ -12,7 +12,7 @@ use Rattle.cartridge_spec.specs.HeaderCopies.{copy_cells}
 use Rattle.cartridge_spec.specs.Says.{whole_mask, cells_of}
 use Rattle.cartridge_spec.specs.Shape.{usable_places, usable_count}
 use Rattle.qic_base.specs.Cartridge.{view_at, Cartridge, lost_places}
-use Rattle.qic_base.specs.Terms.{IsCartridge, IsView, place_of}
+use Rattle.qic_base.specs.CartridgeTerms.{IsCartridge, IsView, place_of}
 use Rattle.qic_base.specs.declared.tape.SectorView.TheVariants.{Blank}
 
 pub places_of_whole : PlacesOfWhole

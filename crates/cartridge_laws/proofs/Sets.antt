@@ -1,5 +1,5 @@
 -- Sets of places, the cells outside them, and how many cells are unreadable then.
-use Rattle.std.proofs.Common.{ℕ, ◌/◌, ◌%◌, ◌^◌, Bool, ◌≡◌, ◌⊎◌, List, [], ◌∷◌, ◌≢◌, inl, inr, sym, ◌∙◌, ap, arith, true, max, bit_or, ◌<◌, subst, false, suc, refl, length, zero, ◌+◌, slice_get, Some, All, cond, ◌≤◌, not, ◌&&◌}
+use Rattle.std.proofs.Common.{ℕ, ◌/◌, ◌%◌, ◌^◌, Bool, ◌≡◌, ◌⊎◌, List, [], ◌∷◌, ◌≢◌, inl, inr, sym, ◌∙◌, ap, arith, true, max, bit_or, ◌<◌, subst, false, suc, refl, length, zero, ◌+◌, slice_get, Some, All, ◌≤◌, not, ◌&&◌}
 use Rattle.std.specs.Prelude.{◌==◌, if◌then◌else◌}
 use Rattle.std.specs.Int.{bit_at}
 use Rattle.std.proofs.lemmas.Bool.{cases_eq, eq-eqb, eqb-true, cases_Bool, ne_eqb}
@@ -7,12 +7,14 @@ use Rattle.std.proofs.lemmas.Nat.Bits.{bit_at-zero, bit_at_or, bit_at-pow_other,
 use Rattle.std.proofs.lemmas.List.Elements.{All-nil, All-cons, All-head, All-tail}
 use Rattle.cartridge_laws.proofs.Cells.{unreadable_at, lost_below-cells}
 use Rattle.cartridge_spec.specs.Says.{hidden_from, unreadable_count, set_of, unreadable_from}
-use Rattle.cartridge_laws.specs.Terms.{hidden, unreadable_places}
+use Rattle.cartridge_laws.specs.TableCells.{unreadable_places}
+use Rattle.cartridge_laws.specs.Segment.{hidden}
 use Rattle.cartridge_spec.specs.Shape.{is_unreadable}
 use Rattle.gf256_qic.specs.Code.{lost_below}
-use Rattle.qic_base.specs.Terms.{IsView}
+use Rattle.qic_base.specs.CartridgeTerms.{IsView}
 use Rattle.qic_base.specs.declared.tape.SectorView.{SectorView}
 use Rattle.qic_base.specs.declared.tape.SectorView.TheVariants.{Lost, Holds}
+use Rattle.gf256_qic.proofs.Agreement.{one_if}
 
 -- ---- the places of a set
 
@@ -194,9 +196,6 @@ pub unreadable_is_named : (cells : List SectorView) (i : ℕ) → unreadable_at 
 unreadable_is_named cells i un =
     let same : 0 + i ≡ i = omega arith in
     subst (IsOneOf (unreadable_places cells)) same (unreadable_is_one 0 cells i un)
-
-abbrev one_if : Bool → ℕ
-one_if t = cond t 1 0
 
 none_lost : (lost : ℕ → Bool) (n : ℕ) → ((i : ℕ) → lost i ≡ true → ⊥) → lost_below lost n ≤ 0
 unfolding lost_below

@@ -1,5 +1,5 @@
 -- The bytes of a slot show the entry that they were made from.
-use Rattle.std.proofs.Common.{◌≡◌, ℕ, ◌+◌, ◌-◌, ◌≤◌, List, ◌++◌, length, take, drop, ap, ◌∙◌, arith, codes, [], ◌∷◌, replicate, length-append, refl, ◌<◌, get_or, sym, true, eq-eqb, zero, suc, ◌/◌, ◌%◌, All}
+use Rattle.std.proofs.Common.{◌≡◌, ℕ, ◌+◌, ◌-◌, ◌≤◌, List, ◌++◌, length, take, drop, ap, ◌∙◌, arith, codes, [], ◌∷◌, replicate, length-append, refl, ◌<◌, get_or, sym, true, eq-eqb, All}
 use Rattle.std.specs.List.{slice_range}
 use Rattle.std.proofs.lemmas.List.{take_all, drop_at, length-replicate, get_or_append_left, get_or_at, append_assoc}
 use Rattle.std.specs.Prelude.{slice_index}
@@ -8,6 +8,7 @@ use Rattle.cartridge_laws.specs.Slots.{FitsSlot}
 use Rattle.cartridge_spec.specs.Table.{Entry, slot_bytes, is_used, entry_in}
 use Rattle.qic_base.proofs.FieldLaws.{length-little_endian_bytes, little_endian-bytes}
 use Rattle.qic_base.specs.Field.{little_endian_bytes, little_endian, number_at}
+use Rattle.cartridge_laws.proofs.FreshBuilding.{number_bytes}
 use lib.ListN.{length-drop}
 use lib.Seq.{take-append-le, drop-append-le}
 
@@ -180,12 +181,6 @@ slot_shows e fits =
     (start_is e fits) (end_is e fits) (name_is e fits) (date_is e fits) (flags_are e fits) (sequence_is e fits) (directory_is e fits) (size_is e fits)
 
 -- ---- its bytes are bytes
-
-number_bytes : (width value : ℕ) → All (λ b. b < 256) (little_endian_bytes width value)
-unfolding little_endian_bytes
-number_bytes zero value = All-nil (λ (b : ℕ). b < 256)
-number_bytes (suc width) value =
-    All-cons (λ (b : ℕ). b < 256) (value % 256) (little_endian_bytes width (value / 256)) (omega arith) (number_bytes width (value / 256))
 
 letters : All (λ b. b < 256) (codes "VTBL")
 letters =

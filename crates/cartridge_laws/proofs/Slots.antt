@@ -9,7 +9,7 @@ use Rattle.std.specs.List.{slice_range}
 use Rattle.std.proofs.lemmas.Bool.{cases_lt, cases_eq}
 use Rattle.cartridge_laws.proofs.Writing.{slice_get-set_same, slice_get-set_other}
 use Rattle.cartridge_spec.specs.Shape.{IsArea, sector_at}
-use Rattle.cartridge_laws.specs.Terms.{slot_sector, with_slot}
+use Rattle.cartridge_laws.specs.Slots.{slot_sector, with_slot}
 use Rattle.cartridge_spec.specs.Table.{slot, Entry, Shows, entry_in, is_used, is_free}
 use Rattle.qic_base.proofs.FieldLaws.{length-overwritten, slice_range-overwritten, slice_range-overwritten_below, slice_range-overwritten_above}
 use Rattle.qic_base.specs.Cartridge.{IsSector}
@@ -66,7 +66,7 @@ slot_range area i =
     let long : 128 ≡ 128 * (i % 8) + 128 - 128 * (i % 8) = omega arith in
     ap (λ (n : ℕ). take n (drop (128 * (i % 8)) (sector_at area (i / 8)))) long
 
-pub slot_written : (area : List (List ℕ)) (i : ℕ) (bytes : List ℕ) → IsLong area → i < 232 → length bytes ≡ 128 → slot (with_slot area i bytes) i ≡ bytes
+slot_written : (area : List (List ℕ)) (i : ℕ) (bytes : List ℕ) → IsLong area → i < 232 → length bytes ≡ 128 → slot (with_slot area i bytes) i ≡ bytes
 slot_written area i bytes is within long =
     let k : ℕ = i / 8 in
     let at : ℕ = 128 * (i % 8) in
@@ -90,7 +90,7 @@ same_sector area i j bytes is within long apart same =
           (omega arith) (omega arith) (omega arith)
     ]
 
-pub other_slot : (area : List (List ℕ)) (i j : ℕ) (bytes : List ℕ) → IsLong area → i < 232 → length bytes ≡ 128 → j ≢ i →
+other_slot : (area : List (List ℕ)) (i j : ℕ) (bytes : List ℕ) → IsLong area → i < 232 → length bytes ≡ 128 → j ≢ i →
     slot (with_slot area i bytes) j ≡ slot area j
 other_slot area i j bytes is within long apart =
     let k : ℕ = i / 8 in

@@ -8,7 +8,7 @@ use Rattle.cartridge_laws.specs.Table.{LieBehind}
 use Rattle.cartridge_laws.specs.TableLaws.{FaultlessIsSound, SoundIsFaultless}
 use Rattle.cartridge_laws.specs.TableReading.{IsTakenBefore}
 use Rattle.cartridge_spec.specs.Table.{Entry, is_used, slot, is_free, some_free_below, slot_fault, has_bad_range, entry_in, Shows}
-use Rattle.cartridge_laws.specs.Terms.{ForeignSlot, BadRange}
+use Rattle.cartridge_laws.specs.Slots.{ForeignSlot, BadRange}
 
 -- ---- a slot without fault
 
@@ -26,7 +26,7 @@ pick_range false false below true i is_taken is_used none = cc
 pick_range false true true true i is_taken is_used none = cc
 pick_range false true false true i is_taken is_used none = cc
 
-good_range : (area : List (List ℕ)) (last i : ℕ) → is_used (slot area i) ≡ true → slot_fault area last i ≡ None → has_bad_range area last i ≡ false
+pub good_range : (area : List (List ℕ)) (last i : ℕ) → is_used (slot area i) ≡ true → slot_fault area last i ≡ None → has_bad_range area last i ≡ false
 unfolding slot_fault
 good_range area last i used none =
     pick_range (is_free (slot area i)) (is_used (slot area i)) (some_free_below area i) (has_bad_range area last i) i

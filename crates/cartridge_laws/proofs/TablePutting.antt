@@ -4,10 +4,9 @@ use Rattle.cartridge_laws.proofs.SlotBytes.{length-slot_bytes, slot_is_used, slo
 use Rattle.cartridge_laws.proofs.Slots.{IsLong, shows_more, area_is_long}
 use Rattle.cartridge_laws.proofs.TableLists.{volumes_are_determined}
 use Rattle.cartridge_laws.proofs.TableOrders.{sound_is_faultless}
-use Rattle.cartridge_laws.specs.Slots.{FitsSlot}
+use Rattle.cartridge_laws.specs.Slots.{FitsSlot, with_slot}
 use Rattle.cartridge_laws.specs.TableLaws.{PutEntryIsShown, PutEntryAloneIsShown, PutEntryIsFaultless}
 use Rattle.cartridge_spec.specs.Table.{slot_bytes, Entry, Shows}
-use Rattle.cartridge_laws.specs.Terms.{with_slot}
 
 -- ---- the list
 

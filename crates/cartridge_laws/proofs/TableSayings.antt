@@ -11,7 +11,8 @@ use Rattle.cartridge_laws.proofs.Hiding.{nothing_is_hidden}
 use Rattle.cartridge_laws.proofs.Readings.{table_sets_are_small, one_answer, code_always}
 use Rattle.cartridge_laws.specs.SayingLaws.{SaidIsTable, TableSaysIsFunction, TableSaysAlways, ReadAreSectors}
 use Rattle.qic_base.specs.Cartridge.{IsSector}
-use Rattle.cartridge_laws.specs.Terms.{unreadable_data, table_sets}
+use Rattle.cartridge_laws.specs.TableCells.{table_sets}
+use Rattle.cartridge_laws.specs.Segment.{unreadable_data}
 use Rattle.cartridge_spec.specs.Says.{ReadsAll, Says, Data, HasBlock, ByCode, TableSays, LostSectors, Mismatch, Saying, AsRead}
 use Rattle.qic_base.specs.declared.tape.SectorView.{SectorView}
 use Rattle.qic_base.specs.declared.tape.SectorView.TheVariants.{Holds, Blank, Defect, Lost}

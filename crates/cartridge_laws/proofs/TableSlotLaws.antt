@@ -4,7 +4,7 @@ use Rattle.std.proofs.lemmas.Bool.{eqb-true, ne_eqb}
 use Rattle.std.proofs.lemmas.Bool.Decides.{nat_tests}
 use Rattle.cartridge_laws.specs.TableReading.{IsTakenBefore}
 use Rattle.cartridge_spec.specs.Table.{is_free, is_used, slot, slot_fault, some_free_below, has_bad_range, entry_in}
-use Rattle.cartridge_laws.specs.Terms.{overlaps_before}
+use Rattle.cartridge_laws.specs.Slots.{overlaps_before}
 use Rattle.qic_base.specs.Field.{number_at, little_endian}
 
 -- a used slot is not free

@@ -5,10 +5,10 @@ use Rattle.std.proofs.lemmas.Option.{slice_get-get_or, slice_get_within, get_or_
 use Rattle.std.proofs.Math.Seq.{get_or-append_seam}
 use Rattle.cartridge_laws.specs.TableLaws.{SoundDataShowVolumes, DataAreSoundOrFaulty}
 use Rattle.cartridge_spec.specs.Table.{slot_fault, IsFirstFault, slot, is_free, is_used, some_free_below, has_bad_range, Entry, entry_in, HasNoFault}
-use Rattle.cartridge_laws.specs.Terms.{TableFault, ForeignSlot, BadRange}
+use Rattle.cartridge_laws.specs.Slots.{TableFault, ForeignSlot, BadRange}
 
 -- an index below n + 1 is below n or is n
-pub last_or_before : (i n : ℕ) → i < n + 1 → (i < n) ⊎ (i ≡ n)
+last_or_before : (i n : ℕ) → i < n + 1 → (i < n) ⊎ (i ≡ n)
 last_or_before i n within = by_test (nat_lt i n) refl
   where
     by_test : (b : Bool) → nat_lt i n ≡ b → (i < n) ⊎ (i ≡ n)
@@ -38,7 +38,7 @@ next_fault : (area : List (List ℕ)) (last n : ℕ) (o : Option TableFault) →
 next_fault area last n None within here below = inr (none_next area last n below here)
 next_fault area last n (Some f) within here below = inl (record { fault = f; first = record { place = n; within = within; here = here; before = below } })
 
-pub fault_or_none : (area : List (List ℕ)) (last n : ℕ) → n ≤ 232 → FirstFault area last ⊎ NoneBelow area last n
+fault_or_none : (area : List (List ℕ)) (last n : ℕ) → n ≤ 232 → FirstFault area last ⊎ NoneBelow area last n
 fault_or_none area last zero within = inr (λ i none. absurd (omega arith))
 fault_or_none area last (suc n) within = rw (← add-one) (next (fault_or_none area last n (omega arith)))
   where

@@ -3,7 +3,7 @@ use Rattle.std.proofs.Common.{ℕ, ◌+◌, ◌*◌, ◌∙◌, List}
 use Rattle.std.proofs.lemmas.List.{length-set}
 use Rattle.std.proofs.lemmas.List.Elements.{All-set}
 use Rattle.qic_base.specs.Cartridge.{Cartridge, with_view, IsSector}
-use Rattle.qic_base.specs.Terms.{IsCartridge, IsView}
+use Rattle.qic_base.specs.CartridgeTerms.{IsCartridge, IsView}
 use Rattle.qic_base.specs.Step.{written_view, worn_view}
 use Rattle.qic_base.specs.declared.tape.SectorView.{SectorView}
 use Rattle.qic_base.specs.declared.tape.SectorView.TheVariants.{Blank, Defect, Lost, Holds}

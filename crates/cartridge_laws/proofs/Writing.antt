@@ -16,7 +16,7 @@ use Rattle.cartridge_spec.specs.Settling.{writes_of, changed_by}
 use Rattle.cartridge_spec.specs.Shape.{usable_count, data_count, usable_places, IsLive}
 use Rattle.gf256_qic.proofs.Parities.{length-parity_sectors}
 use Rattle.qic_base.specs.Cartridge.{Cartridge, view_at}
-use Rattle.qic_base.specs.Terms.{place_of}
+use Rattle.qic_base.specs.CartridgeTerms.{place_of}
 use Rattle.qic_base.specs.Step.{WriteSector, changed, written_view}
 use Rattle.qic_base.specs.declared.tape.SectorView.{SectorView}
 use Rattle.qic_base.specs.declared.tape.SectorView.TheVariants.{Blank, Defect, Lost, Holds}
@@ -73,7 +73,7 @@ abbrev NamesNot : List ℕ → (segment s i : ℕ) → Type 0
 NamesNot places segment s i = s ≡ segment → (k : ℕ) → k < length places → get_or places k 0 ≡ i → ⊥
 
 -- what is not written stays
-pub view_kept : (places : List ℕ) (sectors : List (List ℕ)) (c : Cartridge) (segment s i : ℕ) → AreSmall places → i < 32 →
+view_kept : (places : List ℕ) (sectors : List (List ℕ)) (c : Cartridge) (segment s i : ℕ) → AreSmall places → i < 32 →
     NamesNot places segment s i → view_at (changed_by (writes_of segment places sectors) c) s i ≡ view_at c s i
 view_kept [] sectors c segment s i small h other = refl
 view_kept (p ∷ places) [] c segment s i small h other = refl
@@ -83,7 +83,7 @@ view_kept (p ∷ places) (bytes ∷ sectors) c segment s i small h other =
     ∙ at_other c segment p s i bytes (small 0 (omega arith)) h (λ same e. other same 0 (omega arith) e)
 
 -- what is written stands at its place
-pub view_after : (places : List ℕ) (sectors : List (List ℕ)) (c : Cartridge) (segment k : ℕ) → AreSmall places → AreApart places →
+view_after : (places : List ℕ) (sectors : List (List ℕ)) (c : Cartridge) (segment k : ℕ) → AreSmall places → AreApart places →
     k < length places → length places ≤ length sectors →
     view_at (changed_by (writes_of segment places sectors) c) segment (get_or places k 0)
     ≡ written_view (get_or sectors k []) (view_at c segment (get_or places k 0))
@@ -113,7 +113,7 @@ after_all c segment usable sectors k least room h =
     view_after (usable_places usable) (block_in usable sectors) c segment k (usable_small usable) (usable_apart usable) h (omega arith)
 
 -- the cell at a place
-cell_at : (c : Cartridge) (segment usable k : ℕ) → k < usable_count usable →
+pub cell_at : (c : Cartridge) (segment usable k : ℕ) → k < usable_count usable →
     slice_get (cells_of c segment usable) k ≡ Some (view_at c segment (get_or (usable_places usable) k 0))
 cell_at c segment usable k h =
     slice_get-map (view_at c segment) (usable_places usable) k
@@ -144,7 +144,7 @@ writes_leave_data c segment usable sectors least room =
           slice_get-get_or (block_in usable sectors) k [] (omega arith) ∙ ap Some bytes;
     }
 
-live_holds : (view : SectorView) (bytes : List ℕ) → IsLive view → written_view bytes view ≡ Holds bytes
+pub live_holds : (view : SectorView) (bytes : List ℕ) → IsLive view → written_view bytes view ≡ Holds bytes
 live_holds Blank bytes live = absurd live
 live_holds Defect bytes live = absurd live
 live_holds Lost bytes live = refl

@@ -54,14 +54,14 @@ column-zeros j (suc n) h =
     ∙ ap (λ (bs : List ℕ). 0 ∷ bs) (column-zeros j n h)
 
 -- sectors of zero bytes are a code block
-pub zeros_block : (n : ℕ) → 4 ≤ n → n ≤ 32 → IsCodeBlock (replicate n zero_sector)
+zeros_block : (n : ℕ) → 4 ≤ n → n ≤ 32 → IsCodeBlock (replicate n zero_sector)
 zeros_block n least most = record {
   sectors = All-replicate IsSector n zero_sector zero_sector-is_sector;
   columns = λ j h. subst IsCodeword (sym (column-zeros j n h)) (zeros_codeword n least most);
 }
 
 -- with zero bytes as the parity of their data
-pub zeros_with_parity : (n : ℕ) → 1 ≤ n → n ≤ 29 →
+zeros_with_parity : (n : ℕ) → 1 ≤ n → n ≤ 29 →
     replicate n zero_sector ++ parity_sectors (replicate n zero_sector) ≡ replicate (n + 3) zero_sector
 zeros_with_parity n least most =
     let whole : replicate n zero_sector ++ replicate 3 zero_sector ≡ replicate (n + 3) zero_sector =

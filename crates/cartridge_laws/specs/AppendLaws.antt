@@ -6,14 +6,15 @@ use Rattle.cartridge_laws.specs.AppendWrites.{AreWrites, IsFree, KeepsTo, IsOfSe
 use Rattle.cartridge_laws.specs.Shape.{Carries}
 use Rattle.cartridge_spec.specs.Appending.{has_room, free_segments, part_writes, in_sectors, with_bytes, appended_volume}
 use Rattle.cartridge_spec.specs.Volumes.{Plain, Stands, entries_of}
-use Rattle.cartridge_laws.specs.Terms.{last_end, slot_sector}
+use Rattle.cartridge_laws.specs.Table.{last_end}
+use Rattle.cartridge_laws.specs.Slots.{slot_sector}
 use Rattle.cartridge_spec.specs.Formatting.{IsLabel, StandsCleanly}
 use Rattle.cartridge_spec.specs.TableSegment.{TableIs, IsTableLive}
 use Rattle.cartridge_spec.specs.Shape.{IsArea, mask_at, data_count, capacity}
 use Rattle.cartridge_spec.specs.Mounting.{settled, Mounts, mounted_as}
 use Rattle.cartridge_spec.specs.Settling.{changed_by, settling_steps}
 use Rattle.qic_base.specs.Cartridge.{Cartridge, view_at}
-use Rattle.qic_base.specs.Terms.{IsCartridge}
+use Rattle.qic_base.specs.CartridgeTerms.{IsCartridge}
 use Rattle.qic_base.specs.Step.{Step, Torn}
 
 abbrev pub new_table : Plain → (name : List ℕ) → (date : ℕ) → (bytes : List ℕ) → List (List ℕ)

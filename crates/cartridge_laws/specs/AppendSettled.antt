@@ -4,10 +4,9 @@ use Rattle.cartridge_laws.specs.AppendLaws.{IsReadyFor, new_table, append_steps_
 use Rattle.cartridge_laws.specs.AppendSteps.{IsNamed}
 use Rattle.cartridge_laws.specs.AppendWrites.{AreWrites, IsFree, IsOfSector}
 use Rattle.cartridge_laws.specs.MountBlocks.{HoldsPart}
-use Rattle.cartridge_laws.specs.Table.{IsSoundList}
+use Rattle.cartridge_laws.specs.Table.{IsSoundList, last_end}
 use Rattle.cartridge_spec.specs.Appending.{has_room, with_bytes, appended_volume}
 use Rattle.cartridge_spec.specs.Volumes.{volume_bytes, Plain, Stands, entries_of, volume_length}
-use Rattle.cartridge_laws.specs.Terms.{last_end}
 use Rattle.cartridge_spec.specs.Formatting.{IsLabel, StandsCleanly}
 use Rattle.cartridge_spec.specs.HeaderCopies.{last_segment}
 use Rattle.cartridge_spec.specs.TableSegment.{TableIs}
@@ -16,7 +15,7 @@ use Rattle.cartridge_spec.specs.Mounting.{settled, Mounts, mounted_as}
 use Rattle.cartridge_spec.specs.Settling.{changed_by}
 use Rattle.cartridge_spec.specs.Table.{Shows}
 use Rattle.qic_base.specs.Cartridge.{Cartridge, view_at}
-use Rattle.qic_base.specs.Terms.{IsCartridge}
+use Rattle.qic_base.specs.CartridgeTerms.{IsCartridge}
 use Rattle.qic_base.specs.Step.{Step, Torn}
 
 -- ---- before an append

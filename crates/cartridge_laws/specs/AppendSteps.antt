@@ -2,7 +2,9 @@
 -- that they name (this project's profile).
 use Rattle.std.specs.Prelude.{ℕ, List, [], ◌∷◌, ◌++◌, length, ◌≡◌, ◌⊎◌, Contains}
 use Rattle.cartridge_spec.specs.Appending.{part_writes, in_sectors, taken_by, table_writes}
-use Rattle.cartridge_laws.specs.Terms.{new_segments, table_places, slot_sector, sectors_in}
+use Rattle.cartridge_laws.specs.VolumeParts.{new_segments, sectors_in}
+use Rattle.cartridge_laws.specs.TableCells.{table_places}
+use Rattle.cartridge_laws.specs.Slots.{slot_sector}
 use Rattle.cartridge_spec.specs.Shape.{mask_at, usable_places}
 use Rattle.cartridge_spec.specs.Table.{table_with}
 use Rattle.cartridge_spec.specs.Volumes.{Part, parts_of, Plain, Volume}

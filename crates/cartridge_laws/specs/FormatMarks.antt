@@ -1,11 +1,16 @@
--- A cartridge that was cleared, and one that was formatted (Linux ftape headers: two header copies; the rest is this
--- project's profile).
-use Rattle.std.specs.Prelude.{◌≡◌, ℕ, ◌*◌, ◌<◌, true, ◌≤◌, List}
+-- The formats of the first segments; a cartridge that was cleared, and one that was formatted (Linux ftape headers: two header
+-- copies; the rest is this project's profile).
+use Rattle.std.specs.Prelude.{◌≡◌, ℕ, ◌*◌, ◌<◌, true, ◌≤◌, List, map}
 use Rattle.cartridge_spec.specs.Says.{with_parity}
 use Rattle.cartridge_spec.specs.Shape.{sector_at}
 use Rattle.qic_base.specs.Cartridge.{Cartridge, view_at}
-use Rattle.qic_base.specs.Step.{formatted_view}
+use Rattle.qic_base.specs.Step.{formatted_view, Step, FormatSegment}
 use Rattle.qic_base.specs.declared.tape.SectorView.TheVariants.{Holds}
+use Rattle.std.specs.List.{range_with_len}
+
+-- the formats of the first segments, ascending
+abbrev pub segment_formats : (count : ℕ) → List Step
+segment_formats count = map (λ s. FormatSegment s) (range_with_len 0 count)
 
 -- ---- what the steps make of a cartridge
 

@@ -4,7 +4,7 @@ use Rattle.cartridge_spec.specs.Formatting.{IsFirstDefectInFront, HasNoDefectInF
 use Rattle.cartridge_spec.specs.Header.{Header, SpellsHeader, Shows}
 use Rattle.cartridge_spec.specs.Shape.{IsArea}
 use Rattle.qic_base.specs.Cartridge.{Cartridge}
-use Rattle.qic_base.specs.Terms.{IsCartridge}
+use Rattle.qic_base.specs.CartridgeTerms.{IsCartridge}
 
 -- ---- defects in front
 

@@ -1,7 +1,7 @@
 -- Fields written into a sector (this project's profile).
 use Rattle.std.specs.Prelude.{ℕ, List, ◌≡◌, ◌<◌, ◌^◌, length, [], ◌∷◌}
 use Rattle.cartridge_spec.specs.Header.{Value, Number, Text, Field, Header, number}
-use Rattle.cartridge_laws.specs.Terms.{text}
+use Rattle.cartridge_laws.specs.HeaderTerms.{text}
 use Rattle.qic_base.specs.Field.{little_endian_bytes, overwritten}
 
 -- the bytes that a value has in a field

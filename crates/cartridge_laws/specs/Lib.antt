@@ -10,6 +10,7 @@ pub mod FormatLaws
 pub mod FormatMarks
 pub mod FreshLaws
 pub mod HeaderLaws
+pub mod HeaderTerms
 pub mod HeaderWriting
 pub mod MapLaws
 pub mod MountBlocks
@@ -23,9 +24,10 @@ pub mod Segment
 pub mod Shape
 pub mod Slots
 pub mod Table
+pub mod TableCells
 pub mod TableLaws
 pub mod TableReading
-pub mod Terms
+pub mod VolumeParts
 pub mod WorkedValues
 pub mod Writes
 pub mod WritingLaws

@@ -13,10 +13,10 @@ use Rattle.cartridge_spec.specs.TableSegment.{TableIs, IsTableLive, LosesOne, Ch
 use Rattle.cartridge_spec.specs.Mounting.{settled, ComesBackAs}
 use Rattle.cartridge_spec.specs.Says.{with_parity}
 use Rattle.cartridge_spec.specs.Settling.{changed_by}
-use Rattle.cartridge_laws.specs.Terms.{slot_sector}
+use Rattle.cartridge_laws.specs.Slots.{slot_sector}
 use Rattle.cartridge_spec.specs.Volumes.{Plain, Stands}
 use Rattle.qic_base.specs.Cartridge.{Cartridge}
-use Rattle.qic_base.specs.Terms.{IsCartridge}
+use Rattle.qic_base.specs.CartridgeTerms.{IsCartridge}
 use Rattle.qic_base.specs.Step.{Torn}
 
 -- ---- two tables that differ in one sector of data

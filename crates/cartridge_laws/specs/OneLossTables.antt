@@ -1,7 +1,7 @@
 -- Two tables that differ in one sector of data, and the last sector in use (this project's profile).
 use Rattle.std.specs.Prelude.{◌≡◌, ◌≢◌, ℕ, ◌<◌, List, true, false}
 use Rattle.cartridge_spec.specs.Shape.{IsArea, sector_at}
-use Rattle.cartridge_laws.specs.Terms.{has_used_slot}
+use Rattle.cartridge_laws.specs.Slots.{has_used_slot}
 
 -- the data of two tables, which differ in one sector alone
 pub record DifferInOne (old new : List (List ℕ)) (changed : ℕ) : Type 0 where

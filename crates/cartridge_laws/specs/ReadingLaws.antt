@@ -1,7 +1,7 @@
 -- The laws of readings that leave sectors out of account, and of a segment's shape, as facts.
 use Rattle.std.specs.Prelude.{◌≡◌, List, ◌↔◌, [], ◌∷◌, ℕ, ◌++◌}
 use Rattle.cartridge_laws.specs.Shape.{Carries, data_places, parity_places}
-use Rattle.cartridge_laws.specs.Terms.{hidden}
+use Rattle.cartridge_laws.specs.Segment.{hidden}
 use Rattle.cartridge_spec.specs.Says.{Saying, Says, SaysBy}
 use Rattle.cartridge_spec.specs.Shape.{usable_places}
 use Rattle.qic_base.specs.declared.tape.SectorView.{SectorView}

@@ -4,9 +4,9 @@ use Rattle.std.specs.List.{range_with_len}
 use Rattle.cartridge_spec.specs.Header.{has_signature}
 use Rattle.cartridge_spec.specs.HeaderCopies.{copy_cells, CopyDoesNotRead}
 use Rattle.cartridge_spec.specs.Says.{Saying, Says, TableSaying, TableSays, Mismatch, ByCode, ReadsAll, cells_of, whole_mask, Data, Written, unreadable_count, LostSectors, Zero}
-use Rattle.cartridge_laws.specs.Terms.{unreadable_data}
+use Rattle.cartridge_laws.specs.Segment.{unreadable_data}
 use Rattle.cartridge_spec.specs.Shape.{usable_count, usable_places}
-use Rattle.qic_base.specs.Terms.{IsView, IsCartridge}
+use Rattle.qic_base.specs.CartridgeTerms.{IsView, IsCartridge}
 use Rattle.qic_base.specs.Cartridge.{Cartridge, view_at, zero_sector, IsSector}
 use Rattle.qic_base.specs.declared.tape.SectorView.{SectorView}
 

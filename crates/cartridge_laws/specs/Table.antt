@@ -2,6 +2,7 @@
 -- project's profile).
 use Rattle.std.specs.Prelude.{ℕ, ◌<◌, ◌≤◌, List, [], ◌∷◌}
 use Rattle.cartridge_spec.specs.Table.{Entry}
+use Rattle.cartridge_spec.specs.Appending.{end_behind}
 
 -- ---- lists in order
 
@@ -13,3 +14,7 @@ LieBehind before last (e ∷ es) = (before < e.start) × (e.start ≤ e.end) × 
 -- the volumes lie behind the table's segment, in order, on a cartridge whose last segment is this
 abbrev pub IsSoundList : (last : ℕ) → List Entry → Type 0
 IsSoundList last entries = LieBehind 2 last entries
+
+-- the last segment that is taken: the end of the last volume, or the table's segment
+abbrev pub last_end : List Entry → ℕ
+last_end entries = end_behind 2 entries

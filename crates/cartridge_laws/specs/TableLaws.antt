@@ -1,10 +1,9 @@
 -- Laws of the volume table (this project's profile).
 use Rattle.std.specs.Prelude.{◌≡◌, ℕ, List, ◌⊎◌, ◌<◌, [], ◌∷◌, ◌++◌, length}
-use Rattle.cartridge_laws.specs.Slots.{FitsSlot}
+use Rattle.cartridge_laws.specs.Slots.{FitsSlot, TableFault, with_slot}
 use Rattle.cartridge_laws.specs.Table.{IsSoundList}
 use Rattle.cartridge_spec.specs.Shape.{IsArea}
 use Rattle.cartridge_spec.specs.Table.{Entry, Shows, HasNoFault, IsFirstFault, slot_bytes}
-use Rattle.cartridge_laws.specs.Terms.{TableFault, with_slot}
 
 -- two lists that the same data show are equal
 abbrev pub VolumesAreDetermined : Type 0

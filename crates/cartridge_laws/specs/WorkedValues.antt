@@ -3,7 +3,10 @@
 use Rattle.std.specs.Prelude.{ℕ, ◌≡◌, List, [], ◌∷◌, ◌++◌, replicate, length, Some, None, codes, take, slice_range, slice_get, All, map}
 use Rattle.std.specs.List.{range_with_len}
 use Rattle.cartridge_spec.specs.Appending.{free_segments, room, taken_by, new_entry}
-use Rattle.cartridge_laws.specs.Terms.{table_places, fault_as, mask_of, slot_sector, BadRange, ForeignSlot, table_sets}
+use Rattle.cartridge_laws.specs.TableCells.{table_places, table_sets}
+use Rattle.cartridge_laws.specs.Slots.{slot_sector, BadRange, ForeignSlot}
+use Rattle.cartridge_laws.specs.HeaderTerms.{fault_as}
+use Rattle.cartridge_laws.specs.Segment.{mask_of}
 use Rattle.cartridge_spec.specs.Code.{parity, value_at, product, power}
 use Rattle.gf256_qic.specs.Code.{inverse}
 use Rattle.cartridge_spec.specs.Header.{Holds, profile_fields, header_fields, header_fault, number}
@@ -14,7 +17,7 @@ use Rattle.cartridge_spec.specs.Table.{slot_bytes, entry_in, slot_fault, Entry}
 use Rattle.cartridge_spec.specs.Volumes.{volume_length}
 use Rattle.qic_base.specs.Cartridge.{new_cartridge, IsPlace, IsLength}
 use Rattle.qic_base.specs.Field.{date_word, IsDate, filled, IsNameText}
-use Rattle.qic_base.specs.Terms.{ShowsDate}
+use Rattle.qic_base.specs.DateTerms.{ShowsDate}
 use Rattle.qic_base.specs.Step.{WriteSector, FormatSegment, SetReferenced}
 use Rattle.qic_base.specs.declared.foreign.ForeignField.TheVariants.{FormatCode}
 use Rattle.qic_base.specs.declared.tape.SectorView.{SectorView}

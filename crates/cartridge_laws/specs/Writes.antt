@@ -4,7 +4,7 @@ use Rattle.std.specs.Prelude.{ℕ, List, take, map, slice_index}
 use Rattle.cartridge_spec.specs.Says.{with_parity}
 use Rattle.cartridge_spec.specs.Settling.{writes_of}
 use Rattle.cartridge_spec.specs.Shape.{data_count, usable_places, sector_at}
-use Rattle.cartridge_laws.specs.Terms.{sectors_of}
+use Rattle.cartridge_laws.specs.Segment.{sectors_of}
 use Rattle.qic_base.specs.Step.{Step}
 
 -- ---- the usable sectors of a segment stand at the first places of a list of sectors

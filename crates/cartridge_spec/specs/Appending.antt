@@ -44,10 +44,14 @@ new_entry segments name date bytes =
     let last : ℕ = slice_index segments (length segments - 1) in
     record { start = slice_index segments 0; end = last; name = name; date = date; flags = 1; sequence = 1; directory = 0; size = bytes }
 
--- the entry of a volume of these bytes behind the others
+-- the entry of a volume of so many bytes behind the others
+abbrev pub entry_of_length : (words : List ℕ) → List Entry → (name : List ℕ) → (date bytes : ℕ) → Entry
+entry_of_length words entries name date bytes =
+    new_entry (taken_by words bytes (free_segments words entries)) name date bytes
+
+-- the entry of one of these bytes
 abbrev pub entry_behind : (words : List ℕ) → List Entry → (name : List ℕ) → (date : ℕ) → (bytes : List ℕ) → Entry
-entry_behind words entries name date bytes =
-    new_entry (taken_by words (length bytes) (free_segments words entries)) name date (length bytes)
+entry_behind words entries name date bytes = entry_of_length words entries name date (length bytes)
 
 -- the writes of the table's new data: the changed sector of data, and those of parity
 abbrev pub table_writes : (changed : ℕ) → (new : List (List ℕ)) → List Step

@@ -1,22 +1,15 @@
 -- How an append ends.
-use Rattle.std.proofs.Common.{◌≡◌, ℕ, Bool, true, false, List, [], Option, refl, ◌+◌, ◌++◌, None, ap, ◌∙◌, append-nil, min, length, ◌&&◌, nat_le}
-use Rattle.std.specs.Prelude.{is_some, if◌then◌else◌}
+use Rattle.std.proofs.Common.{◌≡◌, ℕ, Bool, true, false, List, refl, ◌+◌, ◌++◌, None, ap, ◌∙◌, append-nil, min, length, ◌&&◌, nat_le}
+use Rattle.std.specs.Prelude.{if◌then◌else◌}
 use Rattle.cartridge_spec.specs.Table.{Entry}
-use Rattle.command_laws.proofs.InputActLaws.{input_prints_nothing}
-use Rattle.command_spec.specs.Append.{input_acts, Kept, room_in, has_promised_room, input_writes, Taking, Fits, taking, entry_acts, append_acts, TooLong}
-use Rattle.command_laws.specs.CommandTerms.{entry_for, free_in, most_written, append_status}
+use Rattle.command_spec.specs.Append.{Kept, room_in, input_writes, Taking, Fits, taking, entry_acts, append_acts, TooLong}
+use Rattle.command_laws.specs.AppendTerms.{entry_for, append_status}
 use Rattle.qic_base.proofs.Joins.{text_of-append}
 use Rattle.qic_base.specs.Acts.{text_of, Act}
+use Rattle.command_laws.proofs.ScriptActs.{input_texts}
 use Rattle.command_spec.specs.declared.status.Status.TheVariants as status
 
 -- ---- the acts
-
-pub input_texts : (kept : Kept) (promised : Option ℕ) (input : List ℕ) → text_of (input_writes kept.words kept.entries promised input) ≡ []
-input_texts kept promised input = by_room (has_promised_room (room_in kept) promised)
-  where
-    by_room : (b : Bool) → text_of (if b then input_acts kept.words (free_in kept) (most_written (room_in kept) promised) (is_some promised) input else []) ≡ []
-    by_room true = input_prints_nothing kept.words (free_in kept) (most_written (room_in kept) promised) (is_some promised) input
-    by_room false = refl
 
 -- and is the whole text
 pub replied_text : (kept : Kept) (name : List ℕ) (date : ℕ) (reply : Entry → List ℕ) (input bytes : List ℕ) → taking (room_in kept) None input ≡ Fits bytes →

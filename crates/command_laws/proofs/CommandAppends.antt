@@ -19,7 +19,8 @@ use Rattle.cartridge_laws.specs.AppendSteps.{writes_into}
 use Rattle.cartridge_laws.specs.AppendWrites.{AreWrites, IsFree}
 use Rattle.cartridge_laws.specs.Shape.{Carries}
 use Rattle.cartridge_spec.specs.Appending.{has_room, table_writes, with_bytes}
-use Rattle.cartridge_laws.specs.Terms.{last_end, slot_sector, with_slot}
+use Rattle.cartridge_laws.specs.Table.{last_end}
+use Rattle.cartridge_laws.specs.Slots.{slot_sector, with_slot}
 use Rattle.cartridge_spec.specs.Formatting.{IsLabel}
 use Rattle.cartridge_spec.specs.TableSegment.{TableIs, IsTableLive}
 use Rattle.cartridge_spec.specs.Mounting.{Mounting, Mounts, settled}
@@ -29,7 +30,8 @@ use Rattle.cartridge_spec.specs.Table.{slot_bytes, Entry}
 use Rattle.cartridge_spec.specs.Volumes.{Plain, entries_of, Stands, Volume}
 use Rattle.command_laws.proofs.InputActLaws.{volume_is_free, volume_is_writes}
 use Rattle.command_spec.specs.Append.{appended, AppendOutcome, Kept, input_writes, entry_acts, room_in, taking, volume_acts, Fits, TooLong, kept_over}
-use Rattle.command_laws.specs.CommandTerms.{entry_for, Appends, free_in}
+use Rattle.command_laws.specs.AppendTerms.{entry_for, free_in}
+use Rattle.command_laws.specs.Outcomes.{Appends}
 use Rattle.command_spec.specs.Lines.{reply_behind, appended_line}
 use Rattle.command_spec.specs.Outcome.{CommandOutcome, refused, Opened, settling_act}
 use Rattle.command_spec.specs.declared.status.Status.{Status}
@@ -37,7 +39,7 @@ use Rattle.qic_base.proofs.Joins.{steps_of-append}
 use Rattle.qic_base.proofs.Steps.{Torn-append, effects-append, Torn-all, Torn-front}
 use Rattle.qic_base.specs.Acts.{Act, steps_of, text_of}
 use Rattle.qic_base.specs.Cartridge.{Cartridge}
-use Rattle.qic_base.specs.Terms.{IsCartridge}
+use Rattle.qic_base.specs.CartridgeTerms.{IsCartridge}
 use Rattle.qic_base.specs.Step.{Step, effects, Torn}
 use Rattle.command_spec.specs.declared.status.Status.TheVariants as status
 use Rattle.cartridge_laws.specs.AppendLaws as appends

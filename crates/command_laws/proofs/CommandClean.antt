@@ -16,8 +16,9 @@ use Rattle.cartridge_laws.proofs.MountOnce.{mounts_is_function}
 use Rattle.cartridge_laws.proofs.MountPlaces.{AreSmall, rest_small}
 use Rattle.cartridge_laws.proofs.MountSettles.{settling_settles}
 use Rattle.cartridge_laws.proofs.MountSettling.{settling_small}
-use Rattle.cartridge_laws.specs.Table.{IsSoundList}
-use Rattle.cartridge_laws.specs.Terms.{last_end, slot_sector, IsCleanCopy}
+use Rattle.cartridge_laws.specs.Table.{IsSoundList, last_end}
+use Rattle.cartridge_laws.specs.Slots.{slot_sector}
+use Rattle.cartridge_laws.specs.HeaderTerms.{IsCleanCopy}
 use Rattle.cartridge_spec.specs.Appending.{room, table_writes}
 use Rattle.cartridge_spec.specs.Formatting.{HasCleanCopies, HasNoHeader}
 use Rattle.cartridge_spec.specs.Header.{Header}
@@ -42,14 +43,15 @@ use Rattle.command_laws.proofs.ScrubStanding.{looks_in_front}
 use Rattle.command_laws.proofs.StoreEnding.{list_more, took_fits}
 use Rattle.command_laws.proofs.StoreTaking.{both_true}
 use Rattle.command_laws.specs.MountedListed.{listed_behind}
-use Rattle.command_laws.specs.CommandTerms.{Appends, free_in, most_written, silently, made_acts, entry_for}
+use Rattle.command_laws.specs.MadeTerms.{made_acts}
+use Rattle.command_laws.specs.AppendTerms.{free_in, most_written, silently, entry_for}
 use Rattle.command_spec.specs.Append.{Kept, Taking, Fits, TooLong, TooShort, append_acts, entry_acts, has_promised_room, input_acts, input_writes, kept_over, room_in, taking}
 use Rattle.command_spec.specs.Single.{DefectOutcome, FormatOutcome, LoseOutcome}
 use Rattle.command_spec.specs.Make.{made_bytes, made_length, Making, MakeStep, AppendMade, WearSector, ScrubAll, SumVolume, StepDoes, Runs, after_item, made_answer, made_name, making}
 use Rattle.command_spec.specs.Input.{Item, Ending, AtEnd, AtStop, AtFault}
 use Rattle.command_spec.specs.Lines.{reply_behind}
 use Rattle.command_spec.specs.Outcome.{CommandOutcome, Going, OpenOutcome, WritableOutcome, Shows, settling_act}
-use Rattle.command_laws.specs.Terms.{Printing, Mends}
+use Rattle.command_laws.specs.Outcomes.{Printing, Mends, Appends}
 use Rattle.command_spec.specs.Pulses.{SentOutcome}
 use Rattle.command_spec.specs.Restore.{Gives, pieces, framed}
 use Rattle.command_spec.specs.Script.{reply, refusal_line, Scripting, Did, Meeting, Refuses, Finds, acts_on, append_did, taken_as, LineDoes, acts_of, ItemsDo, EndDoes, cartridge_behind, entries_behind, place_behind}
@@ -157,7 +159,7 @@ pub bare_from_less : (c d : Cartridge) → ReadsNoMore c d → HasNoHeader c →
 bare_from_less c d less bare = no_header_less c d less bare
 
 -- a cartridge with no header is not mounted
-pub bare_goes : (goes : Going) → GoesLeaving HasNoHeader goes
+bare_goes : (goes : Going) → GoesLeaving HasNoHeader goes
 bare_goes goes c header ws table entries outcome mounts is bare =
     let same : mounting.Mounted header ws table entries ≡ mounting.NotFormatted =
     mounts_is_function c (mounting.Mounted header ws table entries) mounting.NotFormatted mounts (unformatted_from_bare c bare) in

@@ -16,7 +16,8 @@ use Rattle.command_laws.proofs.ScriptSpeaking.{as_many, script_speaks}
 use Rattle.command_laws.specs.ActStops.{Behind, IsLeftBy}
 use Rattle.command_laws.specs.Intact.{IsIntact}
 use Rattle.command_spec.specs.Several.{IsHeard, Scripted, FirstLinesSpare}
-use Rattle.command_laws.specs.CommandTerms.{Makes, ScriptOutcome, MakeOutcome}
+use Rattle.command_laws.specs.MadeTerms.{Makes}
+use Rattle.command_laws.specs.Outcomes.{ScriptOutcome, MakeOutcome}
 use Rattle.command_spec.specs.OneLoss.{SomeComeBack, LeftComesBack, with_items, with_made}
 use Rattle.command_spec.specs.Outcome.{CommandOutcome}
 use Rattle.command_spec.specs.Script.{Did, ScriptDoes}
@@ -24,7 +25,7 @@ use Rattle.command_spec.specs.ScriptLists.{CameFurther, GoesNoFurther, printed_b
 use Rattle.qic_base.proofs.Steps.{Torn-append}
 use Rattle.qic_base.specs.Acts.{Act, steps_of}
 use Rattle.qic_base.specs.Cartridge.{Cartridge}
-use Rattle.qic_base.specs.Terms.{IsCartridge}
+use Rattle.qic_base.specs.CartridgeTerms.{IsCartridge}
 use Rattle.qic_base.specs.Step.{effects, Torn}
 use Rattle.command_spec.specs.Input.{Item}
 use Rattle.command_spec.specs.declared.status.Status.{Status}

@@ -11,10 +11,11 @@ use Rattle.command_laws.proofs.MadeComplete.{made_where_there_is_room}
 use Rattle.command_laws.proofs.MountedHeld.{mounted_open}
 use Rattle.command_laws.proofs.RestoreGivenBack.{given, given_whole}
 use Rattle.command_spec.specs.Append.{AppendOutcome}
-use Rattle.command_laws.specs.Terms.{CanTake, Printing, IsOfTrains, IsOfLines, Mends, ScrubOutcome, CanGive}
+use Rattle.command_laws.specs.Needs.{CanTake, CanGive}
+use Rattle.command_laws.specs.Inputs.{IsOfTrains, IsOfLines}
+use Rattle.command_laws.specs.Outcomes.{Printing, Mends, ScrubOutcome, Appends, ScriptOutcome, RestoreOutcome, MakeOutcome}
 use Rattle.command_spec.specs.Command.{ReadsAs, IsUnprotected}
 use Rattle.command_spec.specs.Single.{DefectOutcome, FormatOutcome, LoseOutcome}
-use Rattle.command_laws.specs.CommandTerms.{Appends, ScriptOutcome, RestoreOutcome, MakeOutcome}
 use Rattle.command_spec.specs.Input.{Ending, AtEnd, AtStop, IsPulse, IsPulses, Item, IsItem, IsScript, input_status}
 use Rattle.command_spec.specs.Make.{Making, CanMake}
 use Rattle.command_spec.specs.Outcome.{Going, CommandOutcome, Opened, OpenOutcome, WritableOutcome, HasPlace, Shows}
@@ -22,7 +23,7 @@ use Rattle.command_spec.specs.Pulses.{SentOutcome}
 use Rattle.command_spec.specs.Script.{Scripting}
 use Rattle.command_spec.specs.declared.status.Status.{Status}
 use Rattle.qic_base.specs.Cartridge.{Cartridge, view_at}
-use Rattle.qic_base.specs.Terms.{IsCartridge}
+use Rattle.qic_base.specs.CartridgeTerms.{IsCartridge}
 use Rattle.qic_base.specs.Tape.{spoil_answer}
 use Rattle.command_spec.specs.declared.status.Status.TheVariants as status
 use Rattle.command_laws.proofs.TextInputs as inputs

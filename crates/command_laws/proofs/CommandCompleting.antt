@@ -3,14 +3,14 @@ use Rattle.std.proofs.Common.{◌≡◌, inl, inr, ℕ, List, Option, IfSome, �
 use Rattle.command_laws.proofs.CommandEnds.{over_map, told_whole}
 use Rattle.command_laws.proofs.CommandTable.{done_where_all_is_there}
 use Rattle.command_laws.proofs.TextWords.{one_command}
-use Rattle.command_laws.specs.Terms.{Answers}
+use Rattle.command_laws.specs.RunTerms.{Answers}
 use Rattle.command_spec.specs.Machine.{HasValues, Spells, Step, OverTold}
-use Rattle.command_laws.specs.CommandTerms.{Yields, CanBeDone}
+use Rattle.command_laws.specs.CommandFields.{Yields, CanBeDone}
 use Rattle.command_spec.specs.declared.status.Status.{Status}
 use Rattle.command_spec.specs.declared.words.Words.{Words}
 use Rattle.qic_base.specs.Acts.{Outside}
 use Rattle.qic_base.specs.Cartridge.{Cartridge}
-use Rattle.qic_base.specs.Terms.{IsCartridge}
+use Rattle.qic_base.specs.CartridgeTerms.{IsCartridge}
 use Rattle.command_spec.specs.declared.status.Status.TheVariants as status
 use Rattle.qic_base.specs.Sink as sinks
 use Rattle.qic_base.specs.Source as sources

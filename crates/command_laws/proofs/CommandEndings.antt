@@ -2,7 +2,7 @@
 use Rattle.std.proofs.Common.{[], ℕ, List, ◌≡◌, ◌++◌, Option, false}
 use Rattle.command_laws.proofs.CommandTable.{laws_of}
 use Rattle.command_spec.specs.Commands.{traits_of}
-use Rattle.command_laws.specs.CommandTerms.{FrontPrints, CommandPrints, RefusedPrints, Yields}
+use Rattle.command_laws.specs.CommandFields.{FrontPrints, CommandPrints, RefusedPrints, Yields}
 use Rattle.command_spec.specs.Outcome.{CommandOutcome}
 use Rattle.command_spec.specs.Machine.{IsOfBytes}
 use Rattle.command_spec.specs.declared.status.Status.{Status}

@@ -6,9 +6,9 @@ use Rattle.command_laws.proofs.CommandEndings.{refused_front, shorter_front, tex
 use Rattle.command_laws.proofs.CommandTable.{plain_answers}
 use Rattle.command_spec.specs.Commands.{traits_of}
 use Rattle.command_spec.specs.Headline.{EachLeft, Stepped, NoneRose, IsCut, WordsLeave, Joins}
-use Rattle.command_laws.specs.Terms.{Answers}
+use Rattle.command_laws.specs.RunTerms.{Answers}
 use Rattle.command_spec.specs.Machine.{HasValues, Spells, fault_of, may_come_from, is_fault, is_outcome, InputLeft, Finished, CommandEnds, IsCutOff}
-use Rattle.command_laws.specs.CommandTerms.{Yields, FrontPrints}
+use Rattle.command_laws.specs.CommandFields.{Yields, FrontPrints}
 use Rattle.command_spec.specs.Outcome.{CommandOutcome, output_of}
 use Rattle.command_spec.specs.declared.status.Status.{Status}
 use Rattle.command_spec.specs.declared.words.Words.{Words}
@@ -16,7 +16,7 @@ use Rattle.qic_base.proofs.Outcomes.{cut_is_torn, cut_stops, cut_took_front, cut
 use Rattle.qic_base.proofs.Steps.{Torn-all, Stops-left}
 use Rattle.qic_base.specs.Acts.{Failing, TapeFails, SourceFails, SinkFails, Outside, Act, steps_of, text_of, Cut, FailingRose}
 use Rattle.qic_base.specs.Cartridge.{Cartridge}
-use Rattle.qic_base.specs.Terms.{IsCartridge}
+use Rattle.qic_base.specs.CartridgeTerms.{IsCartridge}
 use Rattle.qic_base.specs.Step.{Step as TapeStep, effects, Torn}
 use Rattle.qic_base.specs.Tape as tapes
 use Rattle.qic_base.specs.TapeCalls as tape_calls
@@ -27,12 +27,12 @@ use Rattle.qic_base.specs.Source as sources
 -- ---- answers
 
 -- no fault of the outside is an answer of a command to what it finds
-pub no_fault_comes : (command : Words) (failing : Failing) → may_come_from (fault_of failing) command ≡ false
+no_fault_comes : (command : Words) (failing : Failing) → may_come_from (fault_of failing) command ≡ false
 no_fault_comes command TapeFails = refl
 no_fault_comes command SourceFails = refl
 no_fault_comes command SinkFails = refl
 
-pub same_failing : (one other : Failing) → fault_of one ≡ fault_of other → one ≡ other
+same_failing : (one other : Failing) → fault_of one ≡ fault_of other → one ≡ other
 same_failing TapeFails TapeFails same = refl
 same_failing TapeFails SourceFails same = cc
 same_failing TapeFails SinkFails same = cc

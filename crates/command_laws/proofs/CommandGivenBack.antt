@@ -3,10 +3,11 @@ use Rattle.std.proofs.Common.{◌≡◌, ◌≢◌, ℕ, List, Some, subst, ap, 
 use Rattle.cartridge_spec.specs.Volumes.{volume_bytes, Plain, Volume}
 use Rattle.command_laws.proofs.RestoreGivenBack.{given, given_whole, given_lost, given_front}
 use Rattle.command_laws.proofs.TextWords.{one_command}
-use Rattle.command_laws.specs.Terms.{Answers}
+use Rattle.command_laws.specs.RunTerms.{Answers}
 use Rattle.command_spec.specs.Headline.{Stepped, IsCut}
 use Rattle.command_spec.specs.Machine.{Spells, Step, IsCutOff, is_fault, fault_of}
-use Rattle.command_laws.specs.CommandTerms.{Yields, RestoreOutcome}
+use Rattle.command_laws.specs.Outcomes.{RestoreOutcome}
+use Rattle.command_laws.specs.CommandFields.{Yields}
 use Rattle.command_spec.specs.Outcome.{CommandOutcome, output_of}
 use Rattle.command_spec.specs.Restore.{HasNumber}
 use Rattle.command_spec.specs.Volumes.{GivesBack}
@@ -15,6 +16,7 @@ use Rattle.command_spec.specs.declared.words.Words.{Words}
 use Rattle.qic_base.proofs.Outcomes.{cut_took_front}
 use Rattle.qic_base.specs.Acts.{Outside, Failing, TookFront}
 use Rattle.qic_base.specs.Cartridge.{Cartridge}
+use Rattle.qic_base.specs.Source.{IsInput}
 use Rattle.command_spec.specs.declared.status.Status.TheVariants as status
 use Rattle.qic_base.specs.Sink as sinks
 use Rattle.qic_base.specs.Source as sources
@@ -33,7 +35,7 @@ module _ {T S K : Type 0} (t : tapes.Meaning T) (s : sources.Meaning S) (k : sin
 
   was_stepped : answer ≢ status.NoMemory → Spells words (commands.Restore number) → t.told old.tape ≡ Some (Some c) → Answers t s k words old new answer → WasStepped
   was_stepped came spells told answers =
-      let over = subst (λ (o : Option (Option Cartridge)). IfSome o (λ held. (input : List ℕ) × IfSome (s.left old.source) (λ bytes. input ≡ bytes)
+      let over = subst (λ (o : Option (Option Cartridge)). IfSome o (λ held. (input : List ℕ) × IsInput (s.left old.source) input
       × ((answer ≡ status.NoMemory) ⊎ Stepped t s k words held input old new answer))) told answers in
       elim over.2 [
         | inl none ↦ absurd (came none)
@@ -55,7 +57,7 @@ module _ {T S K : Type 0} (t : tapes.Meaning T) (s : sources.Meaning S) (k : sin
       TookFront k old.sink new.sink (volume_bytes plain.words volume)
   was_cut failing plain volume has spells told (command, spelled, over) =
       let same : command ≡ commands.Restore number = one_command words command (commands.Restore number) spelled spells in
-      let here = subst (λ (o : Option (Option Cartridge)). IfSome o (λ held. (input : List ℕ) × IfSome (s.left old.source) (λ bytes. input ≡ bytes)
+      let here = subst (λ (o : Option (Option Cartridge)). IfSome o (λ held. (input : List ℕ) × IsInput (s.left old.source) input
       × ((outcome : CommandOutcome) × Yields command held input outcome × IsCutOff t s k command old new failing outcome))) told over in
       let cut = here.2 in
       let plainly : RestoreOutcome number (Some c) cut.0 = subst (λ (w : Words). Yields w (Some c) here.0 cut.0) same cut.1 in

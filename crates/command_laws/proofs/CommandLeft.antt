@@ -4,12 +4,12 @@ use Rattle.command_laws.proofs.CommandTable.{laws_of, only_new_renews}
 use Rattle.command_laws.proofs.CommandWhole.{renewed_whole}
 use Rattle.command_laws.proofs.LifeRuns.{none_of_none, others_keep_live}
 use Rattle.command_laws.specs.CommandLaws.{LeavesWhole}
-use Rattle.command_laws.specs.CommandTerms.{Yields}
+use Rattle.command_laws.specs.CommandFields.{Yields}
 use Rattle.command_spec.specs.Outcome.{CommandOutcome}
 use Rattle.command_spec.specs.declared.words.Words.{Words}
 use Rattle.qic_base.specs.Acts.{steps_of}
 use Rattle.qic_base.specs.Cartridge.{Cartridge}
-use Rattle.qic_base.specs.Terms.{IsCartridge}
+use Rattle.qic_base.specs.CartridgeTerms.{IsCartridge}
 use Rattle.qic_base.specs.Step.{Torn}
 use Rattle.command_spec.specs.declared.words.Words.TheVariants as words
 

@@ -1,5 +1,5 @@
 -- What a cartridge is mounted with when a run is over that adds volumes.
-use Rattle.std.proofs.Common.{◌≡◌, ◌≢◌, ◌⊎◌, inl, inr, ℕ, ◌+◌, ◌<◌, ◌^◌, ◌&&◌, nat_le, min, Bool, true, false, cond, List, [], ◌∷◌, ◌++◌, length, Option, Some, None, IsSomeAnd, refl, sym, ap, ◌∙◌, subst, append-nil, IfSome, arith, append_assoc, ◌≤◌}
+use Rattle.std.proofs.Common.{◌≡◌, ◌≢◌, ◌⊎◌, inl, inr, ℕ, ◌+◌, ◌<◌, ◌^◌, ◌&&◌, nat_le, min, Bool, true, false, cond, List, [], ◌∷◌, ◌++◌, length, Option, Some, None, IsSomeAnd, refl, sym, ap, ◌∙◌, subst, append-nil, arith, append_assoc, ◌≤◌}
 use Rattle.std.proofs.lemmas.List.{length-append}
 use Rattle.cartridge_laws.proofs.FormatWriting.{effects-some, some_and}
 use Rattle.cartridge_laws.proofs.MountOnce.{mounts_is_function}
@@ -30,7 +30,10 @@ use Rattle.command_laws.specs.MountedListed.{IsListed, listed_behind}
 use Rattle.command_laws.specs.MountedListing.{AddsNone}
 use Rattle.cartridge_spec.specs.Appending.{entry_behind}
 use Rattle.command_spec.specs.Append.{Kept, Taking, Fits, TooLong, append_acts, room_in, taking, AppendOutcome, appended, kept_over}
-use Rattle.command_laws.specs.CommandTerms.{entry_for, Appends, append_status, Makes, AppendedFrom, Yields, ScriptOutcome, MakeOutcome}
+use Rattle.command_laws.specs.MadeTerms.{Makes, AppendedFrom}
+use Rattle.command_laws.specs.AppendTerms.{entry_for, append_status}
+use Rattle.command_laws.specs.Outcomes.{Appends, ScriptOutcome, MakeOutcome}
+use Rattle.command_laws.specs.CommandFields.{Yields}
 use Rattle.command_spec.specs.Headline.{ToldNow}
 use Rattle.command_spec.specs.Lines.{reply_behind}
 use Rattle.command_spec.specs.Several.{IsHeard, NowLists, ListsAppends}
@@ -39,15 +42,16 @@ use Rattle.command_spec.specs.Make.{AppendedBy, made_list, Making}
 use Rattle.command_spec.specs.Outcome.{Going, Opened, OpenOutcome, CommandOutcome}
 use Rattle.command_spec.specs.Script.{ScriptDoes, entries_behind, Scripting}
 use Rattle.command_spec.specs.ScriptLists.{ItemsWearBehind, ListsAnswered, ListsBroken}
-use Rattle.command_spec.specs.Volumes.{IsCarriedOut, IsInput}
-use Rattle.command_laws.specs.Terms.{WasNotDone}
+use Rattle.command_spec.specs.Volumes.{IsCarriedOut}
+use Rattle.qic_base.specs.Source.{IsInput}
+use Rattle.command_laws.specs.RunTerms.{WasNotDone}
 use Rattle.command_spec.specs.declared.status.Status.{Status}
 use Rattle.command_spec.specs.declared.words.Words.{Words}
 use Rattle.qic_base.proofs.Joins.{steps_of-append}
 use Rattle.qic_base.proofs.Steps.{effects-append}
 use Rattle.qic_base.specs.Acts.{Act, steps_of, text_of, Outside, TapeFails, SourceFails, SinkFails}
 use Rattle.qic_base.specs.Cartridge.{Cartridge}
-use Rattle.qic_base.specs.Terms.{IsCartridge}
+use Rattle.qic_base.specs.CartridgeTerms.{IsCartridge}
 use Rattle.qic_base.specs.Step.{effects, Step as TapeStep}
 use Rattle.qic_base.specs.declared.tape.TapeInfo.{TapeInfo}
 use Rattle.command_spec.specs.declared.status.Status.TheVariants as status
@@ -208,7 +212,7 @@ IsWhole acts text (inr p) = ⊥
 -- over what is told of a command: some input and its outcome, and the acts that were done
 pub record RanDone {T S K : Type 0} (t : tapes.Meaning T) (s : sources.Meaning S) (k : sinks.Meaning K) (command : Words) (old new : Outside T S K) (answer : Status) (c : Cartridge) : Type 0 where
   pub input : List ℕ
-  pub is_told : IfSome (s.left old.source) (λ bytes. input ≡ bytes)
+  pub is_told : IsInput (s.left old.source) input
   pub outcome : CommandOutcome
   pub plain : Yields command (Some c) input outcome
   pub text : List ℕ

@@ -3,14 +3,14 @@ use Rattle.std.proofs.Common.{◌≡◌, ℕ, List, Option, sym, ap, ◌∙◌, 
 use Rattle.command_laws.proofs.CommandTable.{plain_is_function, plain_answers, has_values}
 use Rattle.command_laws.specs.CommandLaws.{IsSameOutcome, MachineIsFunction, MachineAnswers}
 use Rattle.command_laws.specs.TextWords.{OneCommand, IsNoCommand, EachWords}
-use Rattle.command_laws.specs.CommandTerms.{Yields}
+use Rattle.command_laws.specs.CommandFields.{Yields}
 use Rattle.command_spec.specs.Machine.{Step, SpellsNone, Spells}
 use Rattle.command_spec.specs.Outcome.{CommandOutcome, output_of}
 use Rattle.command_spec.specs.declared.status.Status.{Status}
 use Rattle.command_spec.specs.declared.words.Words.{Words}
 use Rattle.qic_base.specs.Acts.{steps_of}
 use Rattle.qic_base.specs.Cartridge.{Cartridge}
-use Rattle.qic_base.specs.Terms.{IsCartridge}
+use Rattle.qic_base.specs.CartridgeTerms.{IsCartridge}
 use Rattle.qic_base.specs.Step.{effects}
 use Rattle.command_spec.specs.declared.status.Status.TheVariants as status
 

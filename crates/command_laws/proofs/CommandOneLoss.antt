@@ -10,7 +10,7 @@ use Rattle.cartridge_laws.proofs.OneLossComesBack.{stopped_append_comes_back, do
 use Rattle.cartridge_laws.specs.AppendBetween.{IsWhole}
 use Rattle.cartridge_laws.specs.AppendLaws.{IsReadyFor}
 use Rattle.cartridge_laws.specs.AppendWrites.{KeepsTo}
-use Rattle.cartridge_laws.specs.Terms.{last_end}
+use Rattle.cartridge_laws.specs.Table.{last_end}
 use Rattle.cartridge_spec.specs.Appending.{with_bytes}
 use Rattle.cartridge_spec.specs.Formatting.{IsLabel}
 use Rattle.cartridge_spec.specs.Shape.{IsArea}
@@ -25,7 +25,7 @@ use Rattle.command_spec.specs.Outcome.{CommandOutcome}
 use Rattle.qic_base.proofs.Steps.{Torn-append}
 use Rattle.qic_base.specs.Acts.{Act, steps_of}
 use Rattle.qic_base.specs.Cartridge.{Cartridge}
-use Rattle.qic_base.specs.Terms.{IsCartridge}
+use Rattle.qic_base.specs.CartridgeTerms.{IsCartridge}
 use Rattle.qic_base.specs.Step.{Step, effects, Torn}
 use Rattle.cartridge_laws.specs.AppendLaws as appends
 use Rattle.command_spec.specs.declared.status.Status.TheVariants as status

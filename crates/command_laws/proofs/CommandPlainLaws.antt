@@ -17,8 +17,7 @@ use Rattle.command_laws.proofs.RestoreCounts.{restores_in_no_step}
 use Rattle.command_laws.proofs.RestoreEndings.{restores_is_function}
 use Rattle.command_laws.proofs.ScriptMachineLaws.{one_outcome as one_script}
 use Rattle.command_spec.specs.Single.{DefectOutcome, FormatOutcome, LoseOutcome}
-use Rattle.command_laws.specs.Terms.{cleared, formatted, Printing, Mends, ScrubOutcome}
-use Rattle.command_laws.specs.CommandTerms.{Appends, RestoreOutcome}
+use Rattle.command_laws.specs.Outcomes.{cleared, formatted, Printing, Mends, ScrubOutcome, Appends, RestoreOutcome}
 use Rattle.command_spec.specs.Make.{Making}
 use Rattle.command_spec.specs.Outcome.{refused, CommandOutcome, Going, Opened, OpenOutcome, WritableOutcome, Shows, settling_act, HasPlace}
 use Rattle.command_laws.specs.PulseRuns.{sent, info_of}

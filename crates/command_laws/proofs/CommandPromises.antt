@@ -18,9 +18,10 @@ use Rattle.command_laws.specs.CommandLaws.{MachineIsFunction, MachineAnswers}
 use Rattle.command_spec.specs.Commands.{traits_of}
 use Rattle.command_spec.specs.Headline.{WordsLeave, EachLeft, Stepped}
 use Rattle.command_spec.specs.Input.{most_items}
-use Rattle.command_laws.specs.Terms.{Answers}
+use Rattle.command_laws.specs.RunTerms.{Answers, EndsBlind}
 use Rattle.command_spec.specs.Several.{IsHeard}
-use Rattle.command_laws.specs.CommandTerms.{AppendedFrom, HasInputFault, FrontPrints, RefusedPrints, EndsBlind}
+use Rattle.command_laws.specs.MadeTerms.{AppendedFrom}
+use Rattle.command_laws.specs.CommandFields.{HasInputFault, FrontPrints, RefusedPrints}
 use Rattle.command_spec.specs.Machine.{HasValues, Spells, SpellsNone, may_come_from, NamesFault, InputLeft, IsCutOff, CommandEnds, is_fault, Finished, is_outcome}
 use Rattle.command_spec.specs.Outcome.{CommandOutcome, output_of}
 use Rattle.command_spec.specs.Promises.{Promises}
@@ -29,7 +30,7 @@ use Rattle.command_spec.specs.declared.status.Status.{Status}
 use Rattle.command_spec.specs.declared.words.Words.{Words}
 use Rattle.qic_base.proofs.Steps.{Stops-nothing}
 use Rattle.qic_base.specs.Acts.{Act, Outside, Failing, TapeFails, SourceFails, SinkFails, Went, Cut}
-use Rattle.qic_base.specs.Terms.{no_source, around}
+use Rattle.qic_base.specs.Alone.{no_source, around}
 use Rattle.qic_base.specs.Cartridge.{Cartridge}
 use Rattle.qic_base.specs.Tape.{Rose}
 use Rattle.command_spec.specs.declared.status.Status.TheVariants as status

@@ -32,7 +32,10 @@ use Rattle.command_laws.specs.ScriptStanding.{WentNoFurther, plain_behind}
 use Rattle.command_spec.specs.Headline.{ToldNow, StopLeaves, WordsLeave, EachLeft}
 use Rattle.command_spec.specs.Input.{Item}
 use Rattle.command_spec.specs.Several.{IsHeard, FirstLinesSpare, Scripted, SomeMade, AllAnswered, AllMade, Generated, LinesLeave, OverInput}
-use Rattle.command_laws.specs.CommandTerms.{Yields, AppendedFrom, Makes, ScriptOutcome, MakeOutcome, SomeScripted}
+use Rattle.command_laws.specs.ScriptTerms.{SomeScripted}
+use Rattle.command_laws.specs.MadeTerms.{AppendedFrom, Makes}
+use Rattle.command_laws.specs.Outcomes.{ScriptOutcome, MakeOutcome}
+use Rattle.command_laws.specs.CommandFields.{Yields}
 use Rattle.command_spec.specs.Machine.{HasValues, Spells, may_come_from, fault_of, is_fault, CommandEnds, IsOfBytes}
 use Rattle.command_spec.specs.Make.{AppendedBy, made_contents, Making}
 use Rattle.command_spec.specs.Outcome.{Going, CommandOutcome, refused, Opened, OpenOutcome}
@@ -45,9 +48,10 @@ use Rattle.qic_base.proofs.Joins.{text_of-append}
 use Rattle.qic_base.proofs.Steps.{Torn-append, effects-append}
 use Rattle.qic_base.specs.Acts.{Act, steps_of, text_of, next_steps, Outside, Failing, TapeFails, SourceFails, SinkFails, Went, Cut}
 use Rattle.qic_base.specs.Cartridge.{Cartridge}
-use Rattle.qic_base.specs.Terms.{IsCartridge}
+use Rattle.qic_base.specs.CartridgeTerms.{IsCartridge}
 use Rattle.qic_base.specs.Step.{effects, Step as TapeStep, Torn}
 use Rattle.command_laws.proofs.CommandTold.{input_of, input_told, input_bytes}
+use Rattle.qic_base.specs.Source.{IsInput}
 use Rattle.command_spec.specs.declared.status.Status.TheVariants as status
 use Rattle.qic_base.specs.Tape as tapes
 use Rattle.qic_base.specs.TapeCalls as tape_calls
@@ -309,7 +313,7 @@ module _ {T S K : Type 0} (t : tapes.Meaning T) (s : sources.Meaning S) (k : sin
 -- over what is told of a command: some input and its outcome, and how the acts of this ended
 pub record Ran {T S K : Type 0} (t : tapes.Meaning T) (s : sources.Meaning S) (k : sinks.Meaning K) (command : Words) (old new : Outside T S K) (answer : Status) (c : Cartridge) (told : t.told old.tape ≡ Some (Some c)) : Type 0 where
   pub input : List ℕ
-  pub is_told : IfSome (s.left old.source) (λ bytes. input ≡ bytes)
+  pub is_told : IsInput (s.left old.source) input
   pub bytes : IsOfBytes command (s.left old.source) input
   pub outcome : CommandOutcome
   pub plain : Yields command (Some c) input outcome

@@ -2,7 +2,8 @@
 use Rattle.std.proofs.Common.{[], ◌≡◌, ◌&&◌, ◌*◌, ℕ, Bool, true, false, cond, List, ◌∷◌, ◌++◌, length, drop, take, nat_le, nat_lt, map, sym, ap, ◌∙◌, subst, Option, Some, None, inl, inr, is_some}
 use Rattle.std.specs.List.{range_with_len}
 use Rattle.cartridge_laws.specs.ChangeSteps.{HasNoRenew}
-use Rattle.cartridge_laws.specs.Terms.{table_places, slot_sector}
+use Rattle.cartridge_laws.specs.TableCells.{table_places}
+use Rattle.cartridge_laws.specs.Slots.{slot_sector}
 use Rattle.cartridge_spec.specs.Appending.{table_writes}
 use Rattle.cartridge_spec.specs.Formatting.{clearing_steps, copy_writes, format_steps}
 use Rattle.cartridge_spec.specs.Header.{Header}
@@ -16,14 +17,16 @@ use Rattle.command_laws.proofs.MadeStops.{sum_in_no_step}
 use Rattle.command_laws.proofs.RestoreCounts.{restores_in_no_step, framed_in_no_step}
 use Rattle.command_laws.proofs.ScriptOutcomes.{replied}
 use Rattle.command_laws.proofs.ScrubAtOnce.{scrub_steps}
-use Rattle.command_laws.specs.CommandTerms.{Appends, free_in, most_written, silently, made_acts, restored_line, entry_for}
+use Rattle.command_laws.specs.ScriptTerms.{restored_line}
+use Rattle.command_laws.specs.MadeTerms.{made_acts}
+use Rattle.command_laws.specs.AppendTerms.{free_in, most_written, silently, entry_for}
 use Rattle.command_spec.specs.Append.{segment_act, volume_acts, filled_acts, input_acts, Taking, Fits, TooLong, TooShort, Kept, input_writes, entry_acts, append_acts, room_in, has_promised_room, taking, kept_over}
 use Rattle.command_spec.specs.Single.{DefectOutcome, FormatOutcome, LoseOutcome}
 use Rattle.command_spec.specs.Make.{made_bytes, made_length, Making, MakeStep, AppendMade, WearSector, ScrubAll, SumVolume, StepDoes, Runs, after_item, made_name, making}
 use Rattle.command_spec.specs.Input.{Item, Ending, AtEnd, AtStop, AtFault}
 use Rattle.command_spec.specs.Lines.{reply_behind}
 use Rattle.command_spec.specs.Outcome.{CommandOutcome, Going, Opened, OpenOutcome, WritableOutcome, Shows, settling_act}
-use Rattle.command_laws.specs.Terms.{Printing, Mends}
+use Rattle.command_laws.specs.Outcomes.{Printing, Mends, Appends}
 use Rattle.command_spec.specs.Pulses.{SentOutcome, train_acts, train_changes, pulsed_row}
 use Rattle.command_laws.specs.PulseRuns.{info_of}
 use Rattle.command_spec.specs.Restore.{Gives, pieces, framed, GivingEnd, Restored, LostIn, MismatchIn}

@@ -16,7 +16,7 @@ use Rattle.command_laws.proofs.IntactKeeping.{one_comes}
 use Rattle.command_laws.proofs.TextWords.{one_command}
 use Rattle.command_spec.specs.Headline.{StopLeaves, WordsLeave, EachLeft, ToldNow}
 use Rattle.command_spec.specs.Several.{IsHeard, FirstLinesSpare, OverInput, Scripted}
-use Rattle.command_laws.specs.CommandTerms.{Yields}
+use Rattle.command_laws.specs.CommandFields.{Yields}
 use Rattle.command_spec.specs.Machine.{HasValues, Spells, CommandEnds, is_fault, IsOfBytes}
 use Rattle.command_spec.specs.OneLoss.{SurvivesOneLoss, AppendingLeaves, AppendingLeft, LeftComesBack, SomeComeBack, with_items, with_made, with_one, StoppedComesBack}
 use Rattle.command_spec.specs.Volumes.{IsCarriedOut}
@@ -24,9 +24,10 @@ use Rattle.command_spec.specs.declared.status.Status.{Status}
 use Rattle.command_spec.specs.declared.words.Words.{Words}
 use Rattle.qic_base.specs.Acts.{steps_of, Outside}
 use Rattle.qic_base.specs.Cartridge.{Cartridge}
-use Rattle.qic_base.specs.Terms.{IsCartridge}
+use Rattle.qic_base.specs.CartridgeTerms.{IsCartridge}
 use Rattle.qic_base.specs.Step.{effects, Torn}
 use Rattle.command_spec.specs.ScriptLists.{CameFurther, GoesNoFurther, ItemsSpare, ItemsSpareTable, printed_by}
+use Rattle.qic_base.specs.Source.{IsInput}
 use Rattle.command_spec.specs.declared.words.Words.TheVariants as commands
 use Rattle.qic_base.specs.Tape as tapes
 use Rattle.qic_base.specs.TapeCalls as tape_calls
@@ -106,7 +107,7 @@ HeardScript t words new answer c plain input =
     ToldNow t new (SomeComeBack (with_items plain script.does.items script.does.dids) (length script.does.items) (length script.does.items))
 
 -- the input of a script; of other words nothing is asked
-over_command : (told : Option (List ℕ)) (words : List (List ℕ)) (command : Words) (input : List ℕ) (P : List ℕ → Type 0) → Spells words command → IfSome told (λ bytes. input ≡ bytes) →
+over_command : (told : Option (List ℕ)) (words : List (List ℕ)) (command : Words) (input : List ℕ) (P : List ℕ → Type 0) → Spells words command → IsInput told input →
     IsOfBytes command told input → P input → ((Spells words commands.Script → ⊥) → P (input_of told)) → OverInput told P
 over_command told words commands.Script input P spelled is_told bytes asked other = (input, is_told, bytes refl, asked)
 over_command told words command input P spelled is_told bytes asked other =

@@ -17,17 +17,16 @@ use Rattle.command_laws.proofs.ScriptOutcomes.{each_outcome as each_script}
 use Rattle.command_laws.proofs.ScriptPlaces.{place_or_not}
 use Rattle.command_laws.proofs.ScrubOneWrong.{form_always}
 use Rattle.command_spec.specs.Single.{DefectOutcome, FormatOutcome, LoseOutcome}
-use Rattle.command_laws.specs.CommandTerms.{Appends}
 use Rattle.command_spec.specs.Make.{Making}
 use Rattle.command_spec.specs.Outcome.{CommandOutcome, HasPlace, Going, Opened, OpenOutcome, WritableOutcome, Shows}
-use Rattle.command_laws.specs.Terms.{Printing, Mends}
+use Rattle.command_laws.specs.Outcomes.{Printing, Mends, Appends}
 use Rattle.command_laws.specs.PulseRuns.{sent, info_of}
 use Rattle.command_spec.specs.Pulses.{SentOutcome}
 use Rattle.command_spec.specs.Restore.{Gives, volume_at, pieces}
 use Rattle.command_spec.specs.Script.{Scripting}
 use Rattle.command_spec.specs.declared.depth.Depth.TheVariants.{Shallow}
 use Rattle.qic_base.specs.Cartridge.{Cartridge, view_at}
-use Rattle.qic_base.specs.Terms.{IsCartridge}
+use Rattle.qic_base.specs.CartridgeTerms.{IsCartridge}
 use Rattle.qic_base.specs.Tape.{spoil_answer}
 use Rattle.cartridge_spec.specs.Mounting as mounting
 

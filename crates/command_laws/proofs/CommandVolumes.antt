@@ -22,12 +22,12 @@ use Rattle.command_laws.proofs.CommandKeeping.{same_stands}
 use Rattle.command_laws.proofs.CommandPlainLaws.{FormatLeaves, format_leaves}
 use Rattle.command_laws.proofs.CommandTable.{laws_of, plain_answers}
 use Rattle.command_laws.proofs.TextWords.{one_command}
-use Rattle.command_laws.specs.Terms.{IsBare, WasNotDone}
+use Rattle.command_laws.specs.RunTerms.{IsBare, WasNotDone}
 use Rattle.command_spec.specs.Command.{Command}
 use Rattle.command_spec.specs.Commands.{traits_of, command_of}
 use Rattle.command_spec.specs.Single.{FormatOutcome}
 use Rattle.command_spec.specs.Headline.{ToldNow, EachLeft, StopLeaves, WordsLeave}
-use Rattle.command_laws.specs.CommandTerms.{Yields}
+use Rattle.command_laws.specs.CommandFields.{Yields}
 use Rattle.command_spec.specs.Machine.{HasValues, Spells, IsOfBytes, fault_of, may_come_from, IsCutOff, Finished, CommandEnds, is_fault}
 use Rattle.command_spec.specs.Outcome.{CommandOutcome}
 use Rattle.command_spec.specs.Volumes.{IsCarriedOut, StandsEmpty, FormatsOrNot, AreBytes, StandsAppended, AppendedOrNot, IsChanged, StillHolds}
@@ -36,8 +36,9 @@ use Rattle.command_spec.specs.declared.words.Words.{Words}
 use Rattle.qic_base.proofs.Steps.{Done-nothing}
 use Rattle.qic_base.specs.Acts.{steps_of, Outside, Failing, TapeFails, SourceFails, SinkFails}
 use Rattle.qic_base.specs.Cartridge.{Cartridge, new_cartridge}
-use Rattle.qic_base.specs.Terms.{IsCartridge}
+use Rattle.qic_base.specs.CartridgeTerms.{IsCartridge}
 use Rattle.qic_base.specs.Step.{Step as TapeStep, effects, Renew, Torn}
+use Rattle.qic_base.specs.Source.{IsInput}
 use Rattle.qic_base.specs.Tape as tapes
 use Rattle.qic_base.specs.TapeCalls as tape_calls
 use Rattle.qic_base.specs.Sink as sinks
@@ -176,7 +177,7 @@ stops_format t told words a b right leaves = each_weaker t a b right (λ held le
 -- ---- appending
 
 -- an input is one of bytes, told or not
-pub of_bytes : (told : Option (List ℕ)) (input : List ℕ) → AreBytes told → IfSome told (λ bytes. input ≡ bytes) → IfNone told (All (λ b. b < 256) input) → All (λ b. b < 256) input
+pub of_bytes : (told : Option (List ℕ)) (input : List ℕ) → AreBytes told → IsInput told input → IfNone told (All (λ b. b < 256) input) → All (λ b. b < 256) input
 of_bytes None input known is given = given
 of_bytes (Some bytes) input known is given = subst (λ (xs : List ℕ). All (λ b. b < 256) xs) (sym is) known
 
@@ -213,7 +214,7 @@ now_weaker t a b follows each = told_weaker (t.told b) follows each
 -- over what was told, an outcome with this status was done
 pub record Did {T : Type 0} (t : tapes.Meaning T) (told : Option (List ℕ)) (command : Words) (a b : T) (held : Option Cartridge) (is : Status) : Type 0 where
   pub input : List ℕ
-  pub is_told : IfSome told (λ bytes. input ≡ bytes)
+  pub is_told : IsInput told input
   pub bytes : IsOfBytes command told input
   pub outcome : CommandOutcome
   pub sound : outcome.status ≡ is

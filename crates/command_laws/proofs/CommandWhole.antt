@@ -22,11 +22,12 @@ use Rattle.command_laws.specs.MountedListed.{IsListed, listed_behind}
 use Rattle.command_laws.specs.ScriptStanding.{HaveBytes, LineHasBytes}
 use Rattle.command_spec.specs.Append.{AppendOutcome, Fits, Kept, Taking, TooLong, TooShort, append_acts, kept_over, room_in, taking}
 use Rattle.command_spec.specs.Single.{FormatOutcome}
-use Rattle.command_laws.specs.CommandTerms.{Appends, silently, made_acts}
+use Rattle.command_laws.specs.MadeTerms.{made_acts}
+use Rattle.command_laws.specs.AppendTerms.{silently}
 use Rattle.command_spec.specs.Make.{made_bytes, made_length, AppendMade, Making, MakeStep, Runs, ScrubAll, StepDoes, SumVolume, WearSector, after_item, made_name, making}
 use Rattle.command_spec.specs.Input.{AtEnd, AtFault, AtStop, Ending, Item}
 use Rattle.command_spec.specs.Lines.{reply_behind}
-use Rattle.command_laws.specs.Terms.{NewOutcome, Printing, Mends}
+use Rattle.command_laws.specs.Outcomes.{NewOutcome, Printing, Mends, Appends}
 use Rattle.command_spec.specs.Outcome.{CommandOutcome, Opened, Shows, StepOutcome}
 use Rattle.command_spec.specs.Restore.{GivingEnd, Gives, LostIn, MismatchIn, Restored, framed, pieces}
 use Rattle.command_spec.specs.Script.{Did, EndDoes, Finds, ItemsDo, LineDoes, Meeting, Meets, Refuses, Scripting, acts_of, acts_on, append_did, cartridge_behind, entries_behind, given_as, line_refused, place_behind, refusal_line, reply, taken_as}
@@ -34,7 +35,7 @@ use Rattle.command_spec.specs.declared.line.Line.{Line}
 use Rattle.gf256_qic.proofs.Parities.{all_right}
 use Rattle.qic_base.specs.Acts.{Act, steps_of, text_of}
 use Rattle.qic_base.specs.Cartridge.{Cartridge, IsLength, new_cartridge}
-use Rattle.qic_base.specs.Terms.{IsCartridge}
+use Rattle.qic_base.specs.CartridgeTerms.{IsCartridge}
 use Rattle.qic_base.specs.Step.{Renew, Step, Wear, changed, Halfway, Torn}
 use Rattle.qic_base.specs.declared.tape.TapeInfo.{TapeInfo}
 use Rattle.command_spec.specs.declared.status.Status.{Status}

@@ -14,7 +14,7 @@ use Rattle.command_laws.specs.CopyLaws.{CopyGoesOn}
 use Rattle.command_spec.specs.Copied.{BeginsLike, contents_of, copied, missing_contents}
 use Rattle.command_spec.specs.Copying.{difference, is_alike}
 use Rattle.qic_base.specs.Cartridge.{Cartridge}
-use Rattle.qic_base.specs.Terms.{IsCartridge}
+use Rattle.qic_base.specs.CartridgeTerms.{IsCartridge}
 
 -- ---- the volumes that both have
 
@@ -31,7 +31,7 @@ like_within words (e ∷ es) words' (f ∷ fs) number like =
     by_first false more rest = absurd (cc)
 
 -- one more is like the next one
-pub like_more : (words : List ℕ) (es : List Entry) (words' : List ℕ) (fs : List Entry) (number : ℕ) (e : Entry) (rest : List Entry) (f : Entry) →
+like_more : (words : List ℕ) (es : List Entry) (words' : List ℕ) (fs : List Entry) (number : ℕ) (e : Entry) (rest : List Entry) (f : Entry) →
     difference words es words' fs number ≡ None → drop (length fs) es ≡ e ∷ rest → is_alike words e words' f ≡ true → difference words es words' (fs ++ f ∷ []) number ≡ None
 like_more words es words' [] number e rest f like next alike =
     ap (λ (xs : List Entry). difference words xs words' (f ∷ []) number) next
@@ -104,11 +104,11 @@ module _ (c : Cartridge) (one : Plain) (volume : Volume) (original : IsOriginal 
 
 -- ---- several
 
-with_all-append : (plain : Plain) (xs ys : List Content) → with_all plain (xs ++ ys) ≡ with_all (with_all plain xs) ys
+pub with_all-append : (plain : Plain) (xs ys : List Content) → with_all plain (xs ++ ys) ≡ with_all (with_all plain xs) ys
 with_all-append plain [] ys = refl
 with_all-append plain (x ∷ xs) ys = with_all-append (with_bytes plain x.name x.date x.bytes) xs ys
 
-pub with_all-count : (plain : Plain) (xs : List Content) → length (with_all plain xs).volumes ≡ length plain.volumes + length xs
+with_all-count : (plain : Plain) (xs : List Content) → length (with_all plain xs).volumes ≡ length plain.volumes + length xs
 with_all-count plain [] = omega arith
 with_all-count plain (x ∷ xs) =
     let more : length (with_all plain (x ∷ xs)).volumes ≡ length (with_bytes plain x.name x.date x.bytes).volumes + length xs =
@@ -130,7 +130,7 @@ parted (x ∷ xs) zero (suc j) (suc n) low high = ap (λ (vs : List Volume). x �
 parted (x ∷ xs) (suc i) (suc j) zero low high = absurd (omega arith)
 parted (x ∷ xs) (suc i) (suc j) (suc n) low high = parted xs i j n (omega arith) (omega arith)
 
-pub copied_count : (one other : Plain) (upto : ℕ) → length other.volumes ≤ upto → upto ≤ length one.volumes → length (copied one other upto).volumes ≡ upto
+copied_count : (one other : Plain) (upto : ℕ) → length other.volumes ≤ upto → upto ≤ length one.volumes → length (copied one other upto).volumes ≡ upto
 copied_count one other upto low high =
     let count : length (copied one other upto).volumes ≡ length other.volumes + length (missing_contents one other upto) = with_all-count other (missing_contents one other upto) in
     let contents : length (missing_contents one other upto) ≡ length (drop (length other.volumes) (take upto one.volumes)) = length-map (drop (length other.volumes) (take upto one.volumes)) _ in

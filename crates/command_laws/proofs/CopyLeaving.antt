@@ -28,7 +28,7 @@ use Rattle.command_spec.specs.declared.copy_status.CopyStatus.{CopyStatus}
 use Rattle.qic_base.proofs.Steps.{Torn-append}
 use Rattle.qic_base.specs.Acts.{Act, steps_of}
 use Rattle.qic_base.specs.Cartridge.{Cartridge}
-use Rattle.qic_base.specs.Terms.{IsCartridge}
+use Rattle.qic_base.specs.CartridgeTerms.{IsCartridge}
 use Rattle.qic_base.specs.Step.{Step, Torn}
 use Rattle.command_spec.specs.declared.copy_fault.CopyFault.TheVariants as fault
 use Rattle.command_spec.specs.declared.copy_status.CopyStatus.TheVariants as status
@@ -54,7 +54,7 @@ pub copied_some : (one other : Plain) (n : ℕ) → copied one other (length oth
 copied_some one other n = ap (λ (vs : List Volume). with_all other (contents_of one.words vs)) (drop-take (length other.volumes) n one.volumes)
 
 -- with all of them
-pub copied_all : (one other : Plain) → copied one other (length one.volumes) ≡ with_all other (contents_of one.words (behind one other))
+copied_all : (one other : Plain) → copied one other (length one.volumes) ≡ with_all other (contents_of one.words (behind one other))
 copied_all one other =
     ap (λ (vs : List Volume). with_all other (contents_of one.words (drop (length other.volumes) vs))) (take_all (length one.volumes) one.volumes (omega arith))
 
@@ -72,7 +72,7 @@ up_to one other left like with =
     }
 
 -- nothing was done
-pub none_copied : (one other : Plain) (d : Cartridge) (left : Option Cartridge) → BeginsLike one other → Stands d other → left ≡ Some d → StandsUpTo one other left
+none_copied : (one other : Plain) (d : Cartridge) (left : Option Cartridge) → BeginsLike one other → Stands d other → left ≡ Some d → StandsUpTo one other left
 none_copied one other d left like stands is =
     up_to one other left like (stands_none one (behind one other) other left like (some_and (λ f. Stands f other) d left stands is))
 

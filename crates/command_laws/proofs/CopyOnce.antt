@@ -98,7 +98,7 @@ module _ (from : Side) (e : Entry) (to : Side) where
 
 -- ---- volumes one after the other
 
-pub copies_one : (from : Side) (es : List Entry) (to : Side) (a b : List Act) (x y : CopyStatus) → Copies from es to a x → Copies from es to b y → Same a b x y
+copies_one : (from : Side) (es : List Entry) (to : Side) (a b : List Act) (x y : CopyStatus) → Copies from es to a x → Copies from es to b y → Same a b x y
 copies_one from [] to a b x y one other = same_all a b x y (one.0 ∙ sym other.0) (one.1 ∙ sym other.1)
 copies_one from (e ∷ es) to a b x y (inl (p, one)) (inl (q, other)) = volume_one from e to a b x y one other
 copies_one from (e ∷ es) to a b x y (inl (p, one)) (inr (first, rest, parts, does, more)) =

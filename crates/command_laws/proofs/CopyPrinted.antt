@@ -32,7 +32,7 @@ use Rattle.qic_base.proofs.Joins.{steps_of-append, text_of-append}
 use Rattle.qic_base.proofs.Steps.{effects-append, Torn-all, Torn-behind, Torn-front}
 use Rattle.qic_base.specs.Acts.{Act, next_steps, steps_of, text_of}
 use Rattle.qic_base.specs.Cartridge.{Cartridge}
-use Rattle.qic_base.specs.Terms.{IsCartridge}
+use Rattle.qic_base.specs.CartridgeTerms.{IsCartridge}
 use Rattle.qic_base.specs.Step.{Step, effects, Torn}
 use Rattle.command_spec.specs.declared.copy_status.CopyStatus.TheVariants as status
 

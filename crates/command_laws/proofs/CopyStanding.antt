@@ -1,6 +1,5 @@
 -- What a copy leaves of a target that stands for a plain cartridge, done or stopped.
-use Rattle.std.proofs.Common.{◌⊎◌, ◌≡◌, ℕ, suc, ◌+◌, ◌-◌, ◌<◌, ◌≤◌, nat_lt, arith, Bool, true, false, cond, List, [], ◌∷◌, ◌++◌, map, length, take, All, Option, Some, None, IsSomeAnd, inl, inr, refl, sym, ap, ◌∙◌, subst, append-nil}
-use Rattle.std.proofs.lemmas.Bool.{le-ltb}
+use Rattle.std.proofs.Common.{◌⊎◌, ◌≡◌, ℕ, suc, ◌+◌, ◌-◌, ◌<◌, ◌≤◌, nat_lt, arith, Bool, true, false, cond, List, [], ◌∷◌, ◌++◌, map, length, take, All, Option, Some, IsSomeAnd, inl, inr, refl, sym, ap, ◌∙◌, subst, append-nil}
 use Rattle.std.proofs.lemmas.List.{length-map, map-append, take_all}
 use Rattle.std.proofs.lemmas.List.Elements.{All-head, All-tail, All-weaker}
 use Rattle.cartridge_laws.proofs.AppendSegments.{carrying_from}
@@ -13,7 +12,7 @@ use Rattle.cartridge_laws.proofs.MountWhole.{settling_effects}
 use Rattle.cartridge_laws.specs.AppendWrites.{AreWrites, IsFree}
 use Rattle.cartridge_spec.specs.Appending.{appended_volume, free_segments, has_room, new_entry, taken_by, with_all, with_bytes}
 use Rattle.cartridge_spec.specs.Volumes.{volume_bytes, Plain, Stands, Volume, entries_of, volume_length}
-use Rattle.cartridge_laws.specs.Terms.{last_end}
+use Rattle.cartridge_laws.specs.Table.{last_end}
 use Rattle.cartridge_spec.specs.Mounting.{settled}
 use Rattle.cartridge_spec.specs.Settling.{changed_by, settling_steps}
 use Rattle.cartridge_spec.specs.Table.{Entry}
@@ -22,12 +21,12 @@ use Rattle.command_laws.proofs.CopyValues.{IsOriginal, given_whole}
 use Rattle.command_laws.proofs.InputActLaws.{input_is_free}
 use Rattle.command_laws.proofs.MadeMachineLaws.{never_lost}
 use Rattle.command_laws.proofs.MountedKeeping.{acts_stopped, changed_by_acts, kept_open}
-use Rattle.command_laws.proofs.MountedStanding.{all_writes, kept_appended, open_appended, stopped_appended}
+use Rattle.command_laws.proofs.MountedStanding.{all_writes, kept_appended, open_appended, stopped_appended, same_less}
 use Rattle.command_laws.proofs.RestoreStanding.{volume_is_long}
 use Rattle.command_laws.proofs.ScriptActs.{fits_acts, front_acts, full_acts, input_texts, last_act, replied_steps, replied_text}
 use Rattle.command_laws.specs.MountedKept.{IsKept, IsOpen, settle_and_append}
 use Rattle.command_spec.specs.Append.{Fits, Kept, TooLong, TooShort, append_acts, has_promised_room, input_acts, input_writes, kept_over, room_in, taking}
-use Rattle.command_laws.specs.CommandTerms.{free_in}
+use Rattle.command_laws.specs.AppendTerms.{free_in}
 use Rattle.command_spec.specs.Copied.{BeginsLike, contents_of}
 use Rattle.command_spec.specs.Copying.{Copies, CopiesVolume, DoneOf, IsBegun, IsFull, IsGiven, Side, behind_copy, copied_behind, copied_entry, copied_line, copy_acts, giving_status, has_room_for, length_on}
 use Rattle.command_spec.specs.Restore.{GivingEnd, LostIn, MismatchIn, Restored, Restores, pieces_in}
@@ -37,6 +36,7 @@ use Rattle.qic_base.proofs.Steps.{Torn-append, Torn-front}
 use Rattle.qic_base.specs.Acts.{Act, steps_of, text_of}
 use Rattle.qic_base.specs.Cartridge.{Cartridge}
 use Rattle.qic_base.specs.Step.{Step, Torn}
+use Rattle.command_laws.proofs.MadeStops.{some_split}
 use Rattle.command_spec.specs.declared.copy_status.CopyStatus.TheVariants as status
 
 -- a cartridge that stands for a plain one, as a side of a copy
@@ -45,7 +45,7 @@ side_for c plain = record { cartridge = c; words = plain.words; entries = entrie
 
 -- ---- segments written behind the volumes
 
-writes_if : (before : ℕ) (some : Bool) (acts : List Act) → AreWrites (IsFree before) (steps_of acts) → AreWrites (IsFree before) (steps_of (cond some acts []))
+pub writes_if : (before : ℕ) (some : Bool) (acts : List Act) → AreWrites (IsFree before) (steps_of acts) → AreWrites (IsFree before) (steps_of (cond some acts []))
 writes_if before true acts free = free
 writes_if before false acts free = tt
 
@@ -57,9 +57,6 @@ behind_last kept n bytes =
     (carrying_from kept.words (last_end kept.entries + 1) (length kept.words - 1))))
 
 -- ---- one volume
-
-same_less : (n : ℕ) → nat_lt n n ≡ false
-same_less n = le-ltb n n (omega arith)
 
 module _ (c : Cartridge) (one : Plain) (volume : Volume) (original : IsOriginal c one volume) (d : Cartridge) (p : Plain) (held : IsOpen d p) where
   abbrev e : Entry
@@ -209,10 +206,6 @@ module _ (c : Cartridge) (one : Plain) (volume : Volume) (original : IsOriginal 
 pub data StoppedIn (p : Plain) (size : ℕ) (next : Plain) (left : Option Cartridge) : Type 0 where
   Before : IsSomeAnd left (λ f. Stands f p) → StoppedIn p size next left
   After : has_room p size ≡ true → IsSomeAnd left (λ f. Stands f next) → StoppedIn p size next left
-
-some_split : (P Q : Cartridge → Type 0) (left : Option Cartridge) → IsSomeAnd left (λ d. P d ⊎ Q d) → IsSomeAnd left P ⊎ IsSomeAnd left Q
-some_split P Q None fact = absurd fact
-some_split P Q (Some d) fact = fact
 
 stopped_in : (p : Plain) (size : ℕ) (next : Plain) (left : Option Cartridge) → has_room p size ≡ true → IsSomeAnd left (λ f. Stands f p ⊎ Stands f next) → StoppedIn p size next left
 stopped_in p size next left room stands = elim (some_split (λ f. Stands f p) (λ f. Stands f next) left stands) [

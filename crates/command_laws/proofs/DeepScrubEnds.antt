@@ -24,9 +24,9 @@ use Rattle.command_laws.specs.PromiseLaws.{DeepScrubRunMends}
 use Rattle.command_laws.specs.SilentSectors.{DiffersSilently}
 use Rattle.command_spec.specs.Headline.{Stepped, ToldNow}
 use Rattle.command_spec.specs.Machine.{Spells, is_fault}
-use Rattle.command_laws.specs.CommandTerms.{Yields}
+use Rattle.command_laws.specs.CommandFields.{Yields}
 use Rattle.command_spec.specs.Outcome.{CommandOutcome, Opened}
-use Rattle.command_laws.specs.Terms.{MendsDeep}
+use Rattle.command_laws.specs.Outcomes.{MendsDeep}
 use Rattle.command_spec.specs.Scrub.{ScrubsAs, ScrubsBy}
 use Rattle.command_spec.specs.declared.depth.Depth.TheVariants.{Deep}
 use Rattle.command_spec.specs.declared.status.Status.{Status}
@@ -34,6 +34,7 @@ use Rattle.command_spec.specs.declared.words.Words.{Words}
 use Rattle.qic_base.specs.Acts.{Act, Outside, steps_of}
 use Rattle.qic_base.specs.Cartridge.{Cartridge}
 use Rattle.qic_base.specs.Step.{Torn}
+use Rattle.qic_base.specs.Source.{IsInput}
 use Rattle.cartridge_spec.specs.Mounting as mounting
 use Rattle.command_spec.specs.declared.status.Status.TheVariants as status
 use Rattle.command_spec.specs.declared.words.Words.TheVariants as words
@@ -132,6 +133,6 @@ module _ {T S K : Type 0} (t : tapes.Meaning T) (s : sources.Meaning S) (k : sin
   pub deep_scrub_run_mends : DeepScrubRunMends t s k
   deep_scrub_run_mends ws old new answer whole c plain promises spelled done told stood known silent =
       let answers = promises.carried (ap is_fault done) in
-      let over = subst (λ (o : Option (Option Cartridge)). IfSome o (λ held. (input : List ℕ) × IfSome (s.left old.source) (λ bytes. input ≡ bytes)
+      let over = subst (λ (o : Option (Option Cartridge)). IfSome o (λ held. (input : List ℕ) × IsInput (s.left old.source) input
       × ((answer ≡ status.NoMemory) ⊎ Stepped t s k ws held input old new answer))) told answers in
       by_step ws over.0 old new answer whole c plain spelled done stood known silent over.2

@@ -14,7 +14,7 @@ use Rattle.cartridge_spec.specs.Header.{Header, header_fault}
 use Rattle.cartridge_spec.specs.HeaderCopies.{CopyDoesNotRead, CopyReads, copy_cells, last_segment}
 use Rattle.cartridge_spec.specs.Shape.{IsArea}
 use Rattle.cartridge_spec.specs.TableSegment.{TableIs}
-use Rattle.cartridge_laws.specs.Terms.{IsInForce, IsCleanCopy}
+use Rattle.cartridge_laws.specs.HeaderTerms.{IsInForce, IsCleanCopy}
 use Rattle.cartridge_spec.specs.Mounting.{IsMounted, Mounted, Mounting, Mounts, TableLost, mounted_as, settled}
 use Rattle.cartridge_spec.specs.Says.{Data, Mismatch, Says, Written, Zero, whole_mask}
 use Rattle.cartridge_spec.specs.Settling.{settling_steps}
@@ -31,7 +31,8 @@ use Rattle.command_laws.proofs.ScrubSeen.{IsSeen, SameIn, same_back, wrong_same}
 use Rattle.command_laws.proofs.ScrubStanding.{copy_reads, in_force, looks_in_front, table_kept}
 use Rattle.command_laws.specs.ScrubFound.{without_all}
 use Rattle.command_laws.specs.ScrubSayings.{Rise}
-use Rattle.command_laws.specs.Terms.{IsFirstCopyRight, DeepScrubOutcome, MendsDeep}
+use Rattle.command_laws.specs.ScrubTerms.{IsFirstCopyRight}
+use Rattle.command_laws.specs.Outcomes.{DeepScrubOutcome, MendsDeep}
 use Rattle.command_spec.specs.Outcome.{CommandOutcome, Opened}
 use Rattle.command_spec.specs.Scrub.{Looked, looked_at, whole_segment, Finding, IsWrong, ScrubsAs, ScrubsBy}
 use Rattle.command_spec.specs.declared.depth.Depth.{Depth}

@@ -128,7 +128,7 @@ input_is_free before words segments most exact input past =
 
 -- ---- whole sectors
 
-abbrev AreBytes : List ℕ → Type 0
+abbrev pub AreBytes : List ℕ → Type 0
 AreBytes bytes = All (λ b. b < 256) bytes
 
 -- any segment will do

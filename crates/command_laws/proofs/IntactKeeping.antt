@@ -14,7 +14,8 @@ use Rattle.cartridge_spec.specs.Appending.{with_bytes}
 use Rattle.cartridge_spec.specs.HeaderCopies.{last_segment}
 use Rattle.cartridge_spec.specs.Says.{with_parity}
 use Rattle.cartridge_spec.specs.Settling.{block_writes, changed_by, settling_places, settling_steps}
-use Rattle.cartridge_laws.specs.Terms.{places_where, is_left_out, is_unsettled}
+use Rattle.cartridge_laws.specs.TableCells.{is_left_out, is_unsettled}
+use Rattle.cartridge_laws.specs.Segment.{places_where}
 use Rattle.cartridge_spec.specs.Shape.{sector_at}
 use Rattle.cartridge_spec.specs.Volumes.{Plain, entries_of}
 use Rattle.command_laws.proofs.MountedHeld.{settled_live}

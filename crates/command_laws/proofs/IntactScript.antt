@@ -6,7 +6,7 @@ use Rattle.cartridge_laws.proofs.AppendVolume.{free_writes_stand, last_end_least
 use Rattle.cartridge_laws.proofs.FormatWriting.{some_weaker, effects-some}
 use Rattle.cartridge_laws.proofs.MountStanding.{standing_data}
 use Rattle.cartridge_laws.proofs.OneLossComesBack.{whole_comes_back}
-use Rattle.cartridge_laws.specs.Terms.{last_end}
+use Rattle.cartridge_laws.specs.Table.{last_end}
 use Rattle.cartridge_spec.specs.Settling.{changed_by, settling_steps}
 use Rattle.cartridge_spec.specs.Table.{Entry}
 use Rattle.cartridge_spec.specs.Volumes.{Plain, entries_of}
@@ -29,7 +29,7 @@ use Rattle.command_spec.specs.Input.{AtEnd, AtFault, AtStop, Ending, Item}
 use Rattle.command_spec.specs.Lines.{reply_behind}
 use Rattle.command_spec.specs.OneLoss.{ComesBackAsOneOf, SomeComeBack, with_items}
 use Rattle.command_spec.specs.Script.{Did, EndDoes, Finds, ItemsDo, Meeting, Meets, Refuses, ScriptDoes, acts_of, acts_on, cartridge_behind, entries_behind, place_behind}
-use Rattle.command_laws.specs.CommandTerms.{FaultDoes}
+use Rattle.command_laws.specs.ScriptTerms.{FaultDoes}
 use Rattle.command_spec.specs.Outcome.{CommandOutcome}
 use Rattle.command_spec.specs.ScriptLists.{ItemsSpare, ItemsSpareTable, CameFurther, GoesNoFurther, printed_by}
 use Rattle.qic_base.proofs.Joins.{steps_of-append, text_of-append}

@@ -1,10 +1,10 @@
 -- What `new` and `format`, answered or stopped, make of the volumes.
-use Rattle.std.proofs.Common.{append_assoc, ◌≡◌, ◌⊎◌, ℕ, inl, inr, List, [], ◌∷◌, ◌++◌, ◌*◌, ap, ◌∙◌, sym, subst, refl, Bool, Option, Some, None, IsSomeAnd, IfSome, true, false}
+use Rattle.std.proofs.Common.{◌≡◌, ◌⊎◌, ℕ, inl, inr, List, [], ◌∷◌, ◌++◌, ◌*◌, ap, ◌∙◌, sym, subst, refl, Bool, Option, Some, None, IsSomeAnd, IfSome, true, false}
 use Rattle.cartridge_laws.proofs.ChangeLive.{steps_keep_live}
 use Rattle.cartridge_laws.proofs.FormatCopies.{new_has_no_header}
 use Rattle.cartridge_laws.specs.ChangeSteps.{HasNoRenew}
 use Rattle.cartridge_spec.specs.Formatting.{HasNoHeader, StandsCleanly, copy_writes, fresh_plain}
-use Rattle.cartridge_laws.specs.Terms.{segment_formats}
+use Rattle.cartridge_laws.specs.FormatMarks.{segment_formats}
 use Rattle.cartridge_spec.specs.HeaderCopies.{IsUnformatted}
 use Rattle.cartridge_spec.specs.TableSegment.{IsTableLive}
 use Rattle.cartridge_spec.specs.Says.{with_parity}
@@ -15,21 +15,20 @@ use Rattle.command_laws.proofs.CommandVolumes.{cleared_is_bare, format_bare, for
 use Rattle.command_laws.proofs.CommandUnread.{neither_from_bare, neither_from_unformatted}
 use Rattle.command_laws.proofs.LifeUnformatted.{IsReferenced, formatting_references}
 use Rattle.command_laws.specs.CommandRecord.{NeitherReads}
-use Rattle.command_laws.proofs.ScriptAnswered.{next_torn}
-use Rattle.command_laws.specs.ActStops.{IsLeftBy}
-use Rattle.command_laws.specs.Terms.{IsBare, NewOutcome}
+use Rattle.command_laws.specs.Outcomes.{NewOutcome}
+use Rattle.command_laws.specs.RunTerms.{IsBare}
 use Rattle.command_laws.specs.Life.{Ended, Answered, Stopped, Becomes, IsSoundWith, IsSound, IsWithout, Leaves, MayEnd, begun_by}
 use Rattle.command_spec.specs.Single.{FormatOutcome}
 use Rattle.command_spec.specs.Outcome.{CommandOutcome}
 use Rattle.command_spec.specs.Volumes.{StandsEmpty}
 use Rattle.command_spec.specs.declared.status.Status.{Status}
 use Rattle.command_spec.specs.declared.words.Words.{Words}
-use Rattle.qic_base.proofs.Joins.{steps_of-append}
-use Rattle.qic_base.proofs.Steps.{Torn-all, Torn-behind, Torn-front}
-use Rattle.qic_base.specs.Acts.{Act, steps_of}
+use Rattle.qic_base.proofs.Steps.{Torn-all}
+use Rattle.qic_base.specs.Acts.{steps_of}
 use Rattle.qic_base.specs.Cartridge.{Cartridge, new_cartridge}
-use Rattle.qic_base.specs.Terms.{IsCartridge}
-use Rattle.qic_base.specs.Step.{Renew, Step, effects, Torn}
+use Rattle.qic_base.specs.CartridgeTerms.{IsCartridge}
+use Rattle.qic_base.specs.Step.{Renew, effects, Torn}
+use Rattle.command_laws.proofs.CopyPrinted.{left_torn}
 use Rattle.command_spec.specs.declared.status.Status.TheVariants as status
 use Rattle.command_spec.specs.declared.words.Words.TheVariants as words
 
@@ -37,17 +36,6 @@ use Rattle.command_spec.specs.declared.words.Words.TheVariants as words
 abbrev pub Makes : Words → (input : List ℕ) → Ended → (begun : Bool) → (held left : Option Cartridge) → (before : Option Plain) → Type 0
 Makes command input ended begun held left before =
     (after : Option Plain) × Becomes command held input ended before after × IsSound (begun_by command ended begun) left after
-
--- acts that were cut off are steps that a stop came in
-left_torn : (c : Cartridge) (acts : List Act) (text : List ℕ) (left : Option Cartridge) → IsLeftBy c acts text left → Torn (steps_of acts) (Some c) left
-left_torn c acts text left (inl at) =
-    subst (λ (ss : List Step). Torn ss (Some c) left) (sym (steps_of-append at.front at.rest) ∙ ap steps_of at.parts)
-    (Torn-behind (steps_of at.front) (steps_of at.rest) (Some c) left (next_torn at.rest (effects (steps_of at.front) (Some c)) left at.torn))
-left_torn c acts text left (inr at) =
-    let steps : List Step = steps_of at.front ++ at.act.steps in
-    subst (λ (ss : List Step). Torn ss (Some c) left)
-    (append_assoc (steps_of at.front) at.act.steps (steps_of at.rest) ∙ sym (steps_of-append at.front (at.act ∷ at.rest)) ∙ ap steps_of at.parts)
-    (Torn-front steps (steps_of at.rest) (Some c) left (subst (λ (l : Option Cartridge). Torn steps (Some c) l) (sym at.is) (Torn-all steps (Some c))))
 
 -- an answered run is one that a stop behind its last step leaves
 pub torn_by : (ended : Ended) (outcome : CommandOutcome) (held left : Option Cartridge) → Leaves ended outcome held left → Torn (steps_of outcome.acts) held left
@@ -60,7 +48,7 @@ torn_by (Stopped None) outcome held left leaves = leaves
 -- ---- what is sound
 
 -- where a formatting was stopped, no more is asked
-pub sound_begun : (begun : Bool) (held : Option Cartridge) (before : Option Plain) → IsSound begun held before → IsSound true held before
+sound_begun : (begun : Bool) (held : Option Cartridge) (before : Option Plain) → IsSound begun held before → IsSound true held before
 sound_begun begun None None sound = tt
 sound_begun begun None (Some plain) sound = absurd sound
 sound_begun begun (Some c) None sound = record { whole = sound.whole; first = sound.first; second = sound.second; bare = λ is. absurd (cc) }

@@ -14,12 +14,12 @@ use Rattle.command_laws.specs.CommandRecord.{NeitherReads}
 use Rattle.command_laws.proofs.WholeSteps.{worn_whole}
 use Rattle.command_laws.specs.Life.{ALife, CommandSpares, Ended, Event, EventBecomes, Happens, IsSound, Leaves, LossSpares, Loses, MayEnd, Runs, begun_behind, begun_by}
 use Rattle.command_spec.specs.Machine.{HasValues}
-use Rattle.command_laws.specs.CommandTerms.{Yields}
+use Rattle.command_laws.specs.CommandFields.{Yields}
 use Rattle.command_spec.specs.Outcome.{CommandOutcome}
 use Rattle.command_spec.specs.declared.words.Words.{Words}
 use Rattle.qic_base.specs.Acts.{steps_of}
 use Rattle.qic_base.specs.Cartridge.{Cartridge}
-use Rattle.qic_base.specs.Terms.{IsCartridge}
+use Rattle.qic_base.specs.CartridgeTerms.{IsCartridge}
 use Rattle.qic_base.specs.Step.{Wear, effect}
 use Rattle.command_spec.specs.declared.words.Words.TheVariants as words
 
@@ -78,7 +78,7 @@ worn_sound segment sector begun c (Some plain) small whole spares sound = record
 }
 
 -- what is sound is whole
-pub sound_whole : (begun : Bool) (held : Option Cartridge) (before : Option Plain) → IsSound begun held before → IfSome held IsCartridge
+sound_whole : (begun : Bool) (held : Option Cartridge) (before : Option Plain) → IsSound begun held before → IfSome held IsCartridge
 sound_whole begun None before sound = tt
 sound_whole begun (Some c) None sound = sound.whole
 sound_whole begun (Some c) (Some plain) sound = sound.whole

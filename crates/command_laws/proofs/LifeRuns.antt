@@ -27,17 +27,17 @@ use Rattle.command_spec.specs.Commands.{command_of}
 use Rattle.command_spec.specs.Input.{Item}
 use Rattle.command_spec.specs.Several.{IsHeard}
 use Rattle.command_spec.specs.Machine.{HasValues}
-use Rattle.command_laws.specs.CommandTerms.{Yields, ScriptOutcome}
+use Rattle.command_laws.specs.Outcomes.{ScriptOutcome}
 use Rattle.command_spec.specs.Make.{made_contents}
 use Rattle.command_spec.specs.Outcome.{CommandOutcome, output_of}
 use Rattle.command_spec.specs.Script.{Did, ScriptDoes, Scripting}
 use Rattle.command_spec.specs.ScriptLists.{all_added}
-use Rattle.command_laws.specs.Terms.{KeepsCopies, KeepsLive, KeepsVolumes}
+use Rattle.command_laws.specs.CommandFields.{KeepsCopies, KeepsLive, KeepsVolumes, Yields}
 use Rattle.command_spec.specs.declared.status.Status.{Status}
 use Rattle.command_spec.specs.declared.words.Words.{Words}
 use Rattle.qic_base.specs.Acts.{Act, steps_of, text_of}
 use Rattle.qic_base.specs.Cartridge.{Cartridge}
-use Rattle.qic_base.specs.Terms.{IsCartridge}
+use Rattle.qic_base.specs.CartridgeTerms.{IsCartridge}
 use Rattle.qic_base.specs.Step.{Step, Renew, WriteSector, effect, effects, Halfway, Torn}
 use Rattle.command_spec.specs.Several as several
 use Rattle.command_spec.specs.declared.status.Status.TheVariants as status

@@ -4,7 +4,7 @@ use Rattle.cartridge_laws.proofs.FormatWriting.{some_and}
 use Rattle.cartridge_laws.specs.ChangeSteps.{HasNoRenew, IsNoRenew}
 use Rattle.qic_base.specs.Cartridge.{Cartridge}
 use Rattle.qic_base.specs.Step.{Step, WriteSector, FormatSegment, SetReferenced, SetProtected, Renew, Wear, Spoil, Upgrade, changed, Halfway, Torn}
-use Rattle.qic_base.specs.Terms.{HalfFormatted}
+use Rattle.qic_base.specs.CartridgeTerms.{HalfFormatted}
 
 -- ---- the reference bursts
 

@@ -1,18 +1,16 @@
 -- A run of `make` prints nothing before all its appends are done, so what was printed tells that all made volumes stand.
-use Rattle.std.proofs.Common.{◌≡◌, ℕ, ◌+◌, List, [], ◌∷◌, ◌++◌, refl, sym, ap, ◌∙◌, Bool, true, false, cond, Option, inl, inr, Some, subst, ◌⊎◌, ◌≢◌, zero, suc, ◌≤◌, IsSomeAnd, arith, length, drop}
-use Rattle.std.specs.Prelude.{is_some}
+use Rattle.std.proofs.Common.{◌≡◌, ℕ, ◌+◌, List, [], ◌∷◌, ◌++◌, refl, sym, ap, ◌∙◌, Option, inl, inr, Some, subst, ◌⊎◌, ◌≢◌, zero, suc, ◌≤◌, IsSomeAnd, arith, length, drop}
 use Rattle.cartridge_laws.proofs.FormatWriting.{effects-some}
 use Rattle.cartridge_spec.specs.Appending.{with_all, with_bytes}
 use Rattle.cartridge_spec.specs.Settling.{changed_by}
 use Rattle.cartridge_spec.specs.Table.{Entry}
 use Rattle.cartridge_spec.specs.Volumes.{Plain, Stands, entries_of}
-use Rattle.command_laws.proofs.InputActLaws.{input_prints_nothing}
 use Rattle.command_laws.proofs.MadeStops.{StillBehind, behind_next, done_append_kept, entries_more, stills_stopped, behind_is_still}
 use Rattle.command_laws.proofs.MountedKeeping.{changed_by_acts, kept_open}
 use Rattle.command_laws.specs.MadeLaws.{MadeAreAnswered}
 use Rattle.command_laws.specs.MountedKept.{IsKept}
-use Rattle.command_spec.specs.Append.{input_acts, Kept, has_promised_room, input_writes, room_in, Taking, Fits, TooLong, TooShort, entry_acts, append_acts, taking, kept_over}
-use Rattle.command_laws.specs.CommandTerms.{free_in, most_written, silently}
+use Rattle.command_spec.specs.Append.{Kept, input_writes, room_in, Taking, Fits, TooLong, TooShort, entry_acts, append_acts, taking, kept_over}
+use Rattle.command_laws.specs.AppendTerms.{silently}
 use Rattle.command_spec.specs.Make.{made_length, made_bytes, made_contents, AppendMade, made_name, StepDoes, MakeStep, appending, Runs, ScrubAll, wearing_volumes, summing, made_list}
 use Rattle.qic_base.proofs.Joins.{text_of-append, steps_of-append}
 use Rattle.qic_base.proofs.Steps.{Torn-front, Torn-behind}
@@ -20,24 +18,18 @@ use Rattle.qic_base.specs.Acts.{Act, text_of, steps_of, next_steps}
 use Rattle.qic_base.specs.Cartridge.{Cartridge}
 use Rattle.qic_base.specs.Step.{Step, Torn}
 use Rattle.command_spec.specs.declared.status.Status.{Status}
+use Rattle.command_laws.proofs.ScriptActs.{input_texts}
 use Rattle.command_spec.specs.declared.status.Status.TheVariants as status
 
 -- ---- what is printed
 
-no_front : (xs ys : List ℕ) → xs ++ ys ≡ [] → xs ≡ []
+pub no_front : (xs ys : List ℕ) → xs ++ ys ≡ [] → xs ≡ []
 no_front [] ys none = refl
 no_front (x ∷ xs) ys none = absurd (cc)
 
 -- a front of acts that print nothing
 pub quiet_front : (front rest acts : List Act) → front ++ rest ≡ acts → text_of acts ≡ [] → text_of front ≡ []
 quiet_front front rest acts parts quiet = no_front (text_of front) (text_of rest) (sym (text_of-append front rest) ∙ ap text_of parts ∙ quiet)
-
-input_texts : (kept : Kept) (promised : Option ℕ) (input : List ℕ) → text_of (input_writes kept.words kept.entries promised input) ≡ []
-input_texts kept promised input = by_room (has_promised_room (room_in kept) promised)
-  where
-    by_room : (b : Bool) → text_of (cond b (input_acts kept.words (free_in kept) (most_written (room_in kept) promised) (is_some promised) input) []) ≡ []
-    by_room true = input_prints_nothing kept.words (free_in kept) (most_written (room_in kept) promised) (is_some promised) input
-    by_room false = refl
 
 entry_texts : (kept : Kept) (name : List ℕ) (date : ℕ) (became : Taking) → text_of (entry_acts kept name date silently became) ≡ []
 entry_texts kept name date (Fits bytes) = refl

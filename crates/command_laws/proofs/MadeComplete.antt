@@ -14,7 +14,7 @@ use Rattle.command_laws.specs.MadeLaws.{MadeWhereThereIsRoom}
 use Rattle.command_laws.specs.MountedKept.{IsOpen}
 use Rattle.command_laws.specs.RestoreLaws.{HasVolume}
 use Rattle.command_spec.specs.Make.{made_bytes, made_contents, MakeStep, AppendMade, WearSector, ScrubAll, SumVolume, wearing_in, wearing_volumes, StepDoes, Runs, made_answer, appending, summing, made_list, making, made_name}
-use Rattle.command_laws.specs.CommandTerms.{before_sums, first_two, IsSummed, after_items, wearing}
+use Rattle.command_laws.specs.MadeTerms.{before_sums, first_two, IsSummed, after_items, wearing}
 use Rattle.command_spec.specs.Restore.{volume_at, LosesFew, pieces, Restores, ending_status}
 use Rattle.qic_base.specs.Acts.{Act, steps_of, text_of}
 use Rattle.qic_base.specs.Cartridge.{Cartridge}

@@ -5,7 +5,7 @@ use Rattle.cartridge_spec.specs.Settling.{changed_by}
 use Rattle.cartridge_spec.specs.Table.{Entry}
 use Rattle.command_laws.proofs.MadeStops.{AreStill, IsStill, still_after}
 use Rattle.command_spec.specs.Append.{has_promised_room}
-use Rattle.command_laws.specs.CommandTerms.{AppendedFrom, made_entry, after_items}
+use Rattle.command_laws.specs.MadeTerms.{AppendedFrom, made_entry, after_items}
 use Rattle.command_spec.specs.Make.{made_length, MakeStep, AppendMade, WearSector, ScrubAll, SumVolume, Runs, StepDoes, appending, made_answer, AppendedBy}
 use Rattle.command_spec.specs.Restore.{GivingEnd, Restored, LostIn, MismatchIn, ending_status}
 use Rattle.command_spec.specs.declared.status.Status.{Status}

@@ -17,7 +17,8 @@ use Rattle.command_laws.proofs.MountedListing.{append_front_lists, append_lists,
 use Rattle.command_laws.specs.MadeLaws.{MakeLists, MadeAreListed}
 use Rattle.command_laws.specs.MountedListed.{IsListed, listed_behind}
 use Rattle.command_spec.specs.Append.{Kept, Taking, Fits, TooLong, TooShort, has_promised_room, room_in, taking, kept_over}
-use Rattle.command_laws.specs.CommandTerms.{silently, made_entry, made_acts, Makes, AppendedFrom, after_items}
+use Rattle.command_laws.specs.MadeTerms.{made_entry, made_acts, Makes, AppendedFrom, after_items}
+use Rattle.command_laws.specs.AppendTerms.{silently}
 use Rattle.command_spec.specs.Make.{made_length, made_bytes, MakeStep, AppendMade, WearSector, ScrubAll, SumVolume, made_name, StepDoes, IsAppended, made_answer, Runs, appending, wearing_volumes, summing, made_list}
 use Rattle.qic_base.proofs.Joins.{text_of-append}
 use Rattle.qic_base.specs.Acts.{Act, steps_of, text_of}

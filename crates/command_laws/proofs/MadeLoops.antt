@@ -3,7 +3,7 @@ use Rattle.std.proofs.Common.{◌≡◌, ℕ, zero, suc, ◌+◌, List, [], ◌�
 use Rattle.cartridge_spec.specs.Table.{Entry}
 use Rattle.cartridge_spec.specs.Volumes.{carrying_segments}
 use Rattle.command_laws.proofs.MadeMachineLaws.{after_items-append}
-use Rattle.command_laws.specs.CommandTerms.{made_entry, first_two, after_items, wearing}
+use Rattle.command_laws.specs.MadeTerms.{made_entry, first_two, after_items, wearing}
 use Rattle.command_spec.specs.Make.{appending, MakeStep, wearing_in, wearing_volumes}
 
 pub length-made : (seed : ℕ) (words : List ℕ) (es : List Entry) (v n : ℕ) → length (after_items seed words es (appending v n)) ≡ length es + n

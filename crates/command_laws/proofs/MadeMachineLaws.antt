@@ -10,7 +10,7 @@ use Rattle.cartridge_spec.specs.Volumes.{volume_length}
 use Rattle.command_laws.proofs.MountedKeeping.{changed_by_acts}
 use Rattle.command_laws.proofs.RestoreEndings.{restores_is_function}
 use Rattle.command_spec.specs.Make.{IsAppended, IsTableLost, made_answer, sum_acts, MakeStep, AppendMade, WearSector, ScrubAll, SumVolume, StepDoes, after_item, Runs}
-use Rattle.command_laws.specs.CommandTerms.{IsSummed, made_acts, after_items}
+use Rattle.command_laws.specs.MadeTerms.{IsSummed, made_acts, after_items}
 use Rattle.command_spec.specs.Restore.{GivingEnd, Restores, pieces, ending_status}
 use Rattle.qic_base.specs.Acts.{Act, text_of, steps_of}
 use Rattle.qic_base.specs.Cartridge.{Cartridge}

@@ -3,7 +3,7 @@ use Rattle.std.proofs.Common.{inl, inr, ℕ, List, [], ◌∷◌, ◌++◌, refl
 use Rattle.cartridge_spec.specs.Table.{Entry}
 use Rattle.command_laws.proofs.MadeMachineLaws.{done_or_not}
 use Rattle.command_spec.specs.Make.{MakeStep, AppendMade, after_item, MayRun, MayDo}
-use Rattle.command_laws.specs.CommandTerms.{MayAppend, after_items}
+use Rattle.command_laws.specs.MadeTerms.{MayAppend, after_items}
 use Rattle.command_spec.specs.declared.status.Status.{Status}
 use Rattle.command_spec.specs.declared.status.Status.TheVariants as status
 

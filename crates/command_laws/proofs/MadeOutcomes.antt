@@ -14,7 +14,8 @@ use Rattle.command_laws.proofs.MountedSaying.{restores_anyway, scrubs_anyway}
 use Rattle.command_laws.specs.MadeLaws.{MakesSomething}
 use Rattle.command_laws.specs.MountedListed.{IsListed, listed_behind}
 use Rattle.command_spec.specs.Append.{Kept, Taking, Fits, TooLong, TooShort, has_promised_room, room_in, taking, kept_over}
-use Rattle.command_laws.specs.CommandTerms.{silently, made_entry, made_acts, first_two, after_items, wearing}
+use Rattle.command_laws.specs.MadeTerms.{made_entry, made_acts, first_two, after_items, wearing}
+use Rattle.command_laws.specs.AppendTerms.{silently}
 use Rattle.command_spec.specs.Make.{made_length, made_bytes, MakeStep, AppendMade, WearSector, ScrubAll, SumVolume, after_item, StepDoes, made_name, made_answer, sum_acts, Runs, appending, wearing_in, wearing_volumes, summing, made_list, making}
 use Rattle.command_spec.specs.Restore.{volume_at, pieces, ending_status}
 use Rattle.qic_base.specs.Acts.{Act, steps_of, text_of}

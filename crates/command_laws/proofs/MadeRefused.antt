@@ -13,7 +13,7 @@ use Rattle.command_laws.proofs.MountedKeeping.{changed_by_acts}
 use Rattle.command_laws.specs.MadeLaws.{AnsweredMakeStands}
 use Rattle.command_laws.specs.MountedKept.{IsOpen}
 use Rattle.command_spec.specs.Append.{has_promised_room}
-use Rattle.command_laws.specs.CommandTerms.{AppendedFrom}
+use Rattle.command_laws.specs.MadeTerms.{AppendedFrom}
 use Rattle.command_spec.specs.Make.{made_bytes, made_length, made_contents, AppendMade, MakeStep, Runs, ScrubAll, StepDoes, appending, made_list, made_name, summing, wearing_volumes}
 use Rattle.qic_base.proofs.Steps.{Torn-all}
 use Rattle.qic_base.specs.Acts.{Act, steps_of}

@@ -28,7 +28,8 @@ use Rattle.command_laws.proofs.ScrubMounted.{stopped_scrub_stands}
 use Rattle.command_laws.specs.MadeLaws.{StoppedMakeStands, DoneMakeStands, StopsInStep, StopsAreInSteps, MakesOneThing}
 use Rattle.command_laws.specs.MountedKept.{IsAppendable, IsOpen, settle_and_append, IsKept}
 use Rattle.command_spec.specs.Append.{Kept, append_acts, room_in, has_promised_room, kept_over}
-use Rattle.command_laws.specs.CommandTerms.{silently, made_byte, made_acts, first_two, made_entry, after_items, wearing}
+use Rattle.command_laws.specs.MadeTerms.{made_byte, made_acts, first_two, made_entry, after_items, wearing}
+use Rattle.command_laws.specs.AppendTerms.{silently}
 use Rattle.command_spec.specs.Make.{made_length, made_bytes, made_contents, made_name, AppendMade, StepDoes, IsAppended, made_answer, MakeStep, WearSector, ScrubAll, SumVolume, after_item, sum_acts, Runs, wearing_in, wearing_volumes, summing, appending, made_list, making}
 use Rattle.command_spec.specs.Restore.{GivingEnd, Restored, LostIn, MismatchIn}
 use Rattle.qic_base.proofs.Steps.{Torn-all}
@@ -41,7 +42,7 @@ use Rattle.command_laws.proofs.ScrubPlain.{as_plain}
 use Rattle.command_spec.specs.declared.status.Status.TheVariants as status
 
 -- a fact of two or of one, of what a stop left
-some_split : (P Q : Cartridge → Type 0) (left : Option Cartridge) → IsSomeAnd left (λ d. P d ⊎ Q d) → IsSomeAnd left P ⊎ IsSomeAnd left Q
+pub some_split : (P Q : Cartridge → Type 0) (left : Option Cartridge) → IsSomeAnd left (λ d. P d ⊎ Q d) → IsSomeAnd left P ⊎ IsSomeAnd left Q
 some_split P Q None fact = absurd fact
 some_split P Q (Some d) fact = fact
 

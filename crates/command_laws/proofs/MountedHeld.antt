@@ -32,11 +32,12 @@ use Rattle.command_spec.specs.Scrub.{ScrubsAs}
 use Rattle.command_spec.specs.declared.depth.Depth.TheVariants.{Shallow}
 use Rattle.qic_base.specs.Acts.{Act, steps_of}
 use Rattle.qic_base.specs.Cartridge.{Cartridge, view_at}
-use Rattle.qic_base.specs.Terms.{IsCartridge, place_of}
+use Rattle.qic_base.specs.CartridgeTerms.{IsCartridge, place_of}
 use Rattle.qic_base.specs.Step.{worn_view}
 use Rattle.qic_base.specs.declared.tape.SectorView.{SectorView}
-use Rattle.qic_base.specs.declared.tape.SectorView.TheVariants.{Blank, Defect, Lost, Holds}
+use Rattle.qic_base.specs.declared.tape.SectorView.TheVariants.{Blank}
 use Rattle.qic_base.specs.declared.tape.TapeInfo.{TapeInfo}
+use Rattle.cartridge_laws.proofs.ChangeLive.{worn_live}
 
 -- ---- where the table reads
 
@@ -89,13 +90,6 @@ mounted_open c plain whole stood mounts free =
     (ap (λ (i : TapeInfo). i.protected) keeps.info ∙ free)
 
 -- ---- a worn sector
-
--- it takes what is written to it, if it did before
-worn_live : (view : SectorView) → IsLive view → IsLive (worn_view view)
-worn_live Blank live = absurd live
-worn_live Defect live = absurd live
-worn_live Lost live = tt
-worn_live (Holds bytes) live = tt
 
 live_still : (c : Cartridge) (segment sector s i : ℕ) → IsLive (view_at c s i) → IsLive (view_at (worn segment sector c) s i)
 live_still c segment sector s i live =

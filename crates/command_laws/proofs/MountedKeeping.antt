@@ -65,7 +65,7 @@ live_kept c plain held live = record {
 }
 
 -- a sector that is worn outside the table's segment, and spares the header
-pub spared_open : (c : Cartridge) (plain : Plain) (segment sector : ℕ) → IsOpen c plain → WearSpares c plain segment sector → segment ≢ 2 → sector < 32 → IsOpen (worn segment sector c) plain
+spared_open : (c : Cartridge) (plain : Plain) (segment sector : ℕ) → IsOpen c plain → WearSpares c plain segment sector → segment ≢ 2 → sector < 32 → IsOpen (worn segment sector c) plain
 spared_open c plain segment sector held spares other small = record {
   cartridge = with_view_whole c segment sector (worn_view (view_at c segment sector)) held.cartridge
       (worn_is_view (view_at c segment sector) (view_of_cartridge c segment sector held.cartridge));

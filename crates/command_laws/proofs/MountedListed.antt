@@ -22,10 +22,11 @@ use Rattle.cartridge_laws.proofs.Slots.{slot_area}
 use Rattle.cartridge_laws.proofs.TableOrders.{faultless_is_sound}
 use Rattle.cartridge_laws.proofs.TablePutting.{put_entry_is_shown}
 use Rattle.cartridge_laws.specs.AppendSettled.{IsSettledFor}
-use Rattle.cartridge_laws.specs.Slots.{FitsSlot}
-use Rattle.cartridge_laws.specs.Table.{IsSoundList}
+use Rattle.cartridge_laws.specs.Slots.{FitsSlot, slot_sector, with_slot}
+use Rattle.cartridge_laws.specs.Table.{IsSoundList, last_end}
 use Rattle.cartridge_spec.specs.Appending.{table_writes, free_segments, room, taken_by}
-use Rattle.cartridge_laws.specs.Terms.{last_end, HasList, data_of, unreadable_data, slot_sector, with_slot}
+use Rattle.cartridge_laws.specs.TableCells.{HasList}
+use Rattle.cartridge_laws.specs.Segment.{data_of, unreadable_data}
 use Rattle.qic_base.specs.Cartridge.{IsSector, Cartridge, IsLength, view_at}
 use Rattle.cartridge_spec.specs.Formatting.{IsLabel}
 use Rattle.cartridge_spec.specs.Shape.{IsArea}
@@ -50,7 +51,7 @@ use Rattle.command_laws.proofs.StoreWorn.{worn_list}
 use Rattle.command_laws.specs.MountedListed.{ListedReads, MountedListed, IsListed, listed_behind, AppendListed, WearListed, ScrubListed}
 use Rattle.command_laws.specs.ScrubMended.{IsBeingMended}
 use Rattle.command_spec.specs.Append.{Kept, Taking, Fits, TooLong, TooShort, append_acts, entry_acts, input_writes, room_in, taking, kept_over}
-use Rattle.command_laws.specs.CommandTerms.{entry_for}
+use Rattle.command_laws.specs.AppendTerms.{entry_for}
 use Rattle.command_spec.specs.Scrub.{looked_at, whole_segment}
 use Rattle.qic_base.specs.Acts.{Act, steps_of}
 use Rattle.qic_base.specs.Step.{Step}

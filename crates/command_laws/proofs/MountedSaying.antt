@@ -13,10 +13,10 @@ use Rattle.command_laws.specs.MountedListed.{RestoresAnyway, ScrubsAnyway}
 use Rattle.command_laws.specs.ScrubPlain.{SayInTurn}
 use Rattle.command_spec.specs.Restore.{Restored, piece_cells}
 use Rattle.command_spec.specs.Scrub.{Looked, cells_at, steps_in, looked_at}
-use Rattle.command_laws.specs.Terms.{scrub_acts}
+use Rattle.command_laws.specs.ScrubTerms.{scrub_acts}
 use Rattle.qic_base.specs.Acts.{Act}
 use Rattle.qic_base.specs.Cartridge.{IsSector, Cartridge}
-use Rattle.qic_base.specs.Terms.{IsView}
+use Rattle.qic_base.specs.CartridgeTerms.{IsView}
 use Rattle.qic_base.specs.declared.tape.SectorView.{SectorView}
 use Rattle.qic_base.specs.declared.tape.SectorView.TheVariants.{Holds, Blank, Defect, Lost}
 

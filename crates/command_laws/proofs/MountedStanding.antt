@@ -17,7 +17,8 @@ use Rattle.cartridge_laws.specs.AppendSettled.{MayAppendTo, IsSettledFor}
 use Rattle.cartridge_laws.specs.AppendSteps.{writes_into}
 use Rattle.cartridge_laws.specs.Shape.{Carries}
 use Rattle.cartridge_spec.specs.Appending.{table_writes, has_room, with_bytes}
-use Rattle.cartridge_laws.specs.Terms.{last_end, slot_sector, with_slot}
+use Rattle.cartridge_laws.specs.Table.{last_end}
+use Rattle.cartridge_laws.specs.Slots.{slot_sector, with_slot}
 use Rattle.cartridge_spec.specs.Formatting.{IsLabel}
 use Rattle.cartridge_spec.specs.TableSegment.{TableIs, IsTableLive}
 use Rattle.cartridge_spec.specs.Mounting.{settled}
@@ -29,7 +30,7 @@ use Rattle.command_laws.proofs.InputActLaws.{volume_is_writes}
 use Rattle.command_laws.proofs.MountedKeeping.{kept_open, live_kept}
 use Rattle.command_laws.specs.MountedKept.{settle_and_append, IsOpen, AppendsLeaveOpen, IsKept}
 use Rattle.command_spec.specs.Append.{volume_acts, filled_acts, input_acts, Kept, Fits, TooLong, TooShort, entry_acts, input_writes, room_in, taking}
-use Rattle.command_laws.specs.CommandTerms.{entry_for, free_in, silently}
+use Rattle.command_laws.specs.AppendTerms.{entry_for, free_in, silently}
 use Rattle.qic_base.proofs.Joins.{steps_of-append}
 use Rattle.qic_base.specs.Acts.{Act, steps_of}
 use Rattle.qic_base.specs.Cartridge.{Cartridge}
@@ -39,7 +40,7 @@ use Rattle.cartridge_laws.specs.AppendLaws as appends
 
 -- ---- an append of promised bytes
 
-same_less : (n : ℕ) → nat_lt n n ≡ false
+pub same_less : (n : ℕ) → nat_lt n n ≡ false
 same_less n = le-ltb n n (omega arith)
 
 -- its acts behind the settling, where they are just as many as promised

@@ -9,7 +9,7 @@ use Rattle.command_laws.proofs.RestoreCounts.{FitsIn, read_count, pieces_fit}
 use Rattle.command_laws.specs.OutputLaws.{RestoredAreOf, PrintedInNoStep, TextOfFirst}
 use Rattle.command_laws.specs.OutputText.{AreOf}
 use Rattle.command_spec.specs.Restore.{Piece, GivingEnd, Restores, Restored, LostIn, MismatchIn, PieceEnds, framed}
-use Rattle.command_laws.specs.CommandTerms.{EndsAt, bytes_held}
+use Rattle.command_laws.specs.RestoreTerms.{EndsAt, bytes_held}
 use Rattle.qic_base.specs.Acts.{Act, steps_of, text_of}
 use Rattle.qic_base.specs.Cartridge.{Cartridge}
 use Rattle.qic_base.specs.Step.{Step}
@@ -46,7 +46,7 @@ restored_are_of c words start end bytes acts ending h = (
 -- ---- no step, and the text
 
 -- as they are printed, the acts of one more piece take no step more
-no_step : (steps : List Step) (acts : List Act) → steps ≡ [] → steps_of acts ≡ [] → steps ++ steps_of acts ≡ []
+pub no_step : (steps : List Step) (acts : List Act) → steps ≡ [] → steps_of acts ≡ [] → steps ++ steps_of acts ≡ []
 no_step steps acts none rest = ap (λ (ss : List Step). ss ++ steps_of acts) none ∙ rest
 
 pub printed_in_no_step : PrintedInNoStep

@@ -1,7 +1,7 @@
 -- How one segment's part joins those behind it.
 use Rattle.std.proofs.Common.{ℕ, suc, List, ◌∷◌, ap}
 use Rattle.command_spec.specs.Restore.{Piece, GivingEnd, Restored, LostIn, MismatchIn}
-use Rattle.command_laws.specs.CommandTerms.{EndsAt}
+use Rattle.command_laws.specs.RestoreTerms.{EndsAt}
 
 -- ---- an end
 

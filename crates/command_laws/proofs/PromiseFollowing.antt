@@ -8,11 +8,11 @@ use Rattle.command_laws.proofs.CommandTable.{has_values}
 use Rattle.command_laws.specs.PromiseLaws.{AnswersWhereNoneRose, ScriptsUntold}
 use Rattle.command_spec.specs.Headline.{EachLeft, WordsLeave, StopLeaves}
 use Rattle.command_spec.specs.Several.{LinesLeave}
-use Rattle.command_laws.specs.CommandTerms.{SomeScripted}
+use Rattle.command_laws.specs.ScriptTerms.{SomeScripted}
 use Rattle.command_spec.specs.Machine.{is_fault, fault_of, Spells}
 use Rattle.command_spec.specs.declared.status.Status.{Status}
 use Rattle.qic_base.specs.Cartridge.{Cartridge}
-use Rattle.qic_base.specs.Terms.{IsCartridge}
+use Rattle.qic_base.specs.CartridgeTerms.{IsCartridge}
 use Rattle.qic_base.specs.Acts.{Failing, TapeFails, SourceFails, SinkFails}
 use Rattle.std.proofs.lemmas.List.Elements.{All-nil}
 use Rattle.command_laws.proofs.TextWords.{one_command}

@@ -17,7 +17,7 @@ use Rattle.command_spec.specs.Input.{AtEnd, AtFault, AtStop, Ending, Item}
 use Rattle.command_spec.specs.Outcome.{CommandOutcome}
 use Rattle.command_spec.specs.Restore.{framed, pieces}
 use Rattle.command_spec.specs.Script.{Did, EndDoes, Finds, ItemsDo, LineDoes, Refuses, ScriptDoes, Scripting, acts_of, cartridge_behind, entries_behind}
-use Rattle.command_laws.specs.CommandTerms.{ScriptOutcome}
+use Rattle.command_laws.specs.Outcomes.{ScriptOutcome}
 use Rattle.command_spec.specs.ScriptLists.{ItemsSpareTable}
 use Rattle.command_spec.specs.Several.{Scripted}
 use Rattle.command_spec.specs.declared.line.Line.{Line}

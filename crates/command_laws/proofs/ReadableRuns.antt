@@ -4,9 +4,9 @@ use Rattle.std.proofs.lemmas.List.{take_all}
 use Rattle.cartridge_laws.proofs.Cells.{count_of_readable, readable_from_count}
 use Rattle.cartridge_laws.proofs.ChangeStanding.{count_grows}
 use Rattle.cartridge_laws.proofs.ChangeViews.{ReadsNoMore, held_before, worn_reads_no_more}
-use Rattle.cartridge_laws.proofs.FormatCopies.{view_held, bare_shrank, unformatted_from_bare, zero_from_views}
+use Rattle.cartridge_laws.proofs.FormatCopies.{view_held, unformatted_from_bare}
 use Rattle.cartridge_laws.proofs.FormatDone.{formatted_holds, formatting_formats, cleared, cleared_front, first_writable, first_written, length-with_parity, second_writable, with_first}
-use Rattle.cartridge_laws.proofs.FormatHalfway.{IsKeptCopy, IsKeptOrBare, clearing_stopped}
+use Rattle.cartridge_laws.proofs.FormatHalfway.{IsKeptOrBare, clearing_stopped}
 use Rattle.cartridge_laws.proofs.FormatStanding.{same_cells}
 use Rattle.cartridge_laws.proofs.FormatWriting.{effects-some, some_weaker, IsPartlyWritten, changed_by-append, copy_stopped, some_and}
 use Rattle.cartridge_laws.proofs.MountKeeping.{stopped_mounts}
@@ -14,7 +14,7 @@ use Rattle.cartridge_laws.proofs.MountStanding.{can_be_read, standing_mounts}
 use Rattle.cartridge_laws.proofs.Segments.{length-whole_cells}
 use Rattle.cartridge_laws.specs.FormatMarks.{IsFormattedFrom}
 use Rattle.cartridge_spec.specs.Formatting.{HasNoDefectInFront, format_steps, HasNoHeader, clearing_steps, copy_writes}
-use Rattle.cartridge_laws.specs.Terms.{IsBareCopy, unreadable_data}
+use Rattle.cartridge_laws.specs.Segment.{unreadable_data}
 use Rattle.cartridge_spec.specs.Shape.{IsArea}
 use Rattle.cartridge_spec.specs.TableSegment.{table_cells, CanBeRead, IsTableLive}
 use Rattle.cartridge_spec.specs.HeaderCopies.{IsUnformatted}
@@ -29,19 +29,18 @@ use Rattle.command_laws.proofs.TextWords.{one_command}
 use Rattle.command_laws.specs.ReadableLaws.{ComesBackCanBeRead, FormattedCanBeRead, LeftCanBeRead, RunsKeepReadable, StillReadable, FormatsLeaveReadable}
 use Rattle.command_spec.specs.Single.{FormatOutcome}
 use Rattle.command_spec.specs.Headline.{EachLeft, Stepped, ToldNow, StopLeaves, WordsLeave}
-use Rattle.command_laws.specs.CommandTerms.{Yields}
 use Rattle.command_spec.specs.Machine.{Spells, is_fault}
 use Rattle.command_spec.specs.OneLoss.{ComesBackAsOneOf, with_items, with_made, with_one, StoppedComesBack}
 use Rattle.command_spec.specs.Outcome.{CommandOutcome}
 use Rattle.command_spec.specs.ScriptLists.{ItemsSpareTable}
-use Rattle.command_laws.specs.Terms.{KeepsLive}
+use Rattle.command_laws.specs.CommandFields.{KeepsLive, Yields}
 use Rattle.command_spec.specs.Volumes.{StillHolds}
 use Rattle.command_spec.specs.declared.status.Status.{Status}
 use Rattle.command_spec.specs.declared.words.Words.{Words}
 use Rattle.qic_base.proofs.Steps.{Torn-append}
 use Rattle.qic_base.specs.Acts.{Outside, steps_of}
 use Rattle.qic_base.specs.Cartridge.{Cartridge, view_at, zero_sector}
-use Rattle.qic_base.specs.Terms.{IsCartridge}
+use Rattle.qic_base.specs.CartridgeTerms.{IsCartridge}
 use Rattle.qic_base.specs.Step.{Step, effects, Torn}
 use Rattle.qic_base.specs.declared.tape.SectorView.{SectorView}
 use Rattle.qic_base.specs.declared.tape.SectorView.TheVariants.{Holds}
@@ -49,6 +48,8 @@ use Rattle.std.proofs.lemmas.Bool.{cases_Bool}
 use Rattle.command_laws.proofs.CommandSeveral.{over_any, over_stop}
 use Rattle.command_laws.proofs.ReadableProtected.{protected_script_reads}
 use Rattle.command_spec.specs.Several.{OverInput, Scripted}
+use Rattle.qic_base.specs.Source.{IsInput}
+use Rattle.cartridge_laws.proofs.FormatStops.{bare_kept}
 use Rattle.qic_base.specs.Tape as tapes
 use Rattle.qic_base.specs.Sink as sinks
 use Rattle.qic_base.specs.Source as sources
@@ -186,10 +187,6 @@ formatted_reads c area whole is_area front =
 abbrev ReadableOrNot : Cartridge → Type 0
 ReadableOrNot d = IsUnformatted d ⊎ CanBeRead d
 
-bare_kept : (copy : ℕ) (c d : Cartridge) → IsBareCopy c copy → IsKeptCopy copy c d → IsBareCopy d copy
-bare_kept copy c d bare (inl shrank) = bare_shrank shrank bare
-bare_kept copy c d bare (inr zeros) = inl (zero_from_views zeros)
-
 cleared_so : (c d : Cartridge) → CanBeRead c ⊎ HasNoHeader c → IsKeptOrBare c d → ReadableOrNot d
 cleared_so c d (inl reads) (inl kept) =
     inr (subst (λ (cells : List SectorView). (unreadable_data cells ≡ 0) ⊎ (unreadable_count cells ≤ 3))
@@ -282,7 +279,7 @@ module _ {T S K : Type 0} (t : tapes.Meaning T) (s : sources.Meaning S) (k : sin
 
   pub formatted_can_be_read : FormattedCanBeRead t s k
   formatted_can_be_read words old new answer label date c promises spells done told whole =
-      let over = subst (λ (o : Option (Option Cartridge)). IfSome o (λ held. (input : List ℕ) × IfSome (s.left old.source) (λ bytes. input ≡ bytes)
+      let over = subst (λ (o : Option (Option Cartridge)). IfSome o (λ held. (input : List ℕ) × IsInput (s.left old.source) input
       × ((answer ≡ status.NoMemory) ⊎ Stepped t s k words held input old new answer))) told (promises.carried (ap is_fault done)) in
       by_step words over.0 old new answer label date c spells done whole over.2
 

@@ -17,7 +17,7 @@ use Rattle.cartridge_spec.specs.Shape.{mask_at, capacity, usable_count, data_cou
 use Rattle.cartridge_spec.specs.Table.{Entry}
 use Rattle.command_laws.specs.RestoreLaws.{RestoresInNoStep, FramedInNoStep, PiecesHoldAll, TextHoldsPieces, RestoredIsLong}
 use Rattle.command_spec.specs.Restore.{framed, Piece, pieces_of, IsRead, piece_cells, GivingEnd, Restores, pieces, Restored}
-use Rattle.command_laws.specs.CommandTerms.{bytes_held}
+use Rattle.command_laws.specs.RestoreTerms.{bytes_held}
 use Rattle.qic_base.specs.Acts.{Act, steps_of, text_of}
 use Rattle.qic_base.specs.Cartridge.{IsSector, Cartridge}
 use Rattle.qic_base.specs.Step.{Step}

@@ -7,7 +7,7 @@ use Rattle.cartridge_spec.specs.Says.{Data, LostSectors, Says, Mismatch, Saying}
 use Rattle.cartridge_spec.specs.Shape.{mask_at}
 use Rattle.command_laws.specs.RestoreLaws.{RestoresIsFunction, RestoresAlways}
 use Rattle.command_spec.specs.Restore.{Piece, GivingEnd, Restored, LostIn, MismatchIn, IsRead, PieceEnds, piece_cells, Restores}
-use Rattle.command_laws.specs.CommandTerms.{act_of}
+use Rattle.command_laws.specs.RestoreTerms.{act_of}
 use Rattle.qic_base.specs.Acts.{Act}
 use Rattle.qic_base.specs.Cartridge.{Cartridge}
 use Rattle.qic_base.specs.declared.tape.SectorView.{SectorView}

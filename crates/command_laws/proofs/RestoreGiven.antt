@@ -12,7 +12,7 @@ use Rattle.command_laws.proofs.RestoreCounts.{FitsIn, pieces_fit, read_count, pi
 use Rattle.command_laws.specs.RestoreLaws.{GivenIsFunction, GivenAlways, GivenBeginsRestored, GivenIsLong}
 use Rattle.command_spec.specs.Restore.{Piece, IsRead, PieceEnds, piece_cells, pieces}
 use Rattle.command_spec.specs.Copying.{GivenBytes, bytes_said}
-use Rattle.command_laws.specs.CommandTerms.{act_of, bytes_held}
+use Rattle.command_laws.specs.RestoreTerms.{act_of, bytes_held}
 use Rattle.qic_base.specs.Acts.{Act, text_of}
 use Rattle.qic_base.specs.Cartridge.{Cartridge}
 
@@ -31,7 +31,7 @@ given_always c words (piece ∷ needed) =
     (bytes_said piece said.0 ++ rest.0, (said.0, rest.0, said.1, rest.1, refl))
 
 -- what is said of a piece that is read
-pub said_is_read : (c : Cartridge) (words : List ℕ) (piece : Piece) (act : Act) (saying : Saying) → IsRead c words piece act →
+said_is_read : (c : Cartridge) (words : List ℕ) (piece : Piece) (act : Act) (saying : Saying) → IsRead c words piece act →
     Says (piece_cells c words piece) saying → bytes_said piece saying ≡ act.text
 said_is_read c words piece act saying read says =
     let same : saying ≡ Data read.sectors =
@@ -55,7 +55,7 @@ given_begins_restored c words (piece ∷ needed) (act ∷ acts) ending bytes h (
 
 -- ---- how many
 
-pub length-said : (c : Cartridge) (words : List ℕ) (piece : Piece) (saying : Saying) → FitsIn words piece → Says (piece_cells c words piece) saying →
+length-said : (c : Cartridge) (words : List ℕ) (piece : Piece) (saying : Saying) → FitsIn words piece → Says (piece_cells c words piece) saying →
     length (bytes_said piece saying) ≡ piece.count
 length-said c words piece (Data sectors) fits says =
     read_count c words piece (act_of piece sectors) fits (record { sectors = sectors; says = says; shown = refl })

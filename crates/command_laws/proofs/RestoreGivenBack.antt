@@ -25,7 +25,8 @@ use Rattle.command_spec.specs.Restore.{Piece, pieces_of, piece_cells, pieces_in,
 use Rattle.qic_base.specs.Acts.{Act}
 use Rattle.qic_base.specs.Cartridge.{Cartridge}
 use Rattle.qic_base.specs.declared.tape.SectorView.{SectorView}
-use Rattle.command_laws.specs.CommandTerms.{RestoreOutcome, bytes_held}
+use Rattle.command_laws.specs.RestoreTerms.{bytes_held}
+use Rattle.command_laws.specs.Outcomes.{RestoreOutcome}
 use Rattle.command_spec.specs.declared.status.Status.TheVariants as status
 
 -- ---- the segments of a volume lie behind that of the table

@@ -14,12 +14,12 @@ use Rattle.cartridge_laws.specs.Shape.{Carries}
 use Rattle.cartridge_spec.specs.Volumes.{bytes_in, volume_bytes, parts_of, Part, Plain, Volume, VolumeStands, carrying_segments, volume_length}
 use Rattle.cartridge_spec.specs.Says.{cells_of, Written, unreadable_count, Says, Data, LostSectors}
 use Rattle.cartridge_spec.specs.Shape.{mask_at, data_count, capacity, usable_count}
-use Rattle.cartridge_laws.specs.Terms.{PartStands, sectors_in}
+use Rattle.cartridge_laws.specs.VolumeParts.{PartStands, sectors_in}
 use Rattle.command_laws.proofs.RestoreCounts.{length-bytes_in, length_within}
 use Rattle.command_laws.proofs.RestoreEndings.{restores_is_function}
 use Rattle.command_laws.specs.RestoreLaws.{HasVolume, VolumeIsLong, RestoresByteForByte, FewOrFirstLost, RestoresFront, NeverMismatch, StandingRestores}
 use Rattle.command_spec.specs.Restore.{Piece, Restored, Restores, LosesFew, pieces_of, LostIn, piece_cells, pieces_in, FirstLost, MismatchIn}
-use Rattle.command_laws.specs.CommandTerms.{act_of, bytes_held}
+use Rattle.command_laws.specs.RestoreTerms.{act_of, bytes_held}
 use Rattle.qic_base.specs.Acts.{Act, text_of}
 use Rattle.qic_base.specs.Cartridge.{Cartridge, IsSector}
 
@@ -82,7 +82,7 @@ first_says c words s area holds few =
 
 -- ---- bytes in parts
 
-bytes_in-append : (xs ys : List (List ℕ)) → bytes_in (xs ++ ys) ≡ bytes_in xs ++ bytes_in ys
+pub bytes_in-append : (xs ys : List (List ℕ)) → bytes_in (xs ++ ys) ≡ bytes_in xs ++ bytes_in ys
 bytes_in-append [] ys = refl
 bytes_in-append (x ∷ xs) ys =
     ap (λ (bytes : List ℕ). x ++ bytes) (bytes_in-append xs ys) ∙ sym (append_assoc x (bytes_in xs) (bytes_in ys))

@@ -6,7 +6,8 @@ use Rattle.std.proofs.lemmas.List.{take_all, length-take-le}
 use Rattle.cartridge_spec.specs.Table.{Entry}
 use Rattle.command_laws.proofs.InputActLaws.{input_prints_nothing}
 use Rattle.command_spec.specs.Append.{Fits, TooLong, TooShort, taking, has_promised_room, input_acts, Kept, Taking, room_in, entry_acts, append_acts, input_writes, volume_acts, filled_acts}
-use Rattle.command_laws.specs.CommandTerms.{entry_for, WearsBehind, LineSpares, LineSparesTable, free_in, most_written, silently}
+use Rattle.command_laws.specs.ScriptTerms.{WearsBehind, LineSpares, LineSparesTable}
+use Rattle.command_laws.specs.AppendTerms.{entry_for, free_in, most_written, silently}
 use Rattle.qic_base.proofs.Joins.{steps_of-append, text_of-append}
 use Rattle.qic_base.specs.Acts.{Act, text_of, steps_of}
 use Rattle.cartridge_spec.specs.Volumes.{Plain, WearSpares}

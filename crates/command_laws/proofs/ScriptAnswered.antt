@@ -1,5 +1,5 @@
 -- Which items of a script stand after a stop in it, and which of them were answered.
-use Rattle.std.proofs.Common.{List, [], ◌∷◌, Option, ◌≡◌, ◌++◌, Some, sym, ap, ◌∙◌, subst, inl, inr, refl, ◌⊎◌, None, IsSomeAnd, ℕ, ◌<◌, drop, All, take, length, arith, suc, zero, append_assoc, append-nil, ◌≤◌, ◌+◌}
+use Rattle.std.proofs.Common.{List, [], ◌∷◌, Option, ◌≡◌, ◌++◌, Some, sym, ap, ◌∙◌, subst, inl, inr, refl, ◌⊎◌, IsSomeAnd, ℕ, ◌<◌, drop, All, take, length, arith, suc, zero, append_assoc, append-nil, ◌≤◌, ◌+◌}
 use Rattle.std.proofs.lemmas.Bool.{cases_lt}
 use Rattle.std.proofs.lemmas.List.{length-append, length-take-le, take-take, take_all}
 use Rattle.cartridge_laws.proofs.FormatWriting.{effects-some, changed_by-append, some_and}
@@ -25,6 +25,7 @@ use Rattle.qic_base.proofs.Steps.{Torn-front, Torn-behind, Torn-append, Torn-not
 use Rattle.qic_base.specs.Acts.{Act, steps_of, next_steps, text_of}
 use Rattle.qic_base.specs.Cartridge.{Cartridge}
 use Rattle.qic_base.specs.Step.{Step, Torn}
+use Rattle.command_laws.proofs.MadeStops.{some_split}
 
 -- ---- stops among acts
 
@@ -63,11 +64,6 @@ stops_behind (act ∷ acts) c left torn =
             torn = subst (λ (d : Cartridge). Torn (next_steps s.rest) (Some d) left) (sym (changed_by-append act.steps (steps_of s.front) c)) s.torn;
           }
     ]
-
--- a fact of two or of one, of what a stop left
-some_split : (P Q : Cartridge → Type 0) (left : Option Cartridge) → IsSomeAnd left (λ d. P d ⊎ Q d) → IsSomeAnd left P ⊎ IsSomeAnd left Q
-some_split P Q None fact = absurd fact
-some_split P Q (Some d) fact = fact
 
 -- ---- behind the items
 

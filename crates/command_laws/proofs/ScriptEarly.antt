@@ -1,10 +1,11 @@
 -- Whether an append's line begins some bytes, with fewer behind it than it promises.
 use Rattle.std.proofs.Common.{ℕ, List, ◌≡◌, ◌+◌, [], ◌∷◌, ◌++◌, sym, ap, ◌∙◌, append_assoc, subst, ◌<◌, ◌≤◌, arith, length, refl, inr, inl}
 use Rattle.std.proofs.lemmas.List.{append_cancel_left}
-use Rattle.command_laws.proofs.TextDeciding.{Decided, along, at_most, both, has_form}
+use Rattle.command_laws.proofs.TextDeciding.{along, at_most, both, has_form}
+use Rattle.cartridge_laws.proofs.Search.{Decided}
 use Rattle.command_laws.proofs.TextLined.{one_before}
 use Rattle.command_laws.proofs.TextReadings.{Cut, cut, no_line_without}
-use Rattle.command_laws.specs.CommandTerms.{IsLine, words_of}
+use Rattle.command_laws.specs.Inputs.{IsLine, words_of}
 use Rattle.command_spec.specs.Input.{line_forms, promised}
 use Rattle.command_spec.specs.Script.{EndsEarly}
 use Rattle.command_spec.specs.declared.line.Line.{Line}

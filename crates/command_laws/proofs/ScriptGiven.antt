@@ -9,7 +9,7 @@ untold : (p : Option (List ℕ)) (given : List ℕ) → None ≡ option_map (λ 
 untold None given is = refl
 untold (Some rest) given is = absurd (cc)
 
-pub gives_untold : (p : Option (List ℕ)) (given bytes : List ℕ) → None ≡ option_map (λ rest. given ++ rest) p → None ≡ option_map (λ rest. bytes ++ rest) p
+gives_untold : (p : Option (List ℕ)) (given bytes : List ℕ) → None ≡ option_map (λ rest. given ++ rest) p → None ≡ option_map (λ rest. bytes ++ rest) p
 gives_untold p given bytes is = sym (ap (option_map (λ rest. bytes ++ rest)) (untold p given is))
 
 -- the front of a list of bytes that are there is what was given

@@ -3,7 +3,7 @@ use Rattle.std.proofs.Common.{◌≡◌, ℕ, List, [], ◌∷◌, ◌++◌, sym
 use Rattle.std.proofs.lemmas.List.{append_cancel_left}
 use Rattle.command_laws.proofs.TextLined.{one_before}
 use Rattle.command_laws.proofs.TextLines.{one_line}
-use Rattle.command_laws.specs.CommandTerms.{IsLine, words_of}
+use Rattle.command_laws.specs.Inputs.{IsLine, words_of}
 use Rattle.command_spec.specs.Input.{IsLineText}
 use Rattle.command_spec.specs.Script.{EndsEarly}
 use Rattle.command_spec.specs.declared.line.Line.{Line}

@@ -5,7 +5,7 @@ use Rattle.qic_base.proofs.Joins.{went_both, went_then_cut, sink_cut_one}
 use Rattle.qic_base.proofs.Steps.{Done-nothing}
 use Rattle.qic_base.proofs.Writing.{TakesBoth}
 use Rattle.qic_base.specs.Acts.{Outside, Act, Failing, TapeFails, SourceFails, SinkFails, Went, Cut, text_of}
-use Rattle.qic_base.specs.Terms.{no_source, no_sink, around, reading}
+use Rattle.qic_base.specs.Alone.{no_source, no_sink, around, reading}
 use Rattle.qic_base.specs.Sink as sinks
 use Rattle.qic_base.specs.SinkCalls as sink_calls
 use Rattle.qic_base.specs.Source as sources

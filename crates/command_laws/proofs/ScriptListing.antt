@@ -22,7 +22,9 @@ use Rattle.command_laws.specs.MountedListed.{IsListed, listed_behind}
 use Rattle.command_laws.specs.ScriptListing.{ListedBetween, ListedBehind, ListedDone, ListedNone}
 use Rattle.command_spec.specs.Append.{Kept, Taking, Fits, TooLong, TooShort, room_in, taking, kept_over}
 use Rattle.command_spec.specs.Input.{Item, IsLined, IsItem, Ending, HasItems, AtEnd, AtStop, AtFault}
-use Rattle.command_laws.specs.CommandTerms.{IsLine, RestoreDoes, WearsBehind}
+use Rattle.command_laws.specs.ScriptTerms.{WearsBehind}
+use Rattle.command_laws.specs.RestoreTerms.{RestoreDoes}
+use Rattle.command_laws.specs.Inputs.{IsLine}
 use Rattle.command_spec.specs.Lines.{lost_line, reply_behind}
 use Rattle.command_spec.specs.Restore.{framed, pieces}
 use Rattle.command_spec.specs.Script.{Did, refusal_line, EndDoes, Finds, LineDoes, Meeting, Meets, Refuses, acts_on, append_did, line_refused, reply, taken_as, entries_behind, ItemsDo, cartridge_behind, ScriptDoes, place_behind, acts_of}
@@ -35,6 +37,7 @@ use Rattle.qic_base.proofs.Joins.{text_of-append}
 use Rattle.qic_base.specs.Acts.{Act, text_of, steps_of}
 use Rattle.qic_base.specs.Cartridge.{Cartridge}
 use Rattle.qic_base.specs.Step.{Step, Wear}
+use Rattle.command_laws.proofs.MadeAnswered.{no_front}
 use Rattle.command_spec.specs.declared.line.Line.TheVariants as line
 use Rattle.command_spec.specs.declared.refusal.Refusal.TheVariants as why
 
@@ -69,11 +72,6 @@ front_alone : (front : List Act) (act : Act) (rest : List Act) (x : Act) → fro
 front_alone [] act rest x parts = refl
 front_alone (y ∷ []) act rest x parts = let none : act ∷ rest ≡ [] = cc in absurd (cc)
 front_alone (y ∷ z ∷ front) act rest x parts = let none : z ∷ (front ++ act ∷ rest) ≡ [] = cc in absurd (cc)
-
--- both of two texts are empty where they are as one
-no_front : (xs ys : List ℕ) → xs ++ ys ≡ [] → xs ≡ []
-no_front [] ys none = refl
-no_front (x ∷ xs) ys none = absurd (cc)
 
 no_rest : (xs ys : List ℕ) → xs ++ ys ≡ [] → ys ≡ []
 no_rest [] ys none = none

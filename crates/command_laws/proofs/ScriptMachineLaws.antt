@@ -11,7 +11,7 @@ use Rattle.command_laws.specs.ScriptItems.{EarlyDoes}
 use Rattle.command_laws.specs.ScriptLaws.{OneOutcome, StopsInOne}
 use Rattle.command_spec.specs.Input.{Item, input_status, IsItem, Ending, HasItems, IsScript, AtEnd, AtStop, AtFault}
 use Rattle.command_spec.specs.Script.{place_behind, items_taken, Meeting, acts_on, EndDoes, Did, ItemsDo, cartridge_behind, entries_behind, acts_of}
-use Rattle.command_laws.specs.CommandTerms.{FaultDoes}
+use Rattle.command_laws.specs.ScriptTerms.{FaultDoes}
 use Rattle.command_spec.specs.Outcome.{CommandOutcome}
 use Rattle.command_spec.specs.declared.line.Line.{Line}
 use Rattle.qic_base.proofs.Joins.{steps_of-append}

@@ -9,7 +9,8 @@ use Rattle.command_laws.proofs.RestoreCounts.{framed_in_no_step}
 use Rattle.command_laws.proofs.ScriptEarly.{early_or_not}
 use Rattle.command_laws.proofs.ScriptPlaces.{place_or_not}
 use Rattle.command_laws.proofs.ScriptValues.{append_values}
-use Rattle.command_laws.proofs.TextDeciding.{Decided, at_most}
+use Rattle.command_laws.proofs.TextDeciding.{at_most}
+use Rattle.cartridge_laws.proofs.Search.{Decided}
 use Rattle.command_laws.proofs.TextReadings.{each_script}
 use Rattle.command_laws.specs.MountedListed.{IsListed, listed_behind}
 use Rattle.command_laws.specs.ScriptLaws.{EachOutcome}
@@ -18,7 +19,7 @@ use Rattle.command_spec.specs.Input.{Item, input_status, IsLineText, IsItem, End
 use Rattle.command_spec.specs.Lines.{reply_behind, lost_line, list_text}
 use Rattle.command_spec.specs.Restore.{framed, pieces, volume_at}
 use Rattle.command_spec.specs.Script.{reply, Did, LineDoes, line_refused, taken_as, given_as, ItemsDo, cartridge_behind, entries_behind, Finds, Meeting, Meets, Refuses, acts_on, append_did, EndsEarly, end_line, EndDoes, acts_of, place_behind, items_taken}
-use Rattle.command_laws.specs.CommandTerms.{FaultDoes}
+use Rattle.command_laws.specs.ScriptTerms.{FaultDoes}
 use Rattle.command_spec.specs.declared.line.Line.{Line}
 use Rattle.qic_base.proofs.Joins.{steps_of-append}
 use Rattle.qic_base.specs.Acts.{Act, steps_of}

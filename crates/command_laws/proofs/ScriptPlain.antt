@@ -9,7 +9,7 @@ use Rattle.command_laws.proofs.ScrubOneWrong.{form_is_function}
 use Rattle.command_laws.proofs.StoreAgain.{table_one}
 use Rattle.command_spec.specs.Restore.{framed, pieces, Restores}
 use Rattle.command_spec.specs.Script.{Meeting, Refuses, Finds, Meets, Did, given_as, LineDoes, append_did}
-use Rattle.command_laws.specs.CommandTerms.{RestoreDoes}
+use Rattle.command_laws.specs.RestoreTerms.{RestoreDoes}
 use Rattle.command_spec.specs.declared.depth.Depth.TheVariants.{Shallow}
 use Rattle.command_spec.specs.declared.line.Line.{Line}
 use Rattle.qic_base.specs.Acts.{Act}
@@ -27,7 +27,7 @@ not_lost c table lost (inr solved) says =
     let same : ByCode (Data table) ≡ ByCode (LostSectors lost) = table_says_is_function (table_cells c) (ByCode (Data table)) (ByCode (LostSectors lost)) solved says in absurd (cc)
 
 -- a protected cartridge is met so
-pub meets_protected : (c : Cartridge) (m : Meeting) → c.info.protected ≡ true → Meets c m → m ≡ Refuses why.Protected
+meets_protected : (c : Cartridge) (m : Meeting) → c.info.protected ≡ true → Meets c m → m ≡ Refuses why.Protected
 meets_protected c (Refuses why.Protected) mark meets = refl
 meets_protected c (Refuses (why.Lost segment lost)) mark meets = let off = meets.0 in absurd (cc)
 meets_protected c (Refuses (why.Full need have)) mark meets = absurd meets
@@ -37,7 +37,7 @@ meets_protected c (Refuses (why.Place segment sector)) mark meets = absurd meets
 meets_protected c (Finds table) mark meets = let off = meets.0 in absurd (cc)
 
 -- .. and a table that is lost
-pub meets_lost : (c : Cartridge) (m : Meeting) (lost : ℕ) → c.info.protected ≡ false → TableSays (table_cells c) (ByCode (LostSectors lost)) → Meets c m →
+meets_lost : (c : Cartridge) (m : Meeting) (lost : ℕ) → c.info.protected ≡ false → TableSays (table_cells c) (ByCode (LostSectors lost)) → Meets c m →
     m ≡ Refuses (why.Lost 2 lost)
 meets_lost c (Refuses why.Protected) lost mark says meets = absurd (cc)
 meets_lost c (Refuses (why.Lost segment other)) lost mark says meets =
@@ -52,7 +52,7 @@ meets_lost c (Refuses (why.Place segment sector)) lost mark says meets = absurd 
 meets_lost c (Finds table) lost mark says meets = absurd (not_lost c table lost meets.1 says)
 
 -- .. and one that says data
-pub meets_table : (c : Cartridge) (m : Meeting) (table : List (List ℕ)) → c.info.protected ≡ false → TableIs c table → Meets c m → m ≡ Finds table
+meets_table : (c : Cartridge) (m : Meeting) (table : List (List ℕ)) → c.info.protected ≡ false → TableIs c table → Meets c m → m ≡ Finds table
 meets_table c (Refuses why.Protected) table mark is meets = absurd (cc)
 meets_table c (Refuses (why.Lost segment lost)) table mark is meets = absurd (not_lost c table lost is meets.2)
 meets_table c (Refuses (why.Full need have)) table mark is meets = absurd meets

@@ -16,7 +16,7 @@ use Rattle.qic_base.specs.Step.{Step}
 -- ---- texts and steps of fronts
 
 -- the text of a front and of the act behind it, and their steps
-pub front_text : (front : List Act) (act : Act) → length (text_of (front ++ act ∷ [])) ≡ length (text_of front) + length act.text
+front_text : (front : List Act) (act : Act) → length (text_of (front ++ act ∷ [])) ≡ length (text_of front) + length act.text
 front_text front act =
     ap (λ (t : List ℕ). length t) (text_of-append front (act ∷ []) ∙ ap (λ (t : List ℕ). text_of front ++ t) (append-nil act.text)) ∙ length-append (text_of front) act.text
 

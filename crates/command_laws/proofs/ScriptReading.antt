@@ -8,7 +8,7 @@ use Rattle.command_laws.proofs.ScriptPlain.{line_one}
 use Rattle.command_laws.proofs.TextInputs.{one_item, no_ending}
 use Rattle.command_spec.specs.Input.{Item, IsItem, Ending, HasItems, ItemsEnd, most_items}
 use Rattle.command_spec.specs.Script.{place_behind, Did, acts_of, cartridge_behind, ItemsDo, entries_behind}
-use Rattle.command_laws.specs.CommandTerms.{ItemDoes}
+use Rattle.command_laws.specs.ScriptTerms.{ItemDoes}
 use Rattle.qic_base.proofs.Joins.{steps_of-append}
 use Rattle.qic_base.specs.Acts.{steps_of, Act}
 use Rattle.qic_base.specs.Cartridge.{Cartridge}

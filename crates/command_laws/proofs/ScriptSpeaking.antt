@@ -5,17 +5,17 @@ use Rattle.std.proofs.lemmas.Bool.{cases_Bool, le-ltb}
 use Rattle.cartridge_spec.specs.Appending.{table_writes}
 use Rattle.cartridge_spec.specs.Settling.{changed_by}
 use Rattle.cartridge_spec.specs.Table.{Entry, table_with}
-use Rattle.cartridge_laws.specs.Terms.{slot_sector}
+use Rattle.cartridge_laws.specs.Slots.{slot_sector}
 use Rattle.command_laws.proofs.ScriptActs.{fits_acts, front_acts, full_taking}
 use Rattle.command_spec.specs.Append.{Kept, Taking, Fits, TooLong, TooShort, append_acts, has_promised_room, room_in, taking, kept_over}
-use Rattle.command_laws.specs.CommandTerms.{entry_for}
+use Rattle.command_laws.specs.AppendTerms.{entry_for}
 use Rattle.command_spec.specs.Input.{promised, Item, IsItem, Ending, HasItems}
 use Rattle.command_spec.specs.Lines.{number_line, place_line, appended_line, list_text, count_line, volume_lines, reply_behind}
 use Rattle.command_spec.specs.Restore.{Restored, LostIn, MismatchIn}
 use Rattle.command_spec.specs.Script.{no_volume_line, refusal_line, line_refused, reply, given_as, taken_as, Did, LineDoes, Meeting, Finds, Refuses, append_did, ItemsDo, ScriptDoes}
 use Rattle.command_spec.specs.Outcome.{CommandOutcome}
 use Rattle.command_spec.specs.Scrub.{Counts, counts_line, looked_at, finding_acts}
-use Rattle.command_laws.specs.Terms.{counts_for, last_act}
+use Rattle.command_laws.specs.ScrubTerms.{counts_for, last_act}
 use Rattle.command_spec.specs.declared.line.Line.{Line}
 use Rattle.command_spec.specs.declared.refusal.Refusal.{Refusal}
 use Rattle.qic_base.proofs.Joins.{text_of-append}
@@ -147,7 +147,7 @@ abbrev pub IsLong : Line → (bytes : List ℕ) → Type 0
 IsLong (line.Append name promised date) bytes = length bytes ≡ promised
 IsLong other bytes = Unit {0}
 
-pub speaks_line : (c : Cartridge) (words : List ℕ) (entries : List Entry) (asked : Line) (bytes : List ℕ) (did : Did) → IsLong asked bytes →
+speaks_line : (c : Cartridge) (words : List ℕ) (entries : List Entry) (asked : Line) (bytes : List ℕ) (did : Did) → IsLong asked bytes →
     LineDoes c words entries asked bytes did → Speaks did.acts
 speaks_line c words entries (line.Append name promised date) bytes did long (m, meets, is) =
     subst (λ (d : Did). Speaks d.acts) (sym is) (by_meeting m)
@@ -188,7 +188,7 @@ is_long line.Scrub bytes long = tt
 is_long (line.Lose segment sector) bytes long = tt
 is_long line.End bytes long = tt
 
-pub all_speak : (number place : ℕ) (input : List ℕ) (items : List Item) (ending : Ending) (dids : List Did) (c : Cartridge) (words : List ℕ) (entries : List Entry) →
+all_speak : (number place : ℕ) (input : List ℕ) (items : List Item) (ending : Ending) (dids : List Did) (c : Cartridge) (words : List ℕ) (entries : List Entry) →
     HasItems IsItem number place input items ending → ItemsDo c words entries items dids → AllSpeak dids
 all_speak number place input [] ending [] c words entries read ran = tt
 all_speak number place input [] ending (did ∷ dids) c words entries read ran = absurd ran

@@ -1,6 +1,6 @@
 -- What the items of a script leave of a cartridge that stands for a plain one, done or stopped.
 use Rattle.std.proofs.Common.{◌≡◌, ℕ, ◌<◌, List, length, All, ◌+◌, [], ◌∷◌, ◌++◌, subst, ◌⊎◌, Option, Some, IsSomeAnd, ◌-◌, Bool, cond, ap, inl, sym, ◌∙◌, false, nat_lt, arith, inr, ◌==◌, true, take, append-nil, refl, ◌≤◌, ◌≢◌}
-use Rattle.std.proofs.lemmas.Bool.{eq-eqb, le-ltb, cases_Bool, eqb-true, lt-ltb}
+use Rattle.std.proofs.lemmas.Bool.{eq-eqb, cases_Bool, eqb-true, lt-ltb}
 use Rattle.std.proofs.lemmas.List.{length-append, map-append, take_all}
 use Rattle.std.proofs.lemmas.List.Elements.{All-weaker}
 use Rattle.cartridge_laws.proofs.AppendSegments.{carrying_from}
@@ -11,8 +11,8 @@ use Rattle.cartridge_laws.proofs.MountSettled.{settled_stands}
 use Rattle.cartridge_laws.proofs.MountStanding.{standing_data}
 use Rattle.cartridge_laws.proofs.MountWhole.{settling_effects}
 use Rattle.cartridge_laws.specs.AppendWrites.{AreWrites, IsFree}
-use Rattle.cartridge_spec.specs.Appending.{appended_volume, has_room, with_bytes, with_all, Content}
-use Rattle.cartridge_laws.specs.Terms.{last_end}
+use Rattle.cartridge_spec.specs.Appending.{appended_volume, has_room, with_bytes, with_all}
+use Rattle.cartridge_laws.specs.Table.{last_end}
 use Rattle.cartridge_spec.specs.TableSegment.{IsTableLive}
 use Rattle.cartridge_spec.specs.Mounting.{settled}
 use Rattle.cartridge_spec.specs.Settling.{changed_by, settling_steps}
@@ -22,7 +22,7 @@ use Rattle.command_laws.proofs.InputActLaws.{input_is_free}
 use Rattle.command_laws.proofs.IntactKeeping.{appends_leave_intact, intact_is_one, scrubs_leave_intact, wears_leave_intact, whole_needs_no_steps}
 use Rattle.command_laws.proofs.MountedHeld.{held_open, open_held, settled_held, settling_live, scrubbed_held, scrubbed_live, worn_held, worn_is_live}
 use Rattle.command_laws.proofs.MountedKeeping.{live_kept}
-use Rattle.command_laws.proofs.MountedStanding.{all_writes, kept_appended, open_appended, stopped_appended}
+use Rattle.command_laws.proofs.MountedStanding.{all_writes, kept_appended, open_appended, stopped_appended, same_less}
 use Rattle.command_laws.proofs.RestoreCounts.{framed_in_no_step}
 use Rattle.command_laws.proofs.ScriptActs.{full_acts, full_taking, replied_steps, line_spares}
 use Rattle.command_laws.proofs.ScriptValues.{append_values}
@@ -33,7 +33,10 @@ use Rattle.command_laws.specs.MountedHeld.{IsHeld}
 use Rattle.command_laws.specs.MountedKept.{IsAppendable, IsKept, IsOpen}
 use Rattle.command_laws.specs.ScriptStanding.{LineHasBytes, HaveBytes, ItemsHaveBytes, HasBytes, StoppedItemStands, ItemsStand, FaultStands, plain_after, plain_behind}
 use Rattle.command_spec.specs.Append.{Kept, Taking, Fits, TooLong, TooShort, append_acts, room_in, taking, entry_acts, has_promised_room, input_acts, input_writes, kept_over}
-use Rattle.command_laws.specs.CommandTerms.{entry_for, free_in, IsLine, ItemDoes, RestoreDoes, LineSpares, LineSparesTable}
+use Rattle.command_laws.specs.ScriptTerms.{ItemDoes, LineSpares, LineSparesTable}
+use Rattle.command_laws.specs.RestoreTerms.{RestoreDoes}
+use Rattle.command_laws.specs.AppendTerms.{entry_for, free_in}
+use Rattle.command_laws.specs.Inputs.{IsLine}
 use Rattle.command_spec.specs.Input.{IsLined, promised, Item, IsItem, Ending, HasItems}
 use Rattle.command_spec.specs.Lines.{reply_behind, lost_line}
 use Rattle.command_spec.specs.Restore.{Restored, LostIn, MismatchIn, framed, pieces}
@@ -49,6 +52,8 @@ use Rattle.qic_base.proofs.Steps.{Torn-append}
 use Rattle.qic_base.specs.Acts.{steps_of, Act}
 use Rattle.qic_base.specs.Cartridge.{Cartridge}
 use Rattle.qic_base.specs.Step.{Step, Wear, Torn}
+use Rattle.command_laws.proofs.CopyGoing.{with_all-append}
+use Rattle.command_laws.proofs.CopyStanding.{writes_if}
 use Rattle.command_spec.specs.declared.line.Line.TheVariants as line
 use Rattle.cartridge_laws.specs.AppendLaws as appends
 use Rattle.command_spec.specs.declared.refusal.Refusal.TheVariants as why
@@ -133,9 +138,6 @@ no_steps c plain did held none same = record {
 }
 
 -- ---- an append
-
-same_less : (n : ℕ) → nat_lt n n ≡ false
-same_less n = le-ltb n n (omega arith)
 
 differ : (m n : ℕ) → m ≡ n + 1 → m == n ≡ false
 differ m n more = elim (cases_Bool (m == n)) [
@@ -362,10 +364,6 @@ stopped_item_stands c plain item did left held live has does spares torn = (item
 
 -- ---- items one after the other
 
-with_all-append : (plain : Plain) (xs ys : List Content) → with_all plain (xs ++ ys) ≡ with_all (with_all plain xs) ys
-with_all-append plain [] ys = refl
-with_all-append plain (x ∷ xs) ys = with_all-append (with_bytes plain x.name x.date x.bytes) xs ys
-
 -- what the next items add behind the first is added behind all
 pub next_is : (plain : Plain) (item : Item) (did : Did) (items : List Item) (dids : List Did) → entries_of (plain_after plain item did) ≡ did.entries →
     plain_behind (plain_after plain item did) items dids ≡ plain_behind plain (item ∷ items) (did ∷ dids)
@@ -396,10 +394,6 @@ items_stand c plain (item ∷ items) (did ∷ dids) held has ran spares =
     )
 
 -- ---- an append whose bytes end early
-
-writes_if : (before : ℕ) (some : Bool) (acts : List Act) → AreWrites (IsFree before) (steps_of acts) → AreWrites (IsFree before) (steps_of (cond some acts []))
-writes_if before true acts free = free
-writes_if before false acts free = tt
 
 -- no entry is written
 no_entry : (kept : Kept) (name : List ℕ) (date n : ℕ) (reply : Entry → List ℕ) (bytes : List ℕ) (room : Bool) →

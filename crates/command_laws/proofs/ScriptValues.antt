@@ -6,9 +6,9 @@ use Rattle.std.proofs.lemmas.List.Elements.{All-append, All-replicate}
 use Rattle.cartridge_spec.specs.Formatting.{IsLabel}
 use Rattle.command_laws.proofs.TextCommands.{dated_cases, three_words}
 use Rattle.command_spec.specs.Command.{IsDateWord, Date, Name, Word, AnyNumber, SpellsPart}
-use Rattle.command_laws.specs.CommandTerms.{words_of}
+use Rattle.command_laws.specs.Inputs.{words_of}
 use Rattle.command_spec.specs.Input.{IsLineText}
-use Rattle.qic_base.specs.Terms.{IsPrintable}
+use Rattle.qic_base.specs.LineBytes.{IsPrintable}
 use Rattle.qic_base.specs.Field.{IsNameText, filled}
 use Rattle.command_spec.specs.declared.line.Line.TheVariants as line
 

@@ -14,7 +14,8 @@ use Rattle.command_laws.proofs.ScrubApart.{contains_cases, contains_first, conta
 use Rattle.command_laws.proofs.ScrubAtOnce.{scrubs_at_once}
 use Rattle.command_laws.proofs.ScrubDone.{done_scrub, done_being_mended}
 use Rattle.command_laws.proofs.ScrubMending.{scrub_is_at_once}
-use Rattle.command_laws.proofs.ScrubStanding.{cell_at, unread_kept}
+use Rattle.command_laws.proofs.ScrubStanding.{unread_kept}
+use Rattle.cartridge_laws.proofs.Writing.{cell_at}
 use Rattle.command_laws.specs.ScrubLaws.{AreAllLive, SecondScrubWritesNothing}
 use Rattle.command_laws.specs.ScrubMended.{IsBeingMended, IsScrubbed}
 use Rattle.command_laws.specs.ScrubSayings.{SayAtOnce, Rise, acts_at_once}

@@ -13,7 +13,8 @@ use Rattle.cartridge_spec.specs.Volumes.{carrying, carrying_segments}
 use Rattle.command_laws.specs.ScrubLaws.{LookedCarry}
 use Rattle.command_laws.specs.ScrubSayings.{Rise}
 use Rattle.command_spec.specs.Scrub.{Looked, looked_volumes, whole_segment, looked_at}
-use Rattle.command_laws.specs.CommandTerms.{looked_segments}
+use Rattle.command_laws.specs.ScrubTerms.{looked_segments}
+use Rattle.cartridge_laws.proofs.AppendStanding.{range_within}
 
 -- ---- lists
 
@@ -48,12 +49,6 @@ looked_all P words (s ∷ ss) are =
 segments_rise : (words ss : List ℕ) → IsRising ss → Rise (looked_segments words ss)
 segments_rise words [] rise = tt
 segments_rise words (s ∷ ss) rise = (looked_all (λ t. s < t) words ss rise.0, segments_rise words ss rise.1)
-
-range_within : (n from to : ℕ) → (1 ≤ n → from + n ≤ to + 1) → All (λ s. s ≤ to) (range_with_len from n)
-range_within zero from to h = All-nil (λ (s : ℕ). s ≤ to)
-range_within (suc n) from to h =
-    let room : from + suc n ≤ to + 1 = h (omega arith) in
-    All-cons (λ (s : ℕ). s ≤ to) from (range_with_len (from + 1) n) (omega arith) (range_within n (from + 1) to (λ some. omega arith))
 
 carrying_to : (words : List ℕ) (start end : ℕ) → All (λ s. s ≤ end) (carrying words start end)
 carrying_to words start end =

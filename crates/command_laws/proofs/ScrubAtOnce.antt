@@ -14,7 +14,7 @@ use Rattle.command_laws.specs.ScrubLaws.{ScrubsAtOnce}
 use Rattle.command_laws.specs.ScrubPlain.{looking_acts, SayInTurn}
 use Rattle.command_laws.specs.ScrubSayings.{SayAtOnce, acts_at_once, Rise}
 use Rattle.command_spec.specs.Scrub.{mending_writes, Looked, reads, steps_in, line_in, looked_at}
-use Rattle.command_laws.specs.Terms.{last_act, counts_of, look_act, scrub_acts}
+use Rattle.command_laws.specs.ScrubTerms.{last_act, counts_of, look_act, scrub_acts}
 use Rattle.qic_base.proofs.Joins.{steps_of-append}
 use Rattle.qic_base.specs.Acts.{Act, steps_of}
 use Rattle.qic_base.specs.Cartridge.{Cartridge, view_at}
@@ -102,7 +102,7 @@ pub record AtOnce (c d : Cartridge) (ls : List Looked) (ss : List Saying) : Type
   pub say : SayAtOnce c ls ss
   pub acts : looking_acts d ls ss ≡ acts_at_once c ls ss
 
-pub turn_at_once : (ls : List Looked) (ss : List Saying) (c d : Cartridge) → Rise ls → AreAlike c d ls → SayInTurn d ls ss → AtOnce c d ls ss
+turn_at_once : (ls : List Looked) (ss : List Saying) (c d : Cartridge) → Rise ls → AreAlike c d ls → SayInTurn d ls ss → AtOnce c d ls ss
 turn_at_once [] [] c d rise alike say = record { say = tt; acts = refl }
 turn_at_once [] (s ∷ ss) c d rise alike say = absurd say
 turn_at_once (l ∷ ls) [] c d rise alike say = absurd say

@@ -13,7 +13,9 @@ use Rattle.cartridge_laws.proofs.Sayings.{says_is_function, written_is_said}
 use Rattle.cartridge_laws.proofs.Segments.{count_of_cells, length-whole_cells, zero_does_not_read}
 use Rattle.cartridge_laws.proofs.Zeros.{zero_is_written, zero_sector-is_sector}
 use Rattle.cartridge_laws.specs.Shape.{Carries}
-use Rattle.cartridge_laws.specs.Terms.{last_end, CopiesAre, PartStands}
+use Rattle.cartridge_laws.specs.VolumeParts.{PartStands}
+use Rattle.cartridge_laws.specs.Table.{last_end}
+use Rattle.cartridge_laws.specs.HeaderTerms.{CopiesAre}
 use Rattle.cartridge_spec.specs.Code.{parity_sectors}
 use Rattle.cartridge_spec.specs.Header.{header_fault}
 use Rattle.cartridge_spec.specs.HeaderCopies.{CopyReads, copy_cells}
@@ -24,9 +26,9 @@ use Rattle.cartridge_spec.specs.Table.{slot_fault}
 use Rattle.cartridge_spec.specs.Volumes.{Part, parts_of, Volume, VolumeStands, carrying_segments, Plain, Stands, entries_of, worn}
 use Rattle.command_laws.proofs.ScrubApart.{contains_cases}
 use Rattle.command_laws.proofs.ScrubSeen.{SameIn, IsFoundWrong}
-use Rattle.command_laws.proofs.ScrubStanding.{cell_at}
+use Rattle.cartridge_laws.proofs.Writing.{cell_at}
 use Rattle.command_spec.specs.Scrub.{Looked, cells_at, looked_at, looked_volumes, whole_segment, IsSearched, IsWrong}
-use Rattle.command_laws.specs.CommandTerms.{looked_segments}
+use Rattle.command_laws.specs.ScrubTerms.{looked_segments}
 use Rattle.command_spec.specs.declared.depth.Depth.{Depth}
 use Rattle.command_spec.specs.declared.depth.Depth.TheVariants.{Shallow, Deep}
 use Rattle.gf256_qic.proofs.Parities.{block_count, length-parity_sectors}

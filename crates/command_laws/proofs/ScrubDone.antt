@@ -71,7 +71,7 @@ mending_done c d segment (p ∷ places) (bytes ∷ sectors) (suc k) small apart 
     (λ e. mending_done c e segment places sectors k (λ j l. small (suc j) (omega arith))
     (λ i j l m same. apart (suc i) (suc j) (omega arith) (omega arith) same) (omega arith) (omega arith) unread)
 
-pub length-said_block : (c : Cartridge) (l : Looked) (sectors : List (List ℕ)) → Says (cells_at c l) (Data sectors) →
+length-said_block : (c : Cartridge) (l : Looked) (sectors : List (List ℕ)) → Says (cells_at c l) (Data sectors) →
     length (with_parity sectors) ≡ usable_count l.mask
 length-said_block c l sectors says =
     let size : length sectors + 3 ≡ length (cells_at c l) = (said_are_sectors (cells_at c l) sectors says).size in

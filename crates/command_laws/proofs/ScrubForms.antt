@@ -25,13 +25,13 @@ use Rattle.command_laws.specs.ScrubFound.{FindAtOnce, without_all, IsBeingScrubb
 use Rattle.command_laws.specs.ScrubMended.{IsMended, IsBeingMended, IsScrubbed}
 use Rattle.command_laws.specs.ScrubSayings.{Rise, SayAtOnce, acts_at_once}
 use Rattle.command_spec.specs.Scrub.{reads, Looked, looked_at, MayFind, Finding, FindInTurn, HasFound, ScrubsAs, finding_acts, sayings_of, steps_for, without}
-use Rattle.command_laws.specs.Terms.{last_act, counts_for}
+use Rattle.command_laws.specs.ScrubTerms.{last_act, counts_for}
 use Rattle.command_spec.specs.declared.depth.Depth.{Depth}
 use Rattle.qic_base.proofs.Joins.{steps_of-append}
 use Rattle.qic_base.proofs.Steps.{Torn-all}
 use Rattle.qic_base.specs.Acts.{Act, steps_of}
 use Rattle.qic_base.specs.Cartridge.{Cartridge, view_at, with_view}
-use Rattle.qic_base.specs.Terms.{IsCartridge}
+use Rattle.qic_base.specs.CartridgeTerms.{IsCartridge}
 use Rattle.qic_base.specs.Step.{Step, WriteSector, FormatSegment, SetReferenced, SetProtected, Renew, Wear, Spoil, Upgrade, changed, written_view, worn_view, effects, Halfway, Torn}
 use Rattle.qic_base.specs.declared.tape.SectorView.{SectorView}
 use Rattle.qic_base.specs.declared.tape.SectorView.TheVariants.{Blank, Lost, Holds}
@@ -161,7 +161,7 @@ step_both c e d y (Wear segment sector) is take behind = absurd is
 step_both c e d y (Spoil segment sector) is take behind = absurd is
 step_both c e d y Upgrade is take behind = absurd is
 
-pub done_both : (c e d y : Cartridge) (ss : List Step) → AreIn IsPlaced ss → TakeAlike c e → IsBehind c e d y →
+done_both : (c e d y : Cartridge) (ss : List Step) → AreIn IsPlaced ss → TakeAlike c e → IsBehind c e d y →
     IsBehind c e (changed_by ss d) (changed_by ss y)
 done_both c e d y [] are take behind = behind
 done_both c e d y (s ∷ ss) are take behind = done_both c e (changed s d) (changed s y) ss are.1 take (step_both c e d y s are.0 take behind)
@@ -203,7 +203,7 @@ stops_both c e d y (s ∷ ss) left are take behind (inr (inr torn)) =
 
 -- ---- what is left
 
-pub take_alike : (depth : Depth) (c e : Cartridge) (ls : List Looked) (fs : List Finding) → IsSeen depth c e ls fs → TakeAlike c e
+take_alike : (depth : Depth) (c e : Cartridge) (ls : List Looked) (fs : List Finding) → IsSeen depth c e ls fs → TakeAlike c e
 take_alike depth c e ls fs seen s i h =
     elim (seen.each s i h) [
       | inl same ↦ inl same
@@ -238,7 +238,7 @@ was_live depth c e ls s i (inl same) lost = subst IsLive (sym lost ∙ same) tt
 was_live depth c e ls s i (inr wrong) lost = subst IsLive (sym wrong.held) tt
 
 -- a wrong sector is one of those to be mended
-pub wrong_is_mended : (depth : Depth) (c e : Cartridge) (ls : List Looked) (s i : ℕ) → IsLostNow depth c e ls s i →
+wrong_is_mended : (depth : Depth) (c e : Cartridge) (ls : List Looked) (s i : ℕ) → IsLostNow depth c e ls s i →
     (bytes : List ℕ) × IsMended e ls s i bytes
 wrong_is_mended depth c e ls s i lost =
     let l : Looked = lost.found.at in
@@ -296,7 +296,7 @@ stopped_in_form depth c words entries last acts left order scrubs torn =
 
 -- ---- all of it done
 
-pub done_behind : (depth : Depth) (c : Cartridge) (words : List ℕ) (entries : List Entry) (acts : List Act) (fs : List Finding) →
+done_behind : (depth : Depth) (c : Cartridge) (words : List ℕ) (entries : List Entry) (acts : List Act) (fs : List Finding) →
     AsSeen depth c words entries acts fs →
     IsBehind c (without_all c (looked_at words entries) fs) (changed_by (steps_of acts) c)
     (changed_by (steps_of (acts_at_once (without_all c (looked_at words entries) fs) (looked_at words entries) (sayings_of fs)))

@@ -17,7 +17,7 @@ use Rattle.command_laws.specs.ScrubLaws.{AreAllLive}
 use Rattle.command_laws.specs.ScrubMended.{IsBeingMended}
 use Rattle.command_laws.specs.ScrubSayings.{Rise}
 use Rattle.command_spec.specs.Scrub.{Looked, cells_at, reads, steps_in, looked_at, Finding, IsSearched, IsWrong, HasFound, without}
-use Rattle.command_laws.specs.Terms.{Finds}
+use Rattle.command_laws.specs.ScrubTerms.{Finds}
 use Rattle.command_spec.specs.declared.depth.Depth.{Depth}
 use Rattle.gf256_qic.proofs.Parities.{block_count}
 use Rattle.qic_base.specs.Acts.{Act, steps_of}

@@ -6,7 +6,7 @@ use Rattle.cartridge_laws.proofs.Sayings.{says_is_function}
 use Rattle.cartridge_spec.specs.Formatting.{StandsCleanly}
 use Rattle.cartridge_spec.specs.HeaderCopies.{CopyReads, last_segment}
 use Rattle.cartridge_spec.specs.Shape.{IsArea}
-use Rattle.cartridge_laws.specs.Terms.{IsInForce, IsCleanCopy}
+use Rattle.cartridge_laws.specs.HeaderTerms.{IsInForce, IsCleanCopy}
 use Rattle.cartridge_spec.specs.Says.{Says, Data, Mismatch}
 use Rattle.cartridge_spec.specs.Volumes.{Plain, Stands, entries_of}
 use Rattle.command_laws.proofs.ScrubBeside.{beside_stands, standing_wrong, written_not_wrong, zero_not_wrong}

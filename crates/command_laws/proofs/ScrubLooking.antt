@@ -6,7 +6,7 @@ use Rattle.cartridge_spec.specs.Settling.{changed_by}
 use Rattle.command_laws.specs.ScrubLaws.{LooksOnce, OneMoreLook}
 use Rattle.command_laws.specs.ScrubPlain.{looking_acts}
 use Rattle.command_spec.specs.Scrub.{cells_at, reads, steps_in, unread_count}
-use Rattle.command_laws.specs.Terms.{look_act}
+use Rattle.command_laws.specs.ScrubTerms.{look_act}
 use Rattle.qic_base.specs.Acts.{Act, steps_of}
 use Rattle.qic_base.specs.Cartridge.{Cartridge}
 

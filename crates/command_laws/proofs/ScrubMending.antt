@@ -24,7 +24,7 @@ use Rattle.command_spec.specs.Scrub.{Looked, cells_at, steps_in, looked_at}
 use Rattle.qic_base.proofs.Steps.{Torn-all}
 use Rattle.qic_base.specs.Acts.{steps_of, Act}
 use Rattle.qic_base.specs.Cartridge.{Cartridge, view_at, with_view}
-use Rattle.qic_base.specs.Terms.{IsCartridge}
+use Rattle.qic_base.specs.CartridgeTerms.{IsCartridge}
 use Rattle.qic_base.specs.Step.{written_view, worn_view, WriteSector, changed, Wear, Step, FormatSegment, SetReferenced, SetProtected, Renew, Spoil, Upgrade, effects, Halfway, Torn}
 use Rattle.qic_base.specs.declared.tape.SectorView.{SectorView}
 use Rattle.qic_base.specs.declared.tape.SectorView.TheVariants.{Blank, Defect, Lost, Holds}

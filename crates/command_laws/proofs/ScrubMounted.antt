@@ -5,7 +5,7 @@ use Rattle.cartridge_laws.proofs.FormatWriting.{some_weaker}
 use Rattle.cartridge_laws.proofs.TableOrders.{faultless_is_sound}
 use Rattle.cartridge_laws.specs.Table.{IsSoundList}
 use Rattle.cartridge_spec.specs.Formatting.{StandsCleanly}
-use Rattle.cartridge_laws.specs.Terms.{IsCleanCopy}
+use Rattle.cartridge_laws.specs.HeaderTerms.{IsCleanCopy}
 use Rattle.cartridge_spec.specs.Header.{Header, header_fault}
 use Rattle.cartridge_spec.specs.HeaderCopies.{last_segment}
 use Rattle.cartridge_spec.specs.Shape.{IsArea}

@@ -9,18 +9,17 @@ use Rattle.std.proofs.lemmas.List.{length-take-le, get_or-take}
 use Rattle.cartridge_laws.proofs.Places.{count_below}
 use Rattle.cartridge_laws.proofs.Sayings.{block_from_data}
 use Rattle.cartridge_laws.proofs.Segments.{count_of_cells}
-use Rattle.cartridge_laws.specs.Segment.{IsUnreadable}
+use Rattle.cartridge_laws.specs.Segment.{IsUnreadable, data_of, sectors_of}
 use Rattle.cartridge_laws.specs.Writes.{named_writes}
-use Rattle.cartridge_laws.specs.Terms.{data_of, sectors_of}
 use Rattle.cartridge_spec.specs.Says.{with_parity}
 use Rattle.cartridge_spec.specs.Settling.{writes_of}
 use Rattle.cartridge_spec.specs.Shape.{sector_at, usable_places, is_unreadable, usable_count}
-use Rattle.command_laws.proofs.ScrubStanding.{cell_at}
+use Rattle.cartridge_laws.proofs.Writing.{cell_at}
 use Rattle.command_laws.specs.ScrubLaws.{CountOfNamed, StepsByPlaces}
 use Rattle.command_spec.specs.Scrub.{mending_writes, Looked, cells_at}
 use Rattle.qic_base.proofs.LostSetLaws.{lost_places-above}
 use Rattle.qic_base.specs.Cartridge.{Cartridge, view_at, lost_places}
-use Rattle.qic_base.specs.Terms.{IsLost}
+use Rattle.qic_base.specs.CartridgeTerms.{IsLost}
 use Rattle.qic_base.specs.Step.{Step, WriteSector}
 use Rattle.qic_base.specs.declared.tape.SectorView.{SectorView}
 
@@ -29,13 +28,13 @@ use Rattle.qic_base.specs.declared.tape.SectorView.{SectorView}
 in_set : (set place : ℕ) → Bool
 in_set set place = set / 2 ^ place % 2 == 1
 
-range_more : (a n : ℕ) → range_with_len a (suc n) ≡ range_with_len a n ++ (a + n) ∷ []
+pub range_more : (a n : ℕ) → range_with_len a (suc n) ≡ range_with_len a n ++ (a + n) ∷ []
 range_more a zero = ap (λ (k : ℕ). k ∷ []) (sym (add-zero a))
 range_more a (suc n) =
     let next : a + 1 + n ≡ a + suc n = omega arith in
     ap (λ (l : List ℕ). a ∷ l) (range_more (a + 1) n) ∙ ap (λ (k : ℕ). a ∷ (range_with_len (a + 1) n ++ k ∷ [])) next
 
-filter_more : (test : ℕ → Bool) (n : ℕ) →
+pub filter_more : (test : ℕ → Bool) (n : ℕ) →
     filter test (range_with_len 0 (suc n)) ≡ filter test (range_with_len 0 n) ++ (if test n then n ∷ [] else [])
 filter_more test n =
     ap (filter test) (range_more 0 n ∙ ap (λ (k : ℕ). range_with_len 0 n ++ k ∷ []) (zero-add n))

@@ -1,12 +1,12 @@
 -- At most one sector of a segment is found to be wrong, and whether one is can be decided.
-use Rattle.std.proofs.Common.{◌≡◌, ◌⊎◌, ℕ, inl, inr, List, [], ◌∷◌, refl, zero, suc, ◌+◌, ◌<◌, ◌≤◌, arith, sym, ◌∙◌, subst, ap, length, get_or, slice_get, Option, Some, None, Bool, true, false, cond, IsSomeAnd}
+use Rattle.std.proofs.Common.{◌≡◌, ◌⊎◌, ℕ, inl, inr, List, [], ◌∷◌, refl, zero, suc, ◌+◌, ◌<◌, ◌≤◌, arith, sym, ◌∙◌, subst, ap, length, get_or, slice_get, Option, Some, None, true, false, cond, IsSomeAnd}
 use Rattle.std.proofs.lemmas.Bool.{cases_eq, cases_lt, cases_Bool, false≢true}
 use Rattle.std.proofs.lemmas.Option.{slice_get_within}
 use Rattle.cartridge_laws.proofs.AppendWhole.{sector_writes_are_cartridge}
 use Rattle.cartridge_laws.proofs.Blocks.{says_always}
 use Rattle.cartridge_laws.proofs.Cells.{unreadable_count-first, one_agreeing_block}
 use Rattle.cartridge_laws.proofs.ChangeViews.{held_before, worn_reads_no_more}
-use Rattle.cartridge_laws.proofs.FormatCopies.{no_fewer_unreadable}
+use Rattle.cartridge_laws.proofs.FormatCopies.{no_fewer_unreadable, one_at_most}
 use Rattle.cartridge_laws.proofs.FormatWriting.{effects-some}
 use Rattle.cartridge_laws.proofs.Places.{usable_small}
 use Rattle.cartridge_laws.proofs.Sayings.{says_is_function}
@@ -17,25 +17,22 @@ use Rattle.cartridge_spec.specs.Settling.{changed_by}
 use Rattle.cartridge_spec.specs.Shape.{is_unreadable, usable_places, usable_count}
 use Rattle.cartridge_spec.specs.Volumes.{worn}
 use Rattle.command_laws.proofs.ScrubSeen.{worn_here, worn_elsewhere, finds_says}
-use Rattle.command_laws.proofs.ScrubStanding.{cell_at, same_place}
+use Rattle.command_laws.proofs.ScrubStanding.{same_place}
+use Rattle.cartridge_laws.proofs.Writing.{cell_at}
 use Rattle.command_laws.proofs.ScrubTurns.{steps_whole}
 use Rattle.command_laws.specs.DeepScrubLaws.{FormIsFunction, FormAlways}
 use Rattle.command_spec.specs.Scrub.{Looked, cells_at, reads, looked_at, Finding, IsSearched, IsWrong, HasFound, FindInTurn, steps_for, without}
-use Rattle.command_laws.specs.Terms.{Finds, acts_for}
+use Rattle.command_laws.specs.ScrubTerms.{Finds, acts_for}
 use Rattle.command_spec.specs.declared.depth.Depth.{Depth}
 use Rattle.command_spec.specs.declared.depth.Depth.TheVariants.{Shallow, Deep}
 use Rattle.qic_base.proofs.Steps.{Torn-all}
 use Rattle.qic_base.specs.Cartridge.{Cartridge, view_at}
-use Rattle.qic_base.specs.Terms.{IsCartridge}
+use Rattle.qic_base.specs.CartridgeTerms.{IsCartridge}
 use Rattle.qic_base.specs.Step.{Step, worn_view, effects}
 use Rattle.qic_base.specs.declared.tape.SectorView.{SectorView}
 use Rattle.qic_base.specs.declared.tape.SectorView.TheVariants.{Blank, Defect, Lost, Holds}
 
 -- ---- how many are unreadable
-
-one_at_most : (b : Bool) → cond b 1 0 ≤ 1
-one_at_most true = omega arith
-one_at_most false = omega arith
 
 holds_no_less : (x y : SectorView) → ((bytes : List ℕ) → x ≡ Holds bytes → y ≡ Holds bytes) → cond (is_unreadable y) 1 0 ≤ cond (is_unreadable x) 1 0
 holds_no_less Blank y held = one_at_most (is_unreadable y)
@@ -152,7 +149,7 @@ no_two_wrong c l i j ds es one two apart =
       ];
     })
 
-pub one_wrong : (c : Cartridge) (l : Looked) (i j : ℕ) (ds es : List (List ℕ)) → IsWrong c l i ds → IsWrong c l j es → i ≡ j
+one_wrong : (c : Cartridge) (l : Looked) (i j : ℕ) (ds es : List (List ℕ)) → IsWrong c l i ds → IsWrong c l j es → i ≡ j
 one_wrong c l i j ds es one two =
     elim (cases_eq i j) [
       | inl same ↦ same
@@ -180,7 +177,7 @@ finds_one depth c l f g one two =
     let both = found_once depth c l f.saying g.saying f.wrong g.wrong one two in
     finding_same f g both.0 both.1
 
-one_turn : (depth : Depth) (ls : List Looked) (c : Cartridge) (fs gs : List Finding) → FindInTurn depth c ls fs → FindInTurn depth c ls gs → fs ≡ gs
+pub one_turn : (depth : Depth) (ls : List Looked) (c : Cartridge) (fs gs : List Finding) → FindInTurn depth c ls fs → FindInTurn depth c ls gs → fs ≡ gs
 one_turn depth [] c [] [] a b = refl
 one_turn depth [] c [] (g ∷ gs) a b = absurd b
 one_turn depth [] c (f ∷ fs) gs a b = absurd a
@@ -279,7 +276,7 @@ is_searched Deep l =
       | inr apart ↦ inl apart
     ]
 
-pub finds_always : (depth : Depth) (c : Cartridge) (l : Looked) → IsCartridge c → (f : Finding) × Finds depth c l f
+finds_always : (depth : Depth) (c : Cartridge) (l : Looked) → IsCartridge c → (f : Finding) × Finds depth c l f
 finds_always depth c l whole =
     let says = says_always (cells_at c l) (cells_are_views c l.segment l.mask whole) in
     elim (is_searched depth l) [

@@ -5,7 +5,7 @@ use Rattle.cartridge_spec.specs.Settling.{changed_by}
 use Rattle.cartridge_spec.specs.Table.{Entry}
 use Rattle.command_laws.specs.DeepScrubLaws.{ShallowIsScrub}
 use Rattle.command_laws.specs.ScrubPlain.{SayInTurn, Scrubs, looking_acts}
-use Rattle.command_laws.specs.Terms.{acts_for, counts_for, last_act, look_act, scrub_acts}
+use Rattle.command_laws.specs.ScrubTerms.{acts_for, counts_for, last_act, look_act, scrub_acts}
 use Rattle.command_spec.specs.Scrub.{Finding, FindInTurn, HasFound, Looked, ScrubsAs, finding_acts, looked_at, sayings_of, steps_for, steps_in, unread_count}
 use Rattle.command_spec.specs.declared.depth.Depth.TheVariants.{Shallow}
 use Rattle.qic_base.specs.Acts.{Act, steps_of}

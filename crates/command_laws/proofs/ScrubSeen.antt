@@ -14,7 +14,7 @@ use Rattle.cartridge_laws.proofs.AppendKeeping.{steps_kept}
 use Rattle.command_laws.specs.ScrubFound.{FindAtOnce, finds_at_once, without_all}
 use Rattle.command_laws.specs.ScrubSayings.{Rise, SayAtOnce, acts_at_once}
 use Rattle.command_spec.specs.Scrub.{Looked, cells_at, Finding, IsSearched, IsWrong, HasFound, FindInTurn, finding_acts, steps_for, line_for, sayings_of, without}
-use Rattle.command_laws.specs.Terms.{Finds, find_act}
+use Rattle.command_laws.specs.ScrubTerms.{Finds, find_act}
 use Rattle.command_spec.specs.declared.depth.Depth.{Depth}
 use Rattle.qic_base.specs.Acts.{Act, steps_of}
 use Rattle.qic_base.specs.Cartridge.{Cartridge, view_at}
@@ -79,7 +79,7 @@ found_same depth c d l s None same found = (
 )
 found_same depth c d l s (Some sector) same found = (found.0, found.1, found.2, wrong_same c d l sector found.1 same found.3)
 
-pub finds_same : (depth : Depth) (c d : Cartridge) (l : Looked) (f : Finding) → SameIn c d l.segment → Finds depth c l f → Finds depth d l f
+finds_same : (depth : Depth) (c d : Cartridge) (l : Looked) (f : Finding) → SameIn c d l.segment → Finds depth c l f → Finds depth d l f
 finds_same depth c d l f same found = found_same depth c d l f.saying f.wrong same found
 
 -- the wrong sector, if one was found, is one of the segment
@@ -91,12 +91,12 @@ found_small : (depth : Depth) (c : Cartridge) (l : Looked) (s : Saying) (w : Opt
 found_small depth c l s None found = tt
 found_small depth c l s (Some sector) found = wrong_small found.3
 
-pub without_same : (c d : Cartridge) (l : Looked) (w : Option ℕ) → IsSmall w → SameIn c d l.segment → SameIn (without w l c) (without w l d) l.segment
+without_same : (c d : Cartridge) (l : Looked) (w : Option ℕ) → IsSmall w → SameIn c d l.segment → SameIn (without w l c) (without w l d) l.segment
 without_same c d l None small same = same
 without_same c d l (Some sector) small same = worn_same c d l.segment sector small same
 
 -- the other segments are as they were
-pub without_elsewhere : (c : Cartridge) (l : Looked) (w : Option ℕ) (s i : ℕ) → IsSmall w → i < 32 → (s ≡ l.segment → ⊥) →
+without_elsewhere : (c : Cartridge) (l : Looked) (w : Option ℕ) (s i : ℕ) → IsSmall w → i < 32 → (s ≡ l.segment → ⊥) →
     view_at (without w l c) s i ≡ view_at c s i
 without_elsewhere c l None s i small h apart = refl
 without_elsewhere c l (Some sector) s i small h apart = worn_elsewhere c l.segment sector s i small h (λ here e. apart here)
@@ -110,7 +110,7 @@ found_says depth c l s (Some sector) found = subst (λ (x : Saying). Says (cells
 pub finds_says : (depth : Depth) (c : Cartridge) (l : Looked) (f : Finding) → Finds depth c l f → Says (cells_at (without f.wrong l c) l) f.saying
 finds_says depth c l f found = found_says depth c l f.saying f.wrong found
 
-pub finds_small : (depth : Depth) (c : Cartridge) (l : Looked) (f : Finding) → Finds depth c l f → IsSmall f.wrong
+finds_small : (depth : Depth) (c : Cartridge) (l : Looked) (f : Finding) → Finds depth c l f → IsSmall f.wrong
 finds_small depth c l f found = found_small depth c l f.saying f.wrong found
 
 -- ---- in turn and at once
@@ -160,7 +160,7 @@ abbrev pub AreOther : (s : ℕ) → List Looked → Type 0
 AreOther s ls = All (λ m. s ≡ m.segment → ⊥) ls
 
 -- segments that are not looked at are as they were
-pub without_all_elsewhere : (depth : Depth) (c b : Cartridge) (ls : List Looked) (fs : List Finding) (s i : ℕ) → FindAtOnce depth b ls fs → i < 32 →
+without_all_elsewhere : (depth : Depth) (c b : Cartridge) (ls : List Looked) (fs : List Finding) (s i : ℕ) → FindAtOnce depth b ls fs → i < 32 →
     AreOther s ls → view_at (without_all c ls fs) s i ≡ view_at c s i
 without_all_elsewhere depth c b [] fs s i found h other = refl
 without_all_elsewhere depth c b (l ∷ ls) [] s i found h other = refl
@@ -205,7 +205,7 @@ seen_all depth c b (l ∷ ls) (f ∷ fs) rise found =
           (seen_all depth (without f.wrong l c) b ls fs rise.1 found.1),
     )
 
-pub are_seen : (depth : Depth) (c : Cartridge) (ls : List Looked) (fs : List Finding) → Rise ls → FindAtOnce depth c ls fs →
+are_seen : (depth : Depth) (c : Cartridge) (ls : List Looked) (fs : List Finding) → Rise ls → FindAtOnce depth c ls fs →
     AreSeen (without_all c ls fs) c ls fs
 are_seen depth c ls fs rise found = seen_all depth c c ls fs rise found
 
@@ -322,7 +322,7 @@ lost_more depth c e l ls s i lost = record {
 }
 
 -- each sector is as it was, or is a wrong one
-pub each_seen : (depth : Depth) (c e : Cartridge) (ls : List Looked) (fs : List Finding) (s i : ℕ) → FindAtOnce depth c ls fs → AreSeen e c ls fs → i < 32 →
+each_seen : (depth : Depth) (c e : Cartridge) (ls : List Looked) (fs : List Finding) (s i : ℕ) → FindAtOnce depth c ls fs → AreSeen e c ls fs → i < 32 →
     (AreOther s ls → view_at e s i ≡ view_at c s i) → (view_at e s i ≡ view_at c s i) ⊎ IsLostNow depth c e ls s i
 each_seen depth c e [] fs s i found seen h none = inl (none (All-nil (λ (m : Looked). s ≡ m.segment → ⊥)))
 each_seen depth c e (l ∷ ls) [] s i found seen h none = absurd found

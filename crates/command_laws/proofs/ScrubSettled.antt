@@ -1,10 +1,10 @@
 -- The table's segment of a settled cartridge reads, and stays settled.
-use Rattle.std.proofs.Common.{◌≤◌, Bool, true, false, cond, arith, List, [], ◌∷◌, length, ◌≡◌, ℕ, ◌<◌, Some, sym, ap, ◌∙◌, subst, ◌⊎◌, ◌+◌, inl, inr, take, drop}
+use Rattle.std.proofs.Common.{◌≤◌, cond, arith, List, [], ◌∷◌, length, ◌≡◌, ℕ, ◌<◌, Some, sym, ap, ◌∙◌, subst, ◌⊎◌, ◌+◌, inl, inr, take, drop}
 use Rattle.std.proofs.lemmas.Option.{slice_get-get_or, unwrap_or-slice_get}
 use Rattle.std.proofs.lemmas.List.{take-append-drop, length-drop}
 use Rattle.std.proofs.lemmas.List.Sums.{sum_by-append}
 use Rattle.cartridge_laws.proofs.Cells.{unreadable_count-first}
-use Rattle.cartridge_laws.proofs.FormatCopies.{held_view}
+use Rattle.cartridge_laws.proofs.FormatCopies.{held_view, one_at_most}
 use Rattle.cartridge_laws.proofs.FormatWriting.{some_weaker}
 use Rattle.cartridge_laws.proofs.MountParts.{length-block}
 use Rattle.cartridge_laws.proofs.MountStanding.{can_be_read}
@@ -14,7 +14,7 @@ use Rattle.cartridge_laws.specs.AppendSettled.{IsSettledFor}
 use Rattle.cartridge_spec.specs.Shape.{IsArea, is_unreadable, sector_at, IsLive}
 use Rattle.cartridge_spec.specs.TableSegment.{table_cells}
 use Rattle.cartridge_spec.specs.Says.{unreadable_count, Written, with_parity}
-use Rattle.cartridge_laws.specs.Terms.{unreadable_data}
+use Rattle.cartridge_laws.specs.Segment.{unreadable_data}
 use Rattle.cartridge_spec.specs.Settling.{changed_by}
 use Rattle.command_laws.proofs.ScrubApart.{looked_rise}
 use Rattle.command_laws.proofs.ScrubDone.{done_being_mended}
@@ -29,10 +29,6 @@ use Rattle.qic_base.specs.declared.tape.SectorView.{SectorView}
 use Rattle.qic_base.specs.declared.tape.SectorView.TheVariants.{Holds, Lost}
 
 -- ---- it reads
-
-one_at_most : (b : Bool) → cond b 1 0 ≤ 1
-one_at_most true = omega arith
-one_at_most false = omega arith
 
 -- at most as many are unreadable as there are
 count_most : (cells : List SectorView) → unreadable_count cells ≤ length cells

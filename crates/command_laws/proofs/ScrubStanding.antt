@@ -1,7 +1,6 @@
 -- A cartridge that is being mended stands for what it stood for, is mounted as it was, and its table reads the same.
 use Rattle.std.proofs.Common.{◌≡◌, ℕ, ◌-◌, ◌<◌, get_or, slice_get, Some, ap, ◌∙◌, inl, inr, sym, arith, ◌+◌, ◌≤◌, List, length, All, true, [], Contains, subst, ◌∷◌, ◌⊎◌, take, drop, map, ◌*◌}
-use Rattle.std.specs.Option.{option_map}
-use Rattle.std.proofs.lemmas.Option.{slice_get-map, slice_get-get_or, unwrap_or-slice_get, slice_get_within}
+use Rattle.std.proofs.lemmas.Option.{slice_get-get_or, unwrap_or-slice_get, slice_get_within}
 use Rattle.std.proofs.lemmas.Bool.{cases_eq, cases_lt}
 use Rattle.std.proofs.lemmas.List.{length-append}
 use Rattle.std.proofs.lemmas.List.Elements.{All-nil, All-cons, All-head, All-tail, All-take, All-drop, Contains-append_left, Contains-append_right}
@@ -17,7 +16,8 @@ use Rattle.cartridge_spec.specs.Header.{header_fault}
 use Rattle.cartridge_spec.specs.Shape.{IsArea, usable_places, usable_count, mask_at, data_count}
 use Rattle.cartridge_spec.specs.HeaderCopies.{CopyReads, copy_cells, CopyDoesNotRead}
 use Rattle.cartridge_spec.specs.TableSegment.{table_cells, TableIs}
-use Rattle.cartridge_laws.specs.Terms.{IsInForce, CopiesAre, PartStands}
+use Rattle.cartridge_laws.specs.VolumeParts.{PartStands}
+use Rattle.cartridge_laws.specs.HeaderTerms.{IsInForce, CopiesAre}
 use Rattle.cartridge_spec.specs.Says.{cells_of, Data, Says, Written, with_parity, unreadable_count, whole_mask, Zero, ReadsAll, HasBlock, HasNoBlock, TableSays, AsRead, ByCode}
 use Rattle.cartridge_spec.specs.Table.{Entry, slot_fault}
 use Rattle.cartridge_spec.specs.Volumes.{Part, parts_of, Volume, VolumeStands, carrying_segments, Plain, Stands, entries_of}
@@ -27,20 +27,15 @@ use Rattle.command_laws.proofs.ScrubTurns.{copy_is_looked_at}
 use Rattle.command_laws.specs.ScrubMended.{IsMended, IsBeingMended}
 use Rattle.command_laws.specs.ScrubSayings.{Rise}
 use Rattle.command_spec.specs.Scrub.{Looked, cells_at, reads, whole_segment, looked_volumes, looked_at}
-use Rattle.command_laws.specs.CommandTerms.{looked_segments}
+use Rattle.command_laws.specs.ScrubTerms.{looked_segments}
 use Rattle.gf256_qic.proofs.Parities.{block_count, length-parity_sectors}
 use Rattle.qic_base.specs.Cartridge.{Cartridge, view_at, IsSector}
 use Rattle.qic_base.specs.declared.tape.SectorView.{SectorView}
 use Rattle.qic_base.specs.declared.tape.SectorView.TheVariants.{Holds}
 use Rattle.qic_base.specs.declared.tape.TapeInfo.{TapeInfo}
+use Rattle.cartridge_laws.proofs.Writing.{cell_at}
 
 -- ---- one segment
-
-pub cell_at : (c : Cartridge) (segment usable k : ℕ) → k < usable_count usable →
-    slice_get (cells_of c segment usable) k ≡ Some (view_at c segment (get_or (usable_places usable) k 0))
-cell_at c segment usable k h =
-    slice_get-map (view_at c segment) (usable_places usable) k
-    ∙ ap (option_map (view_at c segment)) (slice_get-get_or (usable_places usable) k 0 h)
 
 pub same_place : (mask j k : ℕ) → j < usable_count mask → k < usable_count mask →
     get_or (usable_places mask) j 0 ≡ get_or (usable_places mask) k 0 → j ≡ k
@@ -177,7 +172,7 @@ copy_reads looked c d copy area rise among way copy_is =
     written_reads d copy area (said_area c copy area copy_is.says) copy_is.signature
     (said_kept looked c d (whole_segment copy) area rise among way copy_is.says) (omega arith)
 
-pub copy_same : (looked : List Looked) (c d : Cartridge) (copy : ℕ) → copy < 2 → Rise looked → Contains looked (whole_segment copy) →
+copy_same : (looked : List Looked) (c d : Cartridge) (copy : ℕ) → copy < 2 → Rise looked → Contains looked (whole_segment copy) →
     IsBeingMended looked c d →
     CopyDoesNotRead c copy → copy_cells d copy ≡ copy_cells c copy
 copy_same looked c d copy small rise among way none =

@@ -17,16 +17,16 @@ use Rattle.cartridge_spec.specs.Shape.{is_unreadable, usable_places}
 use Rattle.command_laws.specs.ScrubLaws.{ScrubsIsFunction, ScrubsAlways, CopyIsLookedAt}
 use Rattle.command_laws.specs.ScrubPlain.{SayInTurn}
 use Rattle.command_spec.specs.Scrub.{Looked, cells_at, steps_in, looked_at, mending_writes, reads, whole_segment}
-use Rattle.command_laws.specs.Terms.{scrub_acts}
+use Rattle.command_laws.specs.ScrubTerms.{scrub_acts}
 use Rattle.gf256_qic.proofs.Parities.{parity_sectors-are_sectors}
 use Rattle.qic_base.proofs.Steps.{Torn-all}
 use Rattle.qic_base.specs.Cartridge.{Cartridge, IsSector, view_at}
-use Rattle.qic_base.specs.Terms.{IsCartridge}
+use Rattle.qic_base.specs.CartridgeTerms.{IsCartridge}
 use Rattle.qic_base.specs.Step.{Step, WriteSector, effects}
 
 -- ---- one list of acts
 
-pub one_turn : (ls : List Looked) (c : Cartridge) (ss ts : List Saying) → SayInTurn c ls ss → SayInTurn c ls ts → ss ≡ ts
+one_turn : (ls : List Looked) (c : Cartridge) (ss ts : List Saying) → SayInTurn c ls ss → SayInTurn c ls ts → ss ≡ ts
 one_turn [] c [] [] a b = refl
 one_turn [] c [] (t ∷ ts) a b = absurd b
 one_turn [] c (s ∷ ss) ts a b = absurd a
@@ -62,7 +62,7 @@ mending_whole c segment (place ∷ places) (bytes ∷ sectors) are =
     either_writes IsOfSector (is_unreadable (view_at c segment place)) (WriteSector segment place bytes ∷ mending_writes c segment places sectors)
     (mending_writes c segment places sectors) (All-head IsSector bytes sectors are, rest) rest
 
-pub block_sectors : (c : Cartridge) (l : Looked) (sectors : List (List ℕ)) → Says (cells_at c l) (Data sectors) →
+block_sectors : (c : Cartridge) (l : Looked) (sectors : List (List ℕ)) → Says (cells_at c l) (Data sectors) →
     All IsSector (with_parity sectors)
 block_sectors c l sectors says =
     let are = (said_are_sectors (cells_at c l) sectors says).each in

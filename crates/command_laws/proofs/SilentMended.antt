@@ -15,7 +15,7 @@ use Rattle.cartridge_spec.specs.Code.{parity_sectors, IsCodeBlock}
 use Rattle.cartridge_spec.specs.Header.{has_signature, header_fault}
 use Rattle.cartridge_spec.specs.HeaderCopies.{CopyReads, copy_cells, last_segment}
 use Rattle.cartridge_spec.specs.TableSegment.{TableIs}
-use Rattle.cartridge_laws.specs.Terms.{IsInForce}
+use Rattle.cartridge_laws.specs.HeaderTerms.{IsInForce}
 use Rattle.cartridge_spec.specs.Says.{Saying, Says, Data, Mismatch, TableSays, AsRead, ByCode, Written, with_parity, unreadable_count, Agrees, HasNoBlock}
 use Rattle.cartridge_spec.specs.Settling.{changed_by}
 use Rattle.cartridge_spec.specs.Shape.{usable_count}
@@ -27,7 +27,8 @@ use Rattle.command_laws.proofs.ScrubForms.{as_seen, mended_as_seen}
 use Rattle.command_laws.proofs.ScrubMounted.{in_order}
 use Rattle.command_laws.proofs.ScrubOneWrong.{IsPlace, wrong_place, worn_count, finds_one, worn_not_held}
 use Rattle.command_laws.proofs.ScrubSeen.{SameIn, IsSeen, found_of, worn_here, worn_elsewhere}
-use Rattle.command_laws.proofs.ScrubStanding.{cell_at, mending_stands}
+use Rattle.command_laws.proofs.ScrubStanding.{mending_stands}
+use Rattle.cartridge_laws.proofs.Writing.{cell_at}
 use Rattle.command_laws.specs.DeepScrubLaws.{SilentSectorsAreMended, SilentSectorsAreMounted}
 use Rattle.command_laws.specs.ScrubFound.{FindAtOnce, without_all}
 use Rattle.command_laws.specs.ScrubSayings.{Rise}

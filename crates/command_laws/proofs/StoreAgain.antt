@@ -5,7 +5,8 @@ use Rattle.std.proofs.lemmas.Option.{get_or_from_slice_get}
 use Rattle.cartridge_laws.proofs.Segments.{length-whole_cells}
 use Rattle.cartridge_laws.proofs.TableSayings.{table_says_is_function, said_is_table}
 use Rattle.cartridge_spec.specs.TableSegment.{table_cells, TableIs}
-use Rattle.cartridge_laws.specs.Terms.{HasList, data_of}
+use Rattle.cartridge_laws.specs.TableCells.{HasList}
+use Rattle.cartridge_laws.specs.Segment.{data_of}
 use Rattle.cartridge_spec.specs.Says.{Data, AsRead, ByCode, ReadsAll, Agrees, TableSays, HasBlock}
 use Rattle.cartridge_spec.specs.Table.{Entry, Shows}
 use Rattle.qic_base.specs.Cartridge.{Cartridge}

@@ -10,11 +10,11 @@ use Rattle.cartridge_laws.proofs.AppendSegments.{carrying_from}
 use Rattle.cartridge_laws.specs.AppendSettled.{IsSettledFor}
 use Rattle.cartridge_spec.specs.Table.{Entry}
 use Rattle.cartridge_spec.specs.Appending.{part_writes, in_sectors, room, free_segments}
-use Rattle.cartridge_laws.specs.Terms.{last_end}
+use Rattle.cartridge_laws.specs.Table.{last_end}
 use Rattle.cartridge_spec.specs.Settling.{changed_by}
 use Rattle.cartridge_spec.specs.Shape.{mask_at, data_count, capacity}
 use Rattle.command_spec.specs.Append.{segment_act, volume_acts, filled_acts, input_acts, input_writes, has_promised_room}
-use Rattle.command_laws.specs.CommandTerms.{most_written}
+use Rattle.command_laws.specs.AppendTerms.{most_written}
 use Rattle.qic_base.proofs.Joins.{steps_of-append}
 use Rattle.qic_base.specs.Acts.{Act, steps_of}
 use Rattle.qic_base.specs.Cartridge.{Cartridge}

@@ -5,9 +5,8 @@ use Rattle.std.proofs.lemmas.List.{length-take}
 use Rattle.std.specs.Prelude.{slice_index}
 use Rattle.cartridge_laws.proofs.AppendOrders.{order_more}
 use Rattle.cartridge_laws.proofs.AppendSegments.{AreTaken, room_is, segments_taken}
-use Rattle.cartridge_laws.specs.Table.{IsSoundList}
+use Rattle.cartridge_laws.specs.Table.{IsSoundList, last_end}
 use Rattle.cartridge_spec.specs.Appending.{new_entry, taken_by, room, free_segments}
-use Rattle.cartridge_laws.specs.Terms.{last_end}
 use Rattle.cartridge_spec.specs.Table.{Entry}
 use Rattle.command_laws.proofs.StoreTaking.{both_true}
 use Rattle.command_spec.specs.Append.{Taking, Fits, TooLong, TooShort, taking, has_promised_room}

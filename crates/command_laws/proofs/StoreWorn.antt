@@ -3,7 +3,7 @@ use Rattle.std.proofs.Common.{ℕ, List, sym, ◌∙◌}
 use Rattle.cartridge_laws.proofs.ChangeViews.{worn_reads_no_more}
 use Rattle.cartridge_laws.proofs.FormatCopies.{held_view, view_held}
 use Rattle.cartridge_laws.proofs.Segments.{length-whole_cells}
-use Rattle.cartridge_laws.specs.Terms.{HasList}
+use Rattle.cartridge_laws.specs.TableCells.{HasList}
 use Rattle.cartridge_spec.specs.Table.{Entry}
 use Rattle.qic_base.specs.Cartridge.{Cartridge}
 use Rattle.qic_base.specs.Step.{Wear, changed}

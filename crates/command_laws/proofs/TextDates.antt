@@ -1,7 +1,7 @@
 -- The texts of dates.
 use Rattle.std.proofs.Common.{◌≡◌, ℕ, ◌+◌, ◌/◌, ◌<◌, List, get_or, length, ◌%◌, arith, ◌≤◌, refl}
 use Rattle.command_spec.specs.Command.{IsDateWord}
-use Rattle.command_laws.specs.CommandTerms.{digit}
+use Rattle.command_laws.specs.TextTerms.{digit}
 use Rattle.command_spec.specs.Lines.{date_form}
 
 -- two digits stand at a place

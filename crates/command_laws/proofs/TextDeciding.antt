@@ -9,18 +9,15 @@ use Rattle.command_laws.proofs.TextDates.{fields_of}
 use Rattle.command_spec.specs.Command.{IsNumber, IsDateWord, Part, Word, Number, Name, Date, SpellsPart, HasForm}
 use Rattle.command_spec.specs.Lines.{date_form}
 use Rattle.qic_base.specs.Field.{IsDate, date_word, IsNameText, filled}
-use Rattle.qic_base.specs.Terms.{IsPrintable}
-
--- a fact that holds or not
-abbrev pub Decided : Type 0 → Type 0
-Decided P = P ⊎ (P → ⊥)
+use Rattle.qic_base.specs.LineBytes.{IsPrintable}
+use Rattle.cartridge_laws.proofs.Search.{Decided}
 
 pub both : (P Q : Type 0) → Decided P → Decided Q → Decided (P × Q)
 both P Q (inl p) (inl q) = inl (p, q)
 both P Q (inl p) (inr none) = inr (λ h. none h.1)
 both P Q (inr none) q = inr (λ h. none h.0)
 
-pub either : (P Q : Type 0) → Decided P → Decided Q → Decided (P ⊎ Q)
+either : (P Q : Type 0) → Decided P → Decided Q → Decided (P ⊎ Q)
 either P Q (inl p) q = inl (inl p)
 either P Q (inr none) (inl q) = inl (inr q)
 either P Q (inr none) (inr neither) = inr (λ h. elim h [ inl p ↦ none p | inr q ↦ neither q ])
@@ -29,7 +26,7 @@ pub along : (P Q : Type 0) → (P → Q) → (Q → P) → Decided P → Decided
 along P Q to from (inl p) = inl (to p)
 along P Q to from (inr none) = inr (λ q. none (from q))
 
-pub not_it : (P : Type 0) → Decided P → Decided (P → ⊥)
+not_it : (P : Type 0) → Decided P → Decided (P → ⊥)
 not_it P (inl p) = inr (λ none. none p)
 not_it P (inr none) = inl none
 

@@ -6,7 +6,7 @@ use Rattle.command_laws.proofs.TextLined.{one_before, end_no_newline}
 use Rattle.command_laws.proofs.TextLines.{one_line}
 use Rattle.command_laws.specs.TextInput.{NoItemBegins, OneReading}
 use Rattle.command_spec.specs.Input.{IsLined, Item, promised, IsItem, IsPulse, HasStop, Ending, AtEnd, AtStop, AtFault, ItemsEnd, most_items, HasItems}
-use Rattle.command_laws.specs.CommandTerms.{IsLine, words_of, IsTrain}
+use Rattle.command_laws.specs.Inputs.{IsLine, words_of, IsTrain}
 use Rattle.command_spec.specs.declared.line.Line.{Line}
 use Rattle.command_spec.specs.declared.line.Line.TheVariants as line
 

@@ -1,12 +1,7 @@
 -- Lines and their newlines.
-use Rattle.std.proofs.Common.{ℕ, suc, List, ◌∷◌, arith, ◌≢◌, ◌≡◌, [], ◌++◌, refl, sym, zero, codes}
-use Rattle.command_laws.specs.TextReading.{NoNewline}
-
-NoNewline-tail : (x : ℕ) (xs : List ℕ) → NoNewline (x ∷ xs) → NoNewline xs
-NoNewline-tail x xs none k d here = none (suc k) d (omega arith)
-
-NoNewline-head : (x : ℕ) (xs : List ℕ) → NoNewline (x ∷ xs) → x ≢ 0x0A
-NoNewline-head x xs none = none 0 x (omega arith)
+use Rattle.std.proofs.Common.{ℕ, suc, List, ◌∷◌, arith, ◌≡◌, [], ◌++◌, refl, sym, zero, codes}
+use Rattle.qic_base.specs.LineBytes.{NoNewline}
+use Rattle.qic_base.proofs.LineBytes.{NoNewline-tail, NoNewline-head}
 
 head_is : (x y : ℕ) (xs ys : List ℕ) → x ∷ xs ≡ y ∷ ys → x ≡ y
 head_is x y xs ys e = cc

@@ -5,7 +5,7 @@ use Rattle.std.specs.Str.{bytes_eq}
 use Rattle.command_laws.proofs.TextCommands.{number_value, date_value, only, dated_cases, one_word, two_words, three_words, IsNumber-value, IsDateWord-value}
 use Rattle.command_laws.specs.TextInput.{OneLine}
 use Rattle.command_spec.specs.Command.{Part, SpellsPart, Word, Name, IsDateWord, AnyNumber}
-use Rattle.command_laws.specs.CommandTerms.{HasLineForm}
+use Rattle.command_laws.specs.Inputs.{HasLineForm}
 use Rattle.command_spec.specs.declared.line.Line.{Line}
 use Rattle.qic_base.specs.Field.{filled}
 use Rattle.command_spec.specs.declared.line.Line.TheVariants as line

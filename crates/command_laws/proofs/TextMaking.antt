@@ -4,7 +4,7 @@ use Rattle.std.proofs.lemmas.List.FromFn.{length-map-range_with_len, get_or-map-
 use Rattle.std.specs.List.{range_with_len}
 use Rattle.command_laws.specs.TextGenerator.{made_from}
 use Rattle.command_spec.specs.Make.{made_bytes, made_length}
-use Rattle.command_laws.specs.CommandTerms.{made_byte}
+use Rattle.command_laws.specs.MadeTerms.{made_byte}
 
 pub length-made_from : (first count : ℕ) → length (made_from first count) ≡ count
 unfolding made_from

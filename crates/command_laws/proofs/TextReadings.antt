@@ -2,14 +2,15 @@
 use Rattle.std.proofs.Common.{◌≡◌, ℕ, ◌+◌, List, ◌∷◌, ◌++◌, ◌≢◌, zero, suc, arith, ◌⊎◌, inl, inr, [], ap, sym, ◌∙◌, append_assoc, length, get_or, refl, ◌≤◌, subst, take, drop, codes, ◌<◌}
 use Rattle.std.proofs.lemmas.List.{length-append, get_or_at, take-append-drop, append_cancel_left, length-take-le}
 use Rattle.command_laws.proofs.TextCommands.{number_value, IsNumber-value}
-use Rattle.command_laws.proofs.TextDeciding.{same_number, Decided, along, both, at_most, spelled, has_form, same_bytes}
+use Rattle.command_laws.proofs.TextDeciding.{same_number, along, both, at_most, spelled, has_form, same_bytes}
+use Rattle.cartridge_laws.proofs.Search.{Decided}
 use Rattle.command_laws.proofs.TextInputs.{AreItems, items, pulses}
 use Rattle.command_laws.proofs.TextLined.{one_before}
 use Rattle.command_laws.specs.TextInput.{EachReading}
-use Rattle.command_laws.specs.TextReading.{NoNewline}
+use Rattle.qic_base.specs.LineBytes.{NoNewline}
 use Rattle.command_spec.specs.Command.{Number}
 use Rattle.command_spec.specs.Input.{IsLined, IsPulse, line_forms, promised, IsItem, HasStop, Ending, HasItems, AtEnd, AtStop, AtFault, most_items}
-use Rattle.command_laws.specs.CommandTerms.{IsTrain, HasItem, IsLine, words_of}
+use Rattle.command_laws.specs.Inputs.{IsTrain, HasItem, IsLine, words_of}
 use Rattle.command_spec.specs.declared.line.Line.{Line}
 use Rattle.command_spec.specs.declared.line.Line.TheVariants as line
 use Rattle.command_laws.proofs.TextLines as lines

@@ -2,7 +2,7 @@
 use Rattle.std.proofs.Common.{◌≡◌, ◌==◌, ℕ, ◌+◌, ◌-◌, true, List, [], ◌∷◌, ◌++◌, refl, ap, false, ◌∙◌, ◌<◌, ◌≤◌, length, take, get_or, arith, sym}
 use Rattle.std.proofs.lemmas.Bool.Decides.{nat_tests}
 use Rattle.std.proofs.lemmas.List.{take_more}
-use Rattle.command_laws.specs.CommandTerms.{is_filler, before_cut}
+use Rattle.command_laws.specs.TextTerms.{is_filler, before_cut}
 use Rattle.command_spec.specs.Lines.{trimmed}
 
 -- filling at the end is cut

@@ -5,7 +5,7 @@ use Rattle.command_laws.proofs.TextCommands.{date_value, dated_cases}
 use Rattle.command_laws.proofs.TextDeciding.{has_form}
 use Rattle.command_laws.specs.TextWords.{OneCommand, IsNoCommand}
 use Rattle.command_spec.specs.Command.{IsDateWord, Word, Name}
-use Rattle.command_laws.specs.Terms.{word_forms}
+use Rattle.command_laws.specs.CommandFields.{word_forms}
 use Rattle.command_spec.specs.declared.words.Words.{Words}
 use Rattle.qic_base.specs.Field.{filled}
 use Rattle.command_spec.specs.Machine.{Spells}

@@ -4,37 +4,34 @@ use Rattle.std.specs.Prelude.{unwrap_or}
 use Rattle.std.proofs.lemmas.Bool.{cases_lt}
 use Rattle.std.proofs.lemmas.Option.{unwrap_or-slice_get}
 use Rattle.std.proofs.lemmas.List.{length-map, length-replicate}
-use Rattle.std.proofs.lemmas.List.Elements.{All-append, All-drop, All-from_get_or, All-get_or, All-map, All-replicate, All-take, All-weaker}
+use Rattle.std.proofs.lemmas.List.Elements.{All-append, All-drop, All-from_get_or, All-map, All-replicate, All-take, All-weaker}
 use Rattle.std.specs.List.{range_with_len}
-use Rattle.cartridge_laws.proofs.AppendWhole.{sector_writes_are_cartridge}
-use Rattle.cartridge_laws.proofs.FormatDone.{length-with_parity}
+use Rattle.cartridge_laws.proofs.AppendWhole.{sector_writes_are_cartridge, block_sector, writes_more}
 use Rattle.cartridge_laws.proofs.FormatWriting.{some_and}
 use Rattle.cartridge_laws.proofs.MountSettles.{settling_settles}
-use Rattle.cartridge_laws.proofs.MountWhole.{settled_is_cartridge, stopped_is_cartridge}
+use Rattle.cartridge_laws.proofs.MountWhole.{settled_is_cartridge, stopped_is_cartridge, block_sectors}
 use Rattle.cartridge_laws.proofs.Segments.{view_of_cartridge}
 use Rattle.cartridge_laws.proofs.Whole.{with_view_whole, worn_is_view}
 use Rattle.cartridge_laws.specs.AppendWrites.{AreWrites, IsOfSector}
 use Rattle.cartridge_spec.specs.Appending.{table_writes}
-use Rattle.cartridge_spec.specs.Code.{parity_sectors}
-use Rattle.gf256_qic.proofs.Parities.{parity_sectors-are_sectors}
 use Rattle.cartridge_spec.specs.Formatting.{IsLabel, clearing_steps, copy_writes, format_steps}
-use Rattle.cartridge_spec.specs.Shape.{IsArea, sector_at}
+use Rattle.cartridge_spec.specs.Shape.{IsArea}
 use Rattle.cartridge_spec.specs.TableSegment.{TableIs}
 use Rattle.cartridge_spec.specs.Mounting.{settled}
 use Rattle.cartridge_spec.specs.Says.{with_parity}
 use Rattle.cartridge_spec.specs.Settling.{changed_by, settling_steps, writes_of}
 use Rattle.cartridge_spec.specs.Table.{Entry, slot_bytes}
-use Rattle.cartridge_laws.specs.Terms.{slot_sector, with_slot}
+use Rattle.cartridge_laws.specs.Slots.{slot_sector, with_slot}
 use Rattle.command_laws.proofs.CommandClean.{Leaves, both_leave, leaves_done}
 use Rattle.command_laws.proofs.InputActLaws.{input_is_of_sectors, writes_whole}
 use Rattle.command_laws.proofs.MountedListed.{entry_area, slot_free}
 use Rattle.command_laws.specs.MountedListed.{IsListed}
 use Rattle.command_spec.specs.Append.{Fits, Kept, Taking, TooLong, TooShort, append_acts, entry_acts, has_promised_room, input_acts, input_writes, kept_over, room_in, taking}
-use Rattle.command_laws.specs.CommandTerms.{entry_for, free_in, most_written}
+use Rattle.command_laws.specs.AppendTerms.{entry_for, free_in, most_written}
 use Rattle.qic_base.proofs.Joins.{steps_of-append}
 use Rattle.qic_base.specs.Acts.{Act, steps_of}
 use Rattle.qic_base.specs.Cartridge.{Cartridge, IsLength, IsSector, new_cartridge, view_at, zero_sector}
-use Rattle.qic_base.specs.Terms.{IsVersion, IsCartridge, IsView, with_segment, HalfFormatted}
+use Rattle.qic_base.specs.CartridgeTerms.{IsVersion, IsCartridge, IsView, with_segment, HalfFormatted}
 use Rattle.qic_base.specs.Step.{FormatSegment, SetProtected, SetReferenced, Spoil, Step, Upgrade, Wear, changed, formatted_view, spoiled_view, worn_view, ClosingView, OpeningView, SegmentBecame}
 use Rattle.qic_base.specs.declared.tape.TapeInfo.{TapeInfo}
 use Rattle.qic_base.specs.declared.tape.SectorView.{SectorView}
@@ -76,10 +73,10 @@ new_whole n long = record {
 
 -- ---- writes of whole sectors, and the settling
 
-pub writes_leave : (c : Cartridge) (steps : List Step) → AreWrites IsOfSector steps → IsCartridge c → Leaves IsCartridge c steps
+writes_leave : (c : Cartridge) (steps : List Step) → AreWrites IsOfSector steps → IsCartridge c → Leaves IsCartridge c steps
 writes_leave c steps are whole left torn = sector_writes_are_cartridge c steps left whole are torn
 
-pub settling_leaves : (c : Cartridge) (table : List (List ℕ)) → IsCartridge c → TableIs c table → Leaves IsCartridge c (settling_steps table c)
+settling_leaves : (c : Cartridge) (table : List (List ℕ)) → IsCartridge c → TableIs c table → Leaves IsCartridge c (settling_steps table c)
 settling_leaves c table whole reads left torn = stopped_is_cartridge c table left whole reads torn
 
 -- and steps behind it
@@ -186,14 +183,6 @@ clearing_leaves n c whole left (inr (inr torn)) = formats_leave (range_with_len 
 
 -- ---- header copies
 
-pub block_sectors : (area : List (List ℕ)) → IsArea area → All IsSector (with_parity area)
-block_sectors area is =
-    All-append IsSector area (parity_sectors area) is.sectors (parity_sectors-are_sectors area is.sectors)
-
-writes_more : (xs ys : List Step) → AreWrites IsOfSector xs → AreWrites IsOfSector ys → AreWrites IsOfSector (xs ++ ys)
-writes_more [] ys front rear = rear
-writes_more (x ∷ xs) ys front rear = (front.0, writes_more xs ys front.1 rear)
-
 copy_whole : (copy : ℕ) (block : List (List ℕ)) → All IsSector block → AreWrites IsOfSector (copy_writes copy block)
 copy_whole copy block are =
     writes_more (writes_of copy (range_with_len 1 31) (drop 1 block)) (writes_of copy (0 ∷ []) (take 1 block))
@@ -212,13 +201,7 @@ format_steps_leave n area c whole is =
 
 -- ---- an append
 
--- one of the 32 sectors of a table and its parity
-block_sector : (area : List (List ℕ)) (i : ℕ) → IsArea area → i < 32 → IsSector (sector_at (with_parity area) i)
-block_sector area i is h =
-    subst IsSector (sym (unwrap_or-slice_get (with_parity area) i []))
-    (All-get_or IsSector (with_parity area) i [] (let long = length-with_parity area is in omega arith) (block_sectors area is))
-
-pub table_whole : (n : ℕ) (area : List (List ℕ)) → n < 232 → IsArea area → AreWrites IsOfSector (table_writes (slot_sector n) area)
+table_whole : (n : ℕ) (area : List (List ℕ)) → n < 232 → IsArea area → AreWrites IsOfSector (table_writes (slot_sector n) area)
 table_whole n area few is =
     (block_sector area (slot_sector n) is (omega arith), (block_sector area 29 is (omega arith), (block_sector area 30 is (omega arith), (block_sector area 31 is (omega arith), tt))))
 

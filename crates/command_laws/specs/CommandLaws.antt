@@ -4,14 +4,13 @@ use Rattle.cartridge_laws.specs.ChangeSteps.{HasNoRenew}
 use Rattle.cartridge_spec.specs.Formatting.{HasCleanCopies, HasNoHeader}
 use Rattle.cartridge_spec.specs.Shape.{IsArea}
 use Rattle.command_spec.specs.Machine.{Step, HasValues}
-use Rattle.command_laws.specs.CommandTerms.{Yields, CanBeDone}
 use Rattle.command_spec.specs.Outcome.{CommandOutcome}
-use Rattle.command_laws.specs.Terms.{KeepsCopies, KeepsLive}
+use Rattle.command_laws.specs.CommandFields.{KeepsCopies, KeepsLive, Yields, CanBeDone}
 use Rattle.command_spec.specs.declared.status.Status.{Status}
 use Rattle.command_spec.specs.declared.words.Words.{Words}
 use Rattle.qic_base.specs.Acts.{steps_of}
 use Rattle.qic_base.specs.Cartridge.{Cartridge}
-use Rattle.qic_base.specs.Terms.{IsCartridge}
+use Rattle.qic_base.specs.CartridgeTerms.{IsCartridge}
 use Rattle.qic_base.specs.Step.{Torn}
 use Rattle.command_spec.specs.declared.status.Status.TheVariants as status
 

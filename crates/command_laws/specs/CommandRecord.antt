@@ -13,7 +13,7 @@ use Rattle.command_spec.specs.Outcome.{CommandOutcome, refused}
 use Rattle.command_spec.specs.declared.status.Status.{Status}
 use Rattle.qic_base.specs.Acts.{steps_of}
 use Rattle.qic_base.specs.Cartridge.{Cartridge}
-use Rattle.qic_base.specs.Terms.{IsCartridge}
+use Rattle.qic_base.specs.CartridgeTerms.{IsCartridge}
 use Rattle.qic_base.specs.Step.{Torn}
 use Rattle.command_spec.specs.declared.status.Status.TheVariants as status
 

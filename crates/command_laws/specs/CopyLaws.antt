@@ -8,7 +8,7 @@ use Rattle.command_spec.specs.Copied.{BeginsLike, CanBeCopied, StandAlike, Stand
 use Rattle.command_spec.specs.Copying.{CopyOutcome, CopyYields}
 use Rattle.qic_base.specs.Acts.{steps_of, text_of}
 use Rattle.qic_base.specs.Cartridge.{Cartridge}
-use Rattle.qic_base.specs.Terms.{IsCartridge}
+use Rattle.qic_base.specs.CartridgeTerms.{IsCartridge}
 use Rattle.qic_base.specs.Step.{Torn}
 use Rattle.command_spec.specs.declared.copy_status.CopyStatus.TheVariants as status
 

@@ -13,8 +13,8 @@ use Rattle.command_laws.specs.ScrubFound.{FindAtOnce, finds_at_once, without_all
 use Rattle.command_laws.specs.ScrubLaws.{AreAllLive}
 use Rattle.command_laws.specs.ScrubMended.{IsScrubbed}
 use Rattle.command_laws.specs.SilentSectors.{DiffersSilently}
-use Rattle.command_laws.specs.Terms.{IsFirstCopyRight}
-use Rattle.command_laws.specs.CommandTerms.{Yields}
+use Rattle.command_laws.specs.ScrubTerms.{IsFirstCopyRight}
+use Rattle.command_laws.specs.CommandFields.{Yields}
 use Rattle.command_laws.specs.ScrubPlain.{Scrubs}
 use Rattle.command_spec.specs.Outcome.{CommandOutcome}
 use Rattle.command_spec.specs.Scrub.{Looked, looked_at, Finding, FindInTurn, MayBeFound, ScrubsAs, finding_acts, ScrubsBy}
@@ -22,7 +22,7 @@ use Rattle.command_spec.specs.declared.depth.Depth.{Depth}
 use Rattle.command_spec.specs.declared.depth.Depth.TheVariants.{Shallow, Deep}
 use Rattle.qic_base.specs.Acts.{Act, steps_of}
 use Rattle.qic_base.specs.Cartridge.{Cartridge}
-use Rattle.qic_base.specs.Terms.{IsCartridge}
+use Rattle.qic_base.specs.CartridgeTerms.{IsCartridge}
 use Rattle.qic_base.specs.Step.{Torn}
 use Rattle.command_spec.specs.declared.status.Status.TheVariants as status
 use Rattle.command_spec.specs.declared.words.Words.TheVariants as commands

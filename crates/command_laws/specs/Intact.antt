@@ -9,7 +9,7 @@ use Rattle.cartridge_spec.specs.Settling.{changed_by}
 use Rattle.cartridge_spec.specs.Volumes.{Plain, entries_of, worn, WearSpares}
 use Rattle.command_laws.specs.ActStops.{IsLeftBy}
 use Rattle.command_laws.specs.MountedKept.{IsAppendable, IsKept, settle_and_append}
-use Rattle.command_laws.specs.CommandTerms.{Makes}
+use Rattle.command_laws.specs.MadeTerms.{Makes}
 use Rattle.command_spec.specs.OneLoss.{ComesBackAsOneOf, SomeComeBack, with_items, with_made}
 use Rattle.command_spec.specs.Script.{ScriptDoes}
 use Rattle.command_spec.specs.Outcome.{CommandOutcome}

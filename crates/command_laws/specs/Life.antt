@@ -11,7 +11,7 @@ use Rattle.command_laws.specs.ActStops.{IsLeftBy}
 use Rattle.command_spec.specs.Input.{Item}
 use Rattle.command_spec.specs.Several.{IsHeard}
 use Rattle.command_spec.specs.Machine.{HasValues}
-use Rattle.command_laws.specs.CommandTerms.{Yields}
+use Rattle.command_laws.specs.CommandFields.{Yields}
 use Rattle.command_spec.specs.Make.{made_contents}
 use Rattle.command_spec.specs.Outcome.{CommandOutcome, HasPlace, output_of}
 use Rattle.command_spec.specs.Script.{Did, ScriptDoes}
@@ -20,7 +20,7 @@ use Rattle.command_spec.specs.declared.status.Status.{Status}
 use Rattle.command_spec.specs.declared.words.Words.{Words}
 use Rattle.qic_base.specs.Acts.{Act, steps_of}
 use Rattle.qic_base.specs.Cartridge.{Cartridge}
-use Rattle.qic_base.specs.Terms.{IsCartridge}
+use Rattle.qic_base.specs.CartridgeTerms.{IsCartridge}
 use Rattle.qic_base.specs.Step.{Wear, effect, effects, Torn}
 use Rattle.command_spec.specs.declared.status.Status.TheVariants as status
 use Rattle.command_spec.specs.declared.words.Words.TheVariants as commands

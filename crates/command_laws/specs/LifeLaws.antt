@@ -1,18 +1,19 @@
 -- What follows of lives, and which runs are runs of a life (this project's own).
-use Rattle.std.specs.Prelude.{◌≡◌, ◌⊎◌, ◌++◌, ℕ, suc, All, Bool, false, IfSome, List, [], ◌∷◌, Option, Some, None, length, slice_get}
+use Rattle.std.specs.Prelude.{◌≡◌, ◌⊎◌, ◌++◌, ℕ, suc, All, Bool, false, List, [], ◌∷◌, Option, Some, None, length, slice_get}
 use Rattle.cartridge_spec.specs.Appending.{appended_volume, with_bytes}
 use Rattle.cartridge_spec.specs.Volumes.{volume_bytes, Plain, Volume}
 use Rattle.cartridge_spec.specs.TableSegment.{CanBeRead}
 use Rattle.command_laws.specs.Life.{Answered, Ended, Event, HasRun, IsEmptied, IsSound, Lives, Loses, Run, Runs, Stopped, begun_behind_all}
 use Rattle.command_spec.specs.Headline.{WordsLeave}
 use Rattle.command_spec.specs.Machine.{Spells, SpellsNone, Step}
-use Rattle.command_laws.specs.CommandTerms.{Yields}
+use Rattle.command_laws.specs.CommandFields.{Yields}
 use Rattle.command_spec.specs.Outcome.{CommandOutcome, output_of}
 use Rattle.command_spec.specs.Restore.{LosesFew, pieces_in}
 use Rattle.command_spec.specs.declared.status.Status.{Status}
 use Rattle.command_spec.specs.declared.words.Words.{Words}
 use Rattle.qic_base.specs.Cartridge.{Cartridge, new_cartridge}
-use Rattle.qic_base.specs.Terms.{IsCartridge}
+use Rattle.qic_base.specs.CartridgeTerms.{IsCartridge}
+use Rattle.qic_base.specs.Source.{IsInput}
 use Rattle.command_spec.specs.declared.status.Status.TheVariants as status
 use Rattle.command_spec.specs.declared.words.Words.TheVariants as commands
 
@@ -36,7 +37,7 @@ AnsweredRuns =
 abbrev pub StoppedRuns : Type 0
 StoppedRuns =
     (words : List (List ℕ)) (told : Option (List ℕ)) (held left : Option Cartridge) → WordsLeave told words held left →
-    (left ≡ held) ⊎ ((input : List ℕ) × IfSome told (λ bytes. input ≡ bytes) × WordsRan words input (Stopped None) held left)
+    (left ≡ held) ⊎ ((input : List ℕ) × IsInput told input × WordsRan words input (Stopped None) held left)
 
 -- ---- the beginning of a life
 

@@ -8,7 +8,7 @@ use Rattle.cartridge_spec.specs.Table.{Entry}
 use Rattle.cartridge_spec.specs.Volumes.{Plain, Stands, entries_of}
 use Rattle.command_laws.specs.MountedKept.{IsKept, IsOpen}
 use Rattle.command_laws.specs.MountedListed.{IsListed}
-use Rattle.command_laws.specs.CommandTerms.{AppendedFrom, Makes, after_items, HaveRoom}
+use Rattle.command_laws.specs.MadeTerms.{AppendedFrom, Makes, after_items, HaveRoom}
 use Rattle.command_spec.specs.Make.{LoseFewBehind, made_contents, MakeStep, StepDoes, Runs, made_list}
 use Rattle.qic_base.specs.Acts.{Act, steps_of, text_of, next_steps}
 use Rattle.qic_base.specs.Cartridge.{Cartridge}

@@ -10,7 +10,7 @@ use Rattle.command_spec.specs.Scrub.{ScrubsAs}
 use Rattle.command_spec.specs.declared.depth.Depth.TheVariants.{Shallow}
 use Rattle.qic_base.specs.Acts.{Act, steps_of}
 use Rattle.qic_base.specs.Cartridge.{Cartridge}
-use Rattle.qic_base.specs.Terms.{IsCartridge}
+use Rattle.qic_base.specs.CartridgeTerms.{IsCartridge}
 use Rattle.qic_base.specs.Step.{Step, Torn}
 use Rattle.cartridge_laws.specs.AppendLaws as appends
 

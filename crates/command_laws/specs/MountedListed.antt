@@ -7,19 +7,19 @@ use Rattle.cartridge_spec.specs.Header.{Header}
 use Rattle.cartridge_spec.specs.HeaderCopies.{last_segment}
 use Rattle.cartridge_spec.specs.TableSegment.{TableIs, table_cells}
 use Rattle.cartridge_spec.specs.Mounting.{Mounted, Mounts, settled}
-use Rattle.cartridge_laws.specs.Terms.{HasList}
+use Rattle.cartridge_laws.specs.TableCells.{HasList}
 use Rattle.cartridge_spec.specs.Says.{ByCode, LostSectors, TableSays}
 use Rattle.cartridge_spec.specs.Settling.{changed_by}
 use Rattle.cartridge_spec.specs.Table.{Entry, Shows}
 use Rattle.cartridge_spec.specs.Volumes.{worn}
 use Rattle.command_spec.specs.Append.{Kept, Taking, Fits, TooLong, TooShort, append_acts, room_in, taking, kept_over}
-use Rattle.command_laws.specs.CommandTerms.{entry_for}
+use Rattle.command_laws.specs.AppendTerms.{entry_for}
 use Rattle.command_spec.specs.Restore.{GivingEnd, Piece, Restores}
 use Rattle.command_spec.specs.Scrub.{ScrubsAs}
 use Rattle.command_spec.specs.declared.depth.Depth.TheVariants.{Shallow}
 use Rattle.qic_base.specs.Acts.{steps_of, Act}
 use Rattle.qic_base.specs.Cartridge.{Cartridge, IsLength}
-use Rattle.qic_base.specs.Terms.{IsCartridge}
+use Rattle.qic_base.specs.CartridgeTerms.{IsCartridge}
 
 -- what a store knows of its cartridge: the list is in order, and where the cartridge may be written the sectors of the table's
 -- segment that can be read are those of a code block that shows the list

@@ -3,7 +3,7 @@ use Rattle.std.specs.Prelude.{ℕ, List, length, ◌≡◌, Bool, [], ◌≤◌,
 use Rattle.cartridge_spec.specs.Volumes.{carrying}
 use Rattle.command_laws.specs.OutputText.{AreOf, printed}
 use Rattle.command_spec.specs.Restore.{Piece, pieces_of, GivingEnd, Restores}
-use Rattle.command_laws.specs.CommandTerms.{EndsAt, bytes_held}
+use Rattle.command_laws.specs.RestoreTerms.{EndsAt, bytes_held}
 use Rattle.qic_base.specs.Acts.{Act, steps_of, text_of}
 use Rattle.qic_base.specs.Cartridge.{Cartridge}
 

@@ -3,7 +3,7 @@ use Rattle.std.specs.Prelude.{◌≡◌, IsSomeAnd, List, Some, ℕ, IfSome, Non
 use Rattle.cartridge_laws.specs.AppendSettled.{IsSettledFor}
 use Rattle.cartridge_spec.specs.Volumes.{Plain, Stands}
 use Rattle.command_laws.specs.SilentSectors.{DiffersSilently}
-use Rattle.command_laws.specs.Terms.{Answers}
+use Rattle.command_laws.specs.RunTerms.{Answers}
 use Rattle.command_spec.specs.Headline.{NoneRose, ToldNow, EachLeft}
 use Rattle.command_spec.specs.Machine.{Spells}
 use Rattle.command_spec.specs.OneLoss.{StoppedComesBack}
@@ -12,7 +12,7 @@ use Rattle.command_spec.specs.Several.{LinesLeave}
 use Rattle.command_spec.specs.declared.status.Status.{Status}
 use Rattle.qic_base.specs.Acts.{Outside}
 use Rattle.qic_base.specs.Cartridge.{Cartridge}
-use Rattle.qic_base.specs.Terms.{IsCartridge}
+use Rattle.qic_base.specs.CartridgeTerms.{IsCartridge}
 use Rattle.qic_base.specs.Sink as sinks
 use Rattle.qic_base.specs.Source as sources
 use Rattle.qic_base.specs.Tape as tapes

@@ -13,12 +13,13 @@ use Rattle.command_spec.specs.OneLoss.{ComesBackAsOneOf, LeftComesBack}
 use Rattle.command_spec.specs.Promises.{Promises}
 use Rattle.command_spec.specs.ScriptLists.{ItemsSpareTable}
 use Rattle.command_spec.specs.Several.{FirstLinesSpare, Scripted}
-use Rattle.command_spec.specs.Volumes.{AreBytes, IsInput}
+use Rattle.command_spec.specs.Volumes.{AreBytes}
+use Rattle.qic_base.specs.Source.{IsInput}
 use Rattle.command_spec.specs.declared.words.Words.{Words}
 use Rattle.command_spec.specs.declared.status.Status.{Status}
 use Rattle.qic_base.specs.Acts.{Outside}
 use Rattle.qic_base.specs.Cartridge.{Cartridge}
-use Rattle.qic_base.specs.Terms.{IsCartridge}
+use Rattle.qic_base.specs.CartridgeTerms.{IsCartridge}
 use Rattle.qic_base.specs.Sink as sinks
 use Rattle.qic_base.specs.Source as sources
 use Rattle.qic_base.specs.Tape as tapes

@@ -7,11 +7,11 @@ use Rattle.cartridge_spec.specs.Says.{unreadable_count}
 use Rattle.cartridge_spec.specs.Settling.{changed_by}
 use Rattle.cartridge_spec.specs.Table.{Entry}
 use Rattle.command_spec.specs.Restore.{Piece, GivingEnd, Restores, framed, pieces, Restored, LosesFew, pieces_in, FirstLost, LostIn, piece_cells, MismatchIn, IsRead, PieceEnds}
-use Rattle.command_laws.specs.CommandTerms.{bytes_held}
+use Rattle.command_laws.specs.RestoreTerms.{bytes_held}
 use Rattle.command_spec.specs.Copying.{GivenBytes}
 use Rattle.qic_base.specs.Acts.{Act, steps_of, text_of}
 use Rattle.qic_base.specs.Cartridge.{Cartridge}
-use Rattle.qic_base.specs.Terms.{IsCartridge}
+use Rattle.qic_base.specs.CartridgeTerms.{IsCartridge}
 use Rattle.cartridge_laws.specs.AppendLaws as appends
 
 -- ---- over any cartridge

@@ -8,7 +8,7 @@ use Rattle.command_laws.specs.MountedHeld.{IsHeld}
 use Rattle.command_laws.specs.MountedKept.{IsAppendable}
 use Rattle.command_spec.specs.Input.{Item, Ending, IsScript}
 use Rattle.command_spec.specs.Script.{Did, ItemsDo, entries_behind, cartridge_behind, ScriptDoes}
-use Rattle.command_laws.specs.CommandTerms.{ItemDoes, FaultDoes, LineSpares}
+use Rattle.command_laws.specs.ScriptTerms.{ItemDoes, FaultDoes, LineSpares}
 use Rattle.command_spec.specs.Outcome.{CommandOutcome}
 use Rattle.command_spec.specs.ScriptLists.{CameFurther, FirstSpare, GoesNoFurther, ItemsSpare, StandsAnswered, item_added, all_added}
 use Rattle.command_spec.specs.declared.line.Line.{Line}

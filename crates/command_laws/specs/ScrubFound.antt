@@ -3,7 +3,7 @@ use Rattle.std.specs.Prelude.{◌≡◌, ℕ, ◌<◌, List, [], ◌∷◌, ◌�
 use Rattle.cartridge_spec.specs.Shape.{IsLive}
 use Rattle.command_laws.specs.ScrubMended.{IsMended}
 use Rattle.command_spec.specs.Scrub.{Looked, Finding, without}
-use Rattle.command_laws.specs.Terms.{Finds, find_act}
+use Rattle.command_laws.specs.ScrubTerms.{Finds, find_act}
 use Rattle.command_spec.specs.declared.depth.Depth.{Depth}
 use Rattle.qic_base.specs.Acts.{Act}
 use Rattle.qic_base.specs.Cartridge.{Cartridge, view_at}

@@ -1,7 +1,7 @@
 -- What scrubbing does, and what it leaves, done or stopped, as facts.
 use Rattle.std.specs.Prelude.{◌≡◌, ℕ, List, ◌≤◌, All, ◌↔◌, ◌<◌, true, ◌+◌, [], ◌∷◌, ◌++◌, if◌then◌else◌, length, take, slice_get, IsSomeAnd, Option, Some}
 use Rattle.cartridge_laws.specs.AppendSettled.{IsSettledFor}
-use Rattle.cartridge_laws.specs.Segment.{IsUnreadable}
+use Rattle.cartridge_laws.specs.Segment.{IsUnreadable, data_of, sectors_of}
 use Rattle.cartridge_laws.specs.Shape.{Carries}
 use Rattle.cartridge_laws.specs.Table.{IsSoundList}
 use Rattle.cartridge_laws.specs.Writes.{named_writes}
@@ -13,7 +13,6 @@ use Rattle.cartridge_spec.specs.TableSegment.{table_cells, TableIs}
 use Rattle.cartridge_spec.specs.HeaderCopies.{copy_cells, CopyReads}
 use Rattle.cartridge_spec.specs.Mounting.{Mounted, Mounts}
 use Rattle.cartridge_spec.specs.Says.{Data, Says, Saying}
-use Rattle.cartridge_laws.specs.Terms.{data_of, sectors_of}
 use Rattle.cartridge_spec.specs.Settling.{changed_by}
 use Rattle.cartridge_spec.specs.Table.{Entry}
 use Rattle.cartridge_spec.specs.Volumes.{Plain, Stands, entries_of}
@@ -21,10 +20,10 @@ use Rattle.command_laws.specs.ScrubMended.{IsScrubbed, IsBeingMended}
 use Rattle.command_laws.specs.ScrubPlain.{Scrubs, looking_acts, SayInTurn}
 use Rattle.command_laws.specs.ScrubSayings.{Rise, SayAtOnce, acts_at_once}
 use Rattle.command_spec.specs.Scrub.{looked_at, whole_segment, reads, Looked, unread_count, cells_at, steps_in}
-use Rattle.command_laws.specs.Terms.{look_act}
+use Rattle.command_laws.specs.ScrubTerms.{look_act}
 use Rattle.qic_base.specs.Acts.{Act, steps_of}
 use Rattle.qic_base.specs.Cartridge.{Cartridge, view_at}
-use Rattle.qic_base.specs.Terms.{IsCartridge, IsLost}
+use Rattle.qic_base.specs.CartridgeTerms.{IsCartridge, IsLost}
 use Rattle.qic_base.specs.Step.{Torn}
 use Rattle.qic_base.specs.declared.tape.SectorView.TheVariants.{Holds}
 

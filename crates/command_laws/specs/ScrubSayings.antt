@@ -3,7 +3,7 @@
 use Rattle.std.specs.Prelude.{List, [], ◌∷◌, ◌<◌, All}
 use Rattle.cartridge_spec.specs.Says.{Saying, Says}
 use Rattle.command_spec.specs.Scrub.{Looked, cells_at}
-use Rattle.command_laws.specs.Terms.{look_act}
+use Rattle.command_laws.specs.ScrubTerms.{look_act}
 use Rattle.qic_base.specs.Acts.{Act}
 use Rattle.qic_base.specs.Cartridge.{Cartridge}
 

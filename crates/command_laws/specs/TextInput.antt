@@ -1,6 +1,6 @@
 -- Each input is read in one way: its lines, its items, and what ends them, as facts (this project's own).
 use Rattle.std.specs.Prelude.{◌≡◌, ℕ, List, [], ◌++◌}
-use Rattle.command_laws.specs.CommandTerms.{HasLineForm}
+use Rattle.command_laws.specs.Inputs.{HasLineForm}
 use Rattle.command_spec.specs.Input.{Ending, HasItems}
 use Rattle.command_spec.specs.declared.line.Line.{Line}
 

@@ -9,7 +9,9 @@ use Rattle.cartridge_spec.specs.Says.{LostSectors, Mismatch}
 use Rattle.cartridge_spec.specs.Table.{Entry}
 use Rattle.cartridge_spec.specs.Volumes.{carrying}
 use Rattle.command_spec.specs.Append.{append_acts, taking, TooLong, TooShort, kept_over}
-use Rattle.command_laws.specs.CommandTerms.{bytes_taken, append_status, made_byte, words_of}
+use Rattle.command_laws.specs.MadeTerms.{made_byte}
+use Rattle.command_laws.specs.AppendTerms.{bytes_taken, append_status}
+use Rattle.command_laws.specs.Inputs.{words_of}
 use Rattle.command_spec.specs.Command.{IsNumber}
 use Rattle.command_spec.specs.Make.{made_length, sum_line, made_name, wearing_in, WearSector}
 use Rattle.command_spec.specs.Input.{IsScript, AtStop}

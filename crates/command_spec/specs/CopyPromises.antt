@@ -16,7 +16,7 @@ use Rattle.command_spec.specs.Restore.{GivingEnd, Restores, pieces}
 use Rattle.command_spec.specs.declared.copy_fault.CopyFault.{CopyFault}
 use Rattle.command_spec.specs.declared.copy_status.CopyStatus.{CopyStatus}
 use Rattle.qic_base.specs.Acts.{Act, SinkCut, TapeCut, Went, steps_of}
-use Rattle.qic_base.specs.Terms.{around, no_source}
+use Rattle.qic_base.specs.Alone.{around, no_source}
 use Rattle.qic_base.specs.Cartridge.{Cartridge}
 use Rattle.qic_base.specs.Tape.{Rose}
 use Rattle.qic_base.specs.Step.{Torn}

@@ -3,7 +3,7 @@
 use Rattle.std.specs.Prelude.{ℕ, ◌+◌, List, [], ◌∷◌, ◌++◌, codes, length, drop, take, replicate, ◌≡◌, ◌≢◌, ◌⊎◌, ◌==◌, ◌&&◌, Bool, true, false, if◌then◌else◌, Option, Some, None}
 use Rattle.std.specs.Str.{bytes_eq}
 use Rattle.cartridge_spec.specs.Volumes.{bytes_in, volume_length}
-use Rattle.cartridge_spec.specs.Appending.{new_entry, taken_by, free_segments}
+use Rattle.cartridge_spec.specs.Appending.{entry_of_length}
 use Rattle.cartridge_spec.specs.Header.{HeaderFault}
 use Rattle.cartridge_spec.specs.TableSegment.{TableIs, table_cells}
 use Rattle.cartridge_spec.specs.Mounting.{Mounting, Mounts, settled}
@@ -93,8 +93,7 @@ copy_acts from e to table bytes =
 
 -- its entry on the target
 abbrev pub copied_entry : (from : Side) → Entry → (to : Side) → Entry
-copied_entry from e to =
-    new_entry (taken_by to.words (length_on from e) (free_segments to.words to.entries)) e.name e.date (length_on from e)
+copied_entry from e to = entry_of_length to.words to.entries e.name e.date (length_on from e)
 
 -- the target behind it
 abbrev pub behind_copy : (from : Side) → Entry → (to : Side) → List Act → Side

@@ -1,5 +1,5 @@
 -- The clauses of the headline, one by one (this project's own).
-use Rattle.std.specs.Prelude.{◌≡◌, ℕ, List, ◌++◌, Option, Some, ◌⊎◌, true, IsSomeAnd, IfSome, is_some}
+use Rattle.std.specs.Prelude.{◌≡◌, ℕ, List, ◌++◌, Option, Some, ◌⊎◌, true, IsSomeAnd, is_some}
 use Rattle.std.specs.Option.{option_map}
 use Rattle.command_spec.specs.Commands.{command_of}
 use Rattle.command_spec.specs.Machine.{Step, Spells, InputLeft, OverTold, IsCutOff, IsOfBytes}
@@ -9,6 +9,7 @@ use Rattle.command_spec.specs.declared.words.Words.{Words}
 use Rattle.qic_base.specs.Acts.{Outside, Failing, FailingRose, steps_of, NoneFell}
 use Rattle.qic_base.specs.Cartridge.{Cartridge}
 use Rattle.qic_base.specs.Step.{Step as TapeStep, Torn}
+use Rattle.qic_base.specs.Source.{IsInput}
 use Rattle.qic_base.specs.Sink as sinks
 use Rattle.qic_base.specs.Source as sources
 use Rattle.qic_base.specs.Tape as tapes
@@ -54,7 +55,7 @@ ToldNow t new P = IsSomeAnd (t.told new) P
 -- a stop in the steps of an outcome leaves this, over the input that is told, or some input where none is
 pub record StopLeaves (told : Option (List ℕ)) (command : Words) (held left : Option Cartridge) : Type 0 where
   pub input : List ℕ
-  pub is_told : IfSome told (λ bytes. input ≡ bytes)
+  pub is_told : IsInput told input
   pub bytes : IsOfBytes command told input
   pub outcome : CommandOutcome
   pub plain : (command_of command).yields held input outcome

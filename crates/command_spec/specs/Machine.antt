@@ -11,6 +11,7 @@ use Rattle.qic_base.specs.Acts.{steps_of, Outside, Failing, TapeFails, SourceFai
 use Rattle.qic_base.specs.Cartridge.{Cartridge}
 use Rattle.qic_base.specs.Step.{effects}
 use Rattle.std.specs.Option.{option_map}
+use Rattle.qic_base.specs.Source.{IsInput}
 use Rattle.command_spec.specs.declared.status.Status.TheVariants as status
 use Rattle.qic_base.specs.Source as sources
 use Rattle.qic_base.specs.Tape as tapes
@@ -44,7 +45,7 @@ Step words held input held' output taken answer =
 -- tells none
 abbrev pub OverTold : {T S K : Type 0} (t : tapes.Meaning T) (s : sources.Meaning S) (old : Outside T S K) (P : Option Cartridge → List ℕ → Type 0) → Type 0
 OverTold t s old P =
-    IfSome (t.told old.tape) (λ held. (input : List ℕ) × IfSome (s.left old.source) (λ bytes. input ≡ bytes) × P held input)
+    IfSome (t.told old.tape) (λ held. (input : List ℕ) × IsInput (s.left old.source) input × P held input)
 
 -- Of the bytes from the place of a fault on an end is left: at most 128 of them were taken, or all.
 abbrev pub LeftAtFault : (place : ℕ) → (before after : Option (List ℕ)) → Type 0

@@ -13,7 +13,8 @@ use Rattle.command_spec.specs.Machine.{Spells}
 use Rattle.command_spec.specs.Make.{made_contents}
 use Rattle.command_spec.specs.Script.{Did}
 use Rattle.command_spec.specs.ScriptLists.{CameFurther, GoesNoFurther, all_added, printed_by, ItemsSpare, ItemsSpareTable}
-use Rattle.command_spec.specs.Volumes.{IsInput, AreBytes, IsCarriedOut}
+use Rattle.command_spec.specs.Volumes.{AreBytes, IsCarriedOut}
+use Rattle.qic_base.specs.Source.{IsInput}
 use Rattle.command_spec.specs.declared.status.Status.{Status}
 use Rattle.qic_base.specs.Cartridge.{Cartridge}
 use Rattle.qic_base.specs.Step.{Torn}

@@ -12,7 +12,8 @@ use Rattle.command_spec.specs.Make.{AppendedBy, made_list, made_contents}
 use Rattle.command_spec.specs.Outcome.{CommandOutcome}
 use Rattle.command_spec.specs.Script.{Did, entries_behind, ScriptDoes}
 use Rattle.command_spec.specs.ScriptLists.{ItemsWearBehind, ListsAnswered, ListsBroken, CameFurther, FirstSpare, GoesNoFurther, ItemsSpare, StandsAnswered, all_added}
-use Rattle.command_spec.specs.Volumes.{IsInput, IsCarriedOut}
+use Rattle.command_spec.specs.Volumes.{IsCarriedOut}
+use Rattle.qic_base.specs.Source.{IsInput}
 use Rattle.command_spec.specs.declared.status.Status.{Status}
 use Rattle.qic_base.specs.Cartridge.{Cartridge}
 use Rattle.cartridge_spec.specs.Appending.{entry_behind, with_all}

@@ -16,6 +16,7 @@ use Rattle.command_spec.specs.declared.status.Status.{Status}
 use Rattle.command_spec.specs.declared.words.Words.{Words}
 use Rattle.qic_base.specs.Acts.{Failing, TookFront}
 use Rattle.qic_base.specs.Cartridge.{Cartridge, new_cartridge}
+use Rattle.qic_base.specs.Source.{IsInput}
 use Rattle.command_spec.specs.declared.words.Words.TheVariants as commands
 use Rattle.qic_base.specs.Tape as tapes
 use Rattle.command_spec.specs.declared.status.Status.TheVariants as status
@@ -52,10 +53,6 @@ pub record FormatsOrNot (words : List (List ℕ)) (held left : Option Cartridge)
       held ≡ Some c → HasNoHeader c → IsSomeAnd left (λ d. IsUnformatted d ⊎ StandsEmpty Stands c label date d)
 
 -- ---- appending
-
--- the input, where it is told
-abbrev pub IsInput : (told : Option (List ℕ)) → (input : List ℕ) → Type 0
-IsInput told input = IfSome told (λ bytes. input ≡ bytes)
 
 -- the volumes of a plain cartridge, and one of the input behind them
 pub record StandsAppended (told : Option (List ℕ)) (name : List ℕ) (date : ℕ) (c : Cartridge) (plain : Plain) (d : Cartridge) : Type 0 where

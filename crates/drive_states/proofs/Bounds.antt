@@ -22,16 +22,16 @@ use Rattle.drive_states.specs.Unit.{Knows}
 use Rattle.qic117_commands.specs.declared.view.Motion.TheVariants as seen_as
 use Rattle.drive_states.proofs.Taken.{is_taken, stop_taken, primary_taken, reference_taken, segments_taken}
 
-pub and-right : (a b : Bool) → a && b ≡ true → b ≡ true
+and-right : (a b : Bool) → a && b ≡ true → b ≡ true
 and-right true b e = e
 and-right false b e = cc
 
-pub not-false : (a : Bool) → not a ≡ false → a ≡ true
+not-false : (a : Bool) → not a ≡ false → a ≡ true
 not-false true e = refl
 not-false false e = cc
 
 -- a tape that is seen neither to seek nor to stream is stopped
-pub seen_stopped : (m : Motion) → sees_seek (seen_motion m) ≡ false → sees_stream (seen_motion m) ≡ false → m ≡ Stopped
+seen_stopped : (m : Motion) → sees_seek (seen_motion m) ≡ false → sees_stream (seen_motion m) ≡ false → m ≡ Stopped
 seen_stopped Stopped seeks streams = refl
 seen_stopped (Streaming next) seeks streams = cc
 seen_stopped (Seeking left) seeks streams = cc
@@ -89,7 +89,7 @@ is_some-referenced : (on : Bool) (c : Option TapeInfo) → is_some (referenced_a
 is_some-referenced on None = refl
 is_some-referenced on (Some info) = refl
 
-pub Knows-referenced : (on : Bool) (c : Option TapeInfo) (size : Option ℕ) → Knows c size → Knows (referenced_as on c) size
+Knows-referenced : (on : Bool) (c : Option TapeInfo) (size : Option ℕ) → Knows c size → Knows (referenced_as on c) size
 Knows-referenced on None size known = tt
 Knows-referenced on (Some info) size known = known
 

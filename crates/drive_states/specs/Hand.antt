@@ -1,7 +1,7 @@
 -- What a person does to the cartridge, past the drive (this project's profile).
 use Rattle.std.specs.Prelude.{◌≡◌, ℕ, ◌⊎◌, true, false, [], ◌∷◌, Option, Some, None, Result, Ok, Err}
 use Rattle.qic_base.specs.Cartridge.{view_at, IsPlace}
-use Rattle.qic_base.specs.Terms.{IsVersion}
+use Rattle.qic_base.specs.CartridgeTerms.{IsVersion}
 use Rattle.qic_base.specs.Step.{Step, Wear, Spoil, Upgrade}
 use Rattle.qic_base.specs.Tape.{Meaning, Done, Broke, spoil_answer}
 use Rattle.qic_base.specs.TapeCalls.{Tells}

@@ -24,5 +24,5 @@ pub use states::{
     Skips, Standing, State, Verify,
 };
 pub use tape_geometry::FloppyAddr;
-pub use under_way::{parameter_trains, report_width, report_word};
+pub use under_way::{parameter_trains, report_word};
 pub use unit::Unit;

@@ -13,7 +13,7 @@ use crate::effects::{passed, run_on};
 use crate::fault::FdcFault;
 use crate::states::{Format, Primary, Reads, State};
 use drive_spec::{Deck, Motion};
-use qic_base::{Sector, SectorRead, SectorWrite, Tape, TapeFailed};
+use qic_base::{SECTOR, Sector, SectorRead, SectorWrite, Tape, TapeFailed};
 use tape_geometry::{FloppyAddr, Geometry};
 
 /// The segment and the sector index of an address that the head can still reach.
@@ -94,7 +94,7 @@ impl<T: Tape> Drive<Primary, T> {
             Writes T.means self.old self.new segment index bytes true (Err result) }
         ensures size { T.means.size self.new.tape ≡ T.means.size self.old.tape }
     {
-        let mut found = [0; 1024];
+        let mut found = [0; SECTOR];
         match self.tape.read_sector(segment, index, &mut found) {
             Ok(SectorRead::Good | SectorRead::Lost) => FdcFault::Protected,
             Ok(SectorRead::Blank) => FdcFault::NoAddress,

@@ -18,7 +18,7 @@ use crate::dialogue::Dialogue;
 use crate::fault::{FdcFault, HandFault};
 use crate::hand::empty;
 use drive_spec::UnderWay;
-use qic_base::{Sector, Tape, TapeFailed};
+use qic_base::{SECTORS, Sector, TRACKS, Tape, TapeFailed};
 use std::marker::Model;
 use tape_geometry::FloppyAddr;
 
@@ -246,7 +246,9 @@ impl<T: Tape> Unit<T> {
         let Some(info) = self.dialogue.drive.deck().cartridge else {
             return Err(HandFault::NoCartridge);
         };
-        if segment >= 28 * u32::from(info.segments_per_track) || sector >= 32 {
+        if segment >= TRACKS as u32 * u32::from(info.segments_per_track)
+            || sector >= SECTORS as u32
+        {
             return Err(HandFault::BadPlace);
         }
         Ok(sector as u8)

@@ -117,7 +117,7 @@ strip_none strip start ss reversed one generator =
     none : (root j : ℕ) → value_at root (column (start + j) []) ≡ 0
     none root j = ap (value_at root) (column-none (start + j)) ∙ value_at-none root
 
-pub strip_more :
+strip_more :
     (old new : Strip) (start : ℕ) (front back : List (List ℕ)) (s t : List ℕ) → start + 128 ≤ 1024 →
     All IsSector front → All IsSector back → IsSector s → IsSector t → length back < 35 →
     AddsToStrip old start s t new → IsStrip old start front back → IsStrip new start (front ++ s ∷ []) (t ∷ back)

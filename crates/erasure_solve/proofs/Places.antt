@@ -2,7 +2,7 @@
 use Rattle.std.proofs.Common.{◌≡◌, ◌≢◌, ℕ, zero, suc, ◌+◌, ◌-◌, ◌/◌, ◌%◌, ◌^◌, ◌<◌, ◌≤◌, refl, sym, ◌∙◌, ap, subst, arith, inl, inr, true, cond, List, [], ◌∷◌, length, get_or, set, get_or-set_same, get_or-set_other, add-zero, add-one, Bool}
 use Rattle.std.proofs.Math.ListN.{length-append, length-set}
 use Rattle.std.proofs.lemmas.Bool.{cases_eq, cases_lt, eqb-true, eq-eqb, ne_eqb}
-use Rattle.qic_base.specs.Terms.{IsLost}
+use Rattle.qic_base.specs.CartridgeTerms.{IsLost}
 use Rattle.qic_base.specs.Cartridge.{lost_places}
 use Rattle.qic_base.proofs.LostSetLaws.{lost_places-lost, lost_places-kept}
 use Rattle.gf256_qic.specs.Code.{lost_below}
@@ -21,7 +21,7 @@ pub record Gathered (mask count place found : ℕ) (degrees : List ℕ) : Type 0
   pub all : (p : ℕ) → p < place → is_lost mask p ≡ true →
       (k : ℕ) × (k < found) × (get_or degrees k 0 + p + 1 ≡ count)
 
-pub lost_from : (mask p : ℕ) → is_lost mask p ≡ true → IsLost mask p
+lost_from : (mask p : ℕ) → is_lost mask p ≡ true → IsLost mask p
 lost_from mask p h = eqb-true (mask / 2 ^ p % 2) 1 h
 
 pub is_lost_from : (mask p : ℕ) → IsLost mask p → is_lost mask p ≡ true
@@ -51,13 +51,13 @@ lost_more mask n (suc more) =
     ]
 
 -- one more lost place makes one more degree, and there is room for it
-pub number_more : (mask place : ℕ) → IsLost mask place →
+number_more : (mask place : ℕ) → IsLost mask place →
     length (lost_places mask (place + 1)) ≡ length (lost_places mask place) + 1
 number_more mask place lost =
     ap (λ (l : List ℕ). length l) (lost_places-lost mask place lost)
     ∙ length-append (lost_places mask place) (place ∷ [])
 
-pub number_kept : (mask place : ℕ) → (IsLost mask place → ⊥) →
+number_kept : (mask place : ℕ) → (IsLost mask place → ⊥) →
     length (lost_places mask (place + 1)) ≡ length (lost_places mask place)
 number_kept mask place kept = ap (λ (l : List ℕ). length l) (lost_places-kept mask place kept)
 
@@ -231,7 +231,7 @@ degrees_from mask count found ds most few g =
           (before.0, omega arith, before.2);
     }
 
-abbrev one_if : Bool → ℕ
+abbrev pub one_if : Bool → ℕ
 one_if b = cond b 1 0
 
 -- both counts of the lost places are the same

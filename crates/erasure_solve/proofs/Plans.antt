@@ -21,7 +21,7 @@ use Rattle.erasure_solve.specs.declared.values.Values.{Values}
 use Rattle.erasure_solve.specs.declared.plan.Plan.{Plan}
 use Rattle.erasure_solve.proofs.Blocks.{ThreeDegrees, three_degrees, third_from_others, any_default_of, get_or-weighed_row, is_correction, made_block, must_agree, none_lost}
 
-pub found_by :
+found_by :
     (plan : Plan) (values : Values) (ss : List (List ℕ)) → IsPlan plan → length ss ≡ planned_count plan →
     All IsSector ss → AreValues values ss → Found (planned_lost plan) ss (corrections_of plan values)
 found_by plan values ss is count all are =
@@ -92,7 +92,7 @@ all_applied_to mask old corrections found =
     (three.0, record { once = one.0; twice = two.0; first = one.1; second = two.1; third = three.1 })
 
 -- corrections that can be made make some code block
-pub agree_solvable : (mask : ℕ) (old : List (List ℕ)) (corrections : Corrections) → 4 ≤ length old → length old ≤ 32 →
+agree_solvable : (mask : ℕ) (old : List (List ℕ)) (corrections : Corrections) → 4 ≤ length old → length old ≤ 32 →
     Found mask old corrections → Agree corrections → IsSolvable (is_lost mask) old
 agree_solvable mask old corrections least most found agree =
     let applied = all_applied_to mask old corrections found in
@@ -100,7 +100,7 @@ agree_solvable mask old corrections least most found agree =
     record { block = applied.0; codewords = made.0; agrees = made.1 }
 
 -- values of 0 change nothing
-pub zero_row : (values : Values) (factors : List ℕ) → AreZero values → IsZero (weighed_row values factors)
+zero_row : (values : Values) (factors : List ℕ) → AreZero values → IsZero (weighed_row values factors)
 unfolding weighed_sum
 zero_row values factors zeros = record {
   each = λ j h.
@@ -125,7 +125,7 @@ zero_agree plan values zeros = record {
 }
 
 -- where three places are lost no equation is left over
-pub full_agree : (plan : Plan) (values : Values) → IsFull plan → Agree (corrections_of plan values)
+full_agree : (plan : Plan) (values : Values) → IsFull plan → Agree (corrections_of plan values)
 full_agree plan values full = record {
   first = record { nothing = λ high. absurd (omega (arith, full.first)) };
   second = record { nothing = λ high. absurd (omega (arith, full.second)) };

@@ -1,4 +1,5 @@
 pub mod Correction
+pub mod Laws
 pub mod Lost
 pub mod Plan
 pub mod Rows

@@ -1,5 +1,5 @@
 -- The places of a segment that are lost, and what can be said of the sectors there.
-use Rattle.std.specs.Prelude.{◌≡◌, ℕ, ◌/◌, ◌%◌, ◌^◌, ◌≤◌, ◌==◌, Bool, List, length}
+use Rattle.std.specs.Prelude.{◌≡◌, ℕ, ◌/◌, ◌%◌, ◌^◌, ◌==◌, Bool, List, length}
 use Rattle.qic_base.specs.Cartridge.{lost_places}
 use Rattle.cartridge_spec.specs.Code.{IsCodeBlock}
 use Rattle.gf256_qic.specs.Code.{AgreesOutside}
@@ -16,10 +16,3 @@ lost_count mask = length (lost_places mask 32)
 abbrev pub IsOnlyBlock : (ℕ → Bool) → List (List ℕ) → List (List ℕ) → Type 0
 IsOnlyBlock lost sectors block =
     (other : List (List ℕ)) → IsCodeBlock other → AgreesOutside lost sectors other → block ≡ other
-
--- at most one code block agrees with sectors of which at most three are lost (QIC-80-MC)
-abbrev pub OneSolution : Type 0
-OneSolution =
-    (mask : ℕ) (sectors block other : List (List ℕ)) → lost_count mask ≤ 3 →
-    IsCodeBlock block → AgreesOutside (is_lost mask) sectors block →
-    IsCodeBlock other → AgreesOutside (is_lost mask) sectors other → block ≡ other

@@ -3,7 +3,7 @@ use Rattle.std.proofs.Common.{◌≡◌, ℕ, zero, suc, ◌+◌, ◌-◌, ◌*�
 use Rattle.std.proofs.lemmas.List.{length-replicate, take_at}
 use Rattle.std.proofs.Math.Seq.{drop-append-add}
 use Rattle.std.specs.List.{slice_range}
-use Rattle.qic_base.specs.Terms.{IsView}
+use Rattle.qic_base.specs.CartridgeTerms.{IsView}
 use Rattle.qic_base.specs.Cartridge.{zero_sector}
 use Rattle.qic_base.specs.declared.tape.SectorView.{SectorView}
 use Rattle.qic_base.specs.declared.tape.SectorView.TheVariants.{Blank, Defect, Lost, Holds}
@@ -26,7 +26,7 @@ first_view view views all = all zero Blank (omega arith)
 other_views : (view : SectorView) (views : List SectorView) → All IsView (view ∷ views) → All IsView views
 other_views view views all k d within = all (suc k) d (omega arith)
 
-pub length-views_bytes : (views : List SectorView) → All IsView views → length (views_bytes views) ≡ 1024 * length views
+length-views_bytes : (views : List SectorView) → All IsView views → length (views_bytes views) ≡ 1024 * length views
 length-views_bytes [] all = refl
 length-views_bytes (view ∷ views) all =
     let one = length-sector_bytes view (first_view view views all) in

@@ -2,7 +2,8 @@
 use Rattle.std.proofs.Common.{true, false, refl, ap, arith}
 use Rattle.std.proofs.lemmas.List.{take_all}
 use Rattle.qic_base.specs.declared.tape.SectorView.TheVariants.{Holds}
-use Rattle.flat_dump.specs.Cells.{cell_bytes, CellShows}
+use Rattle.flat_dump.specs.Cells.{cell_bytes}
+use Rattle.flat_dump.specs.ImageLaws.{CellShows}
 
 pub cell_shows : CellShows
 unfolding cell_bytes

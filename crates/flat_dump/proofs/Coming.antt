@@ -2,7 +2,7 @@
 use Rattle.std.proofs.Common.{◌≡◌, inl, inr, ℕ, ◌+◌, ◌*◌, ◌/◌, ◌<◌, ◌≤◌, List, length, get_or, Option, Some, refl, sym, ap, ◌∙◌, subst, arith}
 use Rattle.std.proofs.lemmas.List.{same_lists, get_or_default, get_or-map, length-map}
 use Rattle.qic_base.specs.Cartridge.{Cartridge}
-use Rattle.qic_base.specs.Terms.{IsCartridge}
+use Rattle.qic_base.specs.CartridgeTerms.{IsCartridge}
 use Rattle.qic_base.specs.declared.tape.SectorView.{SectorView}
 use Rattle.qic_base.specs.declared.tape.SectorView.TheVariants.{Blank, Defect, Lost, Holds}
 use Rattle.qic_base.specs.declared.tape.TapeInfo.{TapeInfo}
@@ -42,7 +42,7 @@ abbrev block_list : Reading → List Block → List Block
 block_list (Blocks blocks) other = blocks
 block_list _ other = other
 
-pub map_blocks : (c : Cartridge) (blocks : List Block) → IsCartridge c → reading_of (map_of c) ≡ Blocks blocks → blocks ≡ runs_of (held_mask c)
+map_blocks : (c : Cartridge) (blocks : List Block) → IsCartridge c → reading_of (map_of c) ≡ Blocks blocks → blocks ≡ runs_of (held_mask c)
 map_blocks c blocks is reading =
     let both : Blocks blocks ≡ Blocks (runs_of (held_mask c)) = sym reading ∙ reads_back (held_mask c) (few_words c is) in
     ap (λ (r : Reading). block_list r blocks) both

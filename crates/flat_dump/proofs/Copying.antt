@@ -7,7 +7,7 @@ use Rattle.std.specs.Option.{option_map}
 use Rattle.std.proofs.Math.ListN.{get_or-append}
 use Rattle.std.proofs.Math.Seq.{drop-append-add}
 use Rattle.std.proofs.lemmas.Bool.{cases_lt, leb-true, leb-false, le-leb, lt-leb}
-use Rattle.std.proofs.lemmas.List.{take_all, take-append-le, drop-append-le, drop-drop, get_or-append_right, length-append, length-drop, length-take-le, length-replicate, append-nil}
+use Rattle.std.proofs.lemmas.List.{take_all, take-append-le, drop-append-le, drop-drop, get_or-append_right, length-append, length-drop, length-take-le, append-nil}
 use Rattle.std.proofs.lemmas.List.FromFn.{get_or-map-range_with_len, length-map-range_with_len}
 use Rattle.std.proofs.lemmas.List.Sums.{sum_by-append}
 use Rattle.cartridge_spec.specs.Appending.{filled_up, in_sectors}
@@ -18,7 +18,7 @@ use Rattle.qic_base.specs.declared.tape.SectorView.TheVariants.{Blank, Lost, Hol
 use Rattle.rescue_map.specs.Text.{is_marked}
 use Rattle.sector_fill.specs.Filling.{AreFilled}
 use Rattle.flat_dump.specs.Cells.{AreWhole, is_held, cell_in, view_in, cells_of, views_of, joined}
-use Rattle.flat_dump.specs.Import.{IsDump, IsNoImage, counted, lost_bit, lost_count}
+use Rattle.flat_dump.specs.Import.{IsNoImage, counted, lost_bit, lost_count}
 use Rattle.flat_dump.specs.Imported.{imported_view}
 use Rattle.flat_dump.specs.Importing.{IsCell, IsLaid, Stays, Unfinished, WasCopied, begun}
 use Rattle.flat_dump.specs.declared.importing.Copied.{Copied}
@@ -27,15 +27,12 @@ use Rattle.flat_dump.proofs.Laying.{length-cell, laid_none, laid_more, length-la
 use Rattle.flat_dump.specs.Stops.{IsUnsigned}
 use Rattle.flat_dump.proofs.Passing.{stays_as}
 use Rattle.flat_dump.proofs.Stops.{unsigned_none}
+use Rattle.qic_base.specs.Source.{IsInput}
+use Rattle.sector_fill.proofs.Sectors.{length-filled_up}
 use Rattle.qic_base.specs.Disk as disks
 use Rattle.qic_base.specs.Source as sources
 
 -- ---- the sectors of bytes
-
-length-filled_up : (bytes : List ℕ) → length bytes ≤ 1024 → length (filled_up bytes) ≡ 1024
-length-filled_up bytes few =
-    let room : ℕ = 1024 - length bytes in
-    omega (arith, length-append bytes (replicate room 0), length-replicate {A = ℕ} room 0)
 
 length-front : (bytes : List ℕ) → length (take 1024 bytes) ≤ 1024
 length-front bytes = ⊎_elim
@@ -51,7 +48,7 @@ sector_at (suc count) bytes (suc i) within =
     sector_at count (drop 1024 bytes) i (omega arith)
     ∙ ap (λ (xs : List ℕ). filled_up (take 1024 xs)) (drop-drop (1024 * i) 1024 bytes ∙ ap (λ (k : ℕ). drop k bytes) far)
 
-pub length-sector : (bytes : List ℕ) (i : ℕ) → i < 32 → length (get_or (in_sectors 32 bytes) i []) ≡ 1024
+length-sector : (bytes : List ℕ) (i : ℕ) → i < 32 → length (get_or (in_sectors 32 bytes) i []) ≡ 1024
 length-sector bytes i within =
     ap (λ (xs : List ℕ). length xs) (sector_at 32 bytes i within) ∙ length-filled_up (take 1024 (drop (1024 * i) bytes)) (length-front (drop (1024 * i) bytes))
 
@@ -73,10 +70,10 @@ pub views_of-is : (word len : ℕ) (sectors : List (List ℕ)) → views_of word
 unfolding views_of
 views_of-is word len sectors = refl
 
-pub length-cells_of : (word len : ℕ) (sectors : List (List ℕ)) → length (cells_of word len sectors) ≡ 32
+length-cells_of : (word len : ℕ) (sectors : List (List ℕ)) → length (cells_of word len sectors) ≡ 32
 length-cells_of word len sectors = ap (λ (xs : List (List ℕ)). length xs) (cells_of-is word len sectors) ∙ length-map-range_with_len (cell_in word len sectors) 0 32
 
-pub length-views_of : (word len : ℕ) (sectors : List (List ℕ)) → length (views_of word len sectors) ≡ 32
+length-views_of : (word len : ℕ) (sectors : List (List ℕ)) → length (views_of word len sectors) ≡ 32
 length-views_of word len sectors = ap (λ (xs : List SectorView). length xs) (views_of-is word len sectors) ∙ length-map-range_with_len (view_in word len sectors) 0 32
 
 cell_of-at : (word len : ℕ) (sectors : List (List ℕ)) (q : ℕ) → q < 32 → get_or (cells_of word len sectors) q [] ≡ cell_in word len sectors q
@@ -87,7 +84,7 @@ view_of-at : (word len : ℕ) (sectors : List (List ℕ)) (q : ℕ) → q < 32 �
 view_of-at word len sectors q within =
     ap (λ (xs : List SectorView). get_or xs q Blank) (views_of-is word len sectors) ∙ get_or-map-range_with_len (view_in word len sectors) 0 32 q q Blank within (omega arith)
 
-pub are_cells : (word len : ℕ) (sectors : List (List ℕ)) → ((i : ℕ) → i < 32 → length (get_or sectors i []) ≡ 1024) →
+are_cells : (word len : ℕ) (sectors : List (List ℕ)) → ((i : ℕ) → i < 32 → length (get_or sectors i []) ≡ 1024) →
     (q : ℕ) → q < 32 → IsCell (get_or (cells_of word len sectors) q []) (get_or (views_of word len sectors) q Blank)
 are_cells word len sectors sizes q within =
     let size = sizes q within in
@@ -121,7 +118,7 @@ same_view true true x y same = ap Holds (same refl)
 same_view true false x y same = refl
 same_view false b x y same = refl
 
-pub view_longer : (text more mask : List ℕ) (q : ℕ) → 1024 * q + 1024 ≤ length text → imported_view (text ++ more) mask q ≡ imported_view text mask q
+view_longer : (text more mask : List ℕ) (q : ℕ) → 1024 * q + 1024 ≤ length text → imported_view (text ++ more) mask q ≡ imported_view text mask q
 view_longer text more mask q within =
     let both = length-append text more in
     let size : 1024 * q + 1024 - 1024 * q ≡ 1024 = omega arith in
@@ -133,7 +130,7 @@ view_longer text more mask q within =
     ap₂ (λ (b : Bool) (bytes : List ℕ). if is_marked mask q && b then Holds bytes else Lost) fits range
 
 -- a sector of the segment that came last
-pub view_came : (text more mask : List ℕ) (segment i q : ℕ) → length text ≡ 32768 * segment → i < 32 → q ≡ 32 * segment + i →
+view_came : (text more mask : List ℕ) (segment i q : ℕ) → length text ≡ 32768 * segment → i < 32 → q ≡ 32 * segment + i →
     imported_view (text ++ more) mask q ≡ view_in (slice_index mask segment) (length more) (in_sectors 32 more) i
 view_came text more mask segment i q long within at =
     let both = length-append text more in
@@ -225,8 +222,8 @@ dump_ended (Some b) (Some rest) text gave ended =
     let whole : b ≡ text ++ rest = cc in
     sym (whole ∙ ap (λ (xs : List ℕ). text ++ xs) ended ∙ append-nil text)
 
-pub IsDump-ended : {S : Type 0} (s : sources.Meaning S) (first now : S) (text : List ℕ) → Gave s first now text → HasEnded s now → IsDump s first text
-IsDump-ended s first now text gave ended = dump_ended (s.left first) (s.left now) text gave ended
+IsInput-ended : {S : Type 0} (s : sources.Meaning S) (first now : S) (text : List ℕ) → Gave s first now text → HasEnded s now → IsInput (s.left first) text
+IsInput-ended s first now text gave ended = dump_ended (s.left first) (s.left now) text gave ended
 
 dump_rest : (o p : Option (List ℕ)) (text rest : List ℕ) → o ≡ option_map (λ r. text ++ r) p → IfSome p (λ bytes. rest ≡ bytes) → IfSome o (λ bytes. text ++ rest ≡ bytes)
 dump_rest None p text rest gave told = tt
@@ -235,14 +232,14 @@ dump_rest (Some b) (Some r) text rest gave told =
     let whole : b ≡ text ++ r = cc in
     ap (λ (xs : List ℕ). text ++ xs) told ∙ sym whole
 
-pub IsDump-rest : {S : Type 0} (s : sources.Meaning S) (first now : S) (text rest : List ℕ) → Gave s first now text → IsDump s now rest → IsDump s first (text ++ rest)
-IsDump-rest s first now text rest gave told = dump_rest (s.left first) (s.left now) text rest gave told
+IsInput-rest : {S : Type 0} (s : sources.Meaning S) (first now : S) (text rest : List ℕ) → Gave s first now text → IsInput (s.left now) rest → IsInput (s.left first) (text ++ rest)
+IsInput-rest s first now text rest gave told = dump_rest (s.left first) (s.left now) text rest gave told
 
-pub IsDump-some : {S : Type 0} (s : sources.Meaning S) (first now : S) (text : List ℕ) → Gave s first now text → (rest : List ℕ) × IsDump s first (text ++ rest)
-IsDump-some s first now text gave = by_left (s.left now) refl where
-  by_left : (o : Option (List ℕ)) → s.left now ≡ o → (rest : List ℕ) × IsDump s first (text ++ rest)
-  by_left None e = ([], IsDump-rest s first now text [] gave (subst (λ (p : Option (List ℕ)). IfSome p (λ b. [] ≡ b)) (sym e) tt))
-  by_left (Some b) e = (b, IsDump-rest s first now text b gave (subst (λ (p : Option (List ℕ)). IfSome p (λ c. b ≡ c)) (sym e) refl))
+IsInput-some : {S : Type 0} (s : sources.Meaning S) (first now : S) (text : List ℕ) → Gave s first now text → (rest : List ℕ) × IsInput (s.left first) (text ++ rest)
+IsInput-some s first now text gave = by_left (s.left now) refl where
+  by_left : (o : Option (List ℕ)) → s.left now ≡ o → (rest : List ℕ) × IsInput (s.left first) (text ++ rest)
+  by_left None e = ([], IsInput-rest s first now text [] gave (subst (λ (p : Option (List ℕ)). IfSome p (λ b. [] ≡ b)) (sym e) tt))
+  by_left (Some b) e = (b, IsInput-rest s first now text b gave (subst (λ (p : Option (List ℕ)). IfSome p (λ c. b ≡ c)) (sym e) refl))
 
 -- ---- how a copy ends
 
@@ -295,7 +292,7 @@ copied_to_end s m first now old new mask most segments lost bytes copied so_far 
     let long = so_far.long in
     record {
       dump = so_far.text;
-      told = IsDump-ended s first now so_far.text so_far.gave ended;
+      told = IsInput-ended s first now so_far.text so_far.gave ended;
       bytes = omega arith;
       within = omega arith;
       needed = omega arith;
@@ -310,14 +307,14 @@ copied_to_end s m first now old new mask most segments lost bytes copied so_far 
     }
 
 pub copied_to_limit : {S D : Type 0} (s : sources.Meaning S) (m : disks.Meaning D) (first now : S) (old new : D) (mask : List ℕ) (most lost counts : ℕ) (copied : Copied) →
-    CopiedSoFar s m first now old new mask most lost (32768 * most) → (rest : List ℕ) × IsDump s now rest × (counts ≡ counted (32768 * most + length rest)) →
+    CopiedSoFar s m first now old new mask most lost (32768 * most) → (rest : List ℕ) × IsInput (s.left now) rest × (counts ≡ counted (32768 * most + length rest)) →
     copied.segments ≡ most → copied.lost ≡ lost → copied.bytes ≡ counts → WasCopied s m first old new mask most copied
 copied_to_limit s m first now old new mask most lost counts copied so_far (rest, told, is) is_segments is_lost is_bytes =
     let long = so_far.long in
     let both = length-append so_far.text rest in
     record {
       dump = so_far.text ++ rest;
-      told = IsDump-rest s first now so_far.text rest so_far.gave told;
+      told = IsInput-rest s first now so_far.text rest so_far.gave told;
       bytes = is_bytes ∙ is ∙ ap counted (omega arith);
       within = omega arith;
       needed = omega arith;
@@ -367,15 +364,15 @@ counted_more s first now next before bytes reads n into so_far some within gives
     }
 
 pub counted_to_end : {S : Type 0} (s : sources.Meaning S) (first now : S) (before bytes reads : ℕ) (into : List ℕ) (n : ℕ) → CountedSoFar s first now before bytes reads → n ≡ 0 →
-    IfSome (s.left now) (λ left. Gives left into n) → (rest : List ℕ) × IsDump s first rest × (bytes ≡ counted (before + length rest))
+    IfSome (s.left now) (λ left. Gives left into n) → (rest : List ℕ) × IsInput (s.left first) rest × (bytes ≡ counted (before + length rest))
 counted_to_end s first now before bytes reads into n so_far none gives =
-    (so_far.given, IsDump-ended s first now so_far.given so_far.gave (gives_ended (s.left now) into n gives none), so_far.is)
+    (so_far.given, IsInput-ended s first now so_far.given so_far.gave (gives_ended (s.left now) into n gives none), so_far.is)
 
 -- as many as are counted
 pub counted_to_limit : {S : Type 0} (s : sources.Meaning S) (first now : S) (before bytes reads : ℕ) → CountedSoFar s first now before bytes reads → 2 ^ 64 - 1 ≤ reads →
-    (rest : List ℕ) × IsDump s first rest × (bytes ≡ counted (before + length rest))
+    (rest : List ℕ) × IsInput (s.left first) rest × (bytes ≡ counted (before + length rest))
 counted_to_limit s first now before bytes reads so_far many =
-    let some = IsDump-some s first now so_far.given so_far.gave in
+    let some = IsInput-some s first now so_far.given so_far.gave in
     let size = length-append so_far.given some.0 in
     let is = so_far.is in
     let enough = so_far.enough in

@@ -41,7 +41,7 @@ pub fits_counted : (asked : Option ℕ) (len n : ℕ) → IsLength n → IsDumpO
 fits_counted None len n long fits = let l = long.longest in omega arith
 fits_counted (Some m) len n long fits = let l = long.longest in let e = fits.0 in let f = fits.1 in (e, omega arith)
 
-pub none_counted : (asked : Option ℕ) (len : ℕ) → IsNoDump asked (counted len) → IsNoDump asked len
+none_counted : (asked : Option ℕ) (len : ℕ) → IsNoDump asked (counted len) → IsNoDump asked len
 none_counted asked len none n long fits =
     let within = fits_within asked len n fits in
     let l = long.longest in

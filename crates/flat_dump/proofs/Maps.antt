@@ -4,7 +4,7 @@ use Rattle.std.specs.Int.{bit_at}
 use Rattle.std.proofs.lemmas.List.{get_or-drop, get_or-take, drop-drop}
 use Rattle.std.proofs.lemmas.Nat.Bits.{bit_at-suc, bit_at_lowest, bit_at-zero}
 use Rattle.qic_base.specs.Cartridge.{Cartridge}
-use Rattle.qic_base.specs.Terms.{IsCartridge}
+use Rattle.qic_base.specs.CartridgeTerms.{IsCartridge}
 use Rattle.qic_base.specs.declared.tape.SectorView.{SectorView}
 use Rattle.qic_base.specs.declared.tape.SectorView.TheVariants.{Blank, Defect, Lost, Holds}
 use Rattle.rescue_map.specs.Mask.{IsMarked}
@@ -16,7 +16,7 @@ use Rattle.flat_dump.specs.Held.{IsHeld, held_bit, held_word, held_words, held_m
 use Rattle.flat_dump.specs.Laws.{EachMapTells}
 use Rattle.flat_dump.proofs.Held.{held_bit-small}
 
-pub length-held_words : (n : ℕ) (views : List SectorView) → length (held_words n views) ≡ n
+length-held_words : (n : ℕ) (views : List SectorView) → length (held_words n views) ≡ n
 length-held_words zero views = refl
 length-held_words (suc n) views = ap suc (length-held_words n (drop 32 views))
 
@@ -36,7 +36,7 @@ word_of (suc n) (suc s) views within =
     word_of n s (drop 32 views) (omega arith) ∙ ap (λ (vs : List SectorView). held_word (take 32 vs)) (drop-drop (32 * s) 32 views ∙ ap (λ (k : ℕ). drop k views) far)
 
 -- the bit of a sector
-pub bit_of : (n q : ℕ) (views : List SectorView) → q < 32 * n → bit_at (get_or (held_words n views) (q / 32) 0) (q % 32) ≡ held_bit (get_or views q Blank)
+bit_of : (n q : ℕ) (views : List SectorView) → q < 32 * n → bit_at (get_or (held_words n views) (q / 32) 0) (q % 32) ≡ held_bit (get_or views q Blank)
 bit_of n q views within =
     let low : q % 32 < 32 = omega arith in
     let place : 32 * (q / 32) + q % 32 ≡ q = omega arith in
@@ -50,7 +50,7 @@ held_by_bit Defect e = absurd (omega arith)
 held_by_bit Lost e = absurd (omega arith)
 held_by_bit (Holds bytes) e = (bytes, refl)
 
-pub marked_is_held : (c : Cartridge) (q : ℕ) → IsCartridge c → q < 896 * c.info.segments_per_track → (IsMarked (held_mask c) q ↔ IsHeld c q)
+marked_is_held : (c : Cartridge) (q : ℕ) → IsCartridge c → q < 896 * c.info.segments_per_track → (IsMarked (held_mask c) q ↔ IsHeld c q)
 marked_is_held c q is within =
     let bit = bit_of (28 * c.info.segments_per_track) q c.views (omega arith) in (
       (λ marked. held_by_bit (get_or c.views q Blank) (sym bit ∙ marked)),
@@ -58,7 +58,7 @@ marked_is_held c q is within =
     )
 
 -- the words of a cartridge's mask
-pub length-held_mask : (c : Cartridge) → length (held_mask c) ≡ 28 * c.info.segments_per_track
+length-held_mask : (c : Cartridge) → length (held_mask c) ≡ 28 * c.info.segments_per_track
 length-held_mask c = length-held_words (28 * c.info.segments_per_track) c.views
 
 pub few_words : (c : Cartridge) → IsCartridge c → length (held_mask c) ≤ 6888

@@ -45,7 +45,7 @@ told_exact file (Some b) p e is = e
 -- ---- bytes of no image
 
 -- as short as a head
-pub none_short : (bytes : List ℕ) → length bytes ≤ 64 → IsNoImage bytes
+none_short : (bytes : List ℕ) → length bytes ≤ 64 → IsNoImage bytes
 none_short bytes short = by_head (head_of bytes) refl
   where
     by_head : (o : Option Head) → head_of bytes ≡ o → cartridge_of bytes ≡ None

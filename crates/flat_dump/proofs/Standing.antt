@@ -10,10 +10,11 @@ use Rattle.cartridge_laws.proofs.Segments.{count_of_cells}
 use Rattle.cartridge_spec.specs.TableSegment.{table_cells}
 use Rattle.cartridge_spec.specs.Says.{cells_of, whole_mask, Written, ReadsAll}
 use Rattle.cartridge_spec.specs.Shape.{is_unreadable, mask_at, usable_places}
-use Rattle.cartridge_laws.specs.Terms.{CopiesAre, PartStands}
+use Rattle.cartridge_laws.specs.VolumeParts.{PartStands}
+use Rattle.cartridge_laws.specs.HeaderTerms.{CopiesAre}
 use Rattle.cartridge_spec.specs.Volumes.{Volume, VolumeStands, parts_of, carrying_segments, Plain, Stands}
 use Rattle.qic_base.specs.Cartridge.{Cartridge, view_at}
-use Rattle.qic_base.specs.Terms.{place_of}
+use Rattle.qic_base.specs.CartridgeTerms.{place_of}
 use Rattle.qic_base.specs.declared.tape.SectorView.{SectorView}
 use Rattle.qic_base.specs.declared.tape.SectorView.TheVariants.{Blank, Defect, Lost, Holds}
 use Rattle.flat_dump.specs.Imported.{brought_view, brought_back}

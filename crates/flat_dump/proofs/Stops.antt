@@ -5,7 +5,8 @@ use Rattle.std.proofs.lemmas.Option.{slice_get_within, get_or_from_slice_get}
 use Rattle.qic_base.specs.Disk.{DiskStep, Look, WriteAt, SetLen, Sync, Unsynced}
 use Rattle.cart_image.specs.Layout.{first_letter}
 use Rattle.cart_image.proofs.Renews.{none-by-first}
-use Rattle.flat_dump.specs.Stops.{IsUnsigned, UnsignedIsNone, KeepsFirst}
+use Rattle.flat_dump.specs.Stops.{IsUnsigned, KeepsFirst}
+use Rattle.flat_dump.specs.ImageLaws.{UnsignedIsNone}
 
 pub unsigned_none : UnsignedIsNone
 unsigned_none bytes zero_first = none-by-first bytes (ap (λ (b : ℕ). b == first_letter) (get_or_from_slice_get bytes 0 0 0 zero_first))

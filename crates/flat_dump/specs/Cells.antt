@@ -1,24 +1,16 @@
 -- An image that is written from front to back, one segment behind the other (this project's own).
-use Rattle.std.specs.Prelude.{◌≡◌, ℕ, ◌+◌, ◌*◌, ◌<◌, ◌==◌, ◌&&◌, nat_le, Bool, false, List, [], ◌∷◌, ◌++◌, drop, length, map, slice_index, slice_index_or, slice_range, slice_set, if◌then◌else◌}
+use Rattle.std.specs.Prelude.{◌≡◌, ℕ, ◌+◌, ◌*◌, ◌<◌, ◌==◌, ◌&&◌, nat_le, Bool, false, List, [], ◌∷◌, ◌++◌, drop, length, map, slice_index_or, slice_set, if◌then◌else◌}
 use Rattle.std.specs.Int.{bit_at}
 use Rattle.std.specs.List.{flat_map, range_with_len}
 use Rattle.qic_base.specs.Cartridge.{zero_sector}
 use Rattle.qic_base.specs.Disk.{DiskStep, WriteAt, SetLen}
 use Rattle.qic_base.specs.declared.tape.SectorView.{SectorView}
 use Rattle.qic_base.specs.declared.tape.SectorView.TheVariants.{Lost, Holds}
-use Rattle.cart_image.specs.Image.{view_by}
 use Rattle.cart_image.specs.Layout.{head_len, open_gate, formed_byte, first_letter, mark_byte, new_head, put, referenced_place}
 
 -- the cell of a sector with these bytes, which holds them or is lost
 unfoldable pub cell_bytes : (held : Bool) → List ℕ → List ℕ
 cell_bytes held bytes = (if held then open_gate else 0) ∷ formed_byte ∷ 0 ∷ bytes
-
--- the cell is read as the sector that holds these bytes, or as a lost one
-abbrev pub CellShows : Type 0
-CellShows =
-    (held : Bool) (bytes : List ℕ) → length bytes ≡ 1024 →
-    view_by (slice_index (cell_bytes held bytes) 2) (slice_index (cell_bytes held bytes) 1) (slice_index (cell_bytes held bytes) 0) (slice_range (cell_bytes held bytes) 3 1027)
-    ≡ (if held then Holds bytes else Lost)
 
 -- cells, one behind the other
 abbrev pub joined : List (List ℕ) → List ℕ

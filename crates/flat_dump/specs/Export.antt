@@ -1,7 +1,7 @@
 -- How an export ended (this project's own).
 use Rattle.std.specs.Prelude.{◌≡◌, ℕ, List, [], length, take, All, Option, Some, None, IfSome, Result, Ok, Err}
 use Rattle.qic_base.specs.Cartridge.{Cartridge}
-use Rattle.qic_base.specs.Terms.{IsCartridge, IsView}
+use Rattle.qic_base.specs.CartridgeTerms.{IsCartridge, IsView}
 use Rattle.qic_base.specs.declared.tape.SectorView.{SectorView}
 use Rattle.qic_base.specs.Sink as sinks
 use Rattle.qic_base.specs.SinkCalls as sink_calls

@@ -10,6 +10,7 @@ use Rattle.cart_image.specs.Image.{cartridge_of}
 use Rattle.flat_dump.specs.Imported.{imported_by}
 use Rattle.flat_dump.specs.declared.importing.Imported.{Imported}
 use Rattle.flat_dump.specs.declared.importing.ImportError.{ImportError}
+use Rattle.qic_base.specs.Source.{IsInput}
 use Rattle.flat_dump.specs.declared.importing.ImportError.TheVariants as error
 
 -- ---- lengths
@@ -41,10 +42,6 @@ lost_count views = sum_by lost_bit views
 
 -- ---- the outside
 
--- the dump: what the source told, or some bytes where it tells none
-abbrev pub IsDump : {S : Type 0} (s : sources.Meaning S) (source : S) (dump : List ℕ) → Type 0
-IsDump s source dump = IfSome (s.left source) (λ bytes. dump ≡ bytes)
-
 -- an empty file, in which nothing is pending
 pub record IsEmpty {D : Type 0} (m : disks.Meaning D) (disk : D) : Type 0 where
   pub told : IfSome (m.told disk) (λ bytes. bytes ≡ [])
@@ -56,7 +53,7 @@ IsNoImage bytes = cartridge_of bytes ≡ None
 -- the bytes are the image of the dump that the source told
 pub record IsImageOf {S : Type 0} (s : sources.Meaning S) (source : S) (mask : List ℕ) (asked : Option ℕ) (bytes : List ℕ) : Type 0 where
   pub dump : List ℕ
-  pub told : IsDump s source dump
+  pub told : IsInput (s.left source) dump
   pub n : ℕ
   pub long : IsLength n
   pub fits : IsDumpOf asked (length dump) n
@@ -78,7 +75,7 @@ Cleared m old new P = IsEmpty m new ⊎ (Rose (m.faults old) (m.faults new) × I
 -- The file is the image of the dump, with these segments and lost sectors.
 pub record WasImported {S D : Type 0} (s : sources.Meaning S) (m : disks.Meaning D) (source : S) (old new : D) (mask : List ℕ) (asked : Option ℕ) (imported : Imported) : Type 0 where
   pub dump : List ℕ
-  pub told : IsDump s source dump
+  pub told : IsInput (s.left source) dump
   pub n : ℕ
   pub long : IsLength n
   pub fits : IsDumpOf asked (length dump) n
@@ -91,7 +88,7 @@ pub record WasImported {S D : Type 0} (s : sources.Meaning S) (m : disks.Meaning
 -- The dump is none of a cartridge, and has so many bytes.
 pub record WasRefused {S D : Type 0} (s : sources.Meaning S) (m : disks.Meaning D) (source : S) (old new : D) (asked : Option ℕ) (bytes : ℕ) : Type 0 where
   pub dump : List ℕ
-  pub told : IsDump s source dump
+  pub told : IsInput (s.left source) dump
   pub none : IsNoDump asked (length dump)
   pub count : bytes ≡ counted (length dump)
   pub cleared : Cleared m old new IsNoImage

@@ -10,12 +10,13 @@ use Rattle.qic_base.specs.declared.tape.SectorView.TheVariants.{Blank}
 use Rattle.cart_image.specs.Image.{view_by}
 use Rattle.cart_image.specs.Layout.{head_len}
 use Rattle.flat_dump.specs.Cells.{joined, lost_cell, imported_head}
-use Rattle.flat_dump.specs.Import.{CrashesLeave, IsDump, IsDumpOf, IsNoDump, IsNoImage, IsNoneOrWhole, WasImported, counted, lost_count}
+use Rattle.flat_dump.specs.Import.{CrashesLeave, IsDumpOf, IsNoDump, IsNoImage, IsNoneOrWhole, WasImported, counted, lost_count}
 use Rattle.flat_dump.specs.Imported.{imported_view}
 use Rattle.flat_dump.specs.Stops.{IsUnsigned}
 use Rattle.flat_dump.specs.declared.importing.Copied.{Copied}
 use Rattle.flat_dump.specs.declared.importing.Imported.{Imported}
 use Rattle.flat_dump.specs.declared.importing.ImportError.{ImportError}
+use Rattle.qic_base.specs.Source.{IsInput}
 use Rattle.flat_dump.specs.declared.importing.ImportError.TheVariants as error
 
 -- ---- the disk
@@ -90,13 +91,13 @@ image_with n file = imported_head n ++ drop head_len file
 
 -- the source was read to its end, and these are its bytes and those before them, counted
 abbrev pub Counts : {S E : Type 0} (s : sources.Meaning S) (source : S) (before : ℕ) → Result ℕ E → Type 0
-Counts s source before (Ok bytes) = (rest : List ℕ) × IsDump s source rest × (bytes ≡ counted (before + length rest))
+Counts s source before (Ok bytes) = (rest : List ℕ) × IsInput (s.left source) rest × (bytes ≡ counted (before + length rest))
 Counts s source before (Err e) = Unit {0}
 
 -- The segments of the dump were copied, up to so many, and its bytes were counted.
 pub record WasCopied {S D : Type 0} (s : sources.Meaning S) (m : disks.Meaning D) (source : S) (old new : D) (mask : List ℕ) (most : ℕ) (copied : Copied) : Type 0 where
   pub dump : List ℕ
-  pub told : IsDump s source dump
+  pub told : IsInput (s.left source) dump
   pub bytes : copied.bytes ≡ counted (length dump)
   pub within : copied.segments ≤ most
   pub needed : 32768 * copied.segments < length dump + 32768
@@ -126,7 +127,7 @@ Fits asked bytes (Some n) = IsLength n × IsDumpOf asked bytes n
 -- The dump is none of a cartridge, and has so many bytes.
 pub record IsRefused {S D : Type 0} (s : sources.Meaning S) (m : disks.Meaning D) (source : S) (old new : D) (asked : Option ℕ) (bytes : ℕ) : Type 0 where
   pub dump : List ℕ
-  pub told : IsDump s source dump
+  pub told : IsInput (s.left source) dump
   pub none : IsNoDump asked (length dump)
   pub count : bytes ≡ counted (length dump)
   pub stays : Stays m old new IsNoImage IsNoImage

@@ -1,7 +1,7 @@
 -- The laws of flat dumps (this project's own).
 use Rattle.std.specs.Prelude.{◌≡◌, ◌↔◌, ℕ, ◌*◌, ◌/◌, ◌<◌, ◌≤◌, List, length, All, Option, Some, None}
 use Rattle.qic_base.specs.Cartridge.{Cartridge, IsLength}
-use Rattle.qic_base.specs.Terms.{IsCartridge}
+use Rattle.qic_base.specs.CartridgeTerms.{IsCartridge}
 use Rattle.cartridge_spec.specs.Volumes.{Plain, Stands}
 use Rattle.rescue_map.specs.declared.form.Block.{Block}
 use Rattle.rescue_map.specs.Map.{Blocks, Rescued, reading_of}

@@ -2,6 +2,7 @@ pub mod Cells
 pub mod Dump
 pub mod Export
 pub mod Held
+pub mod ImageLaws
 pub mod Import
 pub mod Imported
 pub mod Importing

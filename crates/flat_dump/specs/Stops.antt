@@ -1,15 +1,10 @@
 -- What a stop leaves of an image that is being written (this project's own).
-use Rattle.std.specs.Prelude.{◌≡◌, ℕ, ◌<◌, List, Some, None, slice_get}
+use Rattle.std.specs.Prelude.{◌≡◌, ℕ, ◌<◌, List, Some, slice_get}
 use Rattle.qic_base.specs.Disk.{DiskStep, Look, WriteAt, SetLen, Sync}
-use Rattle.cart_image.specs.Image.{cartridge_of}
 
 -- the first byte is there and is zero
 abbrev pub IsUnsigned : List ℕ → Type 0
 IsUnsigned bytes = slice_get bytes 0 ≡ Some 0
-
--- such a file is no image
-abbrev pub UnsignedIsNone : Type 0
-UnsignedIsNone = (bytes : List ℕ) → IsUnsigned bytes → cartridge_of bytes ≡ None
 
 -- a step that keeps the first byte
 abbrev pub KeepsFirst : DiskStep → Type 0

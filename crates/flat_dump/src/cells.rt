@@ -9,7 +9,7 @@ ghost use Rattle.flat_dump.specs.Import.{lost_count};
 ghost use Rattle.flat_dump.specs.Importing.{Unfinished, Goes, lost_cells};
 
 use cart_image::{HEAD_LEN, MARK, SIGNATURE};
-use qic_base::{Disk, DiskFailed, Sector, write_u16, write_u64};
+use qic_base::{Disk, DiskFailed, SECTOR, Sector, write_u16, write_u64};
 
 /// The bytes of a segment's cells in an image.
 const CELLS_LEN: u64 = 32_864;
@@ -32,7 +32,7 @@ fn is_held(word: u32, len: u32, index: u32) -> bool
     requires { index < 32 }
     ensures { result ≡ held_at word len index }
 {
-    word >> index & 1 == 1 && 1024 * index + 1024 <= len
+    word >> index & 1 == 1 && SECTOR as u32 * index + SECTOR as u32 <= len
 }
 
 /// Makes the cells of a segment, and counts the lost sectors.
@@ -101,7 +101,7 @@ pub fn write_segment<D: Disk>(
 fn lost_segment() -> [[u8; 1027]; 32]
     ensures { result ≡ replicate 32 lost_cell }
 {
-    [cell_of(&[0; 1024], false); 32]
+    [cell_of(&[0; SECTOR], false); 32]
 }
 
 /// Writes the cells of lost sectors behind those of the segments before them, up to a segment.

@@ -10,6 +10,8 @@ use crate::segment::read_segment;
 use qic_base::{LONGEST, Sector, Sink, SinkFailed, Tape, TapeFailed, push_within};
 use rescue_map::write_bytes;
 
+const TRACKS: u32 = qic_base::TRACKS as u32;
+
 /// Why a dump was not written to its end.
 #[derive(Clone, Copy, Debug, PartialEq, Eq)]
 pub enum ExportError {
@@ -36,7 +38,7 @@ fn export_segments<T: Tape, K: Sink>(
     requires empty { mask.old.items ≡ [] }
     ensures { Dumps T.means K.means tape.old tape.new sink.old sink.new segments_per_track mask.new.items result }
 {
-    for segment in 0..28 * u32::from(segments_per_track) {
+    for segment in 0..TRACKS * u32::from(segments_per_track) {
         match read_segment(tape, segment, sectors) {
             Ok(word) => push_within(mask, word),
             Err(TapeFailed) => return Err(ExportError::Tape),

@@ -2,15 +2,17 @@
 
 ghost use Rattle.std.specs.Prelude.{◌≡◌, ℕ, ◌+◌, ◌*◌, ◌≤◌, ◌++◌, List, length, IfOk, IfSome, OnOk};
 ghost use Rattle.qic_base.specs.Cartridge.{IsLength};
-ghost use Rattle.qic_base.specs.Terms.{HasCause};
+ghost use Rattle.qic_base.specs.Cause.{HasCause};
 ghost use Rattle.rescue_map.specs.Laws.{most_words};
 ghost use Rattle.cart_image.specs.Layout.{head_len};
 ghost use Rattle.flat_dump.specs.Import.{IsDumpOf, IsEmpty, Imports};
 ghost use Rattle.flat_dump.specs.Importing.{Unfinished, Ends, Counts, Copies, Fits, Fills, begun, lost_cells, image_with};
 
 use crate::cells::{append_lost, begin, clear, sign, write_segment};
-use qic_base::{Disk, DiskFailed, LONGEST, Source, SourceFailed};
+use qic_base::{Disk, DiskFailed, LONGEST, MOST_SEGMENTS, SECTOR, SECTORS, Source, SourceFailed};
 use sector_fill::fill_sectors;
+
+const TRACKS: u32 = qic_base::TRACKS as u32;
 
 /// The bytes of a segment in a dump.
 const SEGMENT_LEN: u32 = 32_768;
@@ -79,7 +81,7 @@ fn copy_segments<S: Source, D: Disk>(
     ensures kept { S.means.keeps source.old source.new }
     ensures later { S.means.faults source.old ≤ S.means.faults source.new }
 {
-    let mut sectors = [[0; 1024]; 32];
+    let mut sectors = [[0; SECTOR]; SECTORS as usize];
     let mut copied = Copied {
         segments: 0,
         lost: 0,
@@ -118,8 +120,8 @@ fn most_segments(asked: Option<u16>) -> u32
     ensures enough { (bytes n : ℕ) → IsLength n → IsDumpOf asked bytes n → 28 * n ≤ result }
 {
     match asked {
-        Some(n) => 28 * u32::from(n),
-        None => 28 * u32::from(LONGEST),
+        Some(n) => TRACKS * u32::from(n),
+        None => MOST_SEGMENTS as u32,
     }
 }
 
@@ -153,7 +155,7 @@ fn finish<D: Disk>(disk: &mut D, copied: u32, segments_per_track: u16) -> Result
         Ends D.means first disk.new
         (image_with segments_per_track (file ++ lost_cells more)) result }
 {
-    append_lost(disk, copied, 28 * u32::from(segments_per_track))?;
+    append_lost(disk, copied, TRACKS * u32::from(segments_per_track))?;
     sign(disk, segments_per_track)
 }
 
@@ -166,7 +168,7 @@ fn imported_as(copied: Copied, segments_per_track: u16) -> Imported
     ensures lost { (more : ℕ) → copied.segments + more ≡ 28 * segments_per_track →
         result.lost ≡ copied.lost + 32 * more }
 {
-    let segments = 28 * u32::from(segments_per_track);
+    let segments = TRACKS * u32::from(segments_per_track);
     Imported {
         segments,
         lost: copied.lost + 32 * (segments - copied.segments),

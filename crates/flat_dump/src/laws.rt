@@ -1,8 +1,7 @@
 //! Laws of flat dumps. Each is the contract of a function that does nothing.
 
 ghost use Rattle.flat_dump.specs.Laws.{DumpIsWhole, EachMapTells, ImportsOne, ImportIsWhole, MaskImports, FullMaskImports, BringsBack, StandsAgain};
-ghost use Rattle.flat_dump.specs.Cells.{CellShows};
-ghost use Rattle.flat_dump.specs.Stops.{UnsignedIsNone};
+ghost use Rattle.flat_dump.specs.ImageLaws.{CellShows, UnsignedIsNone};
 
 /// A dump has 917,504 bytes for each segment per track.
 pub fn dumps_are_whole()

@@ -5,7 +5,7 @@ ghost use Rattle.qic_base.specs.Cartridge.{IsSector, zero_sector};
 ghost use Rattle.qic_base.specs.TapeCalls.{Does, IsPlaceOf};
 ghost use Rattle.flat_dump.specs.Seen.{IsSeen, AreSeen};
 
-use qic_base::{Sector, SectorRead, Tape, TapeFailed};
+use qic_base::{SECTOR, Sector, SectorRead, Tape, TapeFailed};
 
 /// States that the array is a sector, and does nothing.
 fn is_sector(sector: &Sector)
@@ -19,7 +19,7 @@ fn is_sector(sector: &Sector)
 fn clear(sector: &mut Sector)
     ensures { sector.new ≡ zero_sector }
 {
-    *sector = [0; 1024];
+    *sector = [0; SECTOR];
 }
 
 /// Reads a sector's bytes: zero bytes where it holds none. Answers whether it holds some.

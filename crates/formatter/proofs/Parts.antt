@@ -8,10 +8,10 @@ use Rattle.qic_base.specs.TapeCalls.{Does}
 use Rattle.qic_base.proofs.Steps.{Done-Done, Done-Broke, Broke-front}
 use Rattle.formatter.specs.Steps.{formats_from, track_formats}
 
-pub formats_more : (first n : ℕ) → formats_from first (n + 1) ≡ formats_from first n ++ FormatSegment (first + n) ∷ []
+formats_more : (first n : ℕ) → formats_from first (n + 1) ≡ formats_from first n ++ FormatSegment (first + n) ∷ []
 formats_more first n = map-range_with_len_more (λ (s : ℕ). FormatSegment s) first n (first + n) (omega arith)
 
-pub formats_append : (first n more : ℕ) → formats_from first (n + more) ≡ formats_from first n ++ formats_from (first + n) more
+formats_append : (first n more : ℕ) → formats_from first (n + more) ≡ formats_from first n ++ formats_from (first + n) more
 formats_append first n zero = ap (formats_from first) (add-zero n) ∙ sym (append-nil (formats_from first n))
 formats_append first n (suc more) =
     let next : n + suc more ≡ n + more + 1 = omega arith in
@@ -25,14 +25,14 @@ formats_append first n (suc more) =
     ∙ ap (λ (l : List Step). formats_from first n ++ l) (sym (formats_more (first + n) more) ∙ ap (formats_from (first + n)) one)
 
 -- the tracks before one, and that one
-pub tracks_more : (n track : ℕ) → formats_from 0 ((track + 1) * n) ≡ formats_from 0 (track * n) ++ track_formats n track
+tracks_more : (n track : ℕ) → formats_from 0 ((track + 1) * n) ≡ formats_from 0 (track * n) ++ track_formats n track
 tracks_more n track =
     let all : (track + 1) * n ≡ track * n + n = omega arith in
     let first : 0 + track * n ≡ track * n = omega arith in
     ap (formats_from 0) all ∙ formats_append 0 (track * n) n ∙ ap (λ (s : ℕ). formats_from 0 (track * n) ++ formats_from s n) first
 
 -- a part of the segments was formatted, and the next one broken off, or a part of more
-pub broke_of : {S : Type 0} {m : Meaning S} {a b : S} (first n all : ℕ) → n ≤ all → Broke m a b (formats_from first n) → Broke m a b (formats_from first all)
+broke_of : {S : Type 0} {m : Meaning S} {a b : S} (first n all : ℕ) → n ≤ all → Broke m a b (formats_from first n) → Broke m a b (formats_from first all)
 broke_of {m = m} {a = a} {b = b} first n all within broke =
     let whole : n + (all - n) ≡ all = omega arith in
     let parts : formats_from first n ++ formats_from (first + n) (all - n) ≡ formats_from first all =

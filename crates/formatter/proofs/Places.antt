@@ -1,11 +1,10 @@
 -- Where the head stands on its way over the segments of a track.
-use Rattle.std.proofs.Common.{◌≡◌, ℕ, ◌+◌, ◌*◌, ◌%◌, ◌<◌, ◌≤◌, Bool, true, false, if◌then◌else◌, min, refl, sym, ◌∙◌, ap, subst, arith, Option, Some, None, IsSomeAnd}
+use Rattle.std.proofs.Common.{◌≡◌, ℕ, ◌+◌, ◌*◌, ◌%◌, ◌<◌, ◌≤◌, Bool, true, false, refl, sym, ◌∙◌, ap, subst, arith, Option, Some, None, IsSomeAnd}
 use Rattle.std.specs.Option.{option_map_or}
 use Rattle.std.proofs.Math.Nat.{mul-le-mul_right}
 use Rattle.std.proofs.lemmas.Nat.{mod-mul-add}
 use Rattle.qic_base.specs.Tape.{Meaning}
 use Rattle.qic_base.specs.declared.tape.TapeInfo.{TapeInfo}
-use Rattle.qic117_commands.specs.Views.{is_format}
 use Rattle.drive_spec.specs.declared.deck.Deck.{Deck}
 use Rattle.drive_spec.specs.declared.deck.Motion.{Motion}
 use Rattle.drive_spec.specs.declared.deck.Motion.TheVariants.{Stopped, Streaming, Seeking}
@@ -17,6 +16,7 @@ use Rattle.drive_states.specs.Unit.{UnitView, Knows}
 use Rattle.host_driver.specs.declared.host.Host.{Host}
 use Rattle.host_driver.specs.Fits.{Fits, segments_of}
 use Rattle.host_driver.specs.Place.{StreamsAt, RunsOn}
+use Rattle.drive_states.proofs.Bounds.{limit_within}
 
 -- ---- what a host knows
 
@@ -32,15 +32,8 @@ length_kept a b same = ap (λ (o : Option TapeInfo). option_map_or (λ (c : Tape
 
 -- ---- where it stands
 
-limit_within : (d : Deck) → limit d ≤ segments_per_track d
-limit_within d = by_mode (is_format d.mode)
-  where
-    by_mode : (b : Bool) → (if b then min d.format_segments (segments_per_track d) else segments_per_track d) ≤ segments_per_track d
-    by_mode true = omega arith
-    by_mode false = omega arith
-
 -- a tape that streams is before the end of its track
-pub streams_within : (d : Deck) → IsSound d → is_streaming d.motion ≡ true → d.offset < segments_per_track d
+streams_within : (d : Deck) → IsSound d → is_streaming d.motion ≡ true → d.offset < segments_per_track d
 streams_within d sound streams =
     let below : d.offset < limit d = by_motion d.motion sound.motion streams in
     let most : limit d ≤ segments_per_track d = limit_within d in
@@ -52,7 +45,7 @@ streams_within d sound streams =
     by_motion (Seeking left) h e = cc
 
 -- two places on tracks of n segments that are one have one offset
-pub same_offset : (n a i b j : ℕ) → i < n → j < n → a * n + i ≡ b * n + j → i ≡ j
+same_offset : (n a i b j : ℕ) → i < n → j < n → a * n + i ≡ b * n + j → i ≡ j
 same_offset n a i b j low high same = sym (mod-mul-add a n i low) ∙ ap (λ (k : ℕ). k % n) same ∙ mod-mul-add b n j high
 
 -- of n segments from one on, so many are behind the head: it streams at the next, or stands behind the last

@@ -6,7 +6,7 @@ use Rattle.qic_base.specs.TapeCalls.{Does, Tells}
 use Rattle.cartridge_spec.specs.Shape.{marked_sectors}
 use Rattle.cartridge_spec.specs.Formatting.{MarksDefects, clearing_steps, copy_writes, format_steps, HasNoDefectInFront, IsFirstDefectInFront}
 use Rattle.cartridge_spec.specs.Says.{with_parity}
-use Rattle.cartridge_laws.specs.Terms.{IsFreshArea}
+use Rattle.cartridge_laws.specs.HeaderTerms.{IsFreshArea}
 use Rattle.formatter.specs.declared.fault.FormatFault.{FormatFault}
 use Rattle.formatter.specs.declared.fault.FormatFault.TheVariants.{Protected, DefectInFront, Tape}
 use Rattle.formatter.specs.declared.formatting.FormatReport.{FormatReport}

@@ -2,9 +2,12 @@
 -- project's profile).
 use Rattle.std.specs.Prelude.{◌≡◌, ◌↔◌, ℕ, ◌^◌, ◌<◌, List, length, slice_index}
 use Rattle.qic_base.specs.Cartridge.{Cartridge, view_at}
-use Rattle.qic_base.specs.Terms.{place_of}
+use Rattle.qic_base.specs.CartridgeTerms.{place_of, IsLost}
 use Rattle.cartridge_laws.specs.Segment.{IsUnreadable}
-use Rattle.cartridge_laws.specs.Terms.{IsMarked}
+
+-- the map has the sector's bit
+abbrev pub IsMarked : (words : List ℕ) (segment sector : ℕ) → Type 0
+IsMarked words segment sector = IsLost (slice_index words segment) sector
 
 -- of the sectors before a place, segment after segment, just the unreadable ones are marked, and none of the others is
 pub record MarksBelow (c : Cartridge) (words : List ℕ) (place : ℕ) : Type 0 where

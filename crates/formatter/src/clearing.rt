@@ -7,7 +7,7 @@ ghost use Rattle.drive_spec.specs.Deck.{segments_per_track, is_stopped};
 ghost use Rattle.drive_spec.specs.Terms.{is_protected, is_referenced, referenced_as};
 ghost use Rattle.host_driver.specs.Calls.{IsReady, Keeps};
 ghost use Rattle.host_driver.specs.Fits.{AgreesWithTape, Fits, IsAtRest};
-ghost use Rattle.cartridge_laws.specs.Terms.{segment_formats};
+ghost use Rattle.cartridge_laws.specs.FormatMarks.{segment_formats};
 ghost use Rattle.formatter.specs.Formats.{Clears};
 ghost use Rattle.formatter.specs.Steps.{track_formats};
 

@@ -11,7 +11,7 @@ ghost use Rattle.host_driver.specs.Calls.{IsReady, MayWrite, Keeps};
 ghost use Rattle.host_driver.specs.Fits.{AgreesWithTape};
 ghost use Rattle.cartridge_spec.specs.Formatting.{copy_writes};
 ghost use Rattle.cartridge_spec.specs.Says.{with_parity};
-ghost use Rattle.cartridge_laws.specs.Terms.{IsFreshArea};
+ghost use Rattle.cartridge_laws.specs.HeaderTerms.{IsFreshArea};
 ghost use Rattle.formatter.specs.Formats.{WritesHeader};
 
 use crate::fault::FormatFault;

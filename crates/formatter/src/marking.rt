@@ -1,7 +1,7 @@
 //! The pass over a formatted tape, which marks the sectors that can't be read.
 
 ghost use Rattle.std.specs.Prelude.{◌≡◌, ◌<◌, ◌≤◌, ◌+◌, ◌*◌, [], true, length, OnOk, IsOkUnless, MatchOption};
-ghost use Rattle.qic_base.specs.Terms.{place_of};
+ghost use Rattle.qic_base.specs.CartridgeTerms.{place_of};
 ghost use Rattle.qic_base.specs.TapeCalls.{Does, Tells};
 ghost use Rattle.drive_spec.specs.Deck.{segments_per_track, is_stopped};
 ghost use Rattle.drive_spec.specs.Terms.{is_referenced};

@@ -17,7 +17,7 @@ use Rattle.gf256_qic.proofs.Distance.{AtRoots, weight, none_of_three}
 abbrev one_unless : Bool → ℕ
 one_unless t = cond t 0 1
 
-abbrev one_if : Bool → ℕ
+abbrev pub one_if : Bool → ℕ
 one_if t = cond t 1 0
 
 unequal : (a b : ℕ) → a ≢ b → one_unless (nat_eq a b) ≡ 1
@@ -93,7 +93,7 @@ distance-le (x ∷ xs) (y ∷ ys) =
     ]
 
 -- codewords that differ at no more than three places are equal
-pub near_codewords : (cs ds : List ℕ) → IsCodeword cs → IsCodeword ds → length cs ≡ length ds →
+near_codewords : (cs ds : List ℕ) → IsCodeword cs → IsCodeword ds → length cs ≡ length ds →
     distance cs ds ≤ 3 → cs ≡ ds
 near_codewords cs ds hc hd h near =
     near_columns cs ds hc.bytes hd.bytes h hc.most near
@@ -113,7 +113,7 @@ four_apart cs ds hc hd h other =
 
 -- ---- agreement outside lost places
 
-lost_below-first : (lost : ℕ → Bool) (n : ℕ) →
+pub lost_below-first : (lost : ℕ → Bool) (n : ℕ) →
     lost_below lost (suc n) ≡ one_if (lost 0) + lost_below (λ i. lost (suc i)) n
 unfolding lost_below
 lost_below-first lost zero = refl

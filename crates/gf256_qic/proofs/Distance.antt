@@ -15,7 +15,7 @@ use Rattle.gf256_qic.proofs.Values.{AllBytes, first_byte, other_bytes, value_at-
 
 -- ---- the field has no divisors of 0
 
-pub zero_factor : (a b : ℕ) → a < 256 → b < 256 → b ≢ 0 → product a b ≡ 0 → a ≡ 0
+zero_factor : (a b : ℕ) → a < 256 → b < 256 → b ≢ 0 → product a b ≡ 0 → a ≡ 0
 zero_factor a b ha hb other none =
     sym (product_one_right a ha)
     ∙ ap (product a) (sym (product_inverse b hb other))

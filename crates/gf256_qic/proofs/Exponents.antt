@@ -23,7 +23,7 @@ order : product 2 (get_or POWERS 254 0) ≡ 1
 unfolding product shifted_copies remainder
 order = refl
 
-pub powers_entry : (n : ℕ) → n < 255 → get_or POWERS n 0 ≡ power 2 n
+powers_entry : (n : ℕ) → n < 255 → get_or POWERS n 0 ≡ power 2 n
 powers_entry zero h = sym (power_none 2)
 powers_entry (suc n) h =
     eqb-true (get_or POWERS (suc n) 0) (product 2 (get_or POWERS n 0))
@@ -56,7 +56,7 @@ power-logarithm a h other =
 
 -- ---- exponents
 
-pub power_255 : power 2 255 ≡ 1
+power_255 : power 2 255 ≡ 1
 power_255 = power_more 2 254 ∙ ap (product 2) (sym (powers_entry 254 (omega arith))) ∙ order
 
 -- the powers of a power
@@ -70,7 +70,7 @@ power_product a m (suc n) h =
     ∙ sym (power_more (power a m) n)
 
 -- an exponent counts by its remainder by the order alone
-pub power_remainder : (n : ℕ) → power 2 (n % 255) ≡ power 2 n
+power_remainder : (n : ℕ) → power 2 (n % 255) ≡ power 2 n
 power_remainder n =
     let two : 2 < 256 = omega arith in
     let parts : n ≡ 255 * (n / 255) + n % 255 = omega arith in

@@ -56,7 +56,7 @@ basis_generator = record {
   at_third = refl;
 }
 
-pub parity_through : (ds : List ℕ) → parity ds ≡ through (data_sum 0xC3 ds) (data_sum 1 ds) (data_sum 2 ds)
+parity_through : (ds : List ℕ) → parity ds ≡ through (data_sum 0xC3 ds) (data_sum 1 ds) (data_sum 2 ds)
 unfolding parity through
 parity_through ds =
     let longer : List ℕ = ds ++ 0 ∷ 0 ∷ 0 ∷ [] in
@@ -67,7 +67,7 @@ parity_through ds =
 length-scaled : (a : ℕ) (xs : List ℕ) → length (scaled a xs) ≡ length xs
 length-scaled a xs = length-map xs _
 
-pub length-through : (a b c : ℕ) → length (through a b c) ≡ 3
+length-through : (a b c : ℕ) → length (through a b c) ≡ 3
 unfolding through
 length-through a b c =
     let one : length (scaled a (lagrange 0xC3 1 2)) ≡ 3 = length-scaled a (lagrange 0xC3 1 2) ∙ basis_inverse.size in
@@ -78,7 +78,7 @@ length-through a b c =
     length-added (scaled a (lagrange 0xC3 1 2)) (added (scaled b (lagrange 1 0xC3 2)) (scaled c (lagrange 2 0xC3 1)))
     (one ∙ sym inner) ∙ one
 
-pub bytes_of_through : (a b c : ℕ) → a < 256 → b < 256 → c < 256 → AllBytes (through a b c)
+bytes_of_through : (a b c : ℕ) → a < 256 → b < 256 → c < 256 → AllBytes (through a b c)
 unfolding through
 bytes_of_through a b c ha hb hc =
     bytes_of_added (scaled a (lagrange 0xC3 1 2)) (added (scaled b (lagrange 1 0xC3 2)) (scaled c (lagrange 2 0xC3 1)))
@@ -110,7 +110,7 @@ value_at-through p a b c hp ha hb hc =
     ∙ ap (λ v. bit_xor v (bit_xor (product b (value_at p (lagrange 1 0xC3 2))) (product c (value_at p (lagrange 2 0xC3 1)))))
     (value_at-scaled p a (lagrange 0xC3 1 2) hp ha basis_inverse.bytes)
 
-pub through_at_inverse : (a b c : ℕ) → a < 256 → b < 256 → c < 256 → value_at 0xC3 (through a b c) ≡ a
+through_at_inverse : (a b c : ℕ) → a < 256 → b < 256 → c < 256 → value_at 0xC3 (through a b c) ≡ a
 through_at_inverse a b c ha hb hc =
     value_at-through 0xC3 a b c (omega arith) ha hb hc
     ∙ ap (λ x. bit_xor (product a x) (bit_xor (product b (value_at 0xC3 (lagrange 1 0xC3 2))) (product c (value_at 0xC3 (lagrange 2 0xC3 1))))) basis_inverse.at_own
@@ -121,7 +121,7 @@ through_at_inverse a b c ha hb hc =
     ∙ ap (bit_xor a) (product_zero_right c)
     ∙ xor_zero_r a
 
-pub through_at_one : (a b c : ℕ) → a < 256 → b < 256 → c < 256 → value_at 1 (through a b c) ≡ b
+through_at_one : (a b c : ℕ) → a < 256 → b < 256 → c < 256 → value_at 1 (through a b c) ≡ b
 through_at_one a b c ha hb hc =
     value_at-through 1 a b c (omega arith) ha hb hc
     ∙ ap (λ x. bit_xor (product a x) (bit_xor (product b (value_at 1 (lagrange 1 0xC3 2))) (product c (value_at 1 (lagrange 2 0xC3 1))))) basis_inverse.at_second
@@ -131,7 +131,7 @@ through_at_one a b c ha hb hc =
     ∙ ap (bit_xor (product b 1)) (product_zero_right c)
     ∙ xor_zero_r (product b 1) ∙ product_one_right b hb
 
-pub through_at_generator : (a b c : ℕ) → a < 256 → b < 256 → c < 256 → value_at 2 (through a b c) ≡ c
+through_at_generator : (a b c : ℕ) → a < 256 → b < 256 → c < 256 → value_at 2 (through a b c) ≡ c
 through_at_generator a b c ha hb hc =
     value_at-through 2 a b c (omega arith) ha hb hc
     ∙ ap (λ x. bit_xor (product a x) (bit_xor (product b (value_at 2 (lagrange 1 0xC3 2))) (product c (value_at 2 (lagrange 2 0xC3 1))))) basis_inverse.at_third
@@ -149,7 +149,7 @@ length-parity ds =
     ∙ length-through (data_sum 0xC3 ds) (data_sum 1 ds) (data_sum 2 ds)
 
 -- the data's three sums are bytes
-pub sums_are_bytes : (ds : List ℕ) → AllBytes ds →
+sums_are_bytes : (ds : List ℕ) → AllBytes ds →
     (data_sum 0xC3 ds < 256) × (data_sum 1 ds < 256) × (data_sum 2 ds < 256)
 sums_are_bytes ds all =
     (data_sum-byte 0xC3 ds (omega arith) all, data_sum-byte 1 ds (omega arith) all, data_sum-byte 2 ds (omega arith) all)
@@ -177,7 +177,7 @@ value_at-parity ds all =
     }
 
 -- a column's value is the sum of its data and the value of its last three bytes
-pub value_at-data : (p : ℕ) (ds ps : List ℕ) → p < 256 → AllBytes ds → length ps ≡ 3 →
+value_at-data : (p : ℕ) (ds ps : List ℕ) → p < 256 → AllBytes ds → length ps ≡ 3 →
     value_at p (ds ++ ps) ≡ bit_xor (data_sum p ds) (value_at p ps)
 value_at-data p ds ps h all three =
     value_at-append p ds ps h all

@@ -52,7 +52,7 @@ low_powers : all_below 8 (λ i. nat_eq (power 2 i) (2 ^ i)) ≡ true
 unfolding product shifted_copies remainder power all_below
 low_powers = refl
 
-pub power_two : (i : ℕ) → i < 8 → power 2 i ≡ 2 ^ i
+power_two : (i : ℕ) → i < 8 → power 2 i ≡ 2 ^ i
 power_two i h = eqb-true (power 2 i) (2 ^ i) (all_below_at 8 (λ x. nat_eq (power 2 x) (2 ^ x)) low_powers i h)
 
 -- the low bits of b, one more of them

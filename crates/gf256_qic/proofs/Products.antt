@@ -85,10 +85,10 @@ unfolding product
 product_sum_right a b b' =
     ap (remainder 7) (copies_right 8 a b b') ∙ remainder_sum 7 (shifted_copies 8 a b) (shifted_copies 8 a b')
 
-pub times_left : (b : ℕ) → IsAdditive (λ a. product a b)
+times_left : (b : ℕ) → IsAdditive (λ a. product a b)
 times_left b = record { adds = λ a a'. product_sum_left a a' b }
 
-pub times_right : (a : ℕ) → IsAdditive (product a)
+times_right : (a : ℕ) → IsAdditive (product a)
 times_right a = record { adds = product_sum_right a }
 
 pub product_zero_left : (b : ℕ) → product 0 b ≡ 0

@@ -32,7 +32,7 @@ pub additive_zero : (f : ℕ → ℕ) → IsAdditive f → f 0 ≡ 0
 additive_zero f af = af.adds 0 0 ∙ xor_self (f 0)
 
 -- a number with bit k as its highest is the sum of 2 ^ k and its lower part
-pub top_and_rest : (k a : ℕ) → 2 ^ k ≤ a → a < 2 ^ suc k → a ≡ bit_xor (2 ^ k) (a - 2 ^ k)
+top_and_rest : (k a : ℕ) → 2 ^ k ≤ a → a < 2 ^ suc k → a ≡ bit_xor (2 ^ k) (a - 2 ^ k)
 top_and_rest k a low high =
     let rest : a - 2 ^ k < 2 ^ k = omega (arith, pow-suc 2 k) in
     let joined : bit_xor (1 * 2 ^ k) (a - 2 ^ k) ≡ 1 * 2 ^ k + (a - 2 ^ k) = xor_shifted 1 k (a - 2 ^ k) rest in

@@ -7,16 +7,17 @@ use Rattle.command_laws.proofs.CommandTable.{plain_is_function}
 use Rattle.command_spec.specs.Commands.{traits_of}
 use Rattle.command_spec.specs.Single.{DefectOutcome, LoseOutcome}
 use Rattle.command_spec.specs.Lines.{protected_line, lost_line, defect_line, upgraded_line}
-use Rattle.command_laws.specs.CommandTerms.{Yields, CommandPrints, EndsBlind}
+use Rattle.command_laws.specs.CommandFields.{Yields, CommandPrints}
+use Rattle.command_laws.specs.RunTerms.{EndsBlind}
 use Rattle.command_spec.specs.Outcome.{CommandOutcome, refused, refused_behind, acted, carried_out}
-use Rattle.command_laws.specs.Terms.{ProtectOutcome, UpgradeOutcome}
+use Rattle.command_laws.specs.Outcomes.{ProtectOutcome, UpgradeOutcome}
 use Rattle.command_spec.specs.Machine.{InputLeft, IsOfBytes, may_come_from, IsCutOff}
 use Rattle.command_spec.specs.declared.status.Status.{Status}
 use Rattle.command_spec.specs.declared.words.Words.{Words}
 use Rattle.qic_base.proofs.Joins.{broke_first}
 use Rattle.qic_base.proofs.Steps.{Broke-front, Done-told}
 use Rattle.qic_base.specs.Acts.{Act, next_steps, TapeFails, SinkFails, Went, TapeCut, SinkCut}
-use Rattle.qic_base.specs.Terms.{no_source, around}
+use Rattle.qic_base.specs.Alone.{no_source, around}
 use Rattle.qic_base.specs.Cartridge.{Cartridge, IsPlace, view_at}
 use Rattle.qic_base.specs.Step.{Step as TapeStep, SetProtected, Wear, Spoil, Upgrade}
 use Rattle.qic_base.specs.Tape.{spoil_answer}

@@ -8,7 +8,7 @@ use Rattle.qic_base.proofs.Joins.{sink_cut_one}
 use Rattle.qic_base.specs.Acts.{Act, Outside, next_steps, TapeFails, SourceFails, SinkFails, Went, TapeCut, Cut}
 use Rattle.drive_spec.specs.Record.{Record}
 use Rattle.command_spec.specs.Input.{IsPulse}
-use Rattle.command_laws.specs.CommandTerms.{IsTrain}
+use Rattle.command_laws.specs.Inputs.{IsTrain}
 use Rattle.qic_base.specs.SourceCalls.{Gave}
 use Rattle.tape_script.proofs.Lined.{IsLined-one_newline}
 use Rattle.command_spec.specs.Pulses.{pulsed_row, train_changes, train_line}

@@ -2,7 +2,7 @@
 use Rattle.std.proofs.Common.{◌≡◌, ℕ, ◌+◌, ◌≤◌, ◌<◌, List, [], ◌∷◌, ◌++◌, length, Option, Some, None, IfSome, codes, get_or, refl, sym, ap, ◌∙◌, subst, arith, append_assoc}
 use Rattle.std.specs.Option.{option_map}
 use Rattle.std.proofs.lemmas.List.{length-append, append_cancel_left, nil_from_length}
-use Rattle.command_laws.specs.CommandTerms.{IsTrain}
+use Rattle.command_laws.specs.Inputs.{IsTrain}
 use Rattle.command_spec.specs.Input.{IsPulse, Ending, AtEnd, AtStop, AtFault, HasStop, IsFault, ItemsEnd, HasItems, most_items}
 use Rattle.command_laws.proofs.TextDecimals.{one_number}
 use Rattle.command_laws.proofs.TextInputs as inputs

@@ -61,7 +61,7 @@ over_known : (told : Option (Option Cartridge)) (left : Option (List ℕ)) (know
 over_known None left known input P cartridge bytes follows = tt
 over_known (Some held) left known input P cartridge bytes follows = (input, bytes, follows held cartridge)
 
-told_input : (left : Option (List ℕ)) (input : List ℕ) (P : List ℕ → Type 0) → IfSome left (λ bytes. input ≡ bytes) → P input → IfSome left P
+pub told_input : (left : Option (List ℕ)) (input : List ℕ) (P : List ℕ → Type 0) → IfSome left (λ bytes. input ≡ bytes) → P input → IfSome left P
 told_input None input P told is = tt
 told_input (Some bytes) input P told is = subst P told is
 

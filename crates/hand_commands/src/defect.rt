@@ -1,7 +1,7 @@
 //! A sector made a defect.
 
 ghost use Rattle.command_spec.specs.declared.words.Words.TheVariants.{Defect};
-ghost use Rattle.command_laws.specs.CommandTerms.{EndsBlind};
+ghost use Rattle.command_laws.specs.RunTerms.{EndsBlind};
 
 use crate::lines::printed;
 use command_spec::Status;

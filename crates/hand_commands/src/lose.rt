@@ -1,7 +1,7 @@
 //! A sector lost.
 
 ghost use Rattle.command_spec.specs.declared.words.Words.TheVariants.{Lose};
-ghost use Rattle.command_laws.specs.CommandTerms.{EndsBlind};
+ghost use Rattle.command_laws.specs.RunTerms.{EndsBlind};
 
 use crate::lines::printed;
 use command_spec::Status;

@@ -2,7 +2,7 @@
 
 ghost use Rattle.qic_base.specs.Cartridge.{IsLength};
 ghost use Rattle.command_spec.specs.declared.words.Words.TheVariants.{New};
-ghost use Rattle.command_laws.specs.CommandTerms.{EndsBlind};
+ghost use Rattle.command_laws.specs.RunTerms.{EndsBlind};
 
 use crate::lines::printed;
 use command_spec::Status;

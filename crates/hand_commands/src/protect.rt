@@ -1,7 +1,7 @@
 //! The protect switch moved.
 
 ghost use Rattle.command_spec.specs.declared.words.Words.TheVariants.{Protect};
-ghost use Rattle.command_laws.specs.CommandTerms.{EndsBlind};
+ghost use Rattle.command_laws.specs.RunTerms.{EndsBlind};
 
 use crate::lines::{printed, protected_text};
 use command_spec::Status;

@@ -1,7 +1,7 @@
 //! The cartridge kept in the newest layout.
 
 ghost use Rattle.command_spec.specs.declared.words.Words.TheVariants.{Upgrade};
-ghost use Rattle.command_laws.specs.CommandTerms.{EndsBlind};
+ghost use Rattle.command_laws.specs.RunTerms.{EndsBlind};
 
 use crate::lines::printed;
 use command_spec::Status;

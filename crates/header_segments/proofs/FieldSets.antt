@@ -3,7 +3,8 @@ use Rattle.std.proofs.Common.{◌≡◌, ℕ, ◌+◌, ◌-◌, ◌<◌, List, l
 use Rattle.std.specs.List.{All}
 use Rattle.std.proofs.lemmas.List.Elements.{All-head, All-tail}
 use Rattle.std.proofs.lemmas.Bool.Decides.{nat_tests}
-use Rattle.cartridge_laws.proofs.HeaderFieldSets.{length-value_bytes, and-left, and-right}
+use Rattle.cartridge_laws.proofs.HeaderFieldSets.{length-value_bytes}
+use Rattle.cartridge_laws.proofs.FreshFields.{and-left, and-right}
 use Rattle.cartridge_laws.specs.HeaderWriting.{FieldFits, value_bytes, with_fields}
 use Rattle.cartridge_spec.specs.Header.{Field}
 use Rattle.qic_base.specs.Field.{overwritten}

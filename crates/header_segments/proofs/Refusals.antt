@@ -5,7 +5,7 @@ use Rattle.std.specs.Option.{option_map}
 use Rattle.std.proofs.lemmas.Bool.{ne_eqb}
 use Rattle.cartridge_laws.proofs.HeaderRefusals.{fault-segments}
 use Rattle.cartridge_spec.specs.Header.{number_in, tested, header_fault, has_signature, HeaderFault, word_in}
-use Rattle.cartridge_laws.specs.Terms.{field_fault, fault_as, map_fault}
+use Rattle.cartridge_laws.specs.HeaderTerms.{field_fault, fault_as, map_fault}
 use Rattle.header_segments.specs.Refusal.{foreign, refusal}
 use Rattle.header_segments.specs.declared.fault.HeaderFault.TheVariants.{Foreign, NoSignature}
 use Rattle.qic_base.specs.Field.{number_at, little_endian}
@@ -13,7 +13,7 @@ use Rattle.qic_base.specs.declared.foreign.ForeignField.{ForeignField}
 use Rattle.qic_base.specs.declared.foreign.ForeignField.TheVariants.{Map}
 
 -- a field of the first sector
-pub number_in-first : (area : List (List ℕ)) (at width : ℕ) → at < 1024 → number_in area at width ≡ number_at (get_or area 0 []) at width
+number_in-first : (area : List (List ℕ)) (at width : ℕ) → at < 1024 → number_in area at width ≡ number_at (get_or area 0 []) at width
 number_in-first area at width h =
     let sector : at / 1024 ≡ 0 = omega arith in
     let place : at % 1024 ≡ at = omega arith in
@@ -45,10 +45,10 @@ tested-other area name at width value found is other =
     let unequal : (number_in area at width == value) ≡ false = ne_eqb _ _ (λ e. other (is ∙ e)) in
     rw (is, unequal) refl
 
-pub refusal-signed : (area : List (List ℕ)) (n : ℕ) → has_signature area ≡ true → refusal area n ≡ option_map foreign (header_fault area n)
+refusal-signed : (area : List (List ℕ)) (n : ℕ) → has_signature area ≡ true → refusal area n ≡ option_map foreign (header_fault area n)
 refusal-signed area n signed = ap (λ (b : Bool). cond b (option_map foreign (header_fault area n)) (Some NoSignature)) signed
 
-pub refusal-unsigned : (area : List (List ℕ)) (n : ℕ) → has_signature area ≡ false → refusal area n ≡ Some NoSignature
+refusal-unsigned : (area : List (List ℕ)) (n : ℕ) → has_signature area ≡ false → refusal area n ≡ Some NoSignature
 refusal-unsigned area n unsigned = ap (λ (b : Bool). cond b (option_map foreign (header_fault area n)) (Some NoSignature)) unsigned
 
 -- and so have data that are not refused

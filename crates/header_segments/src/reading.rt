@@ -4,7 +4,7 @@ ghost use Rattle.std.specs.Prelude.{◌≡◌, ◌-◌, ◌*◌, ◌<◌, ◌≤
 ghost use Rattle.std.specs.Option.{option_map};
 ghost use Rattle.qic_base.specs.Cartridge.{IsLength};
 ghost use Rattle.cartridge_spec.specs.Header.{Holds, Shows, header_fields, profile_fields, tested, first_fault};
-ghost use Rattle.cartridge_laws.specs.Terms.{field_fault, map_fault, words_in};
+ghost use Rattle.cartridge_laws.specs.HeaderTerms.{field_fault, map_fault, words_in};
 ghost use Rattle.header_segments.specs.Header.{header_of};
 ghost use Rattle.header_segments.specs.Refusal.{foreign, refusal};
 
@@ -55,7 +55,7 @@ fn profile_fault(area: &[Sector], segments_per_track: u16) -> Option<HeaderFault
     ensures { result ≡
         option_map foreign (first_fault area.now (profile_fields segments_per_track)) }
 {
-    let last = 28 * segments_per_track - 1;
+    let last = TRACKS as u16 * segments_per_track - 1;
     byte_fault(area, ForeignField::FormatCode, 4, FORMAT_CODE)
         .or(number_fault(area, ForeignField::FirstHeader, 6, FIRST_HEADER))
         .or(number_fault(area, ForeignField::SecondHeader, 8, SECOND_HEADER))
@@ -123,7 +123,7 @@ pub fn decode(area: &[Sector], drive_segments: u16, map: &mut BadMap) -> Result<
         (λ fault. refusal area.now drive_segments ≡ Some fault) }
     ensures unmarked { OnErr result (map.new ≡ replicate (28 * drive_segments) 0) }
 {
-    let segments = 28 * u32::from(drive_segments);
+    let segments = TRACKS as u32 * u32::from(drive_segments);
     map.read(area, segments);
     match fault_in(area, drive_segments, map) {
         Some(fault) => {

@@ -3,7 +3,7 @@
 ghost use Rattle.std.specs.Prelude.{◌≡◌, ◌-◌, ◌*◌, ℕ, length, All};
 ghost use Rattle.qic_base.specs.Cartridge.{IsLength};
 ghost use Rattle.cartridge_spec.specs.Header.{SpellsHeader, profile_fields};
-ghost use Rattle.cartridge_laws.specs.Terms.{byte_in};
+ghost use Rattle.cartridge_laws.specs.HeaderTerms.{byte_in};
 ghost use Rattle.header_segments.specs.Header.{header_of};
 ghost use Rattle.cartridge_laws.specs.HeaderWriting.{FieldFits, with_fields, told_fields};
 
@@ -12,7 +12,7 @@ use crate::fields::{
 };
 use crate::header::Header;
 use bad_sector_map::BadMap;
-use qic_base::{Sector, TRACKS, write_u16, write_u32};
+use qic_base::{SECTOR, Sector, TRACKS, write_u16, write_u32};
 
 /// The segments under one floppy head.
 const HEAD_SEGMENTS: u16 = 600;
@@ -21,7 +21,7 @@ fn clear(area: &mut [Sector])
     ensures { (k : ℕ) → byte_in area.new k ≡ 0 }
 {
     for sector in area.iter_mut() {
-        *sector = [0; 1024];
+        *sector = [0; SECTOR];
     }
 }
 
@@ -29,7 +29,7 @@ fn write_profile(sector: &mut Sector, segments_per_track: u16)
     requires { IsLength segments_per_track }
     ensures { sector.new ≡ with_fields (profile_fields segments_per_track) sector.old }
 {
-    let last = 28 * segments_per_track - 1;
+    let last = TRACKS as u16 * segments_per_track - 1;
     write_u32(sector, 0, SIGNATURE);
     sector[4] = FORMAT_CODE;
     sector[5] = 0;

@@ -13,8 +13,9 @@ use Rattle.cartridge_spec.specs.Mounting.{settled}
 use Rattle.cartridge_spec.specs.Says.{Data, LostSectors, AsRead, ByCode, TableSays}
 use Rattle.cartridge_spec.specs.Settling.{settling_steps}
 use Rattle.cartridge_spec.specs.Table.{Entry, table_with}
-use Rattle.cartridge_laws.specs.Terms.{slot_sector}
-use Rattle.command_laws.proofs.CommandAdded.{status_by, input_texts, replied_text, status_fits}
+use Rattle.cartridge_laws.specs.Slots.{slot_sector}
+use Rattle.command_laws.proofs.CommandAdded.{status_by, replied_text, status_fits}
+use Rattle.command_laws.proofs.ScriptActs.{input_texts}
 use Rattle.command_laws.proofs.CommandEndings.{nothing_front}
 use Rattle.command_laws.proofs.CommandEnds.{is_some-map}
 use Rattle.command_laws.proofs.CommandOpened.{quiet}
@@ -22,7 +23,9 @@ use Rattle.command_laws.proofs.CommandTable.{plain_is_function}
 use Rattle.command_laws.proofs.CommandTold.{input_of, input_told, input_bytes}
 use Rattle.command_laws.proofs.StoreTaking.{both_true}
 use Rattle.command_spec.specs.Append.{Kept, Taking, Fits, TooLong, TooShort, entry_acts, taking, room_in, input_writes, append_acts, appended, AppendOutcome, kept_over}
-use Rattle.command_laws.specs.CommandTerms.{entry_for, silently, append_status, Appends, bytes_taken, CommandPrints, FrontPrints}
+use Rattle.command_laws.specs.AppendTerms.{entry_for, silently, append_status, bytes_taken}
+use Rattle.command_laws.specs.Outcomes.{Appends}
+use Rattle.command_laws.specs.CommandFields.{CommandPrints, FrontPrints}
 use Rattle.command_spec.specs.Lines.{reply_behind, appended_line}
 use Rattle.command_spec.specs.Outcome.{CommandOutcome, refused, refused_behind}
 use Rattle.command_spec.specs.Machine.{NamesFault, may_come_from, InputLeft, CommandEnds, IsOfBytes, IsCutOff}
@@ -33,7 +36,7 @@ use Rattle.qic_base.proofs.Joins.{steps_of-append, text_of-append, broke_behind}
 use Rattle.qic_base.proofs.Steps.{Done-nothing, Done-Done, Done-Broke, effects-append}
 use Rattle.qic_base.proofs.Writing.{TakesBoth}
 use Rattle.qic_base.specs.Acts.{steps_of, Act, text_of, next_steps, Failing, TapeFails, SourceFails, SinkFails, Went, Cut, TapeCut, SourceCut, SinkCut}
-use Rattle.qic_base.specs.Terms.{no_sink, reading}
+use Rattle.qic_base.specs.Alone.{no_sink, reading}
 use Rattle.qic_base.specs.Cartridge.{Cartridge}
 use Rattle.qic_base.specs.Step.{Step as TapeStep, effects, Torn}
 use Rattle.qic_base.specs.declared.sink.SinkFailed.{SinkFailed}
@@ -46,9 +49,11 @@ use Rattle.cartridge_front.proofs.Copies.{tells_two}
 use Rattle.cartridge_front.specs.declared.fault.StoreFault.{StoreFault}
 use Rattle.hand_commands.proofs.Endings.{told_map, told_both}
 use Rattle.host_commands.proofs.Mounted.{BeginsSettling, locked_is, unlocked_refused_is, writable_begins, table_lost, input_unread}
-use Rattle.host_commands.specs.Opening.{is_opening, IsUnlocked, WritableEnds, store_status}
+use Rattle.host_commands.specs.Opening.{is_opening, IsUnlocked, WritableEnds}
+use Rattle.host_commands.specs.Statuses.{store_status}
 use Rattle.hand_commands.specs.Outcome.{first_steps}
 use Rattle.hand_commands.specs.Writing.{printed_status}
+use Rattle.qic_base.specs.Source.{IsInput}
 use Rattle.command_spec.specs.declared.words.Words.TheVariants as words
 use Rattle.command_spec.specs.declared.status.Status.TheVariants as status
 use Rattle.qic_base.specs.Sink as sinks
@@ -142,7 +147,7 @@ full_numbers have input need most took = by_flag (nat_le 1 have && nat_le (lengt
         ]
 
 -- what a table that can be read says is not that it is lost
-pub not_lost : (lost : ℕ) (d : Cartridge) (table : List (List ℕ)) → TableIs d table → TableSays (table_cells d) (ByCode (LostSectors lost)) → ⊥
+not_lost : (lost : ℕ) (d : Cartridge) (table : List (List ℕ)) → TableIs d table → TableSays (table_cells d) (ByCode (LostSectors lost)) → ⊥
 not_lost lost d table (inl read) says =
     let same = table_says_is_function (table_cells d) (AsRead table) (ByCode (LostSectors lost)) read says in cc
 not_lost lost d table (inr code) says =
@@ -192,7 +197,7 @@ module _ {T S K : Type 0} (t : tapes.Meaning T) (s : sources.Meaning S) (k : sin
   -- refused with some acts that print nothing
   turned : (b : T) (j : S) (why : Status) (acts : List Act) (taken : ℕ) → ((z : K) → k.took z [] z) → may_come_from why (words.Append name date) ≡ true → ((line place : ℕ) → why ≢ status.ScriptFault line place) → why ≢ status.Done →
       text_of acts ≡ [] → s.left j ≡ option_map (drop taken) (s.left i) →
-      IfSome (t.told a) (λ held. (input : List ℕ) × IfSome (s.left i) (λ bytes. input ≡ bytes)
+      IfSome (t.told a) (λ held. (input : List ℕ) × IsInput (s.left i) input
       × (IsOfBytes (words.Append name date) (s.left i) input × AppendOutcome name date held input (with_acts acts taken why))) →
       Went t s k (outside a i x) (outside b j x) acts → CommandEnds t s k (words.Append name date) (outside a i x) (outside b j x) why
   turned b j why acts taken nothing sound script other silent left told went = inl (record {
@@ -210,7 +215,7 @@ module _ {T S K : Type 0} (t : tapes.Meaning T) (s : sources.Meaning S) (k : sin
 
   -- with the input that is told, or none, whatever it is
   whatever : (outcome : CommandOutcome) → IfSome (t.told a) (λ held. (input : List ℕ) → AppendOutcome name date held input outcome) →
-      IfSome (t.told a) (λ held. (input : List ℕ) × IfSome (s.left i) (λ bytes. input ≡ bytes) × (IsOfBytes (words.Append name date) (s.left i) input × AppendOutcome name date held input outcome))
+      IfSome (t.told a) (λ held. (input : List ℕ) × IsInput (s.left i) input × (IsOfBytes (words.Append name date) (s.left i) input × AppendOutcome name date held input outcome))
   whatever outcome told =
       told_map (t.told a) _ _ told (λ held each. (input_of (s.left i), input_told (s.left i), ((λ is. input_bytes (s.left i)), each (input_of (s.left i)))))
 
@@ -276,7 +281,7 @@ module _ {T S K : Type 0} (t : tapes.Meaning T) (s : sources.Meaning S) (k : sin
 
     -- what is told of an append that ran
     told_ran : (j : S) (c : T) (became : Taking) → is_protected b.drive.deck ≡ false → (ran : AppendRan t s (reading b.tape i) (reading c j) store name date None became) →
-        IfSome (t.told a) (λ held. (input : List ℕ) × IfSome (s.left i) (λ bytes. input ≡ bytes)
+        IfSome (t.told a) (λ held. (input : List ℕ) × IsInput (s.left i) input
         × (IsOfBytes (words.Append name date) (s.left i) input × AppendOutcome name date held input (going_by (quiet opening.steps) (kept_by store ran.table ran.settling) name date ran.input)))
     told_ran j c became free ran =
         settled_told t a b store opening (Found ran.table ran.settling) _ (found ran.table ran.settling free ran.known)

@@ -9,7 +9,7 @@ use Rattle.qic_base.proofs.Steps.{Done-Done, Done-Broke}
 use Rattle.cartridge_spec.specs.Shape.{marked_sectors}
 use Rattle.cartridge_spec.specs.Formatting.{MarksDefects, clearing_steps, copy_writes, format_steps, IsFirstDefectInFront, HasNoDefectInFront, IsFreshWith}
 use Rattle.cartridge_spec.specs.Says.{with_parity}
-use Rattle.cartridge_laws.specs.Terms.{IsFreshArea}
+use Rattle.cartridge_laws.specs.HeaderTerms.{IsFreshArea}
 use Rattle.cartridge_laws.proofs.FreshFront.{first_defect_is_none}
 use Rattle.cartridge_laws.proofs.FreshMarks.{fresh_area_is_one}
 use Rattle.formatter.specs.declared.fault.FormatFault.{FormatFault}
@@ -20,13 +20,13 @@ use Rattle.command_spec.specs.declared.status.Status.{Status}
 use Rattle.command_spec.specs.Lines.{formatted_line}
 use Rattle.command_spec.specs.Outcome.{CommandOutcome, refused}
 use Rattle.hand_commands.specs.Outcome.{first_steps}
-use Rattle.command_laws.specs.Terms.{cleared, formatted}
+use Rattle.command_laws.specs.Outcomes.{cleared, formatted}
 use Rattle.command_spec.specs.Single.{FormatOutcome}
 use Rattle.host_commands.specs.Format.{format_status}
 use Rattle.host_commands.proofs.Mounted.{BeginsSteps}
 use Rattle.host_commands.specs.Opening.{StartFails}
 use Rattle.hand_commands.specs.Writing.{printed_status}
-use Rattle.command_laws.specs.CommandTerms.{EndsBlind}
+use Rattle.command_laws.specs.RunTerms.{EndsBlind}
 use Rattle.hand_commands.proofs.Endings.{IsBlind, printed, turned_down, turned_behind, cut_off, cut_off_first}
 use Rattle.command_laws.proofs.CommandEndings.{Rules}
 use Rattle.volume_store.proofs.Started.{Present, Knows, told_known, told_known_beside, told_at_start}

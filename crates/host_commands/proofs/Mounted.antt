@@ -5,7 +5,7 @@ use Rattle.qic_base.specs.declared.tape.TapeInfo.{TapeInfo}
 use Rattle.qic_base.specs.declared.sink.SinkFailed.{SinkFailed}
 use Rattle.qic_base.specs.Step.{Step as TapeStep}
 use Rattle.cartridge_spec.specs.Header.{Header}
-use Rattle.cartridge_laws.specs.Terms.{fault_as}
+use Rattle.cartridge_laws.specs.HeaderTerms.{fault_as}
 use Rattle.cartridge_spec.specs.Table.{Entry}
 use Rattle.cartridge_laws.proofs.MountOnce.{mounts_is_function}
 use Rattle.command_laws.proofs.StoreTaking.{both_true}
@@ -20,12 +20,13 @@ use Rattle.command_spec.specs.declared.words.Words.{Words}
 use Rattle.command_spec.specs.declared.status.Status.{Status}
 use Rattle.command_spec.specs.Lines.{list_text, info_text}
 use Rattle.command_spec.specs.Outcome.{CommandOutcome, refused, acted, Going, Opened, OpenOutcome, WritableOutcome, Shows}
-use Rattle.command_laws.specs.Terms.{Printing, telling, listing}
+use Rattle.command_laws.specs.Outcomes.{Printing, telling, listing}
 use Rattle.volume_store.proofs.Refusals.{foreign_is_refused}
 use Rattle.volume_store.proofs.Opened.{opening_cut, outside}
 use Rattle.volume_store.specs.Opening.{IsOpened, HasOpened, IsTurnedDown, OpenFails, StartFails as FailsToStart}
 use Rattle.volume_store.specs.declared.opening.OpenFault.{OpenFault}
-use Rattle.command_laws.specs.CommandTerms.{CommandPrints, EndsBlind, Yields}
+use Rattle.command_laws.specs.CommandFields.{CommandPrints, Yields}
+use Rattle.command_laws.specs.RunTerms.{EndsBlind}
 use Rattle.command_laws.proofs.CommandOpened.{quiet}
 use Rattle.command_laws.proofs.CommandTold.{input_of, input_told, input_bytes}
 use Rattle.command_spec.specs.Machine.{may_come_from, CommandEnds}
@@ -35,7 +36,8 @@ use Rattle.volume_store.proofs.Started.{Present, Knows}
 use Rattle.cartridge_front.specs.declared.fault.StoreFault.{StoreFault}
 use Rattle.cartridge_front.specs.Learning.{MountRefuses}
 use Rattle.hand_commands.specs.Outcome.{first_steps}
-use Rattle.host_commands.specs.Opening.{IsRefusal, RefusesOpening, store_status, open_status, is_opening, StartFails, OpeningRefused, OpeningEnds, IsUnlocked, WritableEnds}
+use Rattle.host_commands.specs.Opening.{IsRefusal, RefusesOpening, is_opening, StartFails, OpeningRefused, OpeningEnds, IsUnlocked, WritableEnds}
+use Rattle.host_commands.specs.Statuses.{store_status, open_status}
 use Rattle.hand_commands.specs.Writing.{printed_status}
 use Rattle.hand_commands.proofs.Endings.{IsBlind, printed, turned_down, cut_off, told_map}
 use Rattle.qic_base.specs.Acts.{TapeFails}

@@ -6,13 +6,16 @@ use Rattle.std.specs.Prelude.{◌==◌, ◌&&◌, nat_lt, zero, suc, ◌||◌, n
 use Rattle.std.proofs.lemmas.Bool.{lt-ltb, eq-eqb, le-leb}
 use Rattle.std.proofs.lemmas.Option.{slice_get_cases, none-some}
 use Rattle.command_laws.proofs.StoreTaking.{both_true}
-use Rattle.command_laws.specs.CommandTerms.{EndsAt, RefusedPrints, EndsBlind, RestoreOutcome}
+use Rattle.command_laws.specs.RestoreTerms.{EndsAt}
+use Rattle.command_laws.specs.Outcomes.{RestoreOutcome}
+use Rattle.command_laws.specs.CommandFields.{RefusedPrints}
+use Rattle.command_laws.specs.RunTerms.{EndsBlind}
 use Rattle.command_spec.specs.Restore.{Piece, GivingEnd, Restored, LostIn, MismatchIn, Restores, pieces, volume_at, Gives, ending_status}
 use Rattle.qic_base.specs.Cartridge.{Cartridge}
 use Rattle.qic_base.specs.Step.{Step as TapeStep}
 use Rattle.qic_base.proofs.Writing.{TakesBoth}
 use Rattle.qic_base.specs.Acts.{Act, text_of, Failing, TapeFails, SourceFails, SinkFails, Cut}
-use Rattle.qic_base.specs.Terms.{no_source, around}
+use Rattle.qic_base.specs.Alone.{no_source, around}
 use Rattle.cartridge_spec.specs.Mounting.{Mounting}
 use Rattle.cartridge_spec.specs.Table.{Entry}
 use Rattle.drive_states.specs.Unit.{UnitView}
@@ -23,12 +26,13 @@ use Rattle.volume_store.specs.Restoring.{RestoreEnds}
 use Rattle.command_spec.specs.declared.status.Status.{Status}
 use Rattle.command_spec.specs.Outcome.{Opened, CommandOutcome, refused_behind}
 use Rattle.volume_store.specs.Opening.{IsOpened, HasOpened}
+use Rattle.command_spec.specs.Commands.{command_of}
 use Rattle.command_spec.specs.Machine.{IsCutOff, fault_of, may_come_from}
-use Rattle.command_laws.specs.Terms.{is_no_volume}
 use Rattle.command_laws.proofs.CommandOpened.{quiet}
 use Rattle.volume_store.proofs.Opened.{went_behind, cut_behind, settled_told}
 use Rattle.cartridge_front.specs.declared.fault.StoreFault.{StoreFault}
-use Rattle.host_commands.specs.Opening.{OpeningEnds, is_opening, store_status}
+use Rattle.host_commands.specs.Opening.{OpeningEnds, is_opening}
+use Rattle.host_commands.specs.Statuses.{store_status}
 use Rattle.hand_commands.specs.Outcome.{first_steps}
 use Rattle.hand_commands.proofs.Endings.{none_taken, turned_behind, told_map}
 use Rattle.host_commands.proofs.Mounted.{Follows, BeginsSettling, opened_is, refuses, table_lost}
@@ -49,7 +53,7 @@ right_of true b is = refl
 right_of false b is = is
 
 -- there is no volume of the number
-none_sound : (entries : List Entry) (number : ℕ) → volume_at entries number ≡ None → is_no_volume (words.Restore number) number (length entries) ≡ true
+none_sound : (entries : List Entry) (number : ℕ) → volume_at entries number ≡ None → (command_of (words.Restore number)).is_no_volume number (length entries) ≡ true
 none_sound entries zero none = refl
 none_sound entries (suc n) none =
     elim (slice_get_cases entries n).1 [

@@ -5,16 +5,17 @@ use Rattle.qic_base.specs.Cartridge.{Cartridge}
 use Rattle.qic_base.specs.Step.{Step as TapeStep}
 use Rattle.qic_base.proofs.Writing.{TakesBoth}
 use Rattle.qic_base.specs.Acts.{Act, Failing, TapeFails, SourceFails, SinkFails, Cut, Went, text_of}
-use Rattle.qic_base.specs.Terms.{no_source, around}
+use Rattle.qic_base.specs.Alone.{no_source, around}
 use Rattle.cartridge_spec.specs.Mounting.{Mounting, settled}
 use Rattle.cartridge_spec.specs.Table.{Entry}
 use Rattle.drive_spec.specs.Terms.{is_protected}
 use Rattle.drive_states.specs.Unit.{UnitView}
 use Rattle.cartridge_laws.proofs.MountOnce.{mounts_is_function}
 use Rattle.command_spec.specs.Commands.{traits_of}
-use Rattle.command_laws.specs.CommandTerms.{Yields, CommandPrints, FrontPrints, EndsBlind}
+use Rattle.command_laws.specs.CommandFields.{Yields, CommandPrints, FrontPrints}
+use Rattle.command_laws.specs.RunTerms.{EndsBlind}
 use Rattle.command_spec.specs.Scrub.{Counts, looked_at, IsTextFor, ScrubsAs, ScrubsBy}
-use Rattle.command_laws.specs.Terms.{counts_for}
+use Rattle.command_laws.specs.ScrubTerms.{counts_for}
 use Rattle.command_spec.specs.declared.depth.Depth.{Depth}
 use Rattle.command_spec.specs.declared.depth.Depth.TheVariants.{Shallow, Deep}
 use Rattle.segment_mending.specs.Mending.{HasScrubbed, ScrubCut, reported}
@@ -31,7 +32,8 @@ use Rattle.volume_store.proofs.Opened.{IsKnown, went_behind, cut_behind, settled
 use Rattle.command_laws.proofs.CommandOpened.{quiet}
 use Rattle.cartridge_front.proofs.Copies.{tells_two}
 use Rattle.cartridge_front.specs.declared.fault.StoreFault.{StoreFault}
-use Rattle.host_commands.specs.Opening.{IsUnlocked, WritableEnds, is_opening, store_status}
+use Rattle.host_commands.specs.Opening.{IsUnlocked, WritableEnds, is_opening}
+use Rattle.host_commands.specs.Statuses.{store_status}
 use Rattle.hand_commands.specs.Outcome.{first_steps}
 use Rattle.hand_commands.proofs.Endings.{IsBlind, turned_behind, turned_down, cut_off, told_map, told_both}
 use Rattle.host_commands.proofs.Mounted.{BeginsSettling, no_outcome, locked_is, unlocked_refused_is, writable_begins, table_lost}

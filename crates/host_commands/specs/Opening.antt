@@ -1,8 +1,6 @@
--- How the opening of a cartridge ends: refused, or with its table settled and what was found; and the answer that each fault of
--- a store makes (this project's own).
+-- How the opening of a cartridge ends: refused, or with its table settled and what was found (this project's own).
 use Rattle.std.specs.Prelude.{◌≡◌, Option, Some, None, ◌&&◌, ◌==◌, nat_lt, Bool, true, false, [], ◌⊎◌, IfSome, Result, Ok, Err, IsSomeAnd}
 use Rattle.cartridge_spec.specs.Mounting.{Mounting, Mounts}
-use Rattle.command_laws.specs.Terms.{foreign}
 use Rattle.command_spec.specs.Outcome.{is_refused}
 use Rattle.command_spec.specs.declared.status.Status.{Status}
 use Rattle.drive_states.specs.Unit.{UnitView}
@@ -11,13 +9,15 @@ use Rattle.qic_base.specs.Cartridge.{Cartridge}
 use Rattle.qic_base.specs.Tape.{Meaning, Done, Broke}
 use Rattle.qic_base.specs.TapeCalls.{Tells}
 use Rattle.volume_store.specs.Opening.{HasStarted, HasOpened, IsAbsent}
-use Rattle.volume_store.specs.declared.opening.OpenFault.{OpenFault}
 use Rattle.volume_store.specs.Mounting.{StoreView, IsCutOff}
-use Rattle.cartridge_front.specs.declared.fault.StoreFault.{StoreFault}
+use Rattle.cartridge_spec.specs.Header.{HeaderFault}
 use Rattle.cartridge_spec.specs.Mounting as mounting
 use Rattle.command_spec.specs.declared.status.Status.TheVariants as status
-use Rattle.volume_store.specs.declared.opening.OpenFault.TheVariants as open_fault
 use Rattle.cartridge_front.specs.declared.fault.StoreFault.TheVariants as fault
+
+-- a fault of the header or of the table's slots, as an answer
+abbrev pub foreign : HeaderFault → Status
+foreign fault = status.Foreign fault.field fault.value
 
 -- what the mounting gives is refused so
 abbrev pub IsRefusal : Mounting → Status → Type 0
@@ -33,27 +33,6 @@ RefusesOpening None why = why ≡ status.NoCartridge
 RefusesOpening (Some c) why = (m : Mounting) × Mounts c m × IsRefusal m why
 
 -- ---- how the call ended
-
--- the answer that a refusal of a store makes, or its fault; a source that ends early has none, since a command that appends its
--- whole input promises no bytes
-abbrev pub store_status : StoreFault → Status
-store_status fault.NotFormatted = status.NotFormatted
-store_status (fault.Foreign field value) = status.Foreign field value
-store_status fault.TableMismatch = status.TableMismatch
-store_status (fault.Full need have) = status.Full need have
-store_status (fault.NoVolume number count) = status.NoVolume number count
-store_status (fault.Lost segment lost) = status.Lost segment lost
-store_status (fault.Mismatch segment) = status.Mismatch segment
-store_status fault.Protected = status.Protected
-store_status fault.Source = status.SourceFault
-store_status fault.Sink = status.SinkFault
-store_status (fault.Short promised read) = status.TapeFault
-store_status fault.Tape = status.TapeFault
-
--- the answer that a cartridge makes that can't be opened
-abbrev pub open_status : OpenFault → Status
-open_status open_fault.NoCartridge = status.NoCartridge
-open_status (open_fault.Refused fault) = store_status fault
 
 -- an answer to what an opening finds
 abbrev pub is_opening : Status → Bool

@@ -3,7 +3,7 @@
 ghost use Rattle.std.specs.Prelude.{◌≡◌};
 ghost use Rattle.command_spec.specs.declared.words.Words.TheVariants.{Format};
 ghost use Rattle.host_commands.specs.Format.{format_status};
-ghost use Rattle.command_laws.specs.CommandTerms.{EndsBlind};
+ghost use Rattle.command_laws.specs.RunTerms.{EndsBlind};
 
 use crate::opening::start;
 use command_spec::Status;

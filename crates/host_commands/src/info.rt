@@ -5,7 +5,7 @@ ghost use Rattle.command_spec.specs.declared.words.Words.TheVariants.{Info};
 ghost use Rattle.qic_base.specs.SinkCalls.{Writes};
 ghost use Rattle.header_segments.specs.Header.{header_of};
 ghost use Rattle.command_spec.specs.Lines.{label_lines, count_lines};
-ghost use Rattle.command_laws.specs.CommandTerms.{EndsBlind};
+ghost use Rattle.command_laws.specs.RunTerms.{EndsBlind};
 
 use crate::opening::open;
 use command_spec::Status;
@@ -15,6 +15,8 @@ use header_segments::Header;
 use qic_base::{Sink, SinkFailed, Tape};
 use tape_script::{TextLine, write_text};
 use volume_store::Room;
+
+const TRACKS: u32 = qic_base::TRACKS as u32;
 
 /// Opens the cartridge and prints what its header tells.
 pub fn info<T: Tape, K: Sink>(unit: &mut Unit<T>, room: Room, sink: &mut K) -> Status
@@ -72,6 +74,6 @@ fn write_info<K: Sink>(
     if let Err(fault) = write_text(label_text(header).bytes(), sink) {
         return Err(fault);
     }
-    let segments = 28 * u32::from(header.segments_per_track);
+    let segments = TRACKS * u32::from(header.segments_per_track);
     write_text(count_text(segments, bad, volumes).bytes(), sink)
 }

@@ -1,7 +1,7 @@
 //! The volumes of a cartridge, listed.
 
 ghost use Rattle.command_spec.specs.declared.words.Words.TheVariants.{List};
-ghost use Rattle.command_laws.specs.CommandTerms.{EndsBlind};
+ghost use Rattle.command_laws.specs.RunTerms.{EndsBlind};
 
 use crate::opening::open;
 use command_spec::Status;

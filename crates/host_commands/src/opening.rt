@@ -3,7 +3,8 @@
 ghost use Rattle.std.specs.Prelude.{◌≡◌, ◌≢◌, ℕ};
 ghost use Rattle.volume_store.specs.declared.opening.OpenFault.TheVariants.{Refused};
 ghost use Rattle.cartridge_front.specs.declared.fault.StoreFault.TheVariants.{Short};
-ghost use Rattle.host_commands.specs.Opening.{OpeningEnds, StartEnds, WritableEnds, open_status as status_of_opening, store_status as status_of};
+ghost use Rattle.host_commands.specs.Opening.{OpeningEnds, StartEnds, WritableEnds};
+ghost use Rattle.host_commands.specs.Statuses.{open_status as status_of_opening, store_status as status_of};
 
 use command_spec::Status;
 use drive_states::Unit;

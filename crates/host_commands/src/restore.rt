@@ -1,7 +1,7 @@
 //! A volume given back.
 
 ghost use Rattle.command_spec.specs.declared.words.Words.TheVariants.{Restore};
-ghost use Rattle.command_laws.specs.CommandTerms.{EndsBlind};
+ghost use Rattle.command_laws.specs.RunTerms.{EndsBlind};
 
 use crate::opening::{open, store_status};
 use command_spec::Status;

@@ -1,7 +1,7 @@
 //! A cartridge scrubbed, in either form.
 
 ghost use Rattle.command_spec.specs.declared.words.Words.TheVariants.{Scrub, ScrubDeep};
-ghost use Rattle.command_laws.specs.CommandTerms.{EndsBlind};
+ghost use Rattle.command_laws.specs.RunTerms.{EndsBlind};
 
 use crate::opening::{open_writable, store_status};
 use command_spec::Status;

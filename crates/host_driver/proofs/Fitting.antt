@@ -25,7 +25,7 @@ use Rattle.host_driver.proofs.Follows.{remembered, followed-remembered, after_tr
 use Rattle.host_driver.proofs.Kept.{KeepsCartridge, KeepsCartridge-unreferenced, after_train-kept}
 
 -- the host is what it remembers of the unit that it fits
-pub is_remembered : {T : Type 0} {m : Meaning T} {h : Host} {u : UnitView T} → Fits m h u → h ≡ remembered h.geometry u.drive
+is_remembered : {T : Type 0} {m : Meaning T} {h : Host} {u : UnitView T} → Fits m h u → h ≡ remembered h.geometry u.drive
 is_remembered {h = h} {u = u} f =
     ap (λ (d : Deck). record h { deck = d }) (sym f.deck)
     ∙ ap (λ (a : Option Parameter). record { geometry = h.geometry; deck = u.drive.deck; awaited = a }) (sym f.awaited)

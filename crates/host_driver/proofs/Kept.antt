@@ -36,10 +36,10 @@ pub record KeepsCartridge (old new : Deck) : Type 0 where
   pub known : old.fresh ≡ false → new.fresh ≡ false
   pub formats : is_format new.mode ≡ true → (is_format old.mode ≡ true) ⊎ (is_protected old ≡ false)
 
-pub KeepsCartridge-same : (d : Deck) → KeepsCartridge d d
+KeepsCartridge-same : (d : Deck) → KeepsCartridge d d
 KeepsCartridge-same d = record { length = refl; protected = refl; known = λ e. e; formats = λ e. inl e }
 
-pub KeepsCartridge-error : (d : Deck) (error : ℕ) → KeepsCartridge d (record d { error = error })
+KeepsCartridge-error : (d : Deck) (error : ℕ) → KeepsCartridge d (record d { error = error })
 KeepsCartridge-error d error = record { length = refl; protected = refl; known = λ e. e; formats = λ e. inl e }
 
 length-referenced : (on : Bool) (c : Option TapeInfo) → option_map (λ (i : TapeInfo). i.segments_per_track) (referenced_as on c) ≡ option_map (λ i. i.segments_per_track) c
@@ -62,7 +62,7 @@ KeepsCartridge-streaming : (d : Deck) (b : Bool) → KeepsCartridge d (if b then
 KeepsCartridge-streaming d true = record { length = refl; protected = refl; known = λ e. e; formats = λ e. inl e }
 KeepsCartridge-streaming d false = KeepsCartridge-same d
 
-pub KeepsCartridge-accepted : (c : Command) (d : Deck) → refusal_of d c ≡ None → KeepsCartridge d (accepted c d)
+KeepsCartridge-accepted : (c : Command) (d : Deck) → refusal_of d c ≡ None → KeepsCartridge d (accepted c d)
 KeepsCartridge-accepted ReportError d taken = record { length = refl; protected = refl; known = λ e. refl; formats = λ e. inl e }
 KeepsCartridge-accepted LogicalForward d taken = KeepsCartridge-streaming d (is_stopped d.motion && nat_lt d.offset (limit d))
 KeepsCartridge-accepted SeekLoadPoint d taken = record { length = refl; protected = refl; known = λ e. e; formats = λ e. inl e }
@@ -78,7 +78,7 @@ KeepsCartridge-accepted StopTape d taken = record { length = refl; protected = r
 KeepsCartridge-accepted EnterPrimary d taken = record { length = refl; protected = refl; known = λ e. e; formats = λ e. cc }
 KeepsCartridge-accepted c d taken = KeepsCartridge-same d
 
-pub KeepsCartridge-given : (c : Command) (parameter : ℕ) (d : Deck) → KeepsCartridge d (given c parameter d)
+KeepsCartridge-given : (c : Command) (parameter : ℕ) (d : Deck) → KeepsCartridge d (given c parameter d)
 KeepsCartridge-given SeekTrack parameter d = record { length = refl; protected = refl; known = λ e. e; formats = λ e. inl e }
 KeepsCartridge-given SkipReverse parameter d = record { length = refl; protected = refl; known = λ e. e; formats = λ e. inl e }
 KeepsCartridge-given SkipForward parameter d = record { length = refl; protected = refl; known = λ e. e; formats = λ e. inl e }

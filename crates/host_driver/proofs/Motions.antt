@@ -8,13 +8,13 @@ use Rattle.drive_spec.specs.Effects.{ticked, ticked_motion}
 use Rattle.drive_states.specs.Typed.{is_seeking}
 use Rattle.host_driver.specs.Train.{moved_for, waited}
 
-pub ticked-one : (m : Motion) → ticked_motion m ≡ moved_for 1 m
+ticked-one : (m : Motion) → ticked_motion m ≡ moved_for 1 m
 ticked-one Stopped = refl
 ticked-one (Streaming next) = refl
 ticked-one (Seeking left) = refl
 
 -- a gap more
-pub ticked-moved_for : (gaps : ℕ) (m : Motion) → ticked_motion (moved_for gaps m) ≡ moved_for (gaps + 1) m
+ticked-moved_for : (gaps : ℕ) (m : Motion) → ticked_motion (moved_for gaps m) ≡ moved_for (gaps + 1) m
 ticked-moved_for gaps Stopped = refl
 ticked-moved_for gaps (Streaming next) = refl
 ticked-moved_for gaps (Seeking left) = by_test (nat_le left gaps) refl

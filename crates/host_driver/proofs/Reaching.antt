@@ -24,7 +24,7 @@ streams (Streaming next) index h = refl
 streams (Seeking left) index h = absurd h
 
 -- the tape that streams is in a segment of the cartridge
-pub segment_on_tape : (d : Deck) → IsSound d → is_streaming d.motion ≡ true → segment_of d < 28 * segments_per_track d
+segment_on_tape : (d : Deck) → IsSound d → is_streaming d.motion ≡ true → segment_of d < 28 * segments_per_track d
 segment_on_tape d s running =
     let before = before_limit d.motion (limit d) d.offset running s.motion in
     let within = limit_within d in

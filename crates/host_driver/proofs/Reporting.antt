@@ -10,7 +10,7 @@ use Rattle.qic117_commands.proofs.DigitFacts.{length-digits}
 use Rattle.qic117_commands.proofs.ReportFacts.{word_of-levels_of}
 use Rattle.qic117_commands.specs.Commands.{number_of, command_at, commands}
 use Rattle.qic117_commands.specs.StatusWord.{status_of}
-use Rattle.qic117_commands.specs.Terms.{bit_where}
+use Rattle.qic117_commands.proofs.Statuses.{bit_where}
 use Rattle.qic117_commands.specs.Views.{is_format}
 use Rattle.qic117_commands.specs.declared.command.Command.TheVariants.{ReportNextBit}
 use Rattle.drive_spec.specs.declared.deck.Deck.{Deck}

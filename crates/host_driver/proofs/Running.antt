@@ -18,7 +18,7 @@ use Rattle.host_driver.proofs.Motions.{ticked-still}
 use Rattle.host_driver.proofs.Taking.{limit_of}
 
 -- as many segments are generated as the track has
-pub not_early : (d : Deck) → GeneratesAll d → ends_early d ≡ false
+not_early : (d : Deck) → GeneratesAll d → ends_early d ≡ false
 not_early d g = by_mode (is_format d.mode) refl
   where
     by_mode : (b : Bool) → is_format d.mode ≡ b → (b && nat_lt (segments_per_track d) d.format_segments && nat_le (limit d) (d.offset + 1)) ≡ false
@@ -28,7 +28,7 @@ not_early d g = by_mode (is_format d.mode) refl
         let none : nat_lt (segments_per_track d) d.format_segments ≡ false = grind (arith, nat_tests) in
         rw none refl
 
-pub runs_on : (d : Deck) → GeneratesAll d → RunsOn d (run_on d)
+runs_on : (d : Deck) → GeneratesAll d → RunsOn d (run_on d)
 runs_on d g =
     let end = limit_of d g in
     record {

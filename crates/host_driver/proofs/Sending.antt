@@ -50,7 +50,7 @@ counted-still : (r : Record) → is_seeking r.deck.motion ≡ false → counted 
 counted-still r still = ap (λ (d : Deck). record r { deck = d; line = false; train = 0 }) (ticked-still r.deck still)
 
 -- a command that no row refuses
-pub commanded_by : (c : Command) (r : Record) → 1 < number_of c → is_seeking r.deck.motion ≡ false → r.under_way ≡ Nothing → refusal_of r.deck c ≡ None →
+commanded_by : (c : Command) (r : Record) → 1 < number_of c → is_seeking r.deck.motion ≡ false → r.under_way ≡ Nothing → refusal_of r.deck c ≡ None →
     after_train r (number_of c) ≡ obeying (record r { line = false; train = 0 }) c
 commanded_by c r more still idle taken =
     after_train-heard r (number_of c) more
@@ -104,7 +104,7 @@ takes-plain c r plain still idle taken none g =
     (commanded c r plain still idle taken) (accepted-error c r.deck none) (accepted-segments c r.deck plain g)
 
 -- a value of the parameter that is awaited
-pub given_value : (r : Record) (a : Parameter) (value : ℕ) → is_seeking r.deck.motion ≡ false → r.under_way ≡ Awaited a → value < parameter_values a.command →
+given_value : (r : Record) (a : Parameter) (value : ℕ) → is_seeking r.deck.motion ≡ false → r.under_way ≡ Awaited a → value < parameter_values a.command →
     after_train r (2 + value) ≡ given_more (record r { line = false; train = 0 }) (longer a value)
 given_value r a value still awaits small =
     let same : 2 + value - 2 ≡ value = omega arith in
@@ -142,7 +142,7 @@ given_more-segments : (r : Record) (a : Parameter) (whole : Bool) → a.command 
 given_more-segments r a true moves g = given-segments a.command a.value r.deck moves g
 given_more-segments r a false moves g = g.segments
 
-pub steps-awaited : (r : Record) (a : Parameter) (pulses : ℕ) → r.under_way ≡ Awaited a → train_steps r pulses ≡ []
+steps-awaited : (r : Record) (a : Parameter) (pulses : ℕ) → r.under_way ≡ Awaited a → train_steps r pulses ≡ []
 unfolding train_steps
 steps-awaited r a pulses awaits = rw awaits refl
 

@@ -1,8 +1,7 @@
 -- What a status word tells.
 use Rattle.std.proofs.Common.{◌≡◌, ℕ, ◌==◌, ◌&&◌, Bool, true, false, not, is_some, refl, ap, ◌∙◌, bit_and}
-use Rattle.qic117_commands.specs.Terms.{bit_where}
 use Rattle.qic117_commands.specs.Views as views
-use Rattle.qic117_commands.proofs.Statuses.{status_of-stopped, status_of-present, status_of-protected, status_of-referenced}
+use Rattle.qic117_commands.proofs.Statuses.{status_of-stopped, status_of-present, status_of-protected, status_of-referenced, bit_where}
 use Rattle.drive_spec.specs.declared.deck.Deck.{Deck}
 use Rattle.drive_spec.specs.declared.deck.Motion.{Motion}
 use Rattle.drive_spec.specs.declared.deck.Motion.TheVariants.{Stopped, Streaming, Seeking}

@@ -13,7 +13,7 @@ use Rattle.drive_states.specs.Unit.{UnitView}
 use Rattle.host_driver.specs.Fits.{AgreesWithTape}
 use Rattle.host_driver.proofs.Marks.{wear_keeps, done_agrees, broke_agrees}
 
-pub wears_agrees : {T : Type 0} (m : Meaning T) (u v : UnitView T) (segment sector : ℕ) (r : Result (Unit {0}) HandFault) → v.drive ≡ u.drive → Wears m u v segment sector r → AgreesWithTape m u → AgreesWithTape m v
+wears_agrees : {T : Type 0} (m : Meaning T) (u v : UnitView T) (segment sector : ℕ) (r : Result (Unit {0}) HandFault) → v.drive ≡ u.drive → Wears m u v segment sector r → AgreesWithTape m u → AgreesWithTape m v
 wears_agrees m u v segment sector (Ok done) same w = done_agrees m u v (Wear segment sector ∷ []) (wear_keeps segment sector) (ap (λ (r : Record). r.deck.cartridge) same) w
 wears_agrees m u v segment sector (Err NoCartridge) same w = absurd w
 wears_agrees m u v segment sector (Err BadPlace) same w = absurd w

@@ -7,7 +7,7 @@ use Rattle.qic_base.specs.Cartridge.{Cartridge}
 use Rattle.qic_base.specs.Step.{Step}
 use Rattle.qic_base.proofs.Steps.{Tells-map, Done-nothing}
 use Rattle.qic_base.specs.Acts.{Act, text_of, TapeFails, Went, Cut}
-use Rattle.qic_base.specs.Terms.{no_source, no_sink, around, reading}
+use Rattle.qic_base.specs.Alone.{no_source, no_sink, around, reading}
 use Rattle.cartridge_spec.specs.TableSegment.{table_cells, TableIs}
 use Rattle.cartridge_spec.specs.Says.{LostSectors, ByCode, TableSays}
 use Rattle.cartridge_spec.specs.Table.{Entry}
@@ -18,7 +18,8 @@ use Rattle.command_spec.specs.Make.{made_length, made_bytes, AppendMade, made_na
 use Rattle.tape_script.specs.Generator.{made_means}
 use Rattle.volume_store.specs.declared.appended.Appended.{Appended}
 use Rattle.command_spec.specs.Append.{Taking, Fits, TooLong, TooShort, taking, has_promised_room, append_acts}
-use Rattle.command_laws.specs.CommandTerms.{entry_for, silently, made_entry, made_acts, MayAppend}
+use Rattle.command_laws.specs.MadeTerms.{made_entry, made_acts, MayAppend}
+use Rattle.command_laws.specs.AppendTerms.{entry_for, silently}
 use Rattle.volume_store.specs.Appending.{kept_by, AppendRan, AppendCut, TableRefused, AppendEnds, CutUnread, FaultsUnread}
 use Rattle.volume_store.specs.Mounting.{StoreView, StoreFits}
 use Rattle.made_volumes.specs.declared.fault.MakeFault.{MakeFault}

@@ -1,7 +1,8 @@
 -- How a loop over steps of `make` goes on: one step more, or a fault in one of them.
 use Rattle.std.proofs.Common.{◌≡◌, ◌≢◌, ℕ, zero, suc, ◌+◌, ◌-◌, ◌%◌, ◌<◌, ◌≤◌, ◌==◌, Bool, true, false, cond, List, [], ◌∷◌, ◌++◌, length, take, drop, Option, Some, IfSome, slice_get, Result, Ok, Err, refl, sym, ap, ◌∙◌, subst, arith, append-nil}
 use Rattle.std.proofs.lemmas.Bool.{eq-eqb, ne_eqb}
-use Rattle.qic_base.specs.Terms.{IsLost, around, no_sink}
+use Rattle.qic_base.specs.Alone.{around, no_sink}
+use Rattle.qic_base.specs.CartridgeTerms.{IsLost}
 use Rattle.qic_base.specs.Cartridge.{lost_places}
 use Rattle.qic_base.proofs.Writing.{TakesBoth}
 use Rattle.qic_base.specs.Acts.{Outside}
@@ -11,7 +12,7 @@ use Rattle.cartridge_spec.specs.Volumes.{carrying, carrying_segments}
 use Rattle.cartridge_laws.proofs.Places.{none_below, front_of_places, front_of_all}
 use Rattle.made_volumes.specs.declared.fault.MakeFault.{MakeFault}
 use Rattle.command_spec.specs.Make.{MakeStep, AppendMade, WearSector, ScrubAll, SumVolume, appending, wearing_in, wearing_volumes, summing, made_list, making}
-use Rattle.command_laws.specs.CommandTerms.{made_entry, first_two, wearing}
+use Rattle.command_laws.specs.MadeTerms.{made_entry, first_two, wearing}
 use Rattle.made_volumes.specs.Runs.{HasRun, RunEnds}
 use Rattle.made_volumes.proofs.Joining.{run_none, ends_behind, ends_longer, ends_quietly}
 use Rattle.made_volumes.proofs.Loops.{appending_next, appending_whole, made_next, after_summing, ends_after, two_below, two_next, two_full, wearing_next, wearing_part, wearing_in_part, volumes_next, volumes_whole, summing_next, summing_whole}
@@ -22,7 +23,7 @@ use Rattle.qic_base.specs.Tape as tapes
 use Rattle.command_spec.specs.declared.status.Status.TheVariants as status
 
 -- a sink that is never asked takes two texts as one
-pub none_takes_both : TakesBoth no_sink
+none_takes_both : TakesBoth no_sink
 none_takes_both a b c xs ys one other = ap (λ (text : List ℕ). text ++ ys) one ∙ other
 
 -- ---- appends

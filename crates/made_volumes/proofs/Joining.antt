@@ -4,7 +4,7 @@ use Rattle.qic_base.specs.Cartridge.{Cartridge}
 use Rattle.qic_base.proofs.Steps.{Tells-map}
 use Rattle.qic_base.proofs.Writing.{TakesBoth}
 use Rattle.qic_base.specs.Acts.{Act, steps_of, text_of, Outside, Failing, TapeFails, SourceFails, SinkFails, Went, Cut}
-use Rattle.qic_base.specs.Terms.{no_source, no_sink, around}
+use Rattle.qic_base.specs.Alone.{no_source, no_sink, around}
 use Rattle.qic_base.proofs.Joins.{text_of-append, nothing_went, went_both, went_then_cut, cut_is_longer}
 use Rattle.cartridge_spec.specs.Table.{Entry}
 use Rattle.cartridge_spec.specs.Settling.{changed_by}
@@ -16,7 +16,7 @@ use Rattle.made_volumes.specs.Runs.{HasRun, RunCut, RunEnds}
 use Rattle.command_laws.proofs.MadeMachineLaws.{runs_both, runs_longer, runs_behind, runs_front}
 use Rattle.command_laws.proofs.MadeMayLaws.{may_both, may_longer}
 use Rattle.command_spec.specs.declared.status.Status.{Status}
-use Rattle.command_laws.specs.CommandTerms.{after_items}
+use Rattle.command_laws.specs.MadeTerms.{after_items}
 use Rattle.cartridge_front.proofs.Copies.{tells_two}
 use Rattle.qic_base.specs.Sink as sinks
 use Rattle.qic_base.specs.Tape as tapes

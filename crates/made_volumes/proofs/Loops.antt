@@ -6,7 +6,7 @@ use Rattle.cartridge_spec.specs.Table.{Entry}
 use Rattle.cartridge_spec.specs.Volumes.{carrying_segments}
 use Rattle.command_laws.proofs.MadeMachineLaws.{after_items-append}
 use Rattle.command_spec.specs.Make.{MakeStep, AppendMade, appending, made_list, summing, WearSector, wearing_in, wearing_volumes, SumVolume}
-use Rattle.command_laws.specs.CommandTerms.{made_entry, first_two, after_items, wearing}
+use Rattle.command_laws.specs.MadeTerms.{made_entry, first_two, after_items, wearing}
 use Rattle.made_volumes.proofs.Joining.{ends_behind}
 use Rattle.made_volumes.specs.Runs.{HasRun, RunEnds}
 use Rattle.made_volumes.specs.declared.fault.MakeFault.{MakeFault}
@@ -14,14 +14,14 @@ use Rattle.qic_base.proofs.LostSetLaws.{lost_places-lost, lost_places-kept}
 use Rattle.qic_base.proofs.Writing.{TakesBoth}
 use Rattle.qic_base.specs.Acts.{Outside}
 use Rattle.qic_base.specs.Cartridge.{lost_places}
-use Rattle.qic_base.specs.Terms.{IsLost}
+use Rattle.qic_base.specs.CartridgeTerms.{IsLost}
 use Rattle.qic_base.specs.Sink as sinks
 use Rattle.qic_base.specs.Tape as tapes
 use Rattle.command_spec.specs.declared.status.Status.TheVariants as status
 
 -- ---- appends
 
-pub appending_part : (v m n : ℕ) → appending v (m + n) ≡ appending v m ++ appending (v + m) n
+appending_part : (v m n : ℕ) → appending v (m + n) ≡ appending v m ++ appending (v + m) n
 appending_part v zero n =
     let none : zero + n ≡ n = omega arith in
     let here : v ≡ v + zero = omega arith in
@@ -60,7 +60,7 @@ module _ {T K : Type 0} (t : tapes.Meaning T) (k : sinks.Meaning K) (seed : ℕ)
 -- ---- worn sectors
 
 -- the first two of some sectors, and of these with one more
-pub two_more : (xs : List ℕ) (x : ℕ) → length (take 2 xs) < 2 → take 2 (xs ++ x ∷ []) ≡ take 2 xs ++ x ∷ []
+two_more : (xs : List ℕ) (x : ℕ) → length (take 2 xs) < 2 → take 2 (xs ++ x ∷ []) ≡ take 2 xs ++ x ∷ []
 two_more [] x few = refl
 two_more (y ∷ []) x few = refl
 two_more (y ∷ z ∷ xs) x few = absurd (omega arith)
@@ -95,7 +95,7 @@ wearing_in_part words (x ∷ xs) ys =
     ap (λ (items : List MakeStep). here ++ items) (wearing_in_part words xs ys)
     ∙ sym (append_assoc here (wearing_in words xs) (wearing_in words ys))
 
-pub wearing_volumes_part : (words : List ℕ) (xs ys : List Entry) → wearing_volumes words (xs ++ ys) ≡ wearing_volumes words xs ++ wearing_volumes words ys
+wearing_volumes_part : (words : List ℕ) (xs ys : List Entry) → wearing_volumes words (xs ++ ys) ≡ wearing_volumes words xs ++ wearing_volumes words ys
 wearing_volumes_part words [] ys = refl
 wearing_volumes_part words (x ∷ xs) ys =
     let here : List MakeStep = wearing_in words (carrying_segments words x) in
@@ -126,7 +126,7 @@ volumes_whole words n xs = sym (wearing_volumes_part words (take n xs) (drop n x
 
 -- ---- sums
 
-pub summing_part : (v m n : ℕ) → summing v (m + n) ≡ summing v m ++ summing (v + m) n
+summing_part : (v m n : ℕ) → summing v (m + n) ≡ summing v m ++ summing (v + m) n
 summing_part v zero n =
     let none : zero + n ≡ n = omega arith in
     let here : v ≡ v + zero = omega arith in

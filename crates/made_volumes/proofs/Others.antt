@@ -3,12 +3,12 @@ use Rattle.std.proofs.Common.{◌≡◌, ◌↔◌, inl, inr, ℕ, true, false, 
 use Rattle.qic_base.specs.Step.{Wear}
 use Rattle.qic_base.proofs.Steps.{Tells-map, Done-nothing}
 use Rattle.qic_base.specs.Acts.{Act, text_of, Failing, TapeFails, SinkFails, Cut}
-use Rattle.qic_base.specs.Terms.{no_source, no_sink, around}
+use Rattle.qic_base.specs.Alone.{no_source, no_sink, around}
 use Rattle.cartridge_spec.specs.Table.{Entry}
 use Rattle.drive_spec.specs.Terms.{is_protected}
 use Rattle.drive_states.specs.Unit.{UnitView}
 use Rattle.command_spec.specs.Scrub.{looked_at, ScrubsAs}
-use Rattle.command_laws.specs.Terms.{counts_for}
+use Rattle.command_laws.specs.ScrubTerms.{counts_for}
 use Rattle.segment_io.proofs.Going.{tells_always}
 use Rattle.segment_mending.specs.Mending.{reported, ScrubCut}
 use Rattle.segment_mending.specs.declared.report.ScrubReport.{ScrubReport}

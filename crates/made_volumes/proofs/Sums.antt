@@ -5,7 +5,7 @@ use Rattle.qic_base.specs.Step.{Step, effects, Torn}
 use Rattle.qic_base.specs.declared.sink.SinkFailed.{SinkFailed}
 use Rattle.qic_base.proofs.Steps.{Tells-map}
 use Rattle.qic_base.specs.Acts.{Act, steps_of, text_of, next_steps, Failing, TapeFails, SinkFails, Cut}
-use Rattle.qic_base.specs.Terms.{no_source, around}
+use Rattle.qic_base.specs.Alone.{no_source, around}
 use Rattle.qic_base.proofs.Joins.{steps_of-append, sink_cut_one}
 use Rattle.cartridge_spec.specs.Table.{Entry}
 use Rattle.cartridge_spec.specs.Volumes.{volume_length}
@@ -18,7 +18,7 @@ use Rattle.volume_store.specs.Mounting.{StoreView}
 use Rattle.volume_store.specs.Restoring.{RestoreEnds}
 use Rattle.made_volumes.specs.Faults.{is_of_step, fault_of, printed}
 use Rattle.command_spec.specs.Make.{SumVolume, StepDoes, Runs, sum_line, sum_acts, MaySum}
-use Rattle.command_laws.specs.CommandTerms.{IsSummed}
+use Rattle.command_laws.specs.MadeTerms.{IsSummed}
 use Rattle.made_volumes.specs.Runs.{HasRun, RunEnds, NeverFull}
 use Rattle.command_laws.proofs.MadeMachineLaws.{run_of, done_of, does_one}
 use Rattle.command_laws.proofs.MadeMayLaws.{may_of}

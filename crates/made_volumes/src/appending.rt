@@ -1,11 +1,11 @@
 //! Made volumes appended.
 
 ghost use Rattle.std.specs.Prelude.{◌≡◌, ◌≢◌, ◌≤◌, [], ◌∷◌, Err};
-ghost use Rattle.qic_base.specs.Terms.{around, no_sink};
+ghost use Rattle.qic_base.specs.Alone.{around, no_sink};
 ghost use Rattle.command_spec.specs.Make.{made_length, AppendMade, appending, made_name};
 ghost use Rattle.volume_store.specs.Appending.{KeepsFormat};
 ghost use Rattle.volume_store.specs.Mounting.{StoreFits};
-ghost use Rattle.command_laws.specs.CommandTerms.{made_entry};
+ghost use Rattle.command_laws.specs.MadeTerms.{made_entry};
 ghost use Rattle.made_volumes.specs.Runs.{RunEnds, IsListed, AreListed};
 ghost use Rattle.made_volumes.specs.declared.fault.MakeFault.TheVariants.{Tape as tape_fault};
 

@@ -1,7 +1,7 @@
 //! Volumes restored and summed.
 
 ghost use Rattle.std.specs.Prelude.{◌≡◌, ◌≢◌, ◌-◌, ◌+◌, ◌≤◌, ℕ, [], ◌∷◌, length, Err};
-ghost use Rattle.qic_base.specs.Terms.{around};
+ghost use Rattle.qic_base.specs.Alone.{around};
 ghost use Rattle.volume_store.specs.Mounting.{StoreFits, KeepsStore};
 ghost use Rattle.command_spec.specs.Make.{SumVolume, summing, sum_line};
 ghost use Rattle.made_volumes.specs.Runs.{RunEnds, NeverFull};

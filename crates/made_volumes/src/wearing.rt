@@ -1,11 +1,11 @@
 //! Sectors of the made volumes worn.
 
 ghost use Rattle.std.specs.Prelude.{◌≡◌, ◌≢◌, ◌<◌, ◌≤◌, ℕ, [], ◌∷◌, length, drop, slice_get, Err, IfSome};
-ghost use Rattle.qic_base.specs.Terms.{around, no_sink};
+ghost use Rattle.qic_base.specs.Alone.{around, no_sink};
 ghost use Rattle.cartridge_spec.specs.Volumes.{carrying, carrying_segments};
 ghost use Rattle.volume_store.specs.Mounting.{StoreFits};
 ghost use Rattle.command_spec.specs.Make.{WearSector, wearing_in, wearing_volumes};
-ghost use Rattle.command_laws.specs.CommandTerms.{first_two, wearing};
+ghost use Rattle.command_laws.specs.MadeTerms.{first_two, wearing};
 ghost use Rattle.made_volumes.specs.Runs.{RunEnds, NeverFull};
 ghost use Rattle.made_volumes.specs.declared.fault.MakeFault.TheVariants.{Tape as tape_fault};
 

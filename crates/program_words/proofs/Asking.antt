@@ -67,7 +67,7 @@ first_letter a letter e low high = (
 )
 
 -- ids are distinct where their first letters are
-pub distinct_ids : (xs : List Arg) (letters : List ℕ) → ((j : ℕ) (d : Arg) → j < length xs → slice_index (slice_index_or xs j d).id.now 0 ≡ slice_index letters j)
+distinct_ids : (xs : List Arg) (letters : List ℕ) → ((j : ℕ) (d : Arg) → j < length xs → slice_index (slice_index_or xs j d).id.now 0 ≡ slice_index letters j)
     → ((j k : ℕ) → j < length xs → k < length xs → slice_index letters j ≡ slice_index letters k → j ≡ k) → HasDistinctIds xs
 distinct_ids xs letters at differ j k d e lj lk same =
     let one : (slice_index_or xs j e).id.now ≡ (slice_index_or xs k d).id.now = (bytes_eq-Decides _ _).0 same in
@@ -185,7 +185,7 @@ words_taken app plain c m given words is same matches kinds =
       rows = (matches (ap is_simple is ∙ plain.simple)).0 ∙ ap₂ matches_of is same;
     }
 
-pub first_row : (app : App) (words : List Text) (m : ArgMatches) (id : Text) → Taken app words m → first_value (found_of m) id ≡ first_of id (matches_of app words)
+first_row : (app : App) (words : List Text) (m : ArgMatches) (id : Text) → Taken app words m → first_value (found_of m) id ≡ first_of id (matches_of app words)
 first_row app words m id t = first_value-rows (found_of m) id ∙ ap (first_of id) t.rows
 
 pub ask_export : (words : List Text) (m : ArgMatches) (asked : ExportWords) → Taken export_app words m →
@@ -208,7 +208,7 @@ ask_import words m asked t image file size = record {
 
 -- ---- words that are refused
 
-none_among : (k : ErrorKind) (kinds : Kinds) → IsAmong k kinds → kinds ≢ []
+pub none_among : (k : ErrorKind) (kinds : Kinds) → IsAmong k kinds → kinds ≢ []
 none_among k [] among e = among
 none_among k (x ∷ xs) among e = cc
 

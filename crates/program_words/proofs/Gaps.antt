@@ -1,5 +1,5 @@
 -- What the matches of the command say of the words.
-use Rattle.std.proofs.Common.{◌≡◌, ◌≢◌, ◌≤◌, ◌∙◌, ap, ap₂, ℕ, true, List, [], ◌∷◌, Option, Some, Result, Ok, refl, sym, subst, codes, arith, inl, inr, slice_index}
+use Rattle.std.proofs.Common.{◌≡◌, ◌≤◌, ◌∙◌, ap, ap₂, ℕ, true, List, [], Option, Some, Result, Ok, refl, sym, subst, codes, arith, inl, inr, slice_index}
 use Rattle.std.specs.Prelude.{pos}
 use Rattle.std.specs.Str.Parse.{ParsesUnsigned, digits_value, without_leading_plus}
 use Rattle.clap.specs.Lexer.{without_minus}
@@ -11,9 +11,8 @@ use Rattle.clap.specs.Walk.{Rule, Text, one_of, rows_of}
 use Rattle.clap.specs.Simple.{HasMatchesOf, app_of, is_simple, matches_of, with_rule}
 use Rattle.clap.specs.Takes.{takes}
 use Rattle.clap.specs.Faults.{fault_of, is_simple_and_free}
-use Rattle.clap.specs.Kinds.{HasKind, IsAmong, Kinds}
+use Rattle.clap.specs.Kinds.{HasKind, IsAmong}
 use Rattle.clap.specs.declared.error.Error.{Error}
-use Rattle.clap.specs.declared.error.kind.ErrorKind.{ErrorKind}
 use Rattle.clap.specs.declared.error.kind.ErrorKind.TheVariants.{OutOfMemory}
 use Rattle.clap.specs.declared.builder.arg.Arg.{Arg}
 use Rattle.clap.specs.declared.builder.command.Command.{Command}
@@ -25,8 +24,9 @@ use Rattle.clap.proofs.WalkLemmas.{one_text-rows}
 use Rattle.program_words.specs.TraceWords.{trace_command, HasGap, IsRefused}
 use Rattle.program_words.specs.GapOption.{IsTraceCommand}
 use Rattle.program_words.proofs.Defaults.{one_default_read}
+use Rattle.program_words.proofs.Asking.{none_among}
 
-pub app_is : (c : Command) → IsTraceCommand c → app_of c ≡ trace_command
+app_is : (c : Command) → IsTraceCommand c → app_of c ≡ trace_command
 app_is c is = is.adds.shape is.gap.local ∙ ap₂ with_rule is.empty.app is.gap.rule
 
 free : is_simple_and_free trace_command ≡ true
@@ -99,11 +99,6 @@ has_gap c m given words gap r is same number some matches kinds =
       least = subst (λ (n : ℕ). 1 ≤ n) one number.least;
       most = subst (λ (n : ℕ). n ≤ 1000000) one number.most;
     }
-
--- words that are refused
-none_among : (k : ErrorKind) (kinds : Kinds) → IsAmong k kinds → kinds ≢ []
-none_among k [] among e = among
-none_among k (x ∷ xs) among e = cc
 
 pub is_refused : (c : Command) (e : Error) (given words : List Text) → IsTraceCommand c → given ≡ words → (kind_of e ≡ OutOfMemory → ⊥) →
     (is_simple_and_free (app_of c) ≡ true → HasKind (fault_of (app_of c) given) e) → (takes (app_of c) given ≡ true → kind_of e ≡ OutOfMemory) → IsRefused words

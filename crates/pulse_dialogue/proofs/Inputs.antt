@@ -2,7 +2,8 @@
 use Rattle.std.proofs.Common.{◌≡◌, inl, inr, ℕ, zero, suc, ◌+◌, ◌≤◌, ◌<◌, List, [], ◌∷◌, ◌++◌, length, Option, Some, None, IfSome, refl, sym, ap, ◌∙◌, subst, arith, append_assoc, append-nil}
 use Rattle.std.specs.Option.{option_map}
 use Rattle.std.proofs.lemmas.List.{length-append}
-use Rattle.command_laws.proofs.TextDeciding.{Decided, along, both, at_most, same_bytes}
+use Rattle.command_laws.proofs.TextDeciding.{along, both, at_most, same_bytes}
+use Rattle.cartridge_laws.proofs.Search.{Decided}
 use Rattle.command_laws.proofs.TextLined.{one_before}
 use Rattle.command_laws.proofs.TextReadings.{Cut, cut, no_line_without}
 use Rattle.tape_script.proofs.Rests.{Rest}

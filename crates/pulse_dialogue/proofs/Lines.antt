@@ -9,7 +9,7 @@ use Rattle.qic_base.specs.Source.{Meaning}
 use Rattle.command_spec.specs.Command.{IsNumber}
 use Rattle.command_spec.specs.Input.{IsLined}
 use Rattle.qic_base.specs.SourceCalls.{Gave}
-use Rattle.command_laws.specs.TextReading.{NoNewline}
+use Rattle.qic_base.specs.LineBytes.{NoNewline}
 use Rattle.tape_script.specs.Reading.{BeginsWithNo}
 use Rattle.command_laws.proofs.TextCommands.{number_value, IsNumber-value}
 use Rattle.tape_script.proofs.Decimals.{wrong_length}

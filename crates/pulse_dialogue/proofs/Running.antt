@@ -22,9 +22,10 @@ use Rattle.pulse_dialogue.specs.Dialogue.{dialogue, IsSound}
 use Rattle.pulse_dialogue.specs.Telling.{HasRoom, continues, continued, told_at, after_line}
 use Rattle.pulse_dialogue.specs.Steps.{Scene, Told, ToldEnd, LineBroke, EndBroke, HasNoLine, Hears, HearsEnd}
 use Rattle.pulse_dialogue.specs.Reading.{GaveBytes}
-use Rattle.pulse_dialogue.specs.Runs.{Streams, IsInput, Ended, Unread, Unwritten, Tells}
+use Rattle.pulse_dialogue.specs.Runs.{Streams, Ended, Unread, Unwritten, Tells}
 use Rattle.pulse_dialogue.proofs.Inputs.{lined_from, AreLines, AreLines-push, last_time, last_time-push, lines_bytes, lines_bytes-push, push, read_behind, fault_rest}
 use Rattle.pulse_dialogue.proofs.Tellings.{to_tell, one_line_more, told_at_end, told_at_fault}
+use Rattle.qic_base.specs.Source.{IsInput}
 
 -- the open train has no more pulses than lines were read
 abbrev pub Counts : Option OpenTrain → ℕ → Type 0
@@ -124,7 +125,7 @@ module _ {S K : Type 0} (s : sources.Meaning S) (k : sinks.Meaning K) (gap : ℕ
     -- ---- an end
 
     -- how the input goes on behind the lines is how it goes on
-    whole : (rest : List ℕ) → IfSome (s.left now.source) (λ bytes. bytes ≡ rest) → IsInput s start.source (lines_bytes far.lines ++ rest)
+    whole : (rest : List ℕ) → IfSome (s.left now.source) (λ bytes. bytes ≡ rest) → IsInput (s.left start.source) (lines_bytes far.lines ++ rest)
     whole rest told = whole_told (s.left start.source) (s.left now.source) (lines_bytes far.lines) rest far.gave told
 
     recording : (rest : List ℕ) (ys : List Line) (ending : Ending) → count ≤ most_lines → HasLines now.teller.time (count + 1) place rest ys ending →

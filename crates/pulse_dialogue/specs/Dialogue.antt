@@ -4,7 +4,7 @@ use Rattle.std.specs.Prelude.{ℕ, ◌+◌, ◌-◌, ◌/◌, ◌%◌, ◌==◌,
 use Rattle.qic117_commands.specs.declared.command.Command.{Command}
 use Rattle.qic117_commands.specs.declared.command.Command.TheVariants as command
 use Rattle.qic117_commands.specs.Commands.{command_at}
-use Rattle.qic117_commands.specs.Terms.{name_of}
+use Rattle.qic117_commands.specs.Names.{name_of}
 use Rattle.qic117_commands.specs.Report.{Collected, IsWidth, word_of}
 use Rattle.pulse_dialogue.specs.declared.context.Context.{Context}
 use Rattle.pulse_dialogue.specs.declared.context.Context.TheVariants.{Nothing, Parameter, Acknowledgement, Report}

@@ -1,5 +1,5 @@
 -- What the telling of a recording did to the outside (this project's own).
-use Rattle.std.specs.Prelude.{◌≡◌, ℕ, List, ◌++◌, length, drop, IfSome, Result, Ok, Err}
+use Rattle.std.specs.Prelude.{◌≡◌, ℕ, List, ◌++◌, length, drop, Result, Ok, Err}
 use Rattle.std.specs.Option.{option_map}
 use Rattle.qic_base.specs.Sink as sinks
 use Rattle.qic_base.specs.SinkCalls as sink_calls
@@ -10,6 +10,7 @@ use Rattle.pulse_dialogue.specs.declared.fault.TraceFault.TheVariants as fault
 use Rattle.pulse_dialogue.specs.declared.line.Line.{Line}
 use Rattle.pulse_dialogue.specs.Lines.{Ending, AtEnd, AtFault, IsRecording}
 use Rattle.pulse_dialogue.specs.Dialogue.{dialogue}
+use Rattle.qic_base.specs.Source.{IsInput}
 
 -- the source and the sink, before a call or after it
 pub record Streams (S K : Type 0) : Type 0 where
@@ -21,14 +22,10 @@ abbrev pub Leaves : {S : Type 0} (s : sources.Meaning S) (old new : S) → (inpu
 Leaves s old new input AtEnd = s.left new ≡ option_map (drop (length input)) (s.left old)
 Leaves s old new input (AtFault line place) = LeftFromLine s old new place
 
--- the input: what the source told, or some where it tells none
-abbrev pub IsInput : {S : Type 0} (s : sources.Meaning S) (old : S) → List ℕ → Type 0
-IsInput s old input = IfSome (s.left old) (λ bytes. input ≡ bytes)
-
 -- the input was read so far that its ending is known, and its dialogue was written
 pub record Ended {S K : Type 0} (s : sources.Meaning S) (k : sinks.Meaning K) (gap : ℕ) (old new : Streams S K) (ending : Ending) : Type 0 where
   pub input : List ℕ
-  pub whole : IsInput s old.source input
+  pub whole : IsInput (s.left old.source) input
   pub lines : List Line
   pub recording : IsRecording input lines ending
   pub wrote : sinks.Wrote k old.sink new.sink (dialogue gap lines ending)
@@ -37,7 +34,7 @@ pub record Ended {S K : Type 0} (s : sources.Meaning S) (k : sinks.Meaning K) (g
 -- a fault of the source broke it off: a front of the dialogue was written
 pub record Unread {S K : Type 0} (s : sources.Meaning S) (k : sinks.Meaning K) (gap : ℕ) (old new : Streams S K) : Type 0 where
   pub input : List ℕ
-  pub whole : IsInput s old.source input
+  pub whole : IsInput (s.left old.source) input
   pub lines : List Line
   pub ending : Ending
   pub recording : IsRecording input lines ending
@@ -49,7 +46,7 @@ pub record Unread {S K : Type 0} (s : sources.Meaning S) (k : sinks.Meaning K) (
 -- a fault of the sink broke the dialogue off
 pub record Unwritten {S K : Type 0} (s : sources.Meaning S) (k : sinks.Meaning K) (gap : ℕ) (old new : Streams S K) : Type 0 where
   pub input : List ℕ
-  pub whole : IsInput s old.source input
+  pub whole : IsInput (s.left old.source) input
   pub lines : List Line
   pub ending : Ending
   pub recording : IsRecording input lines ending

@@ -1,7 +1,7 @@
 //! The lines of a recording.
 
 ghost use Rattle.std.specs.Prelude.{◌≡◌, ◌≢◌, ◌≤◌, ◌-◌, length, slice_index, MatchOption};
-ghost use Rattle.qic_base.specs.Terms.{HasCause};
+ghost use Rattle.qic_base.specs.Cause.{HasCause};
 ghost use Rattle.pulse_dialogue.specs.Lines.{IsLine, IsNoLine, time_of, level_digit};
 ghost use Rattle.pulse_dialogue.specs.Reading.{ReadsLine};
 

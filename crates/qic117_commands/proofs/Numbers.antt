@@ -4,7 +4,7 @@ use Rattle.std.proofs.lemmas.Bool.{eqb-true, agree_below_at}
 use Rattle.qic117_commands.specs.declared.command.Command.{Command}
 use Rattle.qic117_commands.specs.declared.command.Command.TheVariants.{Reset, ReportNextBit, Pause, MicroStepPause, AlternateTimeout, ReportStatus, ReportError, ReportConfiguration, ReportRom, LogicalForward, PhysicalReverse, PhysicalForward, SeekTrack, SeekLoadPoint, EnterFormat, WriteReference, EnterVerify, StopTape, MicroStepUp, MicroStepDown, SoftSelect, SoftDeselect, SkipReverse, SkipForward, SelectRate, Diagnostic1, Diagnostic2, EnterPrimary, VendorUnique, ReportVendor, ReportTapeStatus, ExtendedSkipReverse, ExtendedSkipForward, CalibrateLength, ReportFormatSegments, SetFormatSegments, PhantomSelect, PhantomDeselect}
 use Rattle.qic117_commands.specs.Commands.{number_of, command_at, commands}
-use Rattle.qic117_commands.specs.Terms.{is_undefined}
+use Rattle.qic117_commands.specs.RefusalTerms.{is_undefined}
 
 -- each command is the one of its number
 pub command_at-number_of : (command : Command) → command_at (number_of command) ≡ Some command

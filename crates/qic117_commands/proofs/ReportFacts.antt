@@ -36,7 +36,7 @@ word_of-append : (ds rest : List Bool) → word_of (length ds) (ds ++ rest) ≡ 
 unfolding word_of
 word_of-append ds rest = rw (take-append_seam ds rest, drop-append_seam ds rest) refl
 
-pub word_of-digits : (width word : ℕ) (rest : List Bool) → word_of width (digits width word ++ rest) ≡ word_before (digits width word) rest
+word_of-digits : (width word : ℕ) (rest : List Bool) → word_of width (digits width word ++ rest) ≡ word_before (digits width word) rest
 word_of-digits width word rest =
     ap (λ w. word_of w (digits width word ++ rest)) (sym (length-digits width word)) ∙ word_of-append (digits width word) rest
 

@@ -13,7 +13,7 @@ use Rattle.qic117_commands.specs.declared.view.Motion.{Motion}
 use Rattle.qic117_commands.specs.declared.view.Motion.TheVariants.{Stopped, Streaming, Seeking}
 use Rattle.qic117_commands.specs.declared.command.Command.TheVariants.{Reset, ReportNextBit}
 use Rattle.qic117_commands.specs.Refusals.{Row, refusal_rows, first_refusal, is_unsupported, is_diagnostic, needs_cartridge, waits_for_seek, waits_for_stop, illegal_in_primary, illegal_in_format, illegal_in_verify, needs_writable, needs_known_cartridge, needs_reference, needs_logical_bot}
-use Rattle.qic117_commands.specs.Terms.{refuses}
+use Rattle.qic117_commands.specs.RefusalTerms.{refuses}
 use Rattle.qic117_commands.specs.Views.{is_streaming, is_seeking, is_primary, is_format, is_verify}
 
 -- a row at a command and a drive

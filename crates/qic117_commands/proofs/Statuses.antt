@@ -7,9 +7,13 @@ use Rattle.qic117_commands.specs.contracts.view.Motion as motion
 use Rattle.qic117_commands.specs.declared.view.DriveView.{DriveView}
 use Rattle.qic117_commands.specs.declared.view.Motion.{Motion}
 use Rattle.qic117_commands.specs.declared.view.Motion.TheVariants.{Stopped, Streaming, Seeking}
-use Rattle.qic117_commands.specs.Terms.{bit_where}
 use Rattle.qic117_commands.specs.StatusWord.{status_of}
 use Rattle.qic117_commands.specs.Views.{is_stopped}
+use Rattle.std.specs.Prelude.{if◌then◌else◌}
+
+-- a bit of the status word where its fact holds, else nothing
+abbrev pub bit_where : ℕ → Bool → ℕ
+bit_where bit holds = if holds then bit else 0
 
 -- a test passes at both truth values
 abbrev both : (Bool → Bool) → Bool

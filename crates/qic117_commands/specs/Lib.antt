@@ -2,9 +2,10 @@ pub mod Codes
 pub mod Commands
 pub mod Digits
 pub mod Left
+pub mod Names
+pub mod RefusalTerms
 pub mod Refusals
 pub mod Report
 pub mod Shows
 pub mod StatusWord
-pub mod Terms
 pub mod Views

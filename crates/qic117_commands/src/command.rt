@@ -2,7 +2,8 @@
 
 ghost use Rattle.std.specs.Prelude.{◌≡◌, ◌↔◌, ◌≤◌, length, IsNone, IsTrue, Some};
 ghost use Rattle.qic117_commands.specs.Commands.{command_at, number_of};
-ghost use Rattle.qic117_commands.specs.Terms.{name_of, is_undefined};
+ghost use Rattle.qic117_commands.specs.RefusalTerms.{is_undefined};
+ghost use Rattle.qic117_commands.specs.Names.{name_of};
 ghost use Rattle.qic117_commands.specs.declared.command.Command.{Command};
 
 /// A command of the drive. Its number is the count of step pulses in its train (QIC-117).

@@ -2,7 +2,7 @@
 
 ghost use Rattle.std.specs.Prelude.{◌≡◌};
 ghost use Rattle.qic117_commands.specs.Codes.{code_of};
-ghost use Rattle.qic117_commands.specs.Terms.{text_of};
+ghost use Rattle.qic117_commands.specs.Names.{text_of};
 
 /// Why the drive latched an error, or `NoError` for none (QIC-117).
 #[derive(Clone, Copy, PartialEq, Eq, Debug)]

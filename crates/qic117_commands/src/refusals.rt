@@ -3,7 +3,7 @@
 ghost use Rattle.std.specs.Prelude.{◌≡◌, ◌⊎◌, ◌&&◌, IsNone, is_some, find, option_map};
 ghost use Rattle.std.specs.List.{list_any};
 ghost use Rattle.qic117_commands.specs.Refusals.{first_refusal, refusal_rows, is_unsupported, is_diagnostic, needs_cartridge, waits_for_seek, waits_for_stop, illegal_in_primary, illegal_in_format, illegal_in_verify, needs_writable, needs_known_cartridge, needs_reference, needs_logical_bot};
-ghost use Rattle.qic117_commands.specs.Terms.{refuses, stands_past_bot};
+ghost use Rattle.qic117_commands.specs.RefusalTerms.{refuses, stands_past_bot};
 ghost use Rattle.qic117_commands.specs.declared.command.Command.TheVariants.{Reset, ReportNextBit};
 
 use crate::command::Command;

@@ -3,7 +3,7 @@ use Rattle.std.proofs.Common.{◌≡◌, ℕ, ◌+◌, ◌-◌, ◌*◌, ◌/◌
 use Rattle.std.proofs.Math.Nat.{mul_comm}
 use Rattle.std.proofs.lemmas.Nat.{div-mul-add, mod-mul-add}
 use Rattle.qic_base.specs.Field.{date_word}
-use Rattle.qic_base.specs.Terms.{WrittenDateIsReadBack}
+use Rattle.qic_base.specs.DateLaws.{WrittenDateIsReadBack}
 
 -- a number in the places above another, and the one below
 above : (low n high : ℕ) → low < n → (low + n * high) / n ≡ high

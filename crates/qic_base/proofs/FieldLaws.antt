@@ -11,7 +11,7 @@ use Rattle.qic_base.specs.Field.{little_endian, number_at, little_endian_bytes, 
 use borrow.Rule.Slice.PartMut.{put_mid}
 
 -- a field's number as `byteorder` reads it
-pub little_from-length : (bytes : List ℕ) → little_from 0 (length bytes) bytes ≡ little_endian bytes
+little_from-length : (bytes : List ℕ) → little_from 0 (length bytes) bytes ≡ little_endian bytes
 little_from-length [] = refl
 little_from-length (byte ∷ bytes) =
     ap (λ (n : ℕ). byte + 256 * n) (little_from-cons 0 (length bytes) byte bytes ∙ little_from-length bytes)
@@ -28,7 +28,7 @@ byte_at-pow zero x = ap (λ (y : ℕ). y % 256) (sym (div-one x))
 byte_at-pow (suc k) x = refl
 
 -- the bytes of a number as `byteorder` writes them
-pub bytes_low_first-above : (j width value : ℕ) → bytes_low_first j width value ≡ little_endian_bytes width (value / 256 ^ j)
+bytes_low_first-above : (j width value : ℕ) → bytes_low_first j width value ≡ little_endian_bytes width (value / 256 ^ j)
 unfolding little_endian_bytes
 bytes_low_first-above j zero value = refl
 bytes_low_first-above j (suc width) value =
@@ -36,7 +36,7 @@ bytes_low_first-above j (suc width) value =
     ap (λ (p : ℕ). value / p) (pow-suc 256 j) ∙ sym (div-div-eq-div-mul value (256 ^ j) 256) in
     rw (byte_at-pow j value, bytes_low_first-above (suc j) width value, shift) refl
 
-pub bytes_low_first-is : (width value : ℕ) → bytes_low_first 0 width value ≡ little_endian_bytes width value
+bytes_low_first-is : (width value : ℕ) → bytes_low_first 0 width value ≡ little_endian_bytes width value
 bytes_low_first-is width value =
     bytes_low_first-above 0 width value ∙ ap (little_endian_bytes width) (div-one value)
 

@@ -3,7 +3,7 @@ use Rattle.std.proofs.Common.{◌≡◌, ℕ, ◌+◌, List, [], ◌++◌, Optio
 use Rattle.std.specs.Option.{option_map}
 use Rattle.std.proofs.lemmas.List.{take-append-drop, length-take-le}
 use Rattle.qic_base.specs.Source.{Meaning}
-use Rattle.qic_base.specs.SourceCalls.{Gave, HasEnded, Gives, GaveSome}
+use Rattle.qic_base.specs.SourceCalls.{Gave, HasEnded, Gives, GaveSome, WereGiven, NoneLeft}
 use Rattle.std.proofs.lemmas.List as lists
 
 -- nothing was given where the bytes left are the same
@@ -15,25 +15,24 @@ pub Gave-nothing : {S : Type 0} (m : Meaning S) (a b : S) → m.left b ≡ m.lef
 Gave-nothing m a b same = sym same ∙ same_option (m.left b)
 
 -- bytes given one after the other are given as one list
-both_options : (xs ys : List ℕ) (o p q : Option (List ℕ)) → o ≡ option_map (λ rest. xs ++ rest) p → p ≡ option_map (λ rest. ys ++ rest) q →
-    o ≡ option_map (λ rest. (xs ++ ys) ++ rest) q
-both_options xs ys o p None first next = first ∙ ap (option_map (λ rest. xs ++ rest)) next
-both_options xs ys o p (Some bytes) first next =
+pub WereGiven-both : (xs ys : List ℕ) (o p q : Option (List ℕ)) → WereGiven o p xs → WereGiven p q ys → WereGiven o q (xs ++ ys)
+WereGiven-both xs ys o p None first next = first ∙ ap (option_map (λ rest. xs ++ rest)) next
+WereGiven-both xs ys o p (Some bytes) first next =
     first ∙ ap (option_map (λ rest. xs ++ rest)) next ∙ ap (λ (text : List ℕ). Some text) (sym (append_assoc xs ys bytes))
 
 pub Gave-Gave : {S : Type 0} (m : Meaning S) (a b c : S) (xs ys : List ℕ) → Gave m a b xs → Gave m b c ys → Gave m a c (xs ++ ys)
-Gave-Gave m a b c xs ys first next = both_options xs ys (m.left a) (m.left b) (m.left c) first next
+Gave-Gave m a b c xs ys first next = WereGiven-both xs ys (m.left a) (m.left b) (m.left c) first next
 
 pub Gave-end : {S : Type 0} (m : Meaning S) (a b c : S) (xs : List ℕ) → Gave m a b xs → Gave m b c [] → Gave m a c xs
 Gave-end m a b c xs first next = rw append-nil at (Gave-Gave m a b c xs [] first next)
 
 -- what is left at the end of a source is nothing also behind it
-ended_option : (o p : Option (List ℕ)) → o ≡ option_map (λ rest. [] ++ rest) p → IfSome o (λ bytes. bytes ≡ []) → IfSome p (λ bytes. bytes ≡ [])
-ended_option o None same ended = tt
-ended_option o (Some bytes) same ended = rw same at ended
+pub NoneLeft-now : (o p : Option (List ℕ)) → NoneLeft o → WereGiven o p [] → NoneLeft p
+NoneLeft-now o None ended same = tt
+NoneLeft-now o (Some bytes) ended same = rw same at ended
 
 pub HasEnded-Gave : {S : Type 0} (m : Meaning S) (a b : S) → HasEnded m a → Gave m a b [] → HasEnded m b
-HasEnded-Gave m a b ended same = ended_option (m.left a) (m.left b) same ended
+HasEnded-Gave m a b ended same = NoneLeft-now (m.left a) (m.left b) ended same
 
 -- what one read gave
 read_option : (o p : Option (List ℕ)) (into : List ℕ) (n : ℕ) → IfSome o (λ bytes. Gives bytes into n) → p ≡ option_map (drop n) o →

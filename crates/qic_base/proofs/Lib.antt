@@ -2,6 +2,7 @@ pub mod DateLaws
 pub mod FieldLaws
 pub mod Giving
 pub mod Joins
+pub mod LineBytes
 pub mod LostSetLaws
 pub mod Outcomes
 pub mod Steps

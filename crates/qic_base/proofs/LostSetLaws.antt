@@ -3,7 +3,7 @@ use Rattle.std.proofs.Common.{◌≡◌, ℕ, zero, suc, ◌+◌, ◌*◌, ◌/�
 use Rattle.std.proofs.lemmas.Nat.{ones_cat, mod-pow-add, pow_pos}
 use Rattle.std.proofs.lemmas.List.{length-append, append-nil}
 use Rattle.std.proofs.Math.Nat.{mod-lt, mod-one, pow-le-pow_right, div-eq_of_lt}
-use Rattle.qic_base.specs.Terms.{IsLost}
+use Rattle.qic_base.specs.CartridgeTerms.{IsLost}
 use Rattle.qic_base.specs.Cartridge.{lost_places}
 use lib.Count.{ones}
 

@@ -1,8 +1,14 @@
 pub mod Acts
+pub mod Alone
 pub mod Cartridge
+pub mod CartridgeTerms
+pub mod Cause
+pub mod DateLaws
+pub mod DateTerms
 pub mod Disk
 pub mod Field
 pub mod JoinLaws
+pub mod LineBytes
 pub mod Sink
 pub mod SinkCalls
 pub mod Source
@@ -10,4 +16,3 @@ pub mod SourceCalls
 pub mod Step
 pub mod Tape
 pub mod TapeCalls
-pub mod Terms

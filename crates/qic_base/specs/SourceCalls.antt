@@ -1,5 +1,5 @@
 -- What a call of a source gave (this project's profile).
-use Rattle.std.specs.Prelude.{ℕ, List, ◌≡◌, ◌↔◌, ◌≤◌, [], length, take, ◌++◌, IfSome}
+use Rattle.std.specs.Prelude.{ℕ, List, Option, Some, None, Result, Ok, Err, ◌≡◌, ◌↔◌, ◌≤◌, [], ◌∷◌, length, take, ◌++◌, IfSome}
 use Rattle.std.specs.Option.{option_map}
 use Rattle.qic_base.specs.Source.{Meaning}
 
@@ -9,9 +9,23 @@ pub record Gives (bytes into : List ℕ) (n : ℕ) : Type 0 where
   pub front : take n into ≡ take n bytes
   pub ended : (n ≡ 0) ↔ (bytes ≡ [])
 
+-- of the bytes left before, these were given, and the others are left now
+abbrev pub WereGiven : (before now : Option (List ℕ)) → List ℕ → Type 0
+WereGiven before now bytes = before ≡ option_map (λ rest. bytes ++ rest) now
+
+-- where the bytes left are told, there are none
+abbrev pub NoneLeft : Option (List ℕ) → Type 0
+NoneLeft left = IfSome left (λ bytes. bytes ≡ [])
+
+-- a byte of those left, or their end; a failure takes none
+abbrev pub TakesByte : {E : Type 0} → (before now : Option (List ℕ)) → Result (Option ℕ) E → Type 0
+TakesByte before now (Ok None) = NoneLeft before × WereGiven before now []
+TakesByte before now (Ok (Some byte)) = WereGiven before now (byte ∷ [])
+TakesByte before now (Err e) = WereGiven before now []
+
 -- from old to new the source gave these bytes
 abbrev pub Gave : {S : Type 0} → Meaning S → (old new : S) → List ℕ → Type 0
-Gave m old new bytes = m.left old ≡ option_map (λ rest. bytes ++ rest) (m.left new)
+Gave m old new bytes = WereGiven (m.left old) (m.left new) bytes
 
 -- it gave so many bytes
 abbrev pub GaveSome : {S : Type 0} → Meaning S → (old new : S) → ℕ → Type 0
@@ -19,4 +33,4 @@ GaveSome m old new n = (bytes : List ℕ) × (length bytes ≡ n) × Gave m old 
 
 -- where it tells its bytes, none are left
 abbrev pub HasEnded : {S : Type 0} → Meaning S → S → Type 0
-HasEnded m s = IfSome (m.left s) (λ bytes. bytes ≡ [])
+HasEnded m s = NoneLeft (m.left s)

@@ -9,7 +9,7 @@ use Rattle.qic_base.specs.declared.tape.SectorWrite.TheVariants as write
 use Rattle.qic_base.specs.Cartridge.{Cartridge, IsPlace}
 use Rattle.qic_base.specs.Step.{Step}
 use Rattle.qic_base.specs.Tape.{Meaning, Done, Broke}
-use Rattle.qic_base.specs.Terms.{IsCartridge}
+use Rattle.qic_base.specs.CartridgeTerms.{IsCartridge}
 
 -- What a call with these steps did, by its answer.
 abbrev pub Does : {S T E : Type 0} (m : Meaning S) (old new : S) (steps : List Step) (result : Result T E) → Type 0

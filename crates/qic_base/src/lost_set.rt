@@ -1,7 +1,7 @@
 //! The sectors of a segment that cannot be read, as a set of places.
 
 ghost use Rattle.std.specs.Prelude.{◌≡◌, ◌<◌, ◌↔◌, IsTrue, length};
-ghost use Rattle.qic_base.specs.Terms.{IsLost};
+ghost use Rattle.qic_base.specs.CartridgeTerms.{IsLost};
 ghost use Rattle.qic_base.specs.Cartridge.{lost_places};
 
 use std::marker::Model;

@@ -2,7 +2,7 @@
 
 ghost use Rattle.std.specs.Prelude.{◌≡◌, ◌↔◌, IsTrue, IsSome, IfSome};
 ghost use Rattle.qic_base.specs.Field.{IsNameText, filled};
-ghost use Rattle.qic_base.specs.Terms.{IsPrintable};
+ghost use Rattle.qic_base.specs.LineBytes.{IsPrintable};
 
 use std::marker::Model;
 

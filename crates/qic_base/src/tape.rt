@@ -3,7 +3,7 @@
 ghost use Rattle.std.specs.Prelude.{◌≡◌, ◌≢◌, ◌<◌, [], ◌∷◌, None, Some, IfOk, IfSome, IsSome, OnErr, OnOk};
 ghost use Rattle.std.specs.Option.{option_map};
 ghost use Rattle.qic_base.specs.Cartridge.{IsLength, view_at};
-ghost use Rattle.qic_base.specs.Terms.{IsVersion};
+ghost use Rattle.qic_base.specs.CartridgeTerms.{IsVersion};
 ghost use Rattle.qic_base.specs.Step.{WriteSector, FormatSegment, SetReferenced, SetProtected, Renew, Wear, Spoil, Upgrade};
 ghost use Rattle.qic_base.specs.Tape.{Meaning, spoil_answer};
 ghost use Rattle.qic_base.specs.TapeCalls.{Does, Tells, IsPlaceOf, IsToldRight, IsLeftNow, Reads, write_answer};

@@ -14,7 +14,7 @@ use Rattle.qic_mem.specs.DiskEntries.{events_from, sizes, IsWhole, log_of}
 
 -- ---- one entry
 
-pub pending-behind : (e : DiskEntry) (part : List ℕ) (p : DiskPoint) → is_pending (after_event (event_of e part) p) ≡ leaves_pending e
+pending-behind : (e : DiskEntry) (part : List ℕ) (p : DiskPoint) → is_pending (after_event (event_of e part) p) ≡ leaves_pending e
 pending-behind (entry.Made (WriteAt place count)) part p = refl
 pending-behind (entry.Made (SetLen n)) part p = refl
 pending-behind (entry.Made Sync) part p = refl

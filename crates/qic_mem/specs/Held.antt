@@ -6,7 +6,7 @@ use Rattle.std.proofs.lemmas.List.Elements.{All-take}
 use Rattle.qic_base.specs.declared.tape.SectorView.{SectorView}
 use Rattle.qic_base.specs.declared.tape.TapeInfo.{TapeInfo}
 use Rattle.qic_base.specs.Cartridge.{Cartridge, IsLength}
-use Rattle.qic_base.specs.Terms.{IsCartridge, IsView, new_version}
+use Rattle.qic_base.specs.CartridgeTerms.{IsCartridge, IsView, new_version}
 use Rattle.qic_base.specs.TapeCalls.{IsToldRight}
 
 -- the cartridge with these marks: its version is that of a new one, and its views are the first of the list

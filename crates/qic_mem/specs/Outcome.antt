@@ -2,7 +2,7 @@
 use Rattle.std.specs.Prelude.{ℕ, Bool, Option, Some, None, if◌then◌else◌}
 use Rattle.std.specs.Option.{option_map}
 use Rattle.qic_base.specs.Cartridge.{Cartridge}
-use Rattle.qic_base.specs.Terms.{with_segment}
+use Rattle.qic_base.specs.CartridgeTerms.{with_segment}
 use Rattle.qic_base.specs.Step.{Step, WriteSector, FormatSegment, Renew, Wear, Upgrade, effect, worn_view}
 use Rattle.qic_mem.specs.declared.tape.outcome.Outcome.{Outcome}
 use Rattle.qic_mem.specs.declared.tape.outcome.Outcome.TheVariants.{Old, Lost, New}

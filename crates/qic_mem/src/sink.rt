@@ -1,7 +1,7 @@
 //! A sink in memory.
 
 ghost use Rattle.std.specs.Prelude.{◌≡◌, ◌↔◌, ◌⊎◌, ◌<◌, ◌≤◌, ◌+◌, ◌-◌, ◌++◌, [], length, take, min, is_err, IsErr, IfOk, OnErr};
-ghost use Rattle.qic_base.specs.Terms.{HasCause};
+ghost use Rattle.qic_base.specs.Cause.{HasCause};
 ghost use Rattle.qic_base.specs.SinkCalls.{Takes};
 ghost use Rattle.qic_mem.specs.Plan.{new_plan, IsChosen, plan_after};
 ghost use Rattle.qic_mem.specs.Sink.{sink_means};

@@ -2,7 +2,7 @@
 
 ghost use Rattle.std.specs.Prelude.{◌≡◌, ◌↔◌, ◌<◌, ◌≤◌, ◌++◌, length, take, drop, min, is_err, IsErr, IsOk, IfOk, IfSome, OnErr};
 ghost use Rattle.std.specs.Option.{option_map};
-ghost use Rattle.qic_base.specs.Terms.{HasCause};
+ghost use Rattle.qic_base.specs.Cause.{HasCause};
 ghost use Rattle.qic_base.specs.SourceCalls.{Gives};
 ghost use Rattle.qic_mem.specs.Plan.{new_plan, IsChosen, plan_after};
 ghost use Rattle.qic_mem.specs.Source.{source_means, sure_source_means};

@@ -1,7 +1,7 @@
 //! A sink that never fails.
 
 ghost use Rattle.std.specs.Prelude.{◌≡◌, ◌<◌, length};
-ghost use Rattle.qic_base.specs.Terms.{HasCause};
+ghost use Rattle.qic_base.specs.Cause.{HasCause};
 ghost use Rattle.qic_base.specs.SinkCalls.{Takes};
 
 use qic_base::{Sink, SinkFailed};

@@ -11,7 +11,7 @@ use Rattle.rescue_map.specs.Spelling.{digit_value, digits_from, limited, word_is
 use Rattle.rescue_map.specs.Lines.{Line, lines_of, words_from, words_of, is_blank, content_of}
 use Rattle.rescue_map.specs.Form.{block_form, is_block_mark, line_says}
 use Rattle.rescue_map.specs.Map.{State, Going, Blocks, behind_said, behind_line, behind_lines, behind_all, most_lines, endless}
-use Rattle.rescue_map.specs.Reads.{NoNewline}
+use Rattle.qic_base.specs.LineBytes.{NoNewline}
 use Rattle.rescue_map.specs.Text.{hex_digit, hex_digits, hex_text, block_text, blocks_text, head_text, runs_of}
 use Rattle.rescue_map.specs.Laws.{ReadsBack}
 use Rattle.rescue_map.proofs.Cutting.{without_return-push}

@@ -76,7 +76,7 @@ push_more old list x are count =
 -- ---- the word that has begun
 
 -- no more than 32 bytes of a word matter
-pub word_is-take : (begun : List ℕ) → word_is (take 32 begun) ≡ word_is begun
+word_is-take : (begun : List ℕ) → word_is (take 32 begun) ≡ word_is begun
 word_is-take begun = ⊎_elim few many (cases_lt (length begun) 32) where
   few : length begun < 32 → word_is (take 32 begun) ≡ word_is begun
   few h = ap word_is (take_all 32 begun (omega arith))
@@ -202,7 +202,7 @@ without_return-push line byte other =
     rw no refl
 
 -- the last byte is one
-pub without_return-return : (line : List ℕ) → without_return (line ++ 13 ∷ []) ≡ line
+without_return-return : (line : List ℕ) → without_return (line ++ 13 ∷ []) ≡ line
 without_return-return line =
     let l = length_push line 13 in
     let at : length line ≡ length (line ++ 13 ∷ []) - 1 = omega arith in

@@ -13,7 +13,7 @@ digits_from-digit base so_far b bs low =
     let here : nat_lt (digit_value b) base ≡ true = grind (arith, nat_tests) in rw here refl
 
 -- no digit
-pub digits_from-other : (base so_far b : ℕ) (bs : List ℕ) → base ≤ digit_value b → digits_from base so_far (b ∷ bs) ≡ None
+digits_from-other : (base so_far b : ℕ) (bs : List ℕ) → base ≤ digit_value b → digits_from base so_far (b ∷ bs) ≡ None
 digits_from-other base so_far b bs high =
     let here : nat_lt (digit_value b) base ≡ false = grind (arith, nat_tests) in rw here refl
 
@@ -31,7 +31,7 @@ grows base so_far (b ∷ bs) some = by_test (nat_lt (digit_value b) base) (grows
   by_test false h = tt
 
 -- a number that is too great stays so
-pub limited-great : (decimal : Bool) (base so_far : ℕ) (bs : List ℕ) → 1 ≤ base → 2 ^ 63 ≤ so_far → limited decimal (digits_from base so_far bs) ≡ Other
+limited-great : (decimal : Bool) (base so_far : ℕ) (bs : List ℕ) → 1 ≤ base → 2 ^ 63 ≤ so_far → limited decimal (digits_from base so_far bs) ≡ Other
 limited-great decimal base so_far bs some great = by_option (digits_from base so_far bs) (grows base so_far bs some) where
   by_option : (o : Option ℕ) → IfSome o (λ n. so_far ≤ n) → limited decimal o ≡ Other
   by_option None h = refl

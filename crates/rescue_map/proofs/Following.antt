@@ -15,9 +15,11 @@ use Rattle.rescue_map.specs.Lines.{Line, lines_of, words_of}
 use Rattle.rescue_map.specs.Map.{State, Going, Failed, most_lines, endless, behind_said, behind_line, behind_lines, behind_all, reading_of, Reading, Fault}
 use Rattle.rescue_map.specs.Marking.{Tracked, Moves, NoneMarked}
 use Rattle.rescue_map.specs.Mask.{IsMaskOf}
-use Rattle.rescue_map.specs.Reads.{left_of, Gave, HasEnded, NoNewline, ReadFault, Reads, Ends}
+use Rattle.qic_base.specs.LineBytes.{NoNewline}
+use Rattle.qic_base.specs.SourceCalls.{WereGiven, NoneLeft}
+use Rattle.rescue_map.specs.Reads.{left_of, ReadFault, Reads, Ends}
 use Rattle.rescue_map.specs.Scanning.{AreWords}
-use Rattle.rescue_map.proofs.Giving.{Gave-Gave}
+use Rattle.qic_base.proofs.Giving.{WereGiven-both}
 use Rattle.rescue_map.proofs.Lining.{TookLine, lines_of-ended, lines_of-last, lines_of-long, first_line}
 
 abbrev pub start : State
@@ -27,7 +29,7 @@ start = Going [] awaits.Status 1
 pub record SoFar (old new : Option (List ℕ)) (mask : List ℕ) (expected : Expected) (from lines : ℕ) : Type 0 where
   pub given : List ℕ
   pub blocks : List Block
-  pub gave : Gave old new given
+  pub gave : WereGiven old new given
   pub behind : (rest : List ℕ) → behind_lines start (lines_of (given ++ rest)) ≡ behind_lines (Going blocks expected (lines + 1)) (lines_of rest)
   pub tracked : Tracked mask blocks expected from
 
@@ -73,37 +75,37 @@ pub record TextOf (old : Option (List ℕ)) (given : List ℕ) : Type 0 where
   pub rest : List ℕ
   pub told : IfSome old (λ bytes. given ++ rest ≡ bytes)
 
-text_of : (o p : Option (List ℕ)) (given : List ℕ) → Gave o p given → TextOf o given
+text_of : (o p : Option (List ℕ)) (given : List ℕ) → WereGiven o p given → TextOf o given
 text_of o None given gave = record { rest = []; told = rw gave tt }
 text_of o (Some rest) given gave = record { rest = rest; told = rw gave refl }
 
-text_ended : (o p : Option (List ℕ)) (given : List ℕ) → Gave o p given → HasEnded p → IfSome o (λ bytes. given ≡ bytes)
+text_ended : (o p : Option (List ℕ)) (given : List ℕ) → WereGiven o p given → NoneLeft p → IfSome o (λ bytes. given ≡ bytes)
 text_ended o None given gave ended = rw gave tt
 text_ended o (Some rest) given gave ended = rw (gave, ended) (sym (append-nil given))
 
 -- where nothing is left, nothing is left of the source
-pub source_ended : {S : Type 0} (m : Meaning S) (s : S) (buffer : List ℕ) (ahead : Ahead) → HasEnded (left_of m s buffer ahead) → HasEnded (m.left s)
+source_ended : {S : Type 0} (m : Meaning S) (s : S) (buffer : List ℕ) (ahead : Ahead) → NoneLeft (left_of m s buffer ahead) → NoneLeft (m.left s)
 source_ended m s buffer ahead ended = by_left (drop ahead.at (take ahead.end buffer)) (m.left s) ended where
   none : (front rest : List ℕ) → front ++ rest ≡ [] → rest ≡ []
   none [] rest e = e
   none (x ∷ front) rest e = absurd (cc)
 
-  by_left : (front : List ℕ) (o : Option (List ℕ)) → HasEnded (option_map (λ rest. front ++ rest) o) → HasEnded o
+  by_left : (front : List ℕ) (o : Option (List ℕ)) → NoneLeft (option_map (λ rest. front ++ rest) o) → NoneLeft o
   by_left front None e = tt
   by_left front (Some rest) e = none front rest e
 
 -- ---- how it ends
 
 -- the line is at fault, whatever comes behind it
-pub read_fault : {S : Type 0} (m : Meaning S) (old : S) (new : Option (List ℕ)) (given : List ℕ) (line : ℕ) → Gave (m.left old) new given →
+read_fault : {S : Type 0} (m : Meaning S) (old : S) (new : Option (List ℕ)) (given : List ℕ) (line : ℕ) → WereGiven (m.left old) new given →
     ((rest : List ℕ) → reading_of (given ++ rest) ≡ Fault line) → ReadFault m old line
 read_fault m old new given line gave always =
     let text = text_of (m.left old) new given gave in
     record { text = given ++ text.rest; told = text.told; reading = always text.rest }
 
 -- at the end of the text
-pub read_ended : {S : Type 0} (m : Meaning S) (old new : S) (left : Option (List ℕ)) (mask given : List ℕ) (blocks : List Block) (reading : Reading) (result : Result (Unit {0}) MapError) →
-    Gave (m.left old) left given → HasEnded left → HasEnded (m.left new) → reading_of given ≡ reading → Ends reading blocks result → IsMaskOf blocks mask → Reads m old new mask result
+read_ended : {S : Type 0} (m : Meaning S) (old new : S) (left : Option (List ℕ)) (mask given : List ℕ) (blocks : List Block) (reading : Reading) (result : Result (Unit {0}) MapError) →
+    WereGiven (m.left old) left given → NoneLeft left → NoneLeft (m.left new) → reading_of given ≡ reading → Ends reading blocks result → IsMaskOf blocks mask → Reads m old new mask result
 read_ended m old new left mask given blocks reading (Ok done) gave ended over is ends marks = record {
   text = given;
   told = text_ended (m.left old) left given gave ended;
@@ -124,7 +126,7 @@ no_blocks : (mask : List ℕ) → NoneMarked mask → IsMaskOf [] mask
 no_blocks mask none sector within = ((λ m. absurd (none sector m)), (λ whole. absurd (whole (1024 * sector) (omega arith) (omega arith))))
 
 -- the mask of the blocks so far
-pub tracked_mask : (mask : List ℕ) (blocks : List Block) (expected : Expected) (from : ℕ) → Tracked mask blocks expected from → IsMaskOf blocks mask
+tracked_mask : (mask : List ℕ) (blocks : List Block) (expected : Expected) (from : ℕ) → Tracked mask blocks expected from → IsMaskOf blocks mask
 tracked_mask mask blocks awaits.Status from tracked = rw tracked.0 (no_blocks mask tracked.1)
 tracked_mask mask blocks awaits.First from tracked = rw tracked.0 (no_blocks mask tracked.1)
 tracked_mask mask blocks (awaits.Next end) from tracked = tracked.marked
@@ -146,7 +148,7 @@ next old new now before mask was expected at from lines words far few took moves
     record {
       given = far.given ++ (bytes ++ 10 ∷ []);
       blocks = moved.0;
-      gave = Gave-Gave far.given (bytes ++ 10 ∷ []) old new now far.gave took.5;
+      gave = WereGiven-both far.given (bytes ++ 10 ∷ []) old new now far.gave took.5;
       behind = λ rest. behind_ended old new before was at lines far bytes took.1 took.2 few rest
           ∙ ap (λ (s : State). behind_lines s (lines_of rest)) moved.1;
       tracked = moved.2;
@@ -160,16 +162,16 @@ pub line_fault : {S : Type 0} (m : Meaning S) (old : S) (new now : Option (List 
 line_fault m old new now before mask was expected at from lines words true far few took moves =
     let bytes = took.0 in
     let moved = moves far.blocks (lines + 1) (words_of record { bytes = bytes; ended = true }) took.4 far.tracked in
-    read_fault m old now (far.given ++ (bytes ++ 10 ∷ [])) (lines + 1) (Gave-Gave far.given (bytes ++ 10 ∷ []) (m.left old) new now far.gave took.5)
+    read_fault m old now (far.given ++ (bytes ++ 10 ∷ [])) (lines + 1) (WereGiven-both far.given (bytes ++ 10 ∷ []) (m.left old) new now far.gave took.5)
     (λ rest. ap behind_all (behind_ended (m.left old) new before was at lines far bytes took.1 took.2 few rest
     ∙ ap (λ (s : State). behind_lines s (lines_of rest)) moved ∙ failed_lines (lines + 1) (lines_of rest)))
 line_fault m old new now before mask was expected at from lines words false far few took moves =
     let bytes = took.0 in
     let moved = moves far.blocks (lines + 1) (words_of record { bytes = bytes; ended = false }) took.4 far.tracked in
-    let gave : Gave new now bytes = rw append-nil at took.5 in
+    let gave : WereGiven new now bytes = rw append-nil at took.5 in
     record {
       text = far.given ++ bytes;
-      told = text_ended (m.left old) now (far.given ++ bytes) (Gave-Gave far.given bytes (m.left old) new now far.gave gave) (took.6 refl);
+      told = text_ended (m.left old) now (far.given ++ bytes) (WereGiven-both far.given bytes (m.left old) new now far.gave gave) (took.6 refl);
       reading = ap behind_all (behind_last (m.left old) new before was at lines far bytes took.1 took.2 (took.3 refl) few ∙ moved);
     }
 
@@ -183,17 +185,17 @@ last_line m old source new buffer ahead before mask was expected at from lines n
     let bytes = took.0 in
     let now = left_of m source buffer ahead in
     let moved = moves far.blocks (lines + 1) (words_of record { bytes = bytes; ended = false }) took.4 far.tracked in
-    let gave : Gave new now bytes = rw append-nil at took.5 in
+    let gave : WereGiven new now bytes = rw append-nil at took.5 in
     let same : lines + 1 + 1 ≡ number = omega arith in
     read_ended m old source now mask (far.given ++ bytes) moved.0 (behind_all (Going moved.0 expected number)) result
-    (Gave-Gave far.given bytes (m.left old) new now far.gave gave) (took.6 refl) (source_ended m source buffer ahead (took.6 refl))
+    (WereGiven-both far.given bytes (m.left old) new now far.gave gave) (took.6 refl) (source_ended m source buffer ahead (took.6 refl))
     (ap behind_all (behind_last (m.left old) new before was at lines far bytes took.1 took.2 (took.3 refl) few ∙ moved.1 ∙ ap (Going moved.0 expected) same))
     (ends moved.0) (tracked_mask mask moved.0 expected from moved.2)
 
 -- the map is over in front of a line
 pub map_over : {S : Type 0} (m : Meaning S) (old source : S) (new : Option (List ℕ)) (buffer : List ℕ) (ahead : Ahead) (mask : List ℕ) (expected : Expected) (from lines number : ℕ)
     (result : Result (Unit {0}) MapError) →
-    (far : SoFar (m.left old) new mask expected from lines) → HasEnded new → Gave new (left_of m source buffer ahead) [] → HasEnded (left_of m source buffer ahead) →
+    (far : SoFar (m.left old) new mask expected from lines) → NoneLeft new → WereGiven new (left_of m source buffer ahead) [] → NoneLeft (left_of m source buffer ahead) →
     number ≡ lines + 1 → ((blocks : List Block) → Ends (behind_all (Going blocks expected number)) blocks result) → Reads m old source mask result
 map_over m old source new buffer ahead mask expected from lines number result far before gave over is ends =
     read_ended m old source new mask far.given far.blocks (behind_all (Going far.blocks expected number)) result
@@ -203,9 +205,9 @@ map_over m old source new buffer ahead mask expected from lines number result fa
 
 -- a line that is too long
 pub line_endless : {S : Type 0} (m : Meaning S) (old : S) (new now : Option (List ℕ)) (mask : List ℕ) (expected : Expected) (from lines : ℕ) →
-    (far : SoFar (m.left old) new mask expected from lines) → (bytes : List ℕ) → NoNewline bytes → length bytes ≡ endless → Gave new now bytes → ReadFault m old (lines + 1)
+    (far : SoFar (m.left old) new mask expected from lines) → (bytes : List ℕ) → NoNewline bytes → length bytes ≡ endless → WereGiven new now bytes → ReadFault m old (lines + 1)
 line_endless m old new now mask expected from lines far bytes none long gave =
-    read_fault m old now (far.given ++ bytes) (lines + 1) (Gave-Gave far.given bytes (m.left old) new now far.gave gave) always where
+    read_fault m old now (far.given ++ bytes) (lines + 1) (WereGiven-both far.given bytes (m.left old) new now far.gave gave) always where
       always : (rest : List ℕ) → reading_of ((far.given ++ bytes) ++ rest) ≡ Fault (lines + 1)
       always rest =
           let first = lines_of-long bytes rest none (let e : endless ≡ 2 ^ 64 - 1 = refl in omega arith) in
@@ -218,9 +220,9 @@ line_endless m old new now mask expected from lines far bytes none long gave =
 
 -- a line too many
 pub line_too_many : {S : Type 0} (m : Meaning S) (old : S) (new now : Option (List ℕ)) (mask : List ℕ) (expected : Expected) (from lines byte : ℕ) →
-    (far : SoFar (m.left old) new mask expected from lines) → most_lines ≤ lines → Gave new now (byte ∷ []) → ReadFault m old (lines + 1)
+    (far : SoFar (m.left old) new mask expected from lines) → most_lines ≤ lines → WereGiven new now (byte ∷ []) → ReadFault m old (lines + 1)
 line_too_many m old new now mask expected from lines byte far many gave =
-    read_fault m old now (far.given ++ byte ∷ []) (lines + 1) (Gave-Gave far.given (byte ∷ []) (m.left old) new now far.gave gave) always where
+    read_fault m old now (far.given ++ byte ∷ []) (lines + 1) (WereGiven-both far.given (byte ∷ []) (m.left old) new now far.gave gave) always where
       always : (rest : List ℕ) → reading_of ((far.given ++ byte ∷ []) ++ rest) ≡ Fault (lines + 1)
       always rest =
           let first = first_line byte rest in

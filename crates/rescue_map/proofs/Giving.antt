@@ -1,20 +1,15 @@
 -- What a source gave, call after call.
-use Rattle.std.proofs.Common.{◌≡◌, ℕ, ◌+◌, ◌<◌, List, [], ◌∷◌, ◌++◌, length, take, drop, get_or, Option, Some, None, refl, sym, ap, ◌∙◌, arith, append_assoc}
+use Rattle.std.proofs.Common.{◌≡◌, ℕ, ◌+◌, ◌<◌, List, [], ◌∷◌, ◌++◌, length, take, drop, get_or, Option, Some, None, refl, sym, ap, ◌∙◌, arith}
 use Rattle.std.specs.Option.{option_map}
 use Rattle.std.proofs.lemmas.List.{drop_more, length-take-le, get_or-take}
 use Rattle.qic_base.specs.Source.{Meaning}
 use Rattle.rescue_map.specs.declared.ahead.Ahead.{Ahead}
-use Rattle.rescue_map.specs.Reads.{left_of, Gave, HasEnded, IsAhead}
-
--- bytes given one after the other are given as one list
-pub Gave-Gave : (xs ys : List ℕ) (o p q : Option (List ℕ)) → Gave o p xs → Gave p q ys → Gave o q (xs ++ ys)
-Gave-Gave xs ys o p None first next = first ∙ ap (option_map (λ rest. xs ++ rest)) next
-Gave-Gave xs ys o p (Some bytes) first next =
-    first ∙ ap (option_map (λ rest. xs ++ rest)) next ∙ ap (λ (text : List ℕ). Some text) (sym (append_assoc xs ys bytes))
+use Rattle.qic_base.specs.SourceCalls.{WereGiven}
+use Rattle.rescue_map.specs.Reads.{left_of, IsAhead}
 
 -- a byte that is read ahead is taken
 pub left_byte : {S : Type 0} (m : Meaning S) (s : S) (buffer : List ℕ) (old new : Ahead) → IsAhead buffer old → old.at < old.end → new.end ≡ old.end → new.at ≡ old.at + 1 →
-    Gave (left_of m s buffer old) (left_of m s buffer new) (get_or buffer old.at 0 ∷ [])
+    WereGiven (left_of m s buffer old) (left_of m s buffer new) (get_or buffer old.at 0 ∷ [])
 left_byte m s buffer old new is some end at = by_left (m.left s) where
   front : drop old.at (take old.end buffer) ≡ get_or buffer old.at 0 ∷ drop new.at (take new.end buffer)
   front =
@@ -29,8 +24,3 @@ left_byte m s buffer old new is some end at = by_left (m.left s) where
       ≡ option_map (λ rest. (get_or buffer old.at 0 ∷ []) ++ rest) (option_map (λ rest. drop new.at (take new.end buffer) ++ rest) o)
   by_left None = refl
   by_left (Some bytes) = ap (λ (xs : List ℕ). Some (xs ++ bytes)) front
-
--- at the end nothing is given
-pub ended_same : (o p : Option (List ℕ)) → HasEnded o → Gave o p [] → HasEnded p
-ended_same o None ended gave = tt
-ended_same o (Some bytes) ended gave = rw gave at ended

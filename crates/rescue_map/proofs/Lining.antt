@@ -1,5 +1,5 @@
 -- The lines of a text.
-use Rattle.std.proofs.Common.{◌≡◌, ◌≢◌, ℕ, suc, ◌+◌, ◌<◌, ◌≤◌, ◌==◌, Bool, true, false, List, [], ◌∷◌, ◌++◌, length, Option, Some, None, if◌then◌else◌, refl, sym, ap, ◌∙◌, subst, arith, append_assoc, append-nil}
+use Rattle.std.proofs.Common.{◌≡◌, ◌≢◌, ℕ, ◌+◌, ◌<◌, ◌≤◌, ◌==◌, Bool, true, false, List, [], ◌∷◌, ◌++◌, length, Option, Some, None, if◌then◌else◌, refl, sym, ap, ◌∙◌, subst, arith, append_assoc, append-nil}
 use Rattle.std.proofs.lemmas.Bool.{ne_eqb, false≢true}
 use Rattle.std.proofs.lemmas.List.{length_push, nil_from_length}
 use Rattle.std.proofs.lemmas.List.Elements.{All-push}
@@ -8,8 +8,11 @@ use Rattle.rescue_map.specs.declared.words.LineWords.{LineWords}
 use Rattle.rescue_map.specs.Lines.{Line, lines_from, lines_of, words_of}
 use Rattle.rescue_map.specs.Map.{endless}
 use Rattle.rescue_map.specs.Scanning.{AreWords, Scanned}
-use Rattle.rescue_map.specs.Reads.{Gave, HasEnded, NoNewline, newline_of}
-use Rattle.rescue_map.proofs.Giving.{Gave-Gave, ended_same}
+use Rattle.qic_base.specs.LineBytes.{NoNewline}
+use Rattle.qic_base.specs.SourceCalls.{WereGiven, NoneLeft}
+use Rattle.rescue_map.specs.Reads.{newline_of}
+use Rattle.qic_base.proofs.Giving.{WereGiven-both, NoneLeft-now}
+use Rattle.qic_base.proofs.LineBytes.{NoNewline-tail, NoNewline-head}
 
 -- ---- a line that is read
 
@@ -19,25 +22,19 @@ pub record LineSoFar (old new : Option (List ℕ)) (scan : Scan) (count : ℕ) :
   pub none : NoNewline line
   pub long : length line ≡ count
   pub scanned : Scanned scan line
-  pub gave : Gave old new line
+  pub gave : WereGiven old new line
 
-pub next_byte : (old new now : Option (List ℕ)) (scan next : Scan) (count byte : ℕ) → (far : LineSoFar old new scan count) → byte ≢ 10 → Gave new now (byte ∷ []) →
+pub next_byte : (old new now : Option (List ℕ)) (scan next : Scan) (count byte : ℕ) → (far : LineSoFar old new scan count) → byte ≢ 10 → WereGiven new now (byte ∷ []) →
     ((line : List ℕ) → Scanned scan line → Scanned next (line ++ byte ∷ [])) → LineSoFar old now next (count + 1)
 next_byte old new now scan next count byte far other gave taken = record {
   line = far.line ++ byte ∷ [];
   none = All-push (λ b. b ≢ 10) far.line byte far.none other;
   long = length_push far.line byte ∙ ap (λ n. n + 1) far.long;
   scanned = taken far.line far.scanned;
-  gave = Gave-Gave far.line (byte ∷ []) old new now far.gave gave;
+  gave = WereGiven-both far.line (byte ∷ []) old new now far.gave gave;
 }
 
 -- ---- the lines of a text
-
-NoNewline-tail : (x : ℕ) (xs : List ℕ) → NoNewline (x ∷ xs) → NoNewline xs
-NoNewline-tail x xs none k d here = none (suc k) d (omega arith)
-
-NoNewline-head : (x : ℕ) (xs : List ℕ) → NoNewline (x ∷ xs) → x ≢ 10
-NoNewline-head x xs none = none 0 x (omega arith)
 
 -- bytes that are no newline belong to the line
 lines_from-bytes : (begun line rest : List ℕ) → NoNewline line → lines_from begun (line ++ rest) ≡ lines_from (begun ++ line) rest
@@ -93,9 +90,9 @@ abbrev pub TookLine : (old now : Option (List ℕ)) (words : LineWords) (ended :
 TookLine old now words ended =
     (bytes : List ℕ) × NoNewline bytes × (length bytes < endless) × (ended ≡ false → 0 < length bytes)
     × AreWords words (words_of record { bytes = bytes; ended = ended })
-    × Gave old now (bytes ++ newline_of ended) × (ended ≡ false → HasEnded now)
+    × WereGiven old now (bytes ++ newline_of ended) × (ended ≡ false → NoneLeft now)
 
-pub took_ended : (old new now : Option (List ℕ)) (scan : Scan) (count : ℕ) (words : LineWords) → (far : LineSoFar old new scan count) → count < endless → Gave new now (10 ∷ []) →
+pub took_ended : (old new now : Option (List ℕ)) (scan : Scan) (count : ℕ) (words : LineWords) → (far : LineSoFar old new scan count) → count < endless → WereGiven new now (10 ∷ []) →
     ((line : List ℕ) → Scanned scan line → AreWords words (words_of record { bytes = line; ended = true })) → TookLine old now words true
 took_ended old new now scan count words far few gave finished =
     let long = far.long in (
@@ -104,12 +101,12 @@ took_ended old new now scan count words far few gave finished =
       omega arith,
       (λ e. absurd (false≢true (sym e))),
       finished far.line far.scanned,
-      Gave-Gave far.line (10 ∷ []) old new now far.gave gave,
+      WereGiven-both far.line (10 ∷ []) old new now far.gave gave,
       (λ e. absurd (false≢true (sym e))),
     )
 
 pub took_last : (old new now : Option (List ℕ)) (scan : Scan) (count : ℕ) (words : LineWords) → (far : LineSoFar old new scan count) → count < endless → (count ≡ 0 → ⊥) →
-    HasEnded new → Gave new now [] →
+    NoneLeft new → WereGiven new now [] →
     ((line : List ℕ) → Scanned scan line → AreWords words (words_of record { bytes = line; ended = false })) → TookLine old now words false
 took_last old new now scan count words far few some ended gave finished =
     let long = far.long in (
@@ -118,16 +115,16 @@ took_last old new now scan count words far few some ended gave finished =
       omega arith,
       (λ e. omega (arith, some)),
       finished far.line far.scanned,
-      Gave-Gave far.line [] old new now far.gave gave,
-      (λ e. ended_same new now ended gave),
+      WereGiven-both far.line [] old new now far.gave gave,
+      (λ e. NoneLeft-now new now ended gave),
     )
 
-pub took_none : (old new now : Option (List ℕ)) (scan : Scan) (count : ℕ) → (far : LineSoFar old new scan count) → count ≡ 0 → HasEnded new → Gave new now [] →
-    HasEnded old × Gave old now []
+pub took_none : (old new now : Option (List ℕ)) (scan : Scan) (count : ℕ) → (far : LineSoFar old new scan count) → count ≡ 0 → NoneLeft new → WereGiven new now [] →
+    NoneLeft old × WereGiven old now []
 took_none old new now scan count far none ended gave =
     let empty : far.line ≡ [] = nil_from_length far.line (far.long ∙ none) in
-    let before : Gave old new [] = rw empty at far.gave in
-    (ended_before old new before ended, Gave-Gave [] [] old new now before gave) where
-      ended_before : (o p : Option (List ℕ)) → Gave o p [] → HasEnded p → HasEnded o
+    let before : WereGiven old new [] = rw empty at far.gave in
+    (ended_before old new before ended, WereGiven-both [] [] old new now before gave) where
+      ended_before : (o p : Option (List ℕ)) → WereGiven o p [] → NoneLeft p → NoneLeft o
       ended_before o None before ended = rw before tt
       ended_before o (Some bytes) before ended = rw before ended

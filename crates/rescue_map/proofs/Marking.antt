@@ -8,15 +8,15 @@ use Rattle.rescue_map.specs.Marking.{Marks}
 
 -- ---- a block more
 
-pub rescued_by : (blocks : List Block) (block : Block) (byte : ℕ) → Rescued (blocks ++ block ∷ []) byte → Rescued blocks byte ⊎ ((block.mark ≡ 43) × IsIn block byte)
+rescued_by : (blocks : List Block) (block : Block) (byte : ℕ) → Rescued (blocks ++ block ∷ []) byte → Rescued blocks byte ⊎ ((block.mark ≡ 43) × IsIn block byte)
 rescued_by [] block byte r = ⊎_elim (λ h. inr h) (λ none. absurd none) r
 rescued_by (b ∷ blocks) block byte r = ⊎_elim (λ h. inl (inl h)) (λ rest. ⊎_elim (λ h. inl (inr h)) (λ h. inr h) (rescued_by blocks block byte rest)) r
 
-pub still_rescued : (blocks : List Block) (block : Block) (byte : ℕ) → Rescued blocks byte → Rescued (blocks ++ block ∷ []) byte
+still_rescued : (blocks : List Block) (block : Block) (byte : ℕ) → Rescued blocks byte → Rescued (blocks ++ block ∷ []) byte
 still_rescued [] block byte r = absurd r
 still_rescued (b ∷ blocks) block byte r = ⊎_elim (λ h. inl h) (λ rest. inr (still_rescued blocks block byte rest)) r
 
-pub rescued_in : (blocks : List Block) (block : Block) (byte : ℕ) → block.mark ≡ 43 → IsIn block byte → Rescued (blocks ++ block ∷ []) byte
+rescued_in : (blocks : List Block) (block : Block) (byte : ℕ) → block.mark ≡ 43 → IsIn block byte → Rescued (blocks ++ block ∷ []) byte
 rescued_in [] block byte mark here = inl (mark, here)
 rescued_in (b ∷ blocks) block byte mark here = inr (rescued_in blocks block byte mark here)
 

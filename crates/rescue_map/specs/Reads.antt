@@ -1,7 +1,7 @@
 -- What the reading of a map took from a source, and how it ended (this project's own).
-use Rattle.std.specs.Prelude.{◌≡◌, ◌≢◌, ℕ, ◌<◌, ◌≤◌, Bool, false, List, [], ◌∷◌, ◌++◌, length, take, drop, All, Option, Some, None, IfSome, Result, Ok, Err, if◌then◌else◌}
+use Rattle.std.specs.Prelude.{◌≡◌, ℕ, ◌<◌, ◌≤◌, Bool, false, List, [], ◌∷◌, ◌++◌, length, take, drop, Option, Result, Ok, Err, if◌then◌else◌}
 use Rattle.std.specs.Option.{option_map}
-use Rattle.qic_base.specs.Source.{Meaning}
+use Rattle.qic_base.specs.Source.{Meaning, IsInput}
 use Rattle.rescue_map.specs.declared.ahead.Ahead.{Ahead}
 use Rattle.rescue_map.specs.declared.line.LineRead.{LineRead}
 use Rattle.rescue_map.specs.declared.line.LineRead.TheVariants as read
@@ -12,6 +12,8 @@ use Rattle.rescue_map.specs.Lines.{words_of}
 use Rattle.rescue_map.specs.Map.{endless, Reading, Blocks, Fault, reading_of}
 use Rattle.rescue_map.specs.Mask.{IsMaskOf}
 use Rattle.rescue_map.specs.Scanning.{AreWords}
+use Rattle.qic_base.specs.SourceCalls.{WereGiven, NoneLeft}
+use Rattle.qic_base.specs.LineBytes.{NoNewline}
 
 -- ---- bytes, where a source tells them
 
@@ -19,29 +21,12 @@ use Rattle.rescue_map.specs.Scanning.{AreWords}
 abbrev pub left_of : {S : Type 0} → Meaning S → S → (buffer : List ℕ) → Ahead → Option (List ℕ)
 left_of m source buffer ahead = option_map (λ rest. drop ahead.at (take ahead.end buffer) ++ rest) (m.left source)
 
--- of the bytes left these were given
-abbrev pub Gave : (old new : Option (List ℕ)) → List ℕ → Type 0
-Gave old new bytes = old ≡ option_map (λ rest. bytes ++ rest) new
-
--- none are left
-abbrev pub HasEnded : Option (List ℕ) → Type 0
-HasEnded left = IfSome left (λ bytes. bytes ≡ [])
-
 -- what is read ahead lies in the buffer
 pub record IsAhead (buffer : List ℕ) (ahead : Ahead) : Type 0 where
   pub ordered : ahead.at ≤ ahead.end
   pub within : ahead.end ≤ length buffer
 
--- a byte, or the end
-abbrev pub TakesByte : {E : Type 0} → (old new : Option (List ℕ)) → Result (Option ℕ) E → Type 0
-TakesByte old new (Ok None) = HasEnded old × Gave old new []
-TakesByte old new (Ok (Some byte)) = Gave old new (byte ∷ [])
-TakesByte old new (Err e) = Unit {0}
-
 -- ---- lines
-
-abbrev pub NoNewline : List ℕ → Type 0
-NoNewline bytes = All (λ b. b ≢ 10) bytes
 
 abbrev pub newline_of : (ended : Bool) → List ℕ
 newline_of ended = if ended then 10 ∷ [] else []
@@ -49,34 +34,30 @@ newline_of ended = if ended then 10 ∷ [] else []
 -- The end before any byte; a line with its words, and its newline or the end of the bytes behind it; or as many bytes as
 -- no line has.
 abbrev pub TakesLine : {E : Type 0} → (old new : Option (List ℕ)) → Result LineRead E → Type 0
-TakesLine old new (Ok read.End) = HasEnded old × Gave old new []
+TakesLine old new (Ok read.End) = NoneLeft old × WereGiven old new []
 TakesLine old new (Ok (read.Line words ended)) =
     (bytes : List ℕ) × NoNewline bytes × (length bytes < endless) × (ended ≡ false → 0 < length bytes)
     × AreWords words (words_of record { bytes = bytes; ended = ended })
-    × Gave old new (bytes ++ newline_of ended) × (ended ≡ false → HasEnded new)
+    × WereGiven old new (bytes ++ newline_of ended) × (ended ≡ false → NoneLeft new)
 TakesLine old new (Ok read.Endless) =
-    (bytes : List ℕ) × NoNewline bytes × (length bytes ≡ endless) × Gave old new bytes
+    (bytes : List ℕ) × NoNewline bytes × (length bytes ≡ endless) × WereGiven old new bytes
 TakesLine old new (Err e) = Unit {0}
 
 -- ---- maps
 
--- the text: what the source told, or some text where it tells none
-abbrev pub IsText : {S : Type 0} (m : Meaning S) (old : S) → List ℕ → Type 0
-IsText m old text = IfSome (m.left old) (λ bytes. text ≡ bytes)
-
 -- the text was read to its end, and is the map of blocks whose mask this is
 pub record ReadWhole {S : Type 0} (m : Meaning S) (old new : S) (mask : List ℕ) : Type 0 where
   pub text : List ℕ
-  pub told : IsText m old text
+  pub told : IsInput (m.left old) text
   pub blocks : List Block
   pub reading : reading_of text ≡ Blocks blocks
   pub marks : IsMaskOf blocks mask
-  pub ended : HasEnded (m.left new)
+  pub ended : NoneLeft (m.left new)
 
 -- the text has its first fault in this line
 pub record ReadFault {S : Type 0} (m : Meaning S) (old : S) (line : ℕ) : Type 0 where
   pub text : List ℕ
-  pub told : IsText m old text
+  pub told : IsInput (m.left old) text
   pub reading : reading_of text ≡ Fault line
 
 -- a map that is over: a reading, and the answer to it

@@ -1,8 +1,9 @@
 //! Bytes of a source, read ahead into a buffer.
 
 ghost use Rattle.std.specs.Prelude.{◌≡◌, ◌<◌, [], length, OnOk};
-ghost use Rattle.qic_base.specs.Terms.{HasCause};
-ghost use Rattle.rescue_map.specs.Reads.{left_of, Gave, HasEnded, IsAhead, TakesByte};
+ghost use Rattle.qic_base.specs.Cause.{HasCause};
+ghost use Rattle.qic_base.specs.SourceCalls.{WereGiven, NoneLeft, TakesByte};
+ghost use Rattle.rescue_map.specs.Reads.{left_of, IsAhead};
 
 use qic_base::{Source, SourceFailed};
 
@@ -21,10 +22,10 @@ fn refill<S: Source>(
 ) -> Result<(), SourceFailed>
     requires room { 0 < length buffer.old }
     requires within { IsAhead buffer.old ahead.old }
-    ensures gave { OnOk result (Gave (left_of S.means source.old buffer.old ahead.old)
-        (left_of S.means source.new buffer.new ahead.new) []) }
+    ensures gave { WereGiven (left_of S.means source.old buffer.old ahead.old)
+        (left_of S.means source.new buffer.new ahead.new) [] }
     ensures ended { OnOk result (ahead.new.at ≡ ahead.new.end →
-        HasEnded (left_of S.means source.new buffer.new ahead.new)) }
+        NoneLeft (left_of S.means source.new buffer.new ahead.new)) }
     ensures within { OnOk result (IsAhead buffer.new ahead.new) }
     ensures kept { S.means.keeps source.old source.new }
     ensures cause { HasCause (S.means.faults source.old) (S.means.faults source.new) result }

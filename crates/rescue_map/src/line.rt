@@ -1,7 +1,7 @@
 //! The lines of a map.
 
 ghost use Rattle.std.specs.Prelude.{◌<◌, length, OnOk};
-ghost use Rattle.qic_base.specs.Terms.{HasCause};
+ghost use Rattle.qic_base.specs.Cause.{HasCause};
 ghost use Rattle.rescue_map.specs.Reads.{left_of, IsAhead, TakesLine};
 
 use crate::ahead::{Ahead, next_byte};

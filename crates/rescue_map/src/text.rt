@@ -6,7 +6,7 @@ ghost use Rattle.rescue_map.specs.Laws.{most_words};
 ghost use Rattle.rescue_map.specs.Text.{is_marked, run_block, runs_from, runs_of, hex_digit, hex_digits, block_text, blocks_text, map_text};
 
 use crate::form::Block;
-use qic_base::{Sink, SinkFailed};
+use qic_base::{SECTOR, Sink, SinkFailed};
 
 /// The comments and the status line of every map that is written.
 const HEAD: &str = "# Mapfile. Created by tape_export
@@ -102,8 +102,8 @@ fn run_block(first: u32, end: u32, marked: bool) -> Block
     ensures { result ≡ run_block first end marked }
 {
     Block {
-        start: 1024 * u64::from(first),
-        size: 1024 * u64::from(end - first),
+        start: SECTOR as u64 * u64::from(first),
+        size: SECTOR as u64 * u64::from(end - first),
         mark: if marked { b'+' } else { b'-' },
     }
 }

@@ -39,7 +39,7 @@ cut_next count sector rest long =
     ap (λ (front : List ℕ). front ∷ first_chunks 1024 count (drop 1024 (sector ++ rest))) (take_at sector rest 1024 long)
     ∙ ap (λ (bytes : List ℕ). sector ∷ first_chunks 1024 count bytes) (lists.drop_at sector rest 1024 long)
 
-length-filled_up : (bytes : List ℕ) → length bytes ≤ 1024 → length (filled_up bytes) ≡ 1024
+pub length-filled_up : (bytes : List ℕ) → length bytes ≤ 1024 → length (filled_up bytes) ≡ 1024
 length-filled_up bytes few =
     let room : ℕ = 1024 - length bytes in
     omega (arith, lists.length-append bytes (replicate room 0), length-replicate {A = ℕ} room 0)
@@ -58,7 +58,7 @@ padding_apart count bytes padding few all =
     ∙ ap (λ (rest : List ℕ). bytes ++ rest) (sym (replicate-append-replicate room (1024 * count) 0))
     ∙ sym (append_assoc bytes (replicate room 0) (replicate (1024 * count) 0))
 
-pub cut_filled : (count : ℕ) (bytes : List ℕ) (padding : ℕ) → length bytes + padding ≡ 1024 * count →
+cut_filled : (count : ℕ) (bytes : List ℕ) (padding : ℕ) → length bytes + padding ≡ 1024 * count →
     first_chunks 1024 count (bytes ++ replicate padding 0) ≡ in_sectors count bytes
 cut_filled zero bytes padding all = refl
 cut_filled (suc count) bytes padding all =
@@ -79,7 +79,7 @@ cut_filled (suc count) bytes padding all =
           ∙ ap (λ (xs : List ℕ). filled_up xs ∷ in_sectors count (drop 1024 bytes)) (sym (take_all 1024 bytes few))
     ]
 
-pub are_filled : {S : Type 0} (m : Meaning S) (old new : S) (count most n : ℕ) (into : List ℕ) → length into ≡ 1024 * count →
+are_filled : {S : Type 0} (m : Meaning S) (old new : S) (count most n : ℕ) (into : List ℕ) → length into ≡ 1024 * count →
     IsFilled m old new most into n → AreFilled m old new count most (first_chunks 1024 count into) n
 are_filled m old new count most n into size filled = (
   filled.0,

@@ -1,7 +1,7 @@
 //! Sectors filled with the bytes of a source.
 
 ghost use Rattle.std.specs.Prelude.{◌≡◌, ◌≤◌, length, take, drop, IfOk};
-ghost use Rattle.qic_base.specs.Terms.{HasCause};
+ghost use Rattle.qic_base.specs.Cause.{HasCause};
 ghost use Rattle.sector_fill.specs.Filling.{FillsFront, FillsBytes, FillsSectors, IsFrontOf};
 
 use crate::flat::split_bytes;

@@ -5,7 +5,7 @@ ghost use Rattle.std.specs.Borrow.{sem};
 ghost use Rattle.cartridge_spec.specs.Volumes.{bytes_in};
 ghost use Rattle.sector_fill.specs.Flat.{LendsBytes};
 
-use qic_base::Sector;
+use qic_base::{SECTOR, Sector};
 use std::slice::from_raw_parts_mut;
 
 /// The bytes of the first `count` sectors, one sector behind the other, and the other sectors.
@@ -16,7 +16,7 @@ pub fn split_bytes(sectors: &mut [Sector], count: usize) -> (&mut [u8], &mut [Se
     ensures size { length result.0.now ≡ 1024 * count }
     ensures rest { result.1.now ≡ drop count sectors.old }
 {
-    let len = count * 1024;
+    let len = count * SECTOR;
     let rest = sectors.len() - count;
     let start = sectors.as_mut_ptr();
     unsafe {

@@ -5,7 +5,7 @@ use Rattle.std.proofs.lemmas.Bool.{cases_eq, cases_lt, ne_eqb}
 use Rattle.std.proofs.lemmas.List.{append_assoc, get_or-take, length-append, length-take-le, take_at, drop_at}
 use Rattle.std.proofs.lemmas.Nat.Bits.{bit_at_ones}
 use Rattle.std.proofs.lemmas.Option.{unwrap_or-slice_get}
-use Rattle.qic_base.specs.Terms.{IsLost}
+use Rattle.qic_base.specs.CartridgeTerms.{IsLost}
 use Rattle.qic_base.specs.Cartridge.{lost_places}
 use Rattle.qic_base.specs.Step.{Step, WriteSector}
 use Rattle.cartridge_spec.specs.Code.{parity_sectors}
@@ -21,7 +21,7 @@ use Rattle.segment_io.proofs.NamedWrites.{writes_of_block}
 use Rattle.std.proofs.lemmas.Nat.{pow_pos}
 
 -- the data and their parity are three sectors more
-pub length-with_parity : (count : ℕ) (sectors : List (List ℕ)) → count ≤ length sectors →
+length-with_parity : (count : ℕ) (sectors : List (List ℕ)) → count ≤ length sectors →
     length (with_parity (take count sectors)) ≡ count + 3
 length-with_parity count sectors room =
     let three : length (parity_sectors (take count sectors)) ≡ 3 = length-parity_sectors (take count sectors) in
@@ -29,7 +29,7 @@ length-with_parity count sectors room =
     length-append (take count sectors) (parity_sectors (take count sectors)) ∙ omega arith
 
 -- the data stand as they did
-pub completed_data : (count : ℕ) (sectors : List (List ℕ)) → count ≤ length sectors →
+completed_data : (count : ℕ) (sectors : List (List ℕ)) → count ≤ length sectors →
     take count (completed count sectors) ≡ take count sectors
 completed_data count sectors room =
     let shown : length (take count sectors) ≡ count = length-take-le count sectors room in
@@ -37,7 +37,7 @@ completed_data count sectors room =
     ∙ take_at (take count sectors) (parity_sectors (take count sectors) ++ drop (count + 3) sectors) count shown
 
 -- so does each of their sectors
-pub completed_sector : (count place : ℕ) (sectors : List (List ℕ)) → place < count → count ≤ length sectors →
+completed_sector : (count place : ℕ) (sectors : List (List ℕ)) → place < count → count ≤ length sectors →
     sector_at (completed count sectors) place ≡ sector_at sectors place
 completed_sector count place sectors h room =
     unwrap_or-slice_get (completed count sectors) place []
@@ -55,7 +55,7 @@ completed_twice count sectors room =
     (drop_at (with_parity (take count sectors)) (drop (count + 3) sectors) (count + 3) (length-with_parity count sectors room))
 
 -- a usable sector has one of the places of usable sectors
-pub place_is_usable : (usable index place : ℕ) → index < 32 → place ≡ length (lost_places usable index) → IsLost usable index →
+place_is_usable : (usable index place : ℕ) → index < 32 → place ≡ length (lost_places usable index) → IsLost usable index →
     place < usable_count usable
 place_is_usable usable index place h at is =
     let next : length (lost_places usable (index + 1)) ≡ length (lost_places usable index) + 1 = count_more usable index is in
@@ -93,7 +93,7 @@ next_is_written segment usable index count place old new parity is at same room 
     ∙ ap (λ (held : List ℕ). WriteSector segment index held ∷ []) bytes
 
 -- so many data sectors, completed, are the block of a segment and what stands behind it
-pub completed_is_block : (usable count : ℕ) (sectors : List (List ℕ)) → count ≡ data_count usable → 4 ≤ usable_count usable →
+completed_is_block : (usable count : ℕ) (sectors : List (List ℕ)) → count ≡ data_count usable → 4 ≤ usable_count usable →
     completed count sectors ≡ block_in usable sectors ++ drop (usable_count usable) sectors
 completed_is_block usable count sectors is least =
     let whole : count + 3 ≡ usable_count usable = omega arith in

@@ -9,7 +9,7 @@ use Rattle.std.proofs.lemmas.Option.{slice_get_within}
 use Rattle.std.proofs.lemmas.Nat.{or_lt}
 use Rattle.std.proofs.Math.Pow.{pow-lt}
 use Rattle.qic_base.specs.Cartridge.{Cartridge, view_at, lost_places}
-use Rattle.qic_base.specs.Terms.{IsLost}
+use Rattle.qic_base.specs.CartridgeTerms.{IsLost}
 use Rattle.qic_base.proofs.LostSetLaws.{lost_places-lost, lost_places-kept}
 use Rattle.qic_base.specs.TapeCalls.{Reads}
 use Rattle.qic_base.specs.declared.tape.SectorRead.{SectorRead}
@@ -22,12 +22,12 @@ use Rattle.cartridge_laws.proofs.Writing.{slice_get-set_other, slice_get-set_sam
 
 -- ---- one element more
 
-pub slice_get-front : {A : Type 0} (xs : List A) (y : A) (i : ℕ) → i < length xs → slice_get (xs ++ y ∷ []) i ≡ slice_get xs i
+slice_get-front : {A : Type 0} (xs : List A) (y : A) (i : ℕ) → i < length xs → slice_get (xs ++ y ∷ []) i ≡ slice_get xs i
 slice_get-front [] y i h = absurd (omega arith)
 slice_get-front (x ∷ xs) y zero h = refl
 slice_get-front (x ∷ xs) y (suc i) h = slice_get-front xs y i (omega arith)
 
-pub slice_get-last : {A : Type 0} (xs : List A) (y : A) → slice_get (xs ++ y ∷ []) (length xs) ≡ Some y
+slice_get-last : {A : Type 0} (xs : List A) (y : A) → slice_get (xs ++ y ∷ []) (length xs) ≡ Some y
 slice_get-last [] y = refl
 slice_get-last (x ∷ xs) y = slice_get-last xs y
 
@@ -41,7 +41,7 @@ gathered_none sectors = record {
 }
 
 -- an unreadable cell lies within them
-pub unreadable_within : (cells : List SectorView) (i : ℕ) → IsUnreadableAt cells i → i < length cells
+unreadable_within : (cells : List SectorView) (i : ℕ) → IsUnreadableAt cells i → i < length cells
 unreadable_within [] i h = absurd h
 unreadable_within (cell ∷ cells) zero h = omega arith
 unreadable_within (cell ∷ cells) (suc i) h = let rest : i < length cells = unreadable_within cells i h in omega arith
@@ -122,7 +122,7 @@ at_end xs y z i past at =
     let within : i < length (xs ++ y ∷ []) = slice_get_within (xs ++ y ∷ []) i z at in
     omega (arith, length_push xs y)
 
-pub gathered_readable : (cells : List SectorView) (lost : ℕ) (sectors : List (List ℕ)) (bytes : List ℕ) →
+gathered_readable : (cells : List SectorView) (lost : ℕ) (sectors : List (List ℕ)) (bytes : List ℕ) →
     length cells < length sectors → Gathered cells lost sectors →
     Gathered (cells ++ Holds bytes ∷ []) lost (set sectors (length cells) bytes)
 gathered_readable cells lost sectors bytes room g = record {
@@ -142,7 +142,7 @@ gathered_readable cells lost sectors bytes room g = record {
       ];
 }
 
-pub gathered_unreadable : (cells : List SectorView) (lost : ℕ) (sectors : List (List ℕ)) (cell : SectorView) (now : List ℕ) →
+gathered_unreadable : (cells : List SectorView) (lost : ℕ) (sectors : List (List ℕ)) (cell : SectorView) (now : List ℕ) →
     length cells < 32 → IsUnreadable cell → Gathered cells lost sectors →
     Gathered (cells ++ cell ∷ []) (with_place lost (length cells)) (set sectors (length cells) now)
 gathered_unreadable cells lost sectors cell now few unreadable g = record {

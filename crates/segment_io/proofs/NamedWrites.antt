@@ -6,7 +6,7 @@ use Rattle.std.proofs.lemmas.Bool.{cases_eq, ne_eqb}
 use Rattle.std.proofs.lemmas.List.{append-nil, map-append, map_push, length-append, get_or-take, length-take-le, take_at}
 use Rattle.std.proofs.lemmas.List.FromFn.{fill_by_all}
 use Rattle.std.proofs.lemmas.Option.{unwrap_or-slice_get}
-use Rattle.qic_base.specs.Terms.{IsLost}
+use Rattle.qic_base.specs.CartridgeTerms.{IsLost}
 use Rattle.qic_base.specs.Cartridge.{lost_places}
 use Rattle.qic_base.specs.Step.{Step, WriteSector}
 use Rattle.qic_base.proofs.LostSetLaws.{lost_places-lost, lost_places-kept}
@@ -33,7 +33,7 @@ writes_of_map segment f g [] = refl
 writes_of_map segment f g (p ∷ places) =
     ap (λ (steps : List Step). WriteSector segment (f p) (g p) ∷ steps) (writes_of_map segment f g places)
 
-pub named_writes_are : (segment usable places : ℕ) (sectors : List (List ℕ)) →
+named_writes_are : (segment usable places : ℕ) (sectors : List (List ℕ)) →
     named_writes segment usable places sectors ≡ writes_below segment usable places sectors 32
 named_writes_are segment usable places sectors =
     writes_of_map segment (λ p. get_or (usable_places usable) p 0) (λ p. sector_at sectors p) (lost_places places 32)
@@ -44,7 +44,7 @@ unfolding lost_places
 writes_below_none segment usable places sectors = refl
 
 -- one place more, that of a usable sector
-pub writes_below_more : (segment usable places : ℕ) (sectors : List (List ℕ)) (index place : ℕ) →
+writes_below_more : (segment usable places : ℕ) (sectors : List (List ℕ)) (index place : ℕ) →
     IsLost usable index → index < 32 → place ≡ length (lost_places usable index) →
     writes_below segment usable places sectors (place + 1)
     ≡ writes_below segment usable places sectors place ++ named_write segment index places place sectors
@@ -109,7 +109,7 @@ writes_below_all segment usable places sectors low =
 -- ---- the writes of all places
 
 -- the writes of all usable sectors, ascending
-pub writes_of_all : (segment usable : ℕ) (sectors : List (List ℕ)) → usable_count usable ≤ length sectors →
+writes_of_all : (segment usable : ℕ) (sectors : List (List ℕ)) → usable_count usable ≤ length sectors →
     named_writes segment usable (2 ^ usable_count usable - 1) sectors
     ≡ writes_of segment (usable_places usable) (take (usable_count usable) sectors)
 writes_of_all segment usable sectors room =

@@ -1,6 +1,6 @@
 -- What gathered cells say: the lost places are as many as the unreadable cells, and the code blocks of the sectors that
 -- are not lost are those of the cells.
-use Rattle.std.proofs.Common.{◌≡◌, ℕ, zero, suc, ◌+◌, ◌-◌, ◌<◌, ◌≤◌, refl, sym, ◌∙◌, ap, subst, ◌↔◌, Result, Err, arith, Bool, true, false, cond, List, [], ◌∷◌, length, take, slice_get, Some}
+use Rattle.std.proofs.Common.{◌≡◌, ℕ, zero, suc, ◌+◌, ◌-◌, ◌<◌, ◌≤◌, refl, sym, ◌∙◌, ap, subst, ◌↔◌, Result, Err, arith, Bool, true, false, List, [], ◌∷◌, length, take, slice_get, Some}
 use Rattle.std.proofs.lemmas.Bool.{ne_eqb, false≢true}
 use Rattle.std.proofs.lemmas.List.{length-take-le}
 use Rattle.std.proofs.lemmas.Option.{slice_get_within}
@@ -11,9 +11,9 @@ use Rattle.qic_base.specs.declared.tape.SectorView.TheVariants.{Blank, Defect, L
 use Rattle.cartridge_spec.specs.Code.{IsCodeBlock}
 use Rattle.gf256_qic.specs.Code.{AgreesOutside, IsSolvable, lost_below}
 use Rattle.erasure_solve.specs.Lost.{is_lost, lost_count}
-use Rattle.erasure_solve.proofs.Places.{is_lost_from, lost_below-places}
+use Rattle.erasure_solve.proofs.Places.{is_lost_from, lost_below-places, one_if}
 use Rattle.cartridge_spec.specs.Says.{Agrees, unreadable_count, Says, Data, LostSectors, Mismatch}
-use Rattle.cartridge_laws.specs.Terms.{data_of}
+use Rattle.cartridge_laws.specs.Segment.{data_of}
 use Rattle.cartridge_laws.proofs.Cells.{unreadable_at, readable_at, lost_below-cells, IsReadable}
 use Rattle.segment_io.specs.Gathered.{IsUnreadableAt, NamesUnreadable, Gathered}
 use Rattle.segment_io.specs.declared.fault.SegFault.{SegFault}
@@ -21,7 +21,7 @@ use Rattle.segment_io.specs.declared.fault.SegFault.TheVariants as fault
 use Rattle.segment_io.specs.Reading.{HasSolved}
 use Rattle.segment_io.proofs.GatheredCells.{lost_within}
 
-slice_get-take : {A : Type 0} (n : ℕ) (xs : List A) (i : ℕ) → i < n → slice_get (take n xs) i ≡ slice_get xs i
+pub slice_get-take : {A : Type 0} (n : ℕ) (xs : List A) (i : ℕ) → i < n → slice_get (take n xs) i ≡ slice_get xs i
 slice_get-take zero xs i h = absurd (omega arith)
 slice_get-take (suc n) [] i h = refl
 slice_get-take (suc n) (x ∷ xs) zero h = refl
@@ -61,9 +61,6 @@ same_test cells lost i names h = by_test (unreadable_at cells i) refl
         let held : IsReadable cells i = readable_at cells i h is in
         kept_at cells lost i held.0 names held.1 ∙ sym is
 
-abbrev one_if : Bool → ℕ
-one_if b = cond b 1 0
-
 -- sets that agree below a number have as many lost places below it
 lost_below-same : (p q : ℕ → Bool) (n : ℕ) → ((i : ℕ) → i < n → p i ≡ q i) → lost_below p n ≡ lost_below q n
 unfolding lost_below
@@ -88,7 +85,7 @@ count_of_lost cells lost few names =
 
 -- ---- which code blocks agree
 
-pub agrees_with_cells : (cells : List SectorView) (lost n : ℕ) (sectors block : List (List ℕ)) → length cells ≡ n → n ≤ length sectors →
+agrees_with_cells : (cells : List SectorView) (lost n : ℕ) (sectors block : List (List ℕ)) → length cells ≡ n → n ≤ length sectors →
     Gathered cells lost sectors → AgreesOutside (is_lost lost) (take n sectors) block → Agrees cells block
 agrees_with_cells cells lost n sectors block count room g agrees =
     let long : length (take n sectors) ≡ n = length-take-le n sectors room in
@@ -101,7 +98,7 @@ agrees_with_cells cells lost n sectors block count room g agrees =
           ∙ g.readable i bytes at;
     }
 
-pub agrees_with_sectors : (cells : List SectorView) (lost n : ℕ) (sectors block : List (List ℕ)) → length cells ≡ n → n ≤ length sectors →
+agrees_with_sectors : (cells : List SectorView) (lost n : ℕ) (sectors block : List (List ℕ)) → length cells ≡ n → n ≤ length sectors →
     Gathered cells lost sectors → Agrees cells block → AgreesOutside (is_lost lost) (take n sectors) block
 agrees_with_sectors cells lost n sectors block count room g agrees =
     let long : length (take n sectors) ≡ n = length-take-le n sectors room in

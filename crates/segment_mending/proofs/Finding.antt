@@ -6,18 +6,18 @@ use Rattle.cartridge_laws.proofs.ChangeViews.{held_before, worn_reads_no_more}
 use Rattle.cartridge_laws.proofs.Places.{usable_small}
 use Rattle.cartridge_laws.proofs.Sayings.{says_is_function}
 use Rattle.cartridge_laws.proofs.Segments.{count_of_cells}
-use Rattle.cartridge_laws.specs.Segment.{IsUnreadable}
+use Rattle.cartridge_laws.specs.Segment.{IsUnreadable, data_of}
 use Rattle.cartridge_spec.specs.Says.{Saying, Data, LostSectors, Mismatch, Says, unreadable_count}
-use Rattle.cartridge_laws.specs.Terms.{data_of}
 use Rattle.cartridge_spec.specs.Shape.{is_unreadable, usable_places, usable_count}
 use Rattle.cartridge_spec.specs.Volumes.{worn}
 use Rattle.command_laws.proofs.ScrubOneWrong.{IsPlace, wrong_place, cell_unworn, cell_worn, worn_count}
 use Rattle.command_laws.proofs.ScrubSeen.{worn_here, worn_elsewhere}
-use Rattle.command_laws.proofs.ScrubStanding.{cell_at, same_place}
+use Rattle.command_laws.proofs.ScrubStanding.{same_place}
+use Rattle.cartridge_laws.proofs.Writing.{cell_at}
 use Rattle.command_spec.specs.Scrub.{Looked, cells_at, reads, IsSearched, IsWrong, HasFound}
 use Rattle.command_spec.specs.declared.depth.Depth.{Depth}
 use Rattle.qic_base.specs.Cartridge.{Cartridge, view_at}
-use Rattle.qic_base.specs.Terms.{IsLost}
+use Rattle.qic_base.specs.CartridgeTerms.{IsLost}
 use Rattle.qic_base.specs.Step.{worn_view}
 use Rattle.qic_base.specs.declared.tape.SectorView.{SectorView}
 use Rattle.qic_base.specs.declared.tape.SectorView.TheVariants.{Blank, Defect, Lost, Holds}

@@ -1,5 +1,5 @@
 -- The cells of a segment whose sectors were gathered: they are read as those of the sectors, of which the lost ones can't be.
-use Rattle.std.proofs.Common.{◌≡◌, ℕ, zero, suc, ◌/◌, ◌%◌, ◌^◌, ◌<◌, ◌≤◌, ◌↔◌, ◌++◌, refl, sym, ◌∙◌, ap, subst, arith, false, List, [], ◌∷◌, length, take, drop, slice_get, get_or, Option, Some, None, IsSomeAnd, Result, Ok, Err}
+use Rattle.std.proofs.Common.{◌≡◌, ℕ, ◌/◌, ◌%◌, ◌^◌, ◌<◌, ◌≤◌, ◌↔◌, ◌++◌, refl, sym, ◌∙◌, ap, subst, arith, false, List, length, take, drop, slice_get, get_or, Option, Some, None, IsSomeAnd, Result, Ok, Err}
 use Rattle.std.proofs.lemmas.Bool.{ne_eqb, false≢true}
 use Rattle.std.proofs.lemmas.List.{length-take-le, take_at}
 use Rattle.std.proofs.lemmas.Option.{slice_get_within, slice_get-get_or}
@@ -21,12 +21,7 @@ use Rattle.silent_locate.specs.declared.Located.{Located}
 use Rattle.silent_locate.specs.declared.Located.TheVariants.{Agrees, Wrong}
 use Rattle.silent_locate.specs.declared.LocateFault.{LocateFault}
 use Rattle.silent_locate.specs.declared.LocateFault.TheVariants.{TooMany, Mismatch}
-
-slice_get-take : {A : Type 0} (n : ℕ) (xs : List A) (i : ℕ) → i < n → slice_get (take n xs) i ≡ slice_get xs i
-slice_get-take zero xs i h = absurd (omega arith)
-slice_get-take (suc n) [] i h = refl
-slice_get-take (suc n) (x ∷ xs) zero h = refl
-slice_get-take (suc n) (x ∷ xs) (suc i) h = slice_get-take n xs i (omega arith)
+use Rattle.segment_io.proofs.SolvedCells.{slice_get-take}
 
 -- ---- one cell
 
@@ -56,7 +51,7 @@ holds_kept cells lost i sectors bytes g at =
 
 -- ---- all cells
 
-pub gathered_alike : (cells : List SectorView) (lost n : ℕ) (sectors : List (List ℕ)) → length cells ≡ n → n ≤ length sectors →
+gathered_alike : (cells : List SectorView) (lost n : ℕ) (sectors : List (List ℕ)) → length cells ≡ n → n ≤ length sectors →
     Gathered cells lost sectors → ReadAlike (cells_without lost (take n sectors)) cells
 gathered_alike cells lost n sectors count room g =
     let long : length (take n sectors) ≡ n = length-take-le n sectors room in
@@ -75,7 +70,7 @@ gathered_alike cells lost n sectors count room g =
     }
 
 -- cells that are read alike are found to be the same
-pub located_alike : (cells others : List SectorView) (block : List (List ℕ)) (result : Result Located LocateFault) → ReadAlike cells others →
+located_alike : (cells others : List SectorView) (block : List (List ℕ)) (result : Result Located LocateFault) → ReadAlike cells others →
     Locates cells block result → Locates others block result
 located_alike cells others block (Ok Agrees) alike found = deep_by_readable cells others block None alike found
 located_alike cells others block (Ok (Wrong place)) alike found = deep_by_readable cells others block (Some place) alike found

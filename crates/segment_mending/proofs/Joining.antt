@@ -1,42 +1,31 @@
 -- How looking at some segments and then at others joins.
 use Rattle.std.proofs.Common.{◌≡◌, ℕ, ◌+◌, ◌≤◌, List, [], ◌++◌, length, refl, sym, ap, ◌∙◌, subst, arith, Option, Some, None, IfSome, Result, Ok, Err}
-use Rattle.std.specs.Option.{option_map}
 use Rattle.std.proofs.lemmas.List.{length-append}
 use Rattle.qic_base.specs.Cartridge.{Cartridge}
-use Rattle.qic_base.specs.Step.{Step, effects}
+use Rattle.qic_base.specs.Step.{Step}
 use Rattle.qic_base.specs.Sink as sinks
 use Rattle.qic_base.specs.Tape as tapes
 use Rattle.qic_base.specs.TapeCalls as tape_calls
 use Rattle.qic_base.proofs.Steps.{Tells-map}
 use Rattle.qic_base.proofs.Writing.{TakesBoth}
 use Rattle.qic_base.specs.Acts.{Act, steps_of, text_of, Outside, Failing, TapeFails, SinkFails, Cut}
-use Rattle.qic_base.specs.Terms.{no_source}
+use Rattle.qic_base.specs.Alone.{no_source}
 use Rattle.qic_base.proofs.Joins.{steps_of-append, text_of-append, nothing_went, went_both, went_then_cut, cut_is_longer}
 use Rattle.cartridge_spec.specs.Settling.{changed_by}
-use Rattle.cartridge_laws.proofs.FormatWriting.{effects-some}
 use Rattle.command_spec.specs.Scrub.{Looked, Counts, unread_count, Finding, FindInTurn, finding_acts, lines_for, sayings_of}
 use Rattle.command_spec.specs.declared.depth.Depth.{Depth}
 use Rattle.segment_io.proofs.Going.{tells_then}
 use Rattle.segment_mending.specs.declared.fault.ScrubFault.{ScrubFault}
 use Rattle.segment_mending.specs.declared.fault.ScrubFault.TheVariants as fault
 use Rattle.segment_mending.specs.Looking.{AreActs, Counted, HasLooked, LookingCut, Looks, HasFew}
-use Rattle.segment_mending.proofs.Parts.{behind, one_turn, turns_join, acts_join, TurnsOf, turns_part, as_many, may_join, lines_join, unread_join, unread_most, mismatches, mismatches_may, line_acts, text_of_lines}
+use Rattle.segment_mending.proofs.Parts.{behind, turns_join, acts_join, TurnsOf, turns_part, as_many, may_join, lines_join, unread_join, unread_most, mismatches, mismatches_may, line_acts, text_of_lines}
+use Rattle.command_laws.proofs.ScrubOneWrong.{one_turn}
+use Rattle.command_laws.proofs.MadeTelling.{tells_before}
 
 -- ---- what is told
 
--- a fact told behind some steps, of the cartridge before them
-pub tells_before : {T : Type 0} (t : tapes.Meaning T) (a b : T) (steps : List Step) (P : Cartridge → Type 0) → tapes.Done t a b steps → tape_calls.Tells t b P →
-    tape_calls.Tells t a (λ c. P (changed_by steps c))
-tells_before t a b steps P did told = by_cases (t.told a) (subst (λ (o : Option (Option Cartridge)). IfSome o (λ held. IfSome held P)) did.told told)
-  where
-    by_cases : (o : Option (Option Cartridge)) → IfSome (option_map (effects steps) o) (λ held. IfSome held P) →
-        IfSome o (λ held. IfSome held (λ c. P (changed_by steps c)))
-    by_cases None fact = tt
-    by_cases (Some None) fact = tt
-    by_cases (Some (Some c)) fact = subst (λ (held : Option Cartridge). IfSome held P) (effects-some steps c) fact
-
 -- what follows of two told facts
-pub tells_both : {T : Type 0} (t : tapes.Meaning T) (a : T) (P Q R : Cartridge → Type 0) → ((c : Cartridge) → P c → Q c → R c) →
+tells_both : {T : Type 0} (t : tapes.Meaning T) (a : T) (P Q R : Cartridge → Type 0) → ((c : Cartridge) → P c → Q c → R c) →
     tape_calls.Tells t a P → tape_calls.Tells t a Q → tape_calls.Tells t a R
 tells_both t a P Q R follows one other = tells_then t a Q R (Tells-map t a P (λ c. Q c → R c) follows one) other
 

@@ -11,11 +11,11 @@ use Rattle.cartridge_spec.specs.Table.{Entry}
 use Rattle.cartridge_laws.specs.Table.{LieBehind}
 use Rattle.cartridge_spec.specs.Volumes.{carrying, carrying_segments}
 use Rattle.command_spec.specs.Scrub.{Looked, looked_volumes}
-use Rattle.command_laws.specs.CommandTerms.{looked_segments}
+use Rattle.command_laws.specs.ScrubTerms.{looked_segments}
 
 -- ---- the segments of a volume
 
-pub range_part : (a m n : ℕ) → range_with_len a (m + n) ≡ range_with_len a m ++ range_with_len (a + m) n
+range_part : (a m n : ℕ) → range_with_len a (m + n) ≡ range_with_len a m ++ range_with_len (a + m) n
 range_part a zero n =
     let none : zero + n ≡ n = omega arith in
     let here : a ≡ a + zero = omega arith in
@@ -61,7 +61,7 @@ pub none_carries : (words : List ℕ) (segment : ℕ) → usable_count (mask_at 
 none_carries words segment few =
     one_more words segment ∙ ap (λ (b : Bool). cond b (segment ∷ []) []) (lt-leb 4 (usable_count (mask_at words segment)) few)
 
-pub segments_join : (words xs ys : List ℕ) → looked_segments words (xs ++ ys) ≡ looked_segments words xs ++ looked_segments words ys
+segments_join : (words xs ys : List ℕ) → looked_segments words (xs ++ ys) ≡ looked_segments words xs ++ looked_segments words ys
 segments_join words [] ys = refl
 segments_join words (x ∷ xs) ys = ap (λ (ls : List Looked). record { segment = x; mask = mask_at words x } ∷ ls) (segments_join words xs ys)
 
@@ -101,7 +101,7 @@ length-below words start segment =
 
 -- ---- volumes
 
-pub volumes_join : (words : List ℕ) (xs ys : List Entry) → looked_volumes words (xs ++ ys) ≡ looked_volumes words xs ++ looked_volumes words ys
+volumes_join : (words : List ℕ) (xs ys : List Entry) → looked_volumes words (xs ++ ys) ≡ looked_volumes words xs ++ looked_volumes words ys
 volumes_join words [] ys = refl
 volumes_join words (x ∷ xs) ys =
     let segments : List Looked = looked_segments words (carrying_segments words x) in

@@ -5,9 +5,8 @@ use Rattle.qic_base.specs.Acts.{Act, steps_of, text_of}
 use Rattle.cartridge_spec.specs.Says.{Saying, Mismatch}
 use Rattle.cartridge_spec.specs.Settling.{changed_by}
 use Rattle.cartridge_laws.proofs.FormatWriting.{changed_by-append}
-use Rattle.command_laws.proofs.ScrubOneWrong.{finds_one}
 use Rattle.command_spec.specs.Scrub.{Looked, reads, unread_count, Finding, FindInTurn, MayBeFound, finding_acts, steps_for, line_for, lines_for, sayings_of}
-use Rattle.command_laws.specs.Terms.{find_act}
+use Rattle.command_laws.specs.ScrubTerms.{find_act}
 use Rattle.command_spec.specs.declared.depth.Depth.{Depth}
 
 -- the cartridge behind the acts of some segments
@@ -20,20 +19,6 @@ behind_first c l ls f fs =
     let d : Cartridge = changed_by (steps_for c l f) c in changed_by-append (steps_for c l f) (steps_of (finding_acts d ls fs)) c
 
 -- ---- one behind the other
-
--- only one list is found of them
-pub one_turn : (depth : Depth) (ls : List Looked) (c : Cartridge) (fs gs : List Finding) → FindInTurn depth c ls fs → FindInTurn depth c ls gs → fs ≡ gs
-one_turn depth [] c [] [] first other = refl
-one_turn depth [] c [] (g ∷ gs) first other = absurd other
-one_turn depth [] c (f ∷ fs) gs first other = absurd first
-one_turn depth (l ∷ ls) c [] gs first other = absurd first
-one_turn depth (l ∷ ls) c (f ∷ fs) [] first other = absurd other
-one_turn depth (l ∷ ls) c (f ∷ fs) (g ∷ gs) first other =
-    let same : f ≡ g = finds_one depth c l f g first.0 other.0 in
-    let rest : fs ≡ gs =
-    one_turn depth ls (changed_by (steps_for c l f) c) fs gs first.1
-    (subst (λ (x : Finding). FindInTurn depth (changed_by (steps_for c l x) c) ls gs) (sym same) other.1) in
-    ap (λ (x : Finding). x ∷ fs) same ∙ ap (λ (xs : List Finding). g ∷ xs) rest
 
 pub turns_join : (depth : Depth) (xs ys : List Looked) (c : Cartridge) (fs gs : List Finding) → FindInTurn depth c xs fs →
     FindInTurn depth (behind c xs fs) ys gs → FindInTurn depth c (xs ++ ys) (fs ++ gs)

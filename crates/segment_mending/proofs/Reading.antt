@@ -6,18 +6,18 @@ use Rattle.qic_base.specs.Step.{Step}
 use Rattle.qic_base.proofs.Steps.{Tells-map}
 use Rattle.qic_base.proofs.Writing.{TakesBoth}
 use Rattle.qic_base.specs.Acts.{Act, Outside, Failing, TapeFails, SinkFails, Went, Cut}
-use Rattle.qic_base.specs.Terms.{no_source, around}
+use Rattle.qic_base.specs.Alone.{no_source, around}
 use Rattle.qic_base.proofs.Joins.{went_both, went_then_cut, cut_is_longer, sink_cut_one}
 use Rattle.cartridge_spec.specs.Says.{Saying, Data, LostSectors, Mismatch}
 use Rattle.cartridge_spec.specs.Shape.{usable_count}
-use Rattle.cartridge_laws.specs.Terms.{sectors_of}
+use Rattle.cartridge_laws.specs.Segment.{sectors_of}
 use Rattle.cartridge_laws.specs.Writes.{named_writes}
 use Rattle.cartridge_laws.proofs.Places.{count_below}
 use Rattle.command_spec.specs.Scrub.{Looked, Counts, reads, steps_in, fault_line, line_in, Finding, FindInTurn, finding_acts, line_for, steps_for, without, wrong_line}
 use Rattle.command_spec.specs.declared.depth.Depth.{Depth}
 use Rattle.command_laws.proofs.ScrubNamed.{steps_by_places, count_of_named}
 use Rattle.command_laws.proofs.ScrubOneWrong.{finds_one}
-use Rattle.command_laws.specs.Terms.{header_line}
+use Rattle.segment_mending.specs.Lines.{header_line}
 use Rattle.segment_io.proofs.Going.{tells_always}
 use Rattle.segment_mending.specs.declared.fault.ScrubFault.{ScrubFault}
 use Rattle.segment_mending.specs.declared.locating.Found.TheVariants.{Reads, Fails}

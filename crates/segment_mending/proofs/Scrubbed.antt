@@ -4,11 +4,11 @@ use Rattle.qic_base.specs.Cartridge.{Cartridge}
 use Rattle.qic_base.proofs.Steps.{Tells-map, Done-nothing}
 use Rattle.qic_base.proofs.Writing.{TakesBoth}
 use Rattle.qic_base.specs.Acts.{Act, steps_of, text_of, Outside, Failing, TapeFails, SinkFails, Went, Cut}
-use Rattle.qic_base.specs.Terms.{no_source, around}
+use Rattle.qic_base.specs.Alone.{no_source, around}
 use Rattle.qic_base.proofs.Joins.{text_of-append, went_both, went_then_cut, cut_is_longer, sink_cut_one}
 use Rattle.cartridge_spec.specs.Table.{Entry}
 use Rattle.command_spec.specs.Scrub.{Looked, Counts, looked_at, unread_count, counts_line, Finding, FindInTurn, ScrubsAs, IsTextFor, finding_acts, sayings_of}
-use Rattle.command_laws.specs.Terms.{last_act, counts_for}
+use Rattle.command_laws.specs.ScrubTerms.{last_act, counts_for}
 use Rattle.command_spec.specs.declared.depth.Depth.{Depth}
 use Rattle.command_laws.proofs.ScrubOneWrong.{form_is_function}
 use Rattle.segment_mending.specs.declared.fault.ScrubFault.{ScrubFault}

@@ -1,3 +1,4 @@
+pub mod Lines
 pub mod Locating
 pub mod Looking
 pub mod Mending

@@ -2,14 +2,14 @@
 use Rattle.std.specs.Prelude.{◌≡◌, ℕ, ◌<◌, ◌≤◌, ◌^◌, List, [], ◌∷◌, take, Option, Some, None, Result, Ok, Err, true, false}
 use Rattle.cartridge_spec.specs.Code.{IsCodeBlock}
 use Rattle.cartridge_spec.specs.Says.{Saying, Data, LostSectors, unreadable_count}
-use Rattle.cartridge_laws.specs.Terms.{data_of}
+use Rattle.cartridge_laws.specs.Segment.{data_of}
 use Rattle.cartridge_spec.specs.Shape.{usable_count}
 use Rattle.command_spec.specs.Scrub.{Looked, cells_at, reads, Finding, MayFind, without, wrong_line}
-use Rattle.command_laws.specs.Terms.{Finds}
+use Rattle.command_laws.specs.ScrubTerms.{Finds}
 use Rattle.command_spec.specs.declared.depth.Depth.{Depth}
 use Rattle.cartridge_laws.specs.Writes.{named_writes}
 use Rattle.qic_base.specs.Acts.{Act, Outside, TapeFails, SinkFails, Went, Cut}
-use Rattle.qic_base.specs.Terms.{no_source}
+use Rattle.qic_base.specs.Alone.{no_source}
 use Rattle.qic_base.specs.Cartridge.{Cartridge}
 use Rattle.qic_base.specs.declared.tape.SectorView.{SectorView}
 use Rattle.segment_io.specs.Gathered.{NamesUnreadable}

@@ -4,7 +4,7 @@ use Rattle.qic_base.specs.Sink as sinks
 use Rattle.qic_base.specs.Tape as tapes
 use Rattle.qic_base.specs.TapeCalls as tape_calls
 use Rattle.qic_base.specs.Acts.{Act, steps_of, text_of, Outside, Failing, TapeFails, SinkFails, Went, Cut}
-use Rattle.qic_base.specs.Terms.{no_source}
+use Rattle.qic_base.specs.Alone.{no_source}
 use Rattle.command_spec.specs.Scrub.{Looked, Counts, unread_count, Finding, FindInTurn, MayBeFound, finding_acts, lines_for, sayings_of}
 use Rattle.command_spec.specs.declared.depth.Depth.{Depth}
 use Rattle.segment_mending.specs.declared.fault.ScrubFault.{ScrubFault}

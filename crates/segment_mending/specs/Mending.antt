@@ -2,10 +2,10 @@
 use Rattle.std.specs.Prelude.{◌≡◌, ℕ, List, ◌++◌, Result, Ok, Err}
 use Rattle.cartridge_spec.specs.Table.{Entry}
 use Rattle.command_spec.specs.Scrub.{Counts, looked_at, ScrubsAs, IsTextFor}
-use Rattle.command_laws.specs.Terms.{counts_for}
+use Rattle.command_laws.specs.ScrubTerms.{counts_for}
 use Rattle.command_spec.specs.declared.depth.Depth.{Depth}
 use Rattle.qic_base.specs.Acts.{Act, text_of, Outside, Went, Failing, Cut, TapeFails, SinkFails}
-use Rattle.qic_base.specs.Terms.{no_source}
+use Rattle.qic_base.specs.Alone.{no_source}
 use Rattle.segment_mending.specs.declared.fault.ScrubFault.{ScrubFault}
 use Rattle.segment_mending.specs.declared.report.ScrubReport.{ScrubReport}
 use Rattle.qic_base.specs.Sink as sinks

@@ -2,10 +2,10 @@
 
 ghost use Rattle.std.specs.Prelude.{◌≡◌, ℕ, List, Some, false};
 ghost use Rattle.cartridge_spec.specs.Says.{LostSectors, Mismatch};
-ghost use Rattle.command_laws.specs.Terms.{header_line};
 ghost use Rattle.command_spec.specs.Scrub.{reads, fault_line, line_in, counts_line, wrong_line};
 ghost use Rattle.segment_mending.specs.Locating.{unread_saying};
 ghost use Rattle.segment_mending.specs.Mending.{reported};
+ghost use Rattle.segment_mending.specs.Lines.{header_line};
 
 use crate::HEADER_COPIES;
 use crate::locating::Unread;

@@ -7,7 +7,7 @@ ghost use Rattle.cartridge_laws.specs.Shape.{Carries};
 ghost use Rattle.cartridge_spec.specs.Code.{IsCodeBlock};
 ghost use Rattle.cartridge_spec.specs.Header.{has_signature};
 ghost use Rattle.cartridge_spec.specs.Says.{cells_of, whole_mask};
-ghost use Rattle.cartridge_laws.specs.Terms.{data_of};
+ghost use Rattle.cartridge_laws.specs.Segment.{data_of};
 ghost use Rattle.cartridge_spec.specs.Shape.{usable_count, usable_places};
 ghost use Rattle.command_spec.specs.Scrub.{reads};
 ghost use Rattle.command_spec.specs.declared.depth.Depth.{Depth};

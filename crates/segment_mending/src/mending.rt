@@ -1,11 +1,11 @@
 //! What is done in one segment that was read.
 
 ghost use Rattle.std.specs.Prelude.{◌≡◌, ◌<◌, ◌^◌, length, OnOk, IsOkUnless};
-ghost use Rattle.qic_base.specs.Terms.{around};
+ghost use Rattle.qic_base.specs.Alone.{around};
 ghost use Rattle.qic_base.specs.SinkCalls.{Writes};
 ghost use Rattle.qic_base.specs.TapeCalls.{Does};
 ghost use Rattle.cartridge_spec.specs.Shape.{usable_count};
-ghost use Rattle.cartridge_laws.specs.Terms.{sectors_of};
+ghost use Rattle.cartridge_laws.specs.Segment.{sectors_of};
 ghost use Rattle.cartridge_laws.specs.Writes.{named_writes};
 ghost use Rattle.host_driver.specs.Calls.{IsReady, MayWrite, Keeps};
 ghost use Rattle.segment_io.specs.Calls.{HasSegment};

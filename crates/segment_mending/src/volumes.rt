@@ -1,14 +1,14 @@
 //! The segments of volumes looked at.
 
 ghost use Rattle.std.specs.Prelude.{◌≡◌, ◌+◌, ◌-◌, ◌*◌, ◌<◌, ◌≤◌, ◌^◌, true, length, OnOk};
-ghost use Rattle.qic_base.specs.Terms.{around};
+ghost use Rattle.qic_base.specs.Alone.{around};
 ghost use Rattle.cartridge_laws.specs.Table.{IsSoundList};
 ghost use Rattle.cartridge_spec.specs.Volumes.{carrying};
 ghost use Rattle.drive_spec.specs.Terms.{is_referenced};
 ghost use Rattle.host_driver.specs.Calls.{IsReady, MayWrite, Keeps};
 ghost use Rattle.host_driver.specs.Fits.{segments_of};
 ghost use Rattle.command_spec.specs.Scrub.{looked_volumes};
-ghost use Rattle.command_laws.specs.CommandTerms.{looked_segments};
+ghost use Rattle.command_laws.specs.ScrubTerms.{looked_segments};
 ghost use Rattle.segment_mending.specs.Looking.{HasFew, Looks};
 ghost use Rattle.segment_mending.specs.Mending.{reported};
 

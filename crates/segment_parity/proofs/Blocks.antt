@@ -15,7 +15,7 @@ use Rattle.segment_parity.proofs.Rows.{shifted, parity_more, column-one, column-
 abbrev pub three : List ℕ → List ℕ → List ℕ → ℕ → List ℕ
 three a b c j = get_or a j 0 ∷ get_or b j 0 ∷ get_or c j 0 ∷ []
 
-pub three_same : (a b c a' b' c' : ℕ) → a ≡ a' → b ≡ b' → c ≡ c' → a ∷ b ∷ c ∷ [] ≡ a' ∷ b' ∷ c' ∷ []
+three_same : (a b c a' b' c' : ℕ) → a ≡ a' → b ≡ b' → c ≡ c' → a ∷ b ∷ c ∷ [] ≡ a' ∷ b' ∷ c' ∷ []
 three_same a b c a' b' c' e f g =
     ap (λ (x : ℕ). x ∷ b ∷ c ∷ []) e ∙ ap (λ (x : ℕ). a' ∷ x ∷ c ∷ []) f ∙ ap (λ (x : ℕ). a' ∷ b' ∷ x ∷ []) g
 

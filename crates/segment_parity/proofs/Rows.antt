@@ -165,7 +165,7 @@ shifted_column old new s ss j h three three' all one shift same =
     ∙ ap parity (sym (column-append j ss (s ∷ []) ∙ ap (λ c. column j ss ++ c) (column-one j s)))
 
 -- and so its rows are the parity sectors of one sector more
-pub register_more :
+register_more :
     (old new : List (List ℕ)) (s : List ℕ) (ss : List (List ℕ)) →
     length new ≡ 3 → All IsSector new → All IsSector ss → IsSector s →
     Shifted old s new 1024 → old ≡ parity_sectors ss → new ≡ parity_sectors (ss ++ s ∷ [])

@@ -13,7 +13,7 @@ use Rattle.segment_parity.specs.Register.{at, feedback, Shifted}
 abbrev pub put : List (List ℕ) → ℕ → ℕ → ℕ → List (List ℕ)
 put rows r j v = set rows r (set (get_or rows r []) j v)
 
-pub length-put : (rows : List (List ℕ)) (r j v : ℕ) → length (put rows r j v) ≡ length rows
+length-put : (rows : List (List ℕ)) (r j v : ℕ) → length (put rows r j v) ≡ length rows
 length-put rows r j v = length-set rows r (set (get_or rows r []) j v)
 
 -- the row is there, and so is its byte j
@@ -97,7 +97,7 @@ written rows j w f three hj all =
       low = at-put_same (twice rows j w) 2 j f low'';
     }
 
-pub unwritten : (rows : List (List ℕ)) (j w f q k : ℕ) → length rows ≡ 3 → k ≢ j →
+unwritten : (rows : List (List ℕ)) (j w f q k : ℕ) → length rows ≡ 3 → k ≢ j →
     at (thrice rows j w f) q k ≡ at rows q k
 unwritten rows j w f q k three ne =
     let a : ℕ = bit_xor (at rows 1 j) w in

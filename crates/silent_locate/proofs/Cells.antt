@@ -1,13 +1,11 @@
 -- Sets of places, and the unreadable cells among them.
-use Rattle.std.proofs.Common.{◌≡◌, ℕ, zero, suc, ◌+◌, ◌<◌, ◌≤◌, refl, sym, ◌∙◌, ap, arith, inl, inr, Bool, true, false, cond, List, [], ◌∷◌, length, slice_get, Some, nat_eq, ◌||◌}
+use Rattle.std.proofs.Common.{◌≡◌, ℕ, zero, suc, ◌+◌, ◌<◌, ◌≤◌, refl, sym, ◌∙◌, ap, arith, inl, inr, Bool, true, false, List, [], ◌∷◌, length, slice_get, Some, nat_eq, ◌||◌}
 use Rattle.std.proofs.lemmas.Bool.{cases_eq, cases_Bool, false≢true, ne_eqb, or_from, or_left}
 use Rattle.qic_base.specs.declared.tape.SectorView.{SectorView}
 use Rattle.qic_base.specs.declared.tape.SectorView.TheVariants.{Blank, Defect, Lost, Holds}
 use Rattle.gf256_qic.specs.Code.{lost_below}
 use Rattle.cartridge_laws.proofs.Cells.{unreadable_at, IsReadable, readable_at}
-
-abbrev one_if : Bool → ℕ
-one_if t = cond t 1 0
+use Rattle.gf256_qic.proofs.Agreement.{one_if}
 
 -- ---- how many
 

@@ -103,7 +103,7 @@ answers_agrees some lost old new among most few code agrees =
     for_lost some lost old new (Ok located.Agrees) among
     (found_right (cells_without some old) new (all_right some old new (omega arith) code agrees))
 
-pub answers_wrong : (some lost place : ℕ) (old new : List (List ℕ)) → IsAmong some lost (length old) → length old ≤ 32 →
+answers_wrong : (some lost place : ℕ) (old new : List (List ℕ)) → IsAmong some lost (length old) → length old ≤ 32 →
     lost_count some ≤ 1 → (IsSolvable (is_lost some) old → ⊥) → IsCodeBlock new → AgreesOutside (lost_or some place) old new →
     IsOutcome (cells_without lost old) new (wrong_of place)
 answers_wrong some lost place old new among most few unsolvable code agrees =
@@ -117,7 +117,7 @@ answers_many some lost n old new among most number many =
     let count : lost_count some ≡ unreadable_count (cells_without some old) = count_among some lost old among most in
     for_lost some lost old new (many_of n) among (found_many (cells_without some old) n new (sym count ∙ number) many)
 
-pub answers_none : (some lost : ℕ) (old new : List (List ℕ)) → IsAmong some lost (length old) → length old ≤ 32 →
+answers_none : (some lost : ℕ) (old new : List (List ℕ)) → IsAmong some lost (length old) → length old ≤ 32 →
     lost_count some ≤ 3 → (IsSolvable (is_lost some) old → ⊥) →
     ((place : ℕ) → lost_count some ≤ 1 → place < length old → IsSolvable (lost_or some place) old → ⊥) →
     IsOutcome (cells_without lost old) new (Err fault.Mismatch)

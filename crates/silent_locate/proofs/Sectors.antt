@@ -3,7 +3,7 @@ use Rattle.std.proofs.Common.{◌≡◌, ℕ, zero, suc, ◌+◌, ◌-◌, ◌/�
 use Rattle.std.specs.Option.{option_map}
 use Rattle.std.proofs.lemmas.Bool.{cases_eq, ne_eqb, eqb-false, or_parts, or_from}
 use Rattle.std.proofs.lemmas.Option.{slice_get_within, slice_get-get_or}
-use Rattle.qic_base.specs.Terms.{IsLost}
+use Rattle.qic_base.specs.CartridgeTerms.{IsLost}
 use Rattle.qic_base.specs.Cartridge.{lost_places}
 use Rattle.qic_base.proofs.LostSetLaws.{lost_places-above}
 use Rattle.qic_base.specs.declared.tape.SectorView.{SectorView}
@@ -128,7 +128,7 @@ count_among some lost sectors among most =
 
 -- ---- code blocks
 
-pub cells_agree : (lost : ℕ) (sectors block : List (List ℕ)) → AgreesOutside (is_lost lost) sectors block →
+cells_agree : (lost : ℕ) (sectors block : List (List ℕ)) → AgreesOutside (is_lost lost) sectors block →
     Agrees (cells_without lost sectors) block
 cells_agree lost sectors block agrees = record {
   size = sym agrees.size ∙ sym (length-cells_without lost sectors);
@@ -137,7 +137,7 @@ cells_agree lost sectors block agrees = record {
       sym (agrees.others i (slice_get_within sectors i bytes kept.held) kept.kept) ∙ kept.held;
 }
 
-pub sectors_agree : (lost : ℕ) (sectors block : List (List ℕ)) → Agrees (cells_without lost sectors) block →
+sectors_agree : (lost : ℕ) (sectors block : List (List ℕ)) → Agrees (cells_without lost sectors) block →
     AgreesOutside (is_lost lost) sectors block
 sectors_agree lost sectors block agrees = record {
   size = sym (length-cells_without lost sectors) ∙ sym agrees.size;
@@ -146,7 +146,7 @@ sectors_agree lost sectors block agrees = record {
       held ∙ sym (agrees.each i (get_or sectors i []) (kept_to lost sectors i (get_or sectors i []) kept held));
 }
 
-pub cells_agree_but : (lost place : ℕ) (sectors block : List (List ℕ)) → AgreesOutside (lost_or lost place) sectors block →
+cells_agree_but : (lost place : ℕ) (sectors block : List (List ℕ)) → AgreesOutside (lost_or lost place) sectors block →
     AgreesBut (cells_without lost sectors) place block
 cells_agree_but lost place sectors block agrees = record {
   size = sym agrees.size ∙ sym (length-cells_without lost sectors);
@@ -157,7 +157,7 @@ cells_agree_but lost place sectors block agrees = record {
       ∙ kept.held;
 }
 
-pub sectors_agree_but : (lost place : ℕ) (sectors block : List (List ℕ)) → AgreesBut (cells_without lost sectors) place block →
+sectors_agree_but : (lost place : ℕ) (sectors block : List (List ℕ)) → AgreesBut (cells_without lost sectors) place block →
     AgreesOutside (lost_or lost place) sectors block
 sectors_agree_but lost place sectors block agrees = record {
   size = sym (length-cells_without lost sectors) ∙ sym agrees.size;

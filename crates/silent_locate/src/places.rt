@@ -1,7 +1,7 @@
 //! Sets of lost places, with fewer places and with one more.
 
 ghost use Rattle.std.specs.Prelude.{◌≢◌, ℕ, ◌<◌, ◌≤◌, ◌↔◌, ◌^◌};
-ghost use Rattle.qic_base.specs.Terms.{IsLost};
+ghost use Rattle.qic_base.specs.CartridgeTerms.{IsLost};
 
 use qic_base::LostSet;
 

@@ -9,14 +9,15 @@ use Rattle.qic_base.specs.Cartridge.{Cartridge}
 use Rattle.qic_base.specs.Step.{Step as TapeStep}
 use Rattle.qic_base.proofs.Writing.{TakesBoth}
 use Rattle.qic_base.specs.Acts.{Act, text_of, Failing, TapeFails, SourceFails, SinkFails, Cut}
-use Rattle.qic_base.specs.Terms.{no_source, around}
+use Rattle.qic_base.specs.Alone.{no_source, around}
 use Rattle.cartridge_spec.specs.Mounting.{Mounting}
 use Rattle.cartridge_spec.specs.Table.{Entry}
 use Rattle.drive_states.specs.Unit.{UnitView}
 use Rattle.cartridge_laws.proofs.MountOnce.{mounts_is_function}
 use Rattle.command_spec.specs.Make.{made_length, MakeStep, AppendMade, WearSector, ScrubAll, SumVolume, after_item, making, made_answer, MayDo, MayRun, Making}
 use Rattle.command_spec.specs.Append.{has_promised_room}
-use Rattle.command_laws.specs.CommandTerms.{Makes, EndsBlind}
+use Rattle.command_laws.specs.MadeTerms.{Makes}
+use Rattle.command_laws.specs.RunTerms.{EndsBlind}
 use Rattle.volume_store.specs.Mounting.{StoreView}
 use Rattle.command_laws.proofs.StoreTaking.{both_true}
 use Rattle.made_volumes.specs.declared.fault.MakeFault.{MakeFault}
@@ -26,7 +27,7 @@ use Rattle.tape_cmd.specs.Make.{run_status}
 use Rattle.command_spec.specs.Outcome.{Going, Opened, OpenOutcome, WritableOutcome, CommandOutcome}
 use Rattle.volume_store.specs.Opening.{IsOpened, HasOpened}
 use Rattle.command_spec.specs.Machine.{IsCutOff, fault_of, may_come_from}
-use Rattle.command_laws.specs.Terms.{Prints}
+use Rattle.tape_cmd.proofs.Printing.{Prints}
 use Rattle.command_laws.proofs.CommandOpened.{quiet}
 use Rattle.volume_store.proofs.Opened.{went_behind, cut_behind, settled_told}
 use Rattle.host_commands.specs.Opening.{IsUnlocked, WritableEnds, is_opening}
@@ -120,11 +121,11 @@ run_prints seed count ws es text answer may =
 
 -- ---- a cartridge that is not protected
 
-pub unlocked_does : (goes : Going) (held : Option Cartridge) (outcome : CommandOutcome) → IfSome held (λ c. c.info.protected ≡ false) → OpenOutcome goes held outcome → WritableOutcome goes held outcome
+unlocked_does : (goes : Going) (held : Option Cartridge) (outcome : CommandOutcome) → IfSome held (λ c. c.info.protected ≡ false) → OpenOutcome goes held outcome → WritableOutcome goes held outcome
 unlocked_does goes None outcome free plain = plain
 unlocked_does goes (Some c) outcome free plain = inr (free, plain)
 
-pub does_unlocked : (goes : Going) (held : Option Cartridge) (outcome : CommandOutcome) → IfSome held (λ c. c.info.protected ≡ false) → WritableOutcome goes held outcome → OpenOutcome goes held outcome
+does_unlocked : (goes : Going) (held : Option Cartridge) (outcome : CommandOutcome) → IfSome held (λ c. c.info.protected ≡ false) → WritableOutcome goes held outcome → OpenOutcome goes held outcome
 does_unlocked goes None outcome free plain = plain
 does_unlocked goes (Some c) outcome free (inl locked) = let is = locked.0 in absurd (cc)
 does_unlocked goes (Some c) outcome free (inr plain) = plain.1

@@ -19,12 +19,12 @@ use Rattle.command_spec.specs.declared.status.Status.{Status}
 use Rattle.command_spec.specs.Outcome.{Opened, CommandOutcome, refused}
 use Rattle.volume_store.specs.Opening.{IsOpened, HasOpened}
 use Rattle.command_spec.specs.Machine.{CommandEnds, InputLeft, IsCutOff, NamesFault, fault_of, may_come_from}
-use Rattle.command_laws.specs.Terms.{Prints}
+use Rattle.tape_cmd.proofs.Printing.{Prints}
 use Rattle.tape_cmd.specs.Script.{run_status}
 use Rattle.volume_store.proofs.Opened.{outside, went_behind, cut_behind, settled_told}
 use Rattle.command_laws.proofs.CommandOpened.{quiet}
 use Rattle.command_laws.proofs.CommandTold.{input_of, input_told, input_bytes}
-use Rattle.command_laws.specs.CommandTerms.{ScriptOutcome}
+use Rattle.command_laws.specs.Outcomes.{ScriptOutcome}
 use Rattle.host_commands.specs.Opening.{OpeningEnds, is_opening}
 use Rattle.hand_commands.specs.Outcome.{first_steps}
 use Rattle.hand_commands.proofs.Endings.{told_map}
@@ -35,6 +35,7 @@ use Rattle.qic_base.specs.Tape as tapes
 use Rattle.cartridge_spec.specs.Mounting as mounting
 use Rattle.command_spec.specs.declared.words.Words.TheVariants as words
 use Rattle.command_laws.proofs.TextFaults.{fault_line}
+use Rattle.hand_commands.proofs.Trains.{told_input}
 use Rattle.command_laws.proofs.TextInputs as inputs
 use Rattle.volume_script.specs.declared.fault.ScriptFault.TheVariants as fault
 use Rattle.volume_script.specs.Runs as runs
@@ -69,10 +70,6 @@ names_fault input items ending answer read is = record {
 names_none : (answer : Status) (left : Option (List ℕ)) → ((line place : ℕ) → answer ≢ status.ScriptFault line place) → answer ≢ status.Done → IfSome left (λ input. NamesFault words.Script input answer)
 names_none answer None none other = tt
 names_none answer (Some input) none other = record { named = λ line place is. absurd (none line place is); none = λ done. absurd (other done) }
-
-told_input : (left : Option (List ℕ)) (input : List ℕ) (P : List ℕ → Type 0) → IfSome left (λ bytes. input ≡ bytes) → P input → IfSome left P
-told_input None input P told is = tt
-told_input (Some bytes) input P told is = subst P told is
 
 -- ---- the opening
 

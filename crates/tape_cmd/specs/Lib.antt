@@ -1,3 +1,4 @@
 pub mod Lines
 pub mod Make
+pub mod Reading
 pub mod Script

@@ -3,7 +3,8 @@
 ghost use Rattle.std.specs.Prelude.{◌≡◌, ◌≢◌, ◌⊎◌, ℕ, List, IfOk, OnErr, true, false, map, string_bytes};
 ghost use Rattle.command_spec.specs.declared.words.Words.TheVariants.{Append, Pulses, Script};
 ghost use Rattle.command_spec.specs.Machine.{HasValues, Spells, CommandEnds};
-ghost use Rattle.command_laws.specs.CommandTerms.{EndsBlind, ReadsCommand};
+ghost use Rattle.tape_cmd.specs.Reading.{ReadsCommand};
+ghost use Rattle.command_laws.specs.RunTerms.{EndsBlind};
 ghost use Rattle.command_spec.specs.Promises.{Promises};
 ghost use Rattle.command_spec.specs.Commands.{traits_of};
 

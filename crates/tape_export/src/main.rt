@@ -11,16 +11,14 @@ mod status;
 
 use cart_image::ImageTape;
 use map_file::{MapFile, require_empty};
-use program_words::{ExportWords, read_export_words};
-use qic_base::{DiskFailed, MOST_SEGMENTS, NoMemory, Sector};
+use program_words::{ExportWords, read_command_line, read_export_words};
+use qic_base::{DiskFailed, MOST_SEGMENTS, NoMemory, SECTOR, SECTORS, Sector};
 use read_ahead::{MOST, ReadAhead};
 use rescue_map::write_bytes;
 use run::{run_export, unread};
 use status::ExportStatus;
 use std::alloc::Global;
-use std::env::Env;
 use std::process::ExitCode;
-use std::{env, io};
 use tape_files::{FileDisk, NoImage, NullStreams, StderrSink, StdoutSink, open_image};
 
 /// What a run works in: the sectors of a segment, and the mask of the sectors that hold bytes.
@@ -33,19 +31,10 @@ struct Room {
 fn main(rt: HostRuntime) -> ExitCode {
     // Held to the end, so that no file that is opened becomes a standard stream.
     let _streams = NullStreams::take(&rt);
-    ExitCode::from(match read_words(&rt) {
+    ExitCode::from(match read_command_line(&rt) {
         Ok(words) => run_over_words(&rt, &words),
         Err(error) => finish(&rt, unread(error.kind())),
     })
-}
-
-/// The words of the command line, the program's name the first of them.
-fn read_words<R: Env + AllocGlobal>(rt: &R) -> io::Result<Vec<String>> {
-    let mut words = Vec::new(rt.alloc());
-    for word in env::args(rt)? {
-        words.push(word)?;
-    }
-    Ok(words)
 }
 
 /// Does what the words ask for, and answers the exit status.
@@ -78,7 +67,7 @@ fn make_room(alloc: Global) -> Result<Room, NoMemory>
     ensures sectors { IfOk result (λ room. vec_len room.sectors ≡ 32) }
     ensures words { IfOk result (λ room. most_words ≤ vec_capacity room.mask) }
 {
-    let sectors = vec![in alloc; [0; 1024]; 32]?;
+    let sectors = vec![in alloc; [0; SECTOR]; SECTORS as usize]?;
     let mask = Vec::with_capacity(alloc, MOST_SEGMENTS)?;
     Ok(Room { sectors, mask })
 }

@@ -24,7 +24,7 @@ told-look {d = d} {a = a} s = s.told ∙ same (d.told a)
     same (Some bytes) = refl
 
 -- it is settled behind a look
-pub settled-behind : {D : Type 0} (d : disks.Meaning D) (old new : D) → disks.Stored d old new Look → IsSettled d old → IsSettled d new
+settled-behind : {D : Type 0} (d : disks.Meaning D) (old new : D) → disks.Stored d old new Look → IsSettled d old → IsSettled d new
 settled-behind d old new looked settled = record {
   only = λ bytes left told may.
       let was = looked.leaves left may in

@@ -9,12 +9,10 @@ mod run;
 mod status;
 
 use map_source::MapSource;
-use program_words::{ImportWords, read_import_words};
+use program_words::{ImportWords, read_command_line, read_import_words};
 use run::{run_import, unread};
 use status::{ImportStatus, write_status};
-use std::env::Env;
 use std::process::ExitCode;
-use std::{env, io};
 use tape_files::{
     FileDisk, NoImage, NullStreams, StderrSink, StdinSource, StdoutSink, open_image, open_to_read,
 };
@@ -22,19 +20,10 @@ use tape_files::{
 fn main(rt: HostRuntime) -> ExitCode {
     // Held to the end, so that no file that is opened becomes a standard stream.
     let _streams = NullStreams::take(&rt);
-    ExitCode::from(match read_words(&rt) {
+    ExitCode::from(match read_command_line(&rt) {
         Ok(words) => run_over_words(&rt, &words),
         Err(error) => finish(&rt, unread(error.kind())),
     })
-}
-
-/// The words of the command line, the program's name the first of them.
-fn read_words<R: Env + AllocGlobal>(rt: &R) -> io::Result<Vec<String>> {
-    let mut words = Vec::new(rt.alloc());
-    for word in env::args(rt)? {
-        words.push(word)?;
-    }
-    Ok(words)
 }
 
 /// Does what the words ask for, and answers the exit status.

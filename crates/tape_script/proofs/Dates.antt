@@ -2,7 +2,7 @@
 use Rattle.std.proofs.Common.{◌≡◌, ℕ, ◌/◌, List, sym, ◌∙◌, arith, ◌+◌, ◌*◌, ap}
 use Rattle.std.proofs.lemmas.Slice.Eq.{text_from_reads}
 use Rattle.command_laws.proofs.TextDates.{HasPair, HasFields}
-use Rattle.command_laws.specs.CommandTerms.{digit}
+use Rattle.command_laws.specs.TextTerms.{digit}
 use Rattle.command_spec.specs.Lines.{date_form}
 
 -- the digits at a place are those of one number

@@ -14,11 +14,11 @@ decimal_below = decimal_by_steps (λ n ds. n < 10 ^ length ds) (λ n few. few) m
 -- ---- the digits read so far are those of a number
 
 -- a byte more is a digit more
-pub first_digit : (word : List ℕ) (b : ℕ) → 0 < length word → get_or word 0 0 ≡ b → 48 ≤ b → b ≤ 57 → take 1 word ≡ decimal (b - 48)
+first_digit : (word : List ℕ) (b : ℕ) → 0 < length word → get_or word 0 0 ≡ b → 48 ≤ b → b ≤ 57 → take 1 word ≡ decimal (b - 48)
 first_digit word b some here low high =
     take_more word 0 0 some ∙ ap (λ (x : ℕ). x ∷ []) (here ∙ (let e : b ≡ 48 + (b - 48) = omega arith in e)) ∙ sym (decimal_digit (b - 48) (omega arith))
 
-pub next_digit : (word : List ℕ) (at value b : ℕ) → at < length word → take at word ≡ decimal value → get_or word at 0 ≡ b →
+next_digit : (word : List ℕ) (at value b : ℕ) → at < length word → take at word ≡ decimal value → get_or word at 0 ≡ b →
     0 < value → value ≤ 99999999 → 48 ≤ b → b ≤ 57 → take (at + 1) word ≡ decimal (10 * value + (b - 48))
 next_digit word at value b here so_far byte some small low high =
     let n : ℕ = 10 * value + (b - 48) in
@@ -28,7 +28,7 @@ next_digit word at value b here so_far byte some small low high =
     ∙ sym (decimal_step n (omega arith) (omega arith) ∙ ap (λ (x : ℕ). decimal x ++ (48 + n % 10) ∷ []) q ∙ ap (λ (x : ℕ). decimal value ++ x ∷ []) r)
 
 -- before the ninth digit a number has room for one more
-pub room : (word : List ℕ) (at value : ℕ) → value < 2 ^ 64 → at < length word → length word ≤ 9 → take at word ≡ decimal value → value ≤ 99999999
+room : (word : List ℕ) (at value : ℕ) → value < 2 ^ 64 → at < length word → length word ≤ 9 → take at word ≡ decimal value → value ≤ 99999999
 room word at value small here short so_far =
     let long : length (decimal value) ≡ at = ap length (sym so_far) ∙ length-take-le at word (omega arith) in
     let below : value < 10 ^ at = rw long at (decimal_below value small) in

@@ -1,7 +1,7 @@
 -- The forms of a script's lines, and the items that they begin.
 use Rattle.std.proofs.Common.{inl, inr, ℕ, List, length, ◌≤◌, arith}
 use Rattle.command_laws.proofs.TextCommands.{dated_cases, only, spelled_length}
-use Rattle.command_laws.specs.CommandTerms.{HasLineForm}
+use Rattle.command_laws.specs.Inputs.{HasLineForm}
 use Rattle.command_spec.specs.declared.line.Line.{Line}
 use Rattle.command_spec.specs.declared.line.Line.TheVariants as line
 

@@ -4,7 +4,7 @@ use Rattle.std.proofs.Math.Seq.{take-append_seam}
 use Rattle.std.proofs.lemmas.List.{length_push, length-append, get_or_append_left, get_or_at}
 use Rattle.std.specs.Option.{option_map}
 use Rattle.command_laws.proofs.TextLined.{one_before, end_no_newline}
-use Rattle.command_laws.specs.TextReading.{NoNewline}
+use Rattle.qic_base.specs.LineBytes.{NoNewline}
 use Rattle.command_spec.specs.Input.{IsLined}
 use Rattle.qic_base.specs.Source.{Meaning}
 use Rattle.qic_base.specs.SourceCalls.{Gave, HasEnded}
@@ -24,14 +24,14 @@ IsLined-one_newline P text n long line =
     rw line.whole (one_newline line.before n (omega arith) line.one_line)
 
 -- what a line's bytes are, where it begins bytes with a newline
-pub before_newline : (P : List ℕ → Type 0) (before more text rest : List ℕ) → NoNewline before → before ++ 0x0A ∷ more ≡ text ++ rest → IsLined P text → P before
+before_newline : (P : List ℕ → Type 0) (before more text rest : List ℕ) → NoNewline before → before ++ 0x0A ∷ more ≡ text ++ rest → IsLined P text → P before
 before_newline P before more text rest none e line =
     let same : before ≡ line.before =
     one_before before line.before more rest none line.one_line (e ∙ ap (λ xs. xs ++ rest) line.whole ∙ append_assoc line.before (0x0A ∷ []) rest) in
     rw same line.has
 
 -- no line begins bytes that have no newline, where they are all that is left or as many as a line has at most
-pub no_line_in : (P : List ℕ → Type 0) (bytes left text rest : List ℕ) → NoNewline bytes → (length bytes ≡ 128) ⊎ (left ≡ []) → bytes ++ left ≡ text ++ rest → IsLined P text → ⊥
+no_line_in : (P : List ℕ → Type 0) (bytes left text rest : List ℕ) → NoNewline bytes → (length bytes ≡ 128) ⊎ (left ≡ []) → bytes ++ left ≡ text ++ rest → IsLined P text → ⊥
 no_line_in P bytes left text rest none all e line =
     let at : ℕ = length line.before in
     let parts : bytes ++ left ≡ line.before ++ 0x0A ∷ rest = e ∙ ap (λ xs. xs ++ rest) line.whole ∙ append_assoc line.before (0x0A ∷ []) rest in

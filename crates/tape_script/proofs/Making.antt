@@ -16,7 +16,7 @@ pub made_from_more : (first count : ℕ) → made_from first (count + 1) ≡ mad
 unfolding made_from
 made_from_more first count = map-range_with_len_more (λ i. (first + i) % 251) 0 count count (omega arith)
 
-pub take-made_from : (first count n : ℕ) → n ≤ count → take n (made_from first count) ≡ made_from first n
+take-made_from : (first count n : ℕ) → n ≤ count → take n (made_from first count) ≡ made_from first n
 unfolding made_from
 take-made_from first count n few = take-map-range_with_len (λ i. (first + i) % 251) 0 count n few
 

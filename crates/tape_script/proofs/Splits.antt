@@ -3,7 +3,7 @@ use Rattle.std.proofs.Common.{◌≡◌, ℕ, ◌+◌, ◌<◌, ◌≤◌, ◌==
 use Rattle.std.proofs.lemmas.Bool.Decides.{nat_tests}
 use Rattle.std.proofs.lemmas.List.{take-append-drop, drop_more}
 use Rattle.std.proofs.lemmas.List.Splits.{slice_split_none, slice_split_at, length-slice_split}
-use Rattle.command_laws.specs.CommandTerms.{words_of}
+use Rattle.command_laws.specs.Inputs.{words_of}
 
 abbrev pub NoSpace : List ℕ → Type 0
 NoSpace bytes = All (λ b. (b == 0x20) ≡ false) bytes

@@ -2,7 +2,7 @@
 use Rattle.std.proofs.Common.{◌≡◌, ℕ, ◌-◌, ◌<◌, ◌≤◌, true, List, length, take, get_or, sym, ap, ◌∙◌, [], refl, ◌+◌, ◌++◌, drop, arith, ◌≢◌}
 use Rattle.std.proofs.lemmas.List.{take-take, drop-take, take-append-drop, length-take, length-drop}
 use Rattle.command_laws.proofs.TextTrimmed.{trimmed-filler, take_last}
-use Rattle.command_laws.specs.CommandTerms.{is_filler}
+use Rattle.command_laws.specs.TextTerms.{is_filler}
 use Rattle.command_spec.specs.Lines.{trimmed}
 
 -- a front that ends in filling, and one that doesn't

@@ -1,7 +1,7 @@
 -- What a reading of a line took from a source, and what it found (this project's own).
-use Rattle.std.specs.Prelude.{◌≡◌, ℕ, ◌+◌, ◌-◌, List, length, take, drop, ◌≤◌, ◌++◌, IfSome, ◌<◌, [], Result, Ok, Err, codes, ◌∷◌, Option, Some, None, ◌⊎◌}
+use Rattle.std.specs.Prelude.{◌≡◌, ℕ, ◌+◌, ◌-◌, List, length, take, drop, ◌≤◌, ◌++◌, IfSome, ◌<◌, [], Result, Ok, Err, codes, ◌∷◌, ◌⊎◌}
 use Rattle.std.specs.Option.{option_map}
-use Rattle.command_laws.specs.TextReading.{NoNewline}
+use Rattle.qic_base.specs.LineBytes.{NoNewline}
 use Rattle.command_spec.specs.Input.{IsLineText, IsPulse}
 use Rattle.command_spec.specs.declared.line.Line.{Line}
 use Rattle.qic_base.specs.Source.{Meaning}
@@ -74,13 +74,7 @@ abbrev pub Skips : {S E : Type 0} → Meaning S → (old new : S) → ℕ → Re
 Skips m old new asked (Ok n) = (n ≤ asked) × GaveSome m old new n × (n < asked → HasEnded m new)
 Skips m old new asked (Err e) = (n : ℕ) × (n < asked) × GaveSome m old new n
 
--- ---- bytes and lines of any kind
-
--- a byte, or the end
-abbrev pub TakesByte : {S E : Type 0} → Meaning S → (old new : S) → Result (Option ℕ) E → Type 0
-TakesByte m old new (Ok None) = HasEnded m old × Gave m old new []
-TakesByte m old new (Ok (Some byte)) = Gave m old new (byte ∷ [])
-TakesByte m old new (Err e) = Gave m old new []
+-- ---- lines of any kind
 
 -- the end before any byte; bytes with no newline, where 128 came or the source ended; or a line with its newline, of
 -- which the buffer has the bytes before it

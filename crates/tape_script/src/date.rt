@@ -2,7 +2,7 @@
 
 ghost use Rattle.std.specs.Prelude.{◌≡◌, ℕ, ◌+◌, ◌/◌, ◌<◌, ◌≤◌, ◌↔◌, IsTrue, MatchOption, length, slice_index};
 ghost use Rattle.command_spec.specs.Command.{IsDateWord};
-ghost use Rattle.command_laws.specs.CommandTerms.{digit};
+ghost use Rattle.command_laws.specs.TextTerms.{digit};
 
 use qic_base::stamp;
 

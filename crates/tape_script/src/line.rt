@@ -1,8 +1,8 @@
 //! The lines of a script.
 
 ghost use Rattle.std.specs.Prelude.{◌≡◌, ◌+◌, ◌<◌, ◌≤◌, [], ◌∷◌, take, drop, length, codes, MatchOption, if◌then◌else◌, nat_lt};
-ghost use Rattle.command_laws.specs.CommandTerms.{HasLineForm, words_of};
-ghost use Rattle.qic_base.specs.Terms.{HasCause};
+ghost use Rattle.command_laws.specs.Inputs.{HasLineForm, words_of};
+ghost use Rattle.qic_base.specs.Cause.{HasCause};
 ghost use Rattle.tape_script.specs.Input.{IsNoLine};
 ghost use Rattle.tape_script.specs.Reading.{ReadsLine};
 

@@ -1,7 +1,8 @@
 //! Bytes and lines are taken from a source: a line byte by byte, so that nothing behind it is read.
 
-ghost use Rattle.qic_base.specs.Terms.{HasCause};
-ghost use Rattle.tape_script.specs.Reading.{TakesByte, TakesLine, Skips};
+ghost use Rattle.qic_base.specs.Cause.{HasCause};
+ghost use Rattle.qic_base.specs.SourceCalls.{TakesByte};
+ghost use Rattle.tape_script.specs.Reading.{TakesLine, Skips};
 
 use qic_base::{Source, SourceFailed};
 
@@ -16,7 +17,7 @@ pub enum Taken {
 
 /// The next byte, or none at the end of the source.
 fn take_byte<S: Source>(source: &mut S) -> Result<Option<u8>, SourceFailed>
-    ensures took { TakesByte S.means source.old source.new result }
+    ensures took { TakesByte (S.means.left source.old) (S.means.left source.new) result }
     ensures kept { S.means.keeps source.old source.new }
     ensures cause { HasCause (S.means.faults source.old) (S.means.faults source.new) result }
 {

@@ -1,9 +1,9 @@
 //! A line of printed text, put together piece by piece.
 
 ghost use Rattle.std.specs.Prelude.{◌≡◌, ◌+◌, ◌-◌, ◌≤◌, [], ◌++◌, length, map, take, decimal};
-ghost use Rattle.qic_base.specs.Terms.{year_of, month_of, day_of, hour_of, minute_of, second_of};
+ghost use Rattle.qic_base.specs.DateTerms.{year_of, month_of, day_of, hour_of, minute_of, second_of};
 ghost use Rattle.command_spec.specs.Lines.{date_form, date_text, trimmed, name_text};
-ghost use Rattle.command_laws.specs.CommandTerms.{digit, is_filler, printable};
+ghost use Rattle.command_laws.specs.TextTerms.{digit, is_filler, printable};
 
 use itoa::Buffer;
 use qic_base::Name;

@@ -1,6 +1,6 @@
 //! The lines of `pulses`.
 
-ghost use Rattle.qic_base.specs.Terms.{HasCause};
+ghost use Rattle.qic_base.specs.Cause.{HasCause};
 ghost use Rattle.tape_script.specs.Reading.{ReadsTrain};
 
 use crate::number::read_number_within;

@@ -12,7 +12,7 @@ use Rattle.command_spec.specs.declared.copy_status.CopyStatus.{CopyStatus}
 use Rattle.drive_states.specs.Unit.{UnitView}
 use Rattle.qic_base.proofs.Steps.{Rose-after}
 use Rattle.qic_base.proofs.Writing.{TakesBoth, some_longer}
-use Rattle.qic_base.specs.Terms.{reading}
+use Rattle.qic_base.specs.Alone.{reading}
 use Rattle.qic_base.specs.Tape.{Rose}
 use Rattle.volume_store.proofs.Refusals.{foreign_is_refused}
 use Rattle.volume_store.specs.Opening.{OpenFails}

@@ -11,13 +11,13 @@ use Rattle.command_laws.proofs.CopyOutcomes.{IsTarget}
 use Rattle.command_laws.proofs.MountedListed.{append_leaves, append_listed}
 use Rattle.command_laws.specs.MountedListed.{IsListed, listed_behind}
 use Rattle.command_spec.specs.Append.{Fits, Kept, Taking, TooLong, TooShort, append_acts, entry_acts, input_writes, kept_over, room_in, taking}
-use Rattle.command_laws.specs.CommandTerms.{bytes_taken, entry_for, silently}
+use Rattle.command_laws.specs.AppendTerms.{bytes_taken, entry_for, silently}
 use Rattle.command_spec.specs.Copying.{Side}
 use Rattle.command_spec.specs.declared.copy_status.CopyStatus.{CopyStatus}
 use Rattle.drive_spec.specs.Terms.{is_protected}
 use Rattle.qic_base.proofs.Joins.{steps_of-append}
 use Rattle.qic_base.specs.Acts.{Act, steps_of}
-use Rattle.qic_base.specs.Terms.{reading}
+use Rattle.qic_base.specs.Alone.{reading}
 use Rattle.qic_base.specs.Cartridge.{Cartridge}
 use Rattle.qic_base.specs.Step.{Step as TapeStep, effects}
 use Rattle.qic_base.specs.declared.tape.TapeInfo.{TapeInfo}
@@ -51,7 +51,7 @@ entry_steps kept name date one other (TooLong need have) = refl
 entry_steps kept name date one other (TooShort promised read) = refl
 
 -- it changes no step
-pub replied_steps : (kept : Kept) (name : List ℕ) (date : ℕ) (promised : Option ℕ) (one other : Entry → List ℕ) (input : List ℕ) →
+replied_steps : (kept : Kept) (name : List ℕ) (date : ℕ) (promised : Option ℕ) (one other : Entry → List ℕ) (input : List ℕ) →
     steps_of (append_acts kept name date promised one input) ≡ steps_of (append_acts kept name date promised other input)
 replied_steps kept name date promised one other input =
     let became : Taking = taking (room_in kept) promised input in

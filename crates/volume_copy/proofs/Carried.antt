@@ -14,7 +14,7 @@ use Rattle.qic_base.proofs.Joins.{broke_behind, cut_is_longer, sink_cut_one, ste
 use Rattle.qic_base.proofs.Steps.{Done-nothing, Done-told}
 use Rattle.qic_base.proofs.Writing.{TakesBoth}
 use Rattle.qic_base.specs.Acts.{Act, Outside, SinkCut, SinkFails, TapeCut, TapeFails, Went, steps_of, text_of}
-use Rattle.qic_base.specs.Terms.{around, no_sink, no_source, reading}
+use Rattle.qic_base.specs.Alone.{around, no_sink, no_source, reading}
 use Rattle.qic_base.specs.Cartridge.{Cartridge}
 use Rattle.volume_copy.proofs.Appended.{side_over}
 use Rattle.volume_copy.proofs.Goes.{one_done, one_goes}

@@ -6,7 +6,7 @@ use Rattle.cartridge_spec.specs.Volumes.{volume_length}
 use Rattle.command_spec.specs.Copying.{difference, is_alike}
 use Rattle.command_spec.specs.declared.copy_status.CopyStatus.{CopyStatus}
 use Rattle.drive_states.specs.Unit.{UnitView}
-use Rattle.qic_base.specs.Terms.{reading}
+use Rattle.qic_base.specs.Alone.{reading}
 use Rattle.volume_copy.specs.Runs.{CopiesOne, CopyRuns, CopyView, HasCopied, HaveCopied, RunEnds, SideFits, SideView, Units, append_answer, is_asked}
 use Rattle.volume_copy.specs.Source.{SourceView, new_source, source_means}
 use Rattle.volume_store.specs.Appending.{AppendEnds, FaultsUnread, InOrder}

@@ -15,7 +15,7 @@ use Rattle.command_laws.proofs.CommandEnds.{LeftBy, each_left, over_at, told_who
 use Rattle.command_laws.proofs.CopyOutcomes.{IsTarget}
 use Rattle.command_laws.proofs.MountedListed.{mounted_listed}
 use Rattle.cartridge_laws.proofs.MountSettled.{settled_keeps_table}
-use Rattle.command_laws.specs.CommandTerms.{silently}
+use Rattle.command_laws.specs.AppendTerms.{silently}
 use Rattle.command_spec.specs.CopyPromises.{EndsAppend, EndsVolume, FromAnswers, FromLeaves, MountingRefuses, MountsSome, SourceStays, TakesMore, ToAnswers}
 use Rattle.command_spec.specs.Copying.{giving_status}
 use Rattle.command_spec.specs.Headline.{EachLeft}
@@ -27,7 +27,8 @@ use Rattle.drive_states.specs.Unit.{UnitView}
 use Rattle.host_driver.specs.Fits.{deck_of}
 use Rattle.qic_base.proofs.Steps.{Done-before_reads, Done-nothing, Done-told, Torn-all}
 use Rattle.qic_base.specs.Acts.{Act, steps_of}
-use Rattle.qic_base.specs.Terms.{reading, IsCartridge}
+use Rattle.qic_base.specs.Alone.{reading}
+use Rattle.qic_base.specs.CartridgeTerms.{IsCartridge}
 use Rattle.qic_base.specs.Cartridge.{Cartridge}
 use Rattle.qic_base.specs.Step.{Step as TapeStep, effects, Torn}
 use Rattle.qic_base.specs.declared.tape.TapeInfo.{TapeInfo}

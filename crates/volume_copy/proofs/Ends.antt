@@ -17,7 +17,8 @@ use Rattle.host_driver.specs.Fits.{deck_of}
 use Rattle.qic_base.proofs.Steps.{Broke-front, Done-before_reads, Done-nothing}
 use Rattle.qic_base.proofs.Writing.{TakesBoth}
 use Rattle.qic_base.specs.Acts.{Act, Outside, SinkFails, TapeCut, TapeFails, Went}
-use Rattle.qic_base.specs.Terms.{around, no_source, IsCartridge}
+use Rattle.qic_base.specs.Alone.{around, no_source}
+use Rattle.qic_base.specs.CartridgeTerms.{IsCartridge}
 use Rattle.qic_base.specs.Cartridge.{Cartridge}
 use Rattle.qic_base.specs.Step.{Step as TapeStep}
 use Rattle.qic_base.specs.declared.tape.TapeInfo.{TapeInfo}

@@ -22,7 +22,8 @@ use Rattle.qic_base.proofs.Joins.{steps_of-append, text_of-append}
 use Rattle.qic_base.proofs.Outcomes.{cut_is_torn, cut_stops}
 use Rattle.qic_base.proofs.Steps.{Stops-nothing, Torn-all, Torn-front, Torn-nothing}
 use Rattle.qic_base.specs.Acts.{Act, SinkFails, TapeFails, next_steps, steps_of, text_of}
-use Rattle.qic_base.specs.Terms.{around, no_source, IsCartridge}
+use Rattle.qic_base.specs.Alone.{around, no_source}
+use Rattle.qic_base.specs.CartridgeTerms.{IsCartridge}
 use Rattle.qic_base.specs.Cartridge.{Cartridge}
 use Rattle.qic_base.specs.Step.{Step as TapeStep, effects, Torn}
 use Rattle.volume_copy.proofs.Ends.{AtStart}

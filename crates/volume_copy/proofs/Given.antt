@@ -13,7 +13,7 @@ use Rattle.command_laws.proofs.RestoreCounts.{FitsIn, pieces_fit, pieces_hold_al
 use Rattle.command_laws.proofs.RestoreGiven.{given_is_long, length-given}
 use Rattle.command_spec.specs.Copying.{GivenBytes}
 use Rattle.command_spec.specs.Restore.{GivingEnd, Piece, PieceEnds, Restored, Restores, pieces, volume_at}
-use Rattle.command_laws.specs.CommandTerms.{act_of, bytes_held}
+use Rattle.command_laws.specs.RestoreTerms.{act_of, bytes_held}
 use Rattle.command_spec.specs.declared.copy_status.CopyStatus.{CopyStatus}
 use Rattle.qic_base.specs.Acts.{Act}
 use Rattle.qic_base.specs.Cartridge.{Cartridge}
@@ -26,7 +26,7 @@ use Rattle.qic_base.specs.Tape as tapes
 -- ---- pieces that are read
 
 -- where the segments of all of them say data, all bytes are given
-pub all_restored : (c : Cartridge) (words : List ℕ) (needed : List Piece) →
+all_restored : (c : Cartridge) (words : List ℕ) (needed : List Piece) →
     ((i : ℕ) (piece : Piece) → i < length needed → slice_get needed i ≡ Some piece → Reads c words piece) → (read : List Act) × Restores c words needed read Restored
 all_restored c words [] reads = ([], (refl, refl))
 all_restored c words (p ∷ ps) reads =
@@ -35,7 +35,7 @@ all_restored c words (p ∷ ps) reads =
     (act_of p here.0 ∷ rest.0, (record { sectors = here.0; says = here.1; shown = refl }, rest.1))
 
 -- and else those before the first that doesn't
-pub first_ends : (c : Cartridge) (words : List ℕ) (needed : List Piece) (ending : GivingEnd) (number : ℕ) (piece : Piece) → slice_get needed number ≡ Some piece →
+first_ends : (c : Cartridge) (words : List ℕ) (needed : List Piece) (ending : GivingEnd) (number : ℕ) (piece : Piece) → slice_get needed number ≡ Some piece →
     FirstRead c words needed number → PieceEnds c words piece ending → (read : List Act) × Restores c words needed read ending
 first_ends c words [] ending number piece there before ends = absurd (cc)
 first_ends c words (p ∷ ps) ending zero piece there before ends =

@@ -5,7 +5,7 @@ use Rattle.std.specs.Prelude.{if◌then◌else◌}
 use Rattle.cartridge_laws.proofs.MountOnce.{mounts_is_function}
 use Rattle.cartridge_laws.proofs.MountWhole.{settling_effects}
 use Rattle.cartridge_spec.specs.Header.{Header}
-use Rattle.cartridge_laws.specs.Terms.{fault_as}
+use Rattle.cartridge_laws.specs.HeaderTerms.{fault_as}
 use Rattle.cartridge_spec.specs.Mounting.{Mounting, Mounts, settled}
 use Rattle.cartridge_spec.specs.Says.{with_parity}
 use Rattle.cartridge_spec.specs.Settling.{block_writes, settling_places, settling_steps}

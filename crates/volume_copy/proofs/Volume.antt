@@ -9,22 +9,21 @@ use Rattle.cartridge_spec.specs.TableSegment.{TableIs, table_cells}
 use Rattle.cartridge_spec.specs.Says.{AsRead, ByCode, Data, LostSectors, TableSays}
 use Rattle.cartridge_spec.specs.Settling.{changed_by, settling_steps}
 use Rattle.cartridge_spec.specs.Table.{Entry, table_with}
-use Rattle.cartridge_laws.specs.Terms.{slot_sector}
+use Rattle.cartridge_laws.specs.Slots.{slot_sector}
 use Rattle.cartridge_spec.specs.Volumes.{volume_length}
-use Rattle.command_laws.proofs.CommandAdded.{input_texts}
 use Rattle.command_laws.proofs.CommandEnds.{over_at}
 use Rattle.command_laws.proofs.CopyOnce.{begun_text}
 use Rattle.command_laws.proofs.CopyOutcomes.{IsTarget}
 use Rattle.command_laws.proofs.MountedListed.{listed_reads}
 use Rattle.command_laws.proofs.MountedSaying.{restores_anyway}
-use Rattle.command_laws.proofs.ScriptActs.{full_acts}
+use Rattle.command_laws.proofs.ScriptActs.{full_acts, input_texts}
 use Rattle.command_spec.specs.Append.{Fits, Kept, TooLong, TooShort, append_acts, entry_acts, input_writes, room_in, taking}
-use Rattle.command_laws.specs.CommandTerms.{entry_for}
+use Rattle.command_laws.specs.AppendTerms.{entry_for}
 use Rattle.command_spec.specs.Copying.{CopiesVolume, Side, behind_copy, copied_behind, copied_line, copy_acts, has_room_for, GivenBytes}
 use Rattle.command_spec.specs.Restore.{GivingEnd, LostIn, MismatchIn, Restored, Restores, pieces}
 use Rattle.command_spec.specs.declared.copy_status.CopyStatus.{CopyStatus}
 use Rattle.qic_base.specs.Acts.{Act, Outside, SourceCut, SourceFails, TapeCut, TapeFails, steps_of, text_of}
-use Rattle.qic_base.specs.Terms.{no_sink, reading}
+use Rattle.qic_base.specs.Alone.{no_sink, reading}
 use Rattle.qic_base.specs.Cartridge.{Cartridge}
 use Rattle.qic_base.specs.Tape.{Rose}
 use Rattle.volume_copy.proofs.Appended.{AddsOne, AppendIs, adds_one, adds_to_target, append_is, kept, never_protected, side_over, tells_at, told_behind}

@@ -2,7 +2,7 @@
 
 ghost use Rattle.std.specs.Prelude.{◌≡◌, ◌↔◌, ◌+◌, ◌*◌, ◌<◌, ◌≤◌, true, false, None, Ok, length, take, drop, IfOk, IfSome, IsSomeAnd, OnErr, is_some};
 ghost use Rattle.std.specs.Option.{option_map};
-ghost use Rattle.qic_base.specs.Terms.{HasCause};
+ghost use Rattle.qic_base.specs.Cause.{HasCause};
 ghost use Rattle.qic_base.specs.SourceCalls.{Gives, HasEnded};
 ghost use Rattle.qic_base.specs.TapeCalls.{Tells};
 ghost use Rattle.command_spec.specs.Copying.{GivenBytes};

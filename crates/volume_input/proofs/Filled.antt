@@ -166,7 +166,7 @@ volume_full words (s ∷ t ∷ ss) rest bytes carry full some =
 
 -- ---- the segments that are taken
 
-pub taken_behind : (words front rest : List ℕ) (m n : ℕ) → m ≡ capacity_of words front → (front ≡ []) ⊎ (1 ≤ n) →
+taken_behind : (words front rest : List ℕ) (m n : ℕ) → m ≡ capacity_of words front → (front ≡ []) ⊎ (1 ≤ n) →
     taken_by words (m + n) (front ++ rest) ≡ front ++ taken_by words n rest
 taken_behind words [] rest m n full on = ap (λ (k : ℕ). taken_by words k rest) (let none : m ≡ 0 = full in omega arith)
 taken_behind words (s ∷ ss) rest m n full (inl none) = absurd (cc)

@@ -4,7 +4,7 @@ use Rattle.std.proofs.lemmas.List.Elements.{All-nil, All-head, All-tail, All-app
 use Rattle.qic_base.specs.Tape.{Rose}
 use Rattle.qic_base.proofs.Steps.{Done-nothing}
 use Rattle.qic_base.specs.Acts.{SourceFails, Went, Cut}
-use Rattle.qic_base.specs.Terms.{no_sink, reading}
+use Rattle.qic_base.specs.Alone.{no_sink, reading}
 use Rattle.cartridge_spec.specs.Says.{with_parity}
 use Rattle.cartridge_laws.specs.Shape.{Carries}
 use Rattle.cartridge_spec.specs.Shape.{mask_at, usable_places, data_count, capacity}

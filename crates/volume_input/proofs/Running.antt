@@ -10,7 +10,7 @@ use Rattle.qic_base.proofs.Writing.{TakesBoth}
 use Rattle.qic_base.specs.SourceCalls.{Gave}
 use Rattle.qic_base.proofs.Giving.{Gave-nothing, Gave-Gave, Gave-end}
 use Rattle.qic_base.specs.Acts.{Act, Outside, Failing, TapeFails, SourceFails, Went, Cut}
-use Rattle.qic_base.specs.Terms.{no_sink}
+use Rattle.qic_base.specs.Alone.{no_sink}
 use Rattle.qic_base.proofs.Joins.{nothing_went, went_both, went_then_cut, cut_is_longer}
 use Rattle.cartridge_laws.specs.Shape.{Carries}
 use Rattle.cartridge_spec.specs.Shape.{mask_at, capacity}
@@ -27,7 +27,7 @@ use Rattle.volume_input.proofs.Filled.{Carry, GoesOn, carry_head, carries_some, 
 use Rattle.volume_input.proofs.Inputs.{left_of, bytes_untold, told_bytes, untold_content, whole_told, still_tells, none_left, Begins, filled_begin, next_begins}
 use Rattle.volume_input.proofs.Told.{Tells, tells_more}
 
-no_text : TakesBoth no_sink
+pub no_text : TakesBoth no_sink
 no_text a b c xs ys first next = ap (λ (l : List ℕ). l ++ ys) first ∙ next
 
 -- The segments of a front are filled, and written; the others are still to come, and so are bytes.

@@ -1,12 +1,13 @@
 -- How the bytes of a source went into the segments of a volume (this project's own).
-use Rattle.std.specs.Prelude.{◌≡◌, ℕ, ◌-◌, ◌<◌, ◌≤◌, Bool, true, List, length, All, slice_index, is_some, IfSome, IfNone, Result, Ok, Err}
+use Rattle.std.specs.Prelude.{◌≡◌, ℕ, ◌-◌, ◌<◌, ◌≤◌, Bool, true, List, length, All, slice_index, is_some, IfNone, Result, Ok, Err}
 use Rattle.cartridge_spec.specs.Appending.{taken_by}
 use Rattle.command_spec.specs.Append.{volume_acts, filled_acts, input_acts}
 use Rattle.qic_base.specs.Acts.{Outside, Went, Failing, Cut, TapeFails, SourceFails}
-use Rattle.qic_base.specs.Terms.{no_sink}
+use Rattle.qic_base.specs.Alone.{no_sink}
 use Rattle.qic_base.specs.SourceCalls.{Gave, HasEnded}
 use Rattle.volume_input.specs.declared.fault.InputFault.{InputFault}
 use Rattle.volume_input.specs.declared.written.Written.{Written}
+use Rattle.qic_base.specs.Source.{IsInput}
 use Rattle.qic_base.specs.Source as sources
 use Rattle.qic_base.specs.Tape as tapes
 use Rattle.volume_input.specs.declared.fault.InputFault.TheVariants as fault
@@ -41,7 +42,7 @@ pub record EndedShort {T S : Type 0} (t : tapes.Meaning T) (s : sources.Meaning 
 -- A fault of the tape or of the source cut that off, over the input that the source told, or some input where it tells none.
 pub record InputCut {T S : Type 0} (t : tapes.Meaning T) (s : sources.Meaning S) (words segments : List ℕ) (most : ℕ) (exact : Bool) (old new : Outside T S (Unit {0})) (failing : Failing) : Type 0 where
   pub input : List ℕ
-  pub is_told : IfSome (s.left old.source) (λ bytes. input ≡ bytes)
+  pub is_told : IsInput (s.left old.source) input
   pub content : IfNone (s.left old.source) (All (λ b. b < 256) input)
   pub cut : Cut t s no_sink old new (input_acts words segments most exact input) failing
   pub tells : is_some (s.left new.source) ≡ is_some (s.left old.source)

@@ -4,7 +4,7 @@ use Rattle.std.specs.Prelude.{◌≡◌, ◌⊎◌, ℕ, ◌+◌, ◌-◌, ◌==
 use Rattle.qic_base.specs.Source as sources
 use Rattle.qic_base.specs.Tape as tapes
 use Rattle.qic_base.specs.Acts.{Outside, TapeFails, SourceFails, Went, Cut}
-use Rattle.qic_base.specs.Terms.{no_sink}
+use Rattle.qic_base.specs.Alone.{no_sink}
 use Rattle.cartridge_spec.specs.Shape.{mask_at, capacity}
 use Rattle.sector_fill.specs.Filling.{GaveUpTo, GaveWithin}
 use Rattle.command_spec.specs.Append.{segment_act}

@@ -2,7 +2,7 @@
 
 ghost use Rattle.std.specs.Prelude.{◌≤◌, All, take};
 ghost use Rattle.qic_base.specs.Cartridge.{IsSector};
-ghost use Rattle.qic_base.specs.Terms.{HasCause};
+ghost use Rattle.qic_base.specs.Cause.{HasCause};
 ghost use Rattle.sector_fill.specs.Filling.{FillsSectors};
 
 use qic_base::{Sector, Source, SourceFailed};

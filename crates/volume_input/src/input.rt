@@ -1,7 +1,7 @@
 //! A volume written segment by segment.
 
 ghost use Rattle.std.specs.Prelude.{◌≡◌, ◌-◌, ◌*◌, ◌<◌, ◌≤◌, true, length};
-ghost use Rattle.qic_base.specs.Terms.{reading};
+ghost use Rattle.qic_base.specs.Alone.{reading};
 ghost use Rattle.cartridge_spec.specs.Volumes.{capacity_between, carrying};
 ghost use Rattle.drive_spec.specs.Terms.{is_referenced};
 ghost use Rattle.host_driver.specs.Calls.{IsReady, MayWrite, Keeps};

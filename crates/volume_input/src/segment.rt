@@ -1,7 +1,7 @@
 //! One segment of a volume.
 
 ghost use Rattle.std.specs.Prelude.{◌<◌, ◌≤◌, length};
-ghost use Rattle.qic_base.specs.Terms.{reading};
+ghost use Rattle.qic_base.specs.Alone.{reading};
 ghost use Rattle.cartridge_spec.specs.Shape.{mask_at};
 ghost use Rattle.host_driver.specs.Calls.{IsReady, MayWrite, Keeps};
 ghost use Rattle.segment_io.specs.Calls.{HasSegment};

@@ -1,21 +1,17 @@
 -- The first bytes of a segment's sectors are those of its data.
-use Rattle.std.proofs.Common.{◌≡◌, ℕ, ◌-◌, ◌*◌, ◌≤◌, nat_le, Bool, true, false, cond, List, [], ◌∷◌, ◌++◌, length, take, drop, All, refl, sym, ap, ◌∙◌, arith, append_assoc}
+use Rattle.std.proofs.Common.{◌≡◌, ℕ, ◌-◌, ◌*◌, ◌≤◌, nat_le, Bool, true, false, cond, List, ◌++◌, length, take, drop, All, sym, ap, ◌∙◌, arith, append_assoc}
 use Rattle.std.proofs.lemmas.Bool.{le-leb}
 use Rattle.std.proofs.lemmas.List.{length-take-le, take-append-le, take-append-drop}
 use Rattle.std.proofs.lemmas.List.Elements.{All-take}
 use Rattle.qic_base.specs.Cartridge.{IsSector}
 use Rattle.cartridge_spec.specs.Code.{IsCodeBlock}
-use Rattle.cartridge_laws.specs.Terms.{data_of}
+use Rattle.cartridge_laws.specs.Segment.{data_of}
 use Rattle.cartridge_laws.specs.Shape.{Carries}
 use Rattle.cartridge_spec.specs.Shape.{usable_count, data_count, capacity}
 use Rattle.cartridge_laws.proofs.Places.{count_below}
 use Rattle.cartridge_spec.specs.Volumes.{bytes_in}
 use Rattle.command_laws.proofs.RestoreCounts.{length-bytes_in}
-
-bytes_in-append : (xs ys : List (List ℕ)) → bytes_in (xs ++ ys) ≡ bytes_in xs ++ bytes_in ys
-bytes_in-append [] ys = refl
-bytes_in-append (x ∷ xs) ys =
-    ap (λ (bytes : List ℕ). x ++ bytes) (bytes_in-append xs ys) ∙ sym (append_assoc x (bytes_in xs) (bytes_in ys))
+use Rattle.command_laws.proofs.RestoreStanding.{bytes_in-append}
 
 -- a segment's sectors begin with a code block, of which so many bytes are asked
 pub record Holds (mask count : ℕ) (sectors : List (List ℕ)) : Type 0 where

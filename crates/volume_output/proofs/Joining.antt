@@ -4,12 +4,12 @@ use Rattle.command_laws.proofs.OutputJoining.{EndsAt-more}
 use Rattle.command_laws.proofs.RestoreEndings.{restores_is_function}
 use Rattle.command_laws.specs.OutputText.{printed, AreOf}
 use Rattle.command_spec.specs.Restore.{Piece, Restored, IsRead, GivingEnd, PieceEnds, LostIn, MismatchIn, Restores}
-use Rattle.command_laws.specs.CommandTerms.{EndsAt}
+use Rattle.command_laws.specs.RestoreTerms.{EndsAt}
 use Rattle.qic_base.proofs.Joins.{nothing_went, went_both, went_then_cut, cut_is_longer}
 use Rattle.qic_base.proofs.Steps.{Tells-map, Tells-read}
 use Rattle.qic_base.proofs.Writing.{TakesBoth}
 use Rattle.qic_base.specs.Acts.{Act, steps_of, Outside, Failing, TapeFails, SinkFails, Went, Cut}
-use Rattle.qic_base.specs.Terms.{no_source}
+use Rattle.qic_base.specs.Alone.{no_source}
 use Rattle.qic_base.specs.Cartridge.{Cartridge}
 use Rattle.qic_base.specs.Step.{Step}
 use Rattle.segment_io.proofs.Going.{tells_always, tells_then}
@@ -27,7 +27,7 @@ printed_none true [] = refl
 printed_none true (piece ∷ needed) = refl
 printed_none false needed = refl
 
-pub printed_more : (lined : Bool) (piece : Piece) (needed : List Piece) (act : Act) (acts : List Act) →
+printed_more : (lined : Bool) (piece : Piece) (needed : List Piece) (act : Act) (acts : List Act) →
     printed lined (piece ∷ []) (act ∷ []) ++ printed lined needed acts ≡ printed lined (piece ∷ needed) (act ∷ acts)
 printed_more true piece needed act acts = refl
 printed_more false piece needed act acts = refl

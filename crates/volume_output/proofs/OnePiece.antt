@@ -4,17 +4,17 @@ use Rattle.qic_base.specs.Cartridge.{Cartridge}
 use Rattle.qic_base.proofs.Steps.{Tells-map}
 use Rattle.qic_base.proofs.Writing.{TakesBoth, Wrote-Wrote, Wrote-BrokeOff, BrokeOff-longer}
 use Rattle.qic_base.specs.Acts.{Act, text_of, TapeFails, SinkFails, Went, Cut}
-use Rattle.qic_base.specs.Terms.{no_source, around}
+use Rattle.qic_base.specs.Alone.{no_source, around}
 use Rattle.qic_base.proofs.Joins.{cut_is_longer, broke_first}
 use Rattle.cartridge_spec.specs.Says.{cells_of, Says, Data, LostSectors}
-use Rattle.cartridge_laws.specs.Terms.{data_of}
+use Rattle.cartridge_laws.specs.Segment.{data_of}
 use Rattle.cartridge_spec.specs.Shape.{mask_at, usable_count}
 use Rattle.cartridge_laws.proofs.Segments.{count_of_cells}
 use Rattle.cartridge_spec.specs.Volumes.{bytes_in}
 use Rattle.segment_io.specs.Reading.{HasSolved}
 use Rattle.segment_io.proofs.Going.{tells_always}
 use Rattle.command_spec.specs.Restore.{Piece, GivingEnd, Restored, LostIn, MismatchIn, IsRead, PieceEnds, Restores}
-use Rattle.command_laws.specs.CommandTerms.{act_of}
+use Rattle.command_laws.specs.RestoreTerms.{act_of}
 use Rattle.command_laws.proofs.RestoreEndings.{restores_is_function}
 use Rattle.command_laws.specs.OutputText.{printed}
 use Rattle.volume_output.specs.Output.{GaveVolume, VolumeCut}

@@ -8,7 +8,7 @@ use Rattle.qic_base.proofs.Steps.{Tells-map}
 use Rattle.qic_base.specs.Cartridge.{Cartridge, IsSector}
 use Rattle.cartridge_spec.specs.Code.{IsCodeBlock}
 use Rattle.cartridge_spec.specs.Says.{Says, Data, cells_of}
-use Rattle.cartridge_laws.specs.Terms.{data_of}
+use Rattle.cartridge_laws.specs.Segment.{data_of}
 use Rattle.cartridge_spec.specs.Shape.{mask_at, usable_count, data_count, capacity}
 use Rattle.cartridge_laws.proofs.Places.{count_below}
 use Rattle.cartridge_laws.proofs.Segments.{count_of_cells}
@@ -53,7 +53,7 @@ module _ (words : List ℕ) (start end bytes number segment left before : ℕ) (
 -- ---- a segment that holds some bytes
 
 -- in all its data sectors
-pub capacity_some : (mask count : ℕ) → 0 < count → count ≤ capacity mask → capacity mask ≡ 1024 * data_count mask
+capacity_some : (mask count : ℕ) → 0 < count → count ≤ capacity mask → capacity mask ≡ 1024 * data_count mask
 capacity_some mask count some within =
     elim (cases_Bool (nat_le 4 (usable_count mask))) [
       | inl passes ↦ ap (λ (b : Bool). cond b (1024 * data_count mask) 0) passes
@@ -63,7 +63,7 @@ capacity_some mask count some within =
     ]
 
 -- as many as its capacity says
-pub sectors_of_capacity : (mask count answered : ℕ) → 0 < count → count ≤ capacity mask → answered ≡ capacity mask → answered / 1024 ≡ data_count mask
+sectors_of_capacity : (mask count answered : ℕ) → 0 < count → count ≤ capacity mask → answered ≡ capacity mask → answered / 1024 ≡ data_count mask
 sectors_of_capacity mask count answered some within is =
     let all : capacity mask ≡ 1024 * data_count mask = capacity_some mask count some within in
     omega arith

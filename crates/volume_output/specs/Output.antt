@@ -2,9 +2,9 @@
 use Rattle.std.specs.Prelude.{ℕ, Bool, List, length, Result, Ok, Err}
 use Rattle.command_laws.specs.OutputText.{printed, AreOf}
 use Rattle.command_spec.specs.Restore.{Piece, GivingEnd, Restores, Restored, LostIn, MismatchIn}
-use Rattle.command_laws.specs.CommandTerms.{EndsAt}
+use Rattle.command_laws.specs.RestoreTerms.{EndsAt}
 use Rattle.qic_base.specs.Acts.{Act, Outside, Went, Failing, Cut, TapeFails, SinkFails}
-use Rattle.qic_base.specs.Terms.{no_source}
+use Rattle.qic_base.specs.Alone.{no_source}
 use Rattle.volume_output.specs.declared.fault.OutputFault.{OutputFault}
 use Rattle.qic_base.specs.Sink as sinks
 use Rattle.qic_base.specs.Tape as tapes

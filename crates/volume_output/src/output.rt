@@ -1,7 +1,7 @@
 //! A volume read segment by segment.
 
 ghost use Rattle.std.specs.Prelude.{◌≡◌, ◌*◌, ◌<◌, ◌≤◌, true, length};
-ghost use Rattle.qic_base.specs.Terms.{around};
+ghost use Rattle.qic_base.specs.Alone.{around};
 ghost use Rattle.cartridge_spec.specs.Volumes.{capacity_between, carrying};
 ghost use Rattle.drive_spec.specs.Terms.{is_referenced};
 ghost use Rattle.drive_states.specs.Reach.{reads_in};

@@ -2,7 +2,7 @@
 
 ghost use Rattle.std.specs.Prelude.{◌≡◌, ◌*◌, ◌≤◌, ℕ, List, [], ◌∷◌, ◌++◌, true, length, codes, decimal};
 ghost use Rattle.qic_base.specs.SinkCalls.{Writes};
-ghost use Rattle.qic_base.specs.Terms.{around};
+ghost use Rattle.qic_base.specs.Alone.{around};
 ghost use Rattle.cartridge_spec.specs.Shape.{mask_at, capacity};
 ghost use Rattle.drive_states.specs.Reach.{reads_in};
 ghost use Rattle.host_driver.specs.Calls.{IsReady, Keeps};

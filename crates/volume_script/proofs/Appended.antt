@@ -10,9 +10,9 @@ use Rattle.qic_base.specs.Step.{Step}
 use Rattle.qic_base.proofs.Steps.{Tells-map}
 use Rattle.qic_base.proofs.Writing.{TakesBoth}
 use Rattle.qic_base.specs.Acts.{Act, text_of, Failing, TapeFails, SourceFails, SinkFails, Went, Cut}
-use Rattle.qic_base.specs.Terms.{no_sink, reading}
+use Rattle.qic_base.specs.Alone.{no_sink, reading}
 use Rattle.cartridge_spec.specs.Appending.{table_writes}
-use Rattle.cartridge_laws.specs.Terms.{slot_sector}
+use Rattle.cartridge_laws.specs.Slots.{slot_sector}
 use Rattle.cartridge_spec.specs.Table.{table_with, Entry}
 use Rattle.qic_base.proofs.Joins.{cut_is_longer, broke_behind}
 use Rattle.cartridge_spec.specs.TableSegment.{table_cells, TableIs}
@@ -26,7 +26,7 @@ use Rattle.tape_script.proofs.Rests.{whole_told}
 use Rattle.command_spec.specs.Lines.{appended_line, reply_behind}
 use Rattle.volume_store.specs.declared.appended.Appended.{Appended}
 use Rattle.command_spec.specs.Append.{Kept, Taking, Fits, TooLong, TooShort, taking, room_in, append_acts, kept_over}
-use Rattle.command_laws.specs.CommandTerms.{entry_for, silently}
+use Rattle.command_laws.specs.AppendTerms.{entry_for, silently}
 use Rattle.volume_store.specs.Appending.{kept_by, AppendRan, HasAppended, TableRefused, AppendCut, CutUnread, KeepsList}
 use Rattle.volume_store.specs.Mounting.{StoreView, StoreFits}
 use Rattle.drive_spec.specs.Terms.{is_protected}
@@ -42,7 +42,8 @@ use Rattle.volume_script.specs.Promised.{RanPromised, Refuses, replied_so}
 use Rattle.command_laws.proofs.ScriptActs.{quietly, same_acts, same_taking, took_enough, took_too_long, took_short, full_acts, full_taking, short_acts, fits_acts, front_acts, front_and_last, replied_steps, replied_text, input_texts}
 use Rattle.command_laws.proofs.ScriptGiven.{gave_all, gave_few, Behind}
 use Rattle.command_laws.proofs.ScriptLifting.{out, TakesNone, read_went, read_cut, replied_went, replied_cut, rested}
-use Rattle.volume_script.proofs.Content.{AreBytes, BehindBytes, GivenAs, any_bytes, behind_bytes, content_both, given_as, limit_untold, taken_content}
+use Rattle.volume_script.proofs.Content.{BehindBytes, GivenAs, any_bytes, behind_bytes, content_both, given_as, limit_untold, taken_content}
+use Rattle.command_laws.proofs.InputActLaws.{AreBytes}
 use Rattle.volume_script.proofs.Quiet.{mark_told, unmarked}
 use Rattle.command_laws.proofs.ScriptPlain.{line_one, meets_one, not_lost}
 use Rattle.cartridge_front.specs.declared.fault.StoreFault.{StoreFault}

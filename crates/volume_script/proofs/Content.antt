@@ -1,5 +1,5 @@
 -- The bytes of a script's input, where no one tells them.
-use Rattle.std.proofs.Common.{◌≡◌, ℕ, ◌+◌, ◌<◌, nat_lt, ltb-true, Bool, true, false, cond, List, [], ◌∷◌, ◌++◌, length, take, replicate, All, Option, Some, None, IfSome, IfNone, codes, refl, sym, ap, ◌∙◌, ◌/◌, ◌%◌, subst, arith, inl, inr}
+use Rattle.std.proofs.Common.{◌≡◌, ℕ, ◌+◌, ◌<◌, nat_lt, ltb-true, Bool, true, false, cond, List, [], ◌∷◌, ◌++◌, length, take, replicate, Option, Some, None, IfSome, IfNone, codes, refl, sym, ap, ◌∙◌, ◌/◌, ◌%◌, subst, arith, inl, inr}
 use Rattle.std.specs.List.{AllZip}
 use Rattle.std.specs.List.{join_with_byte}
 use Rattle.std.specs.Option.{option_map}
@@ -10,17 +10,15 @@ use Rattle.std.proofs.lemmas.List.Splits.{join_with_byte-slice_split}
 use Rattle.command_laws.proofs.ScriptGiven.{Behind, behind}
 use Rattle.command_laws.proofs.TextCommands.{dated_cases}
 use Rattle.command_laws.proofs.TextDecimals.{all_digits}
-use Rattle.command_laws.specs.CommandTerms.{words_of}
+use Rattle.command_laws.specs.Inputs.{words_of}
 use Rattle.command_spec.specs.Command.{AnyNumber, Date, HasForm, IsDateWord, IsNumber, Name, Number, Part, SpellsPart, Word}
 use Rattle.command_spec.specs.Input.{IsLineText, line_forms}
 use Rattle.command_spec.specs.Lines.{date_form, two_digits}
 use Rattle.command_spec.specs.declared.line.Line.{Line}
 use Rattle.qic_base.specs.Field.{IsNameText}
 use Rattle.volume_store.proofs.Taking.{content_always}
+use Rattle.command_laws.proofs.InputActLaws.{AreBytes}
 use Rattle.command_spec.specs.declared.line.Line.TheVariants as line
-
-abbrev pub AreBytes : List ℕ → Type 0
-AreBytes bytes = All (λ b. b < 256) bytes
 
 -- ---- the words of a line
 
@@ -111,7 +109,7 @@ line_words words line.End (inl is) = form_bytes words (Word (codes "end") ∷ []
 line_words words line.End (inr never) = absurd never
 
 -- a line is one of bytes
-pub line_bytes : (text : List ℕ) (asked : Line) → IsLineText text asked → AreBytes text
+line_bytes : (text : List ℕ) (asked : Line) → IsLineText text asked → AreBytes text
 line_bytes text asked is =
     let before : AreBytes is.before = subst AreBytes (join_with_byte-slice_split 0x20 is.before) (joined_bytes (words_of is.before) (line_words (words_of is.before) asked is.has)) in
     subst AreBytes (sym is.whole) (All-append (λ b. b < 256) is.before (0x0A ∷ []) before (All-cons (λ b. b < 256) 0x0A [] (omega arith) (All-nil (λ b. b < 256))))

@@ -22,7 +22,7 @@ use Rattle.tape_script.proofs.Lined.{IsLined-one_newline}
 use Rattle.tape_script.proofs.Rests.{whole_told}
 use Rattle.volume_store.specs.Mounting.{StoreView}
 use Rattle.volume_script.specs.Heard.{HeardItem, HeardShort, HeardCut, NextDoes}
-use Rattle.command_laws.specs.CommandTerms.{IsLine}
+use Rattle.command_laws.specs.Inputs.{IsLine}
 use Rattle.command_laws.specs.ScriptItems.{EarlyDoes}
 use Rattle.volume_script.specs.Items.{ItemDone, ItemShort, ItemCut, ItemMismatched, WouldDo}
 use Rattle.command_spec.specs.Script.{EndsEarly, LineDoes}

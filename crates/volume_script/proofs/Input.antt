@@ -7,12 +7,13 @@ use Rattle.std.specs.Option.{option_map}
 use Rattle.command_laws.proofs.ScriptInput.{SameLine, same_line}
 use Rattle.command_laws.proofs.TextLined.{end_no_newline}
 use Rattle.command_spec.specs.Command.{Word, SpellsPart}
-use Rattle.command_laws.specs.CommandTerms.{words_of}
+use Rattle.command_laws.specs.Inputs.{words_of}
 use Rattle.command_spec.specs.Input.{IsLineText, IsItem, promised, Item, IsFault, most_items, HasStop}
 use Rattle.command_spec.specs.Script.{EndsEarly}
 use Rattle.command_spec.specs.declared.line.Line.{Line}
 use Rattle.tape_script.proofs.Rests.{Rest}
-use Rattle.volume_script.proofs.Content.{AreBytes, stop_bytes, zero_byte}
+use Rattle.volume_script.proofs.Content.{stop_bytes, zero_byte}
+use Rattle.command_laws.proofs.InputActLaws.{AreBytes}
 use Rattle.command_spec.specs.declared.line.Line.TheVariants as line
 
 -- ---- the line `end`

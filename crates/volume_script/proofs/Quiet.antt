@@ -9,7 +9,7 @@ use Rattle.qic_base.specs.Step.{Wear}
 use Rattle.qic_base.proofs.Steps.{Tells-map}
 use Rattle.qic_base.proofs.Writing.{TakesBoth}
 use Rattle.qic_base.specs.Acts.{Act, Outside, Failing, TapeFails, SourceFails, SinkFails, Went, Cut}
-use Rattle.qic_base.specs.Terms.{no_source, around}
+use Rattle.qic_base.specs.Alone.{no_source, around}
 use Rattle.qic_base.proofs.Joins.{cut_is_longer, sink_cut_one}
 use Rattle.cartridge_spec.specs.Table.{Entry}
 use Rattle.cartridge_spec.specs.Volumes.{volume_length}
@@ -21,7 +21,7 @@ use Rattle.drive_states.specs.Unit.{UnitView}
 use Rattle.host_driver.specs.Fits.{segments_of}
 use Rattle.command_spec.specs.Restore.{Restored, LostIn, MismatchIn, Restores, framed, pieces, volume_at}
 use Rattle.command_spec.specs.Scrub.{ScrubsAs, looked_at}
-use Rattle.command_laws.specs.Terms.{counts_for}
+use Rattle.command_laws.specs.ScrubTerms.{counts_for}
 use Rattle.segment_io.proofs.Going.{tells_always}
 use Rattle.segment_mending.specs.Mending.{reported, HasScrubbed, ScrubCut}
 use Rattle.segment_mending.specs.declared.report.ScrubReport.{ScrubReport}
@@ -34,7 +34,7 @@ use Rattle.volume_store.specs.Mounting.{StoreView, StoreFits}
 use Rattle.volume_store.specs.Restoring.{RestoreEnds}
 use Rattle.volume_script.specs.Items.{ItemDone, ItemCut, ItemEnds, WouldDo}
 use Rattle.command_spec.specs.Script.{refusal_line, Did, LineDoes, given_as, reply}
-use Rattle.command_laws.specs.CommandTerms.{restored_line}
+use Rattle.command_laws.specs.ScriptTerms.{restored_line}
 use Rattle.volume_script.specs.Promised.{replied_so}
 use Rattle.command_laws.proofs.ScriptLifting.{out, TakesNone, printed_went, printed_cut, replied_went, replied_cut, rested}
 use Rattle.command_laws.proofs.ScriptPlain.{given, line_one}
@@ -236,7 +236,7 @@ module _ {T S K : Type 0} (t : tapes.Meaning T) (s : sources.Meaning S) (k : sin
 -- ---- lose
 
 -- the length that is told is the one that the drive knows
-pub length_told : {T : Type 0} (t : tapes.Meaning T) (store : StoreView) (u : UnitView T) → StoreFits t store u →
+length_told : {T : Type 0} (t : tapes.Meaning T) (store : StoreView) (u : UnitView T) → StoreFits t store u →
     tape_calls.Tells t u.tape (λ c. c.info.segments_per_track ≡ segments_per_track u.drive.deck)
 length_told t store u fits =
     Tells-map t u.tape (IsLearnt store.host) (λ c. c.info.segments_per_track ≡ segments_per_track u.drive.deck)

@@ -26,15 +26,17 @@ use Rattle.command_laws.specs.ScriptItems.{EarlyDoes}
 use Rattle.command_spec.specs.Script.{end_line, Did, EndDoes, EndsEarly, ItemsDo, ScriptDoes, acts_of, cartridge_behind, entries_behind, place_behind, reply, items_taken}
 use Rattle.volume_script.specs.Runs.{Leaves, Ended, CutOff}
 use Rattle.command_laws.specs.ScriptAnswers.{Answer, AllDone, FaultIn, script_answer, script_status}
-use Rattle.command_laws.specs.CommandTerms.{FaultDoes, ItemDoes}
+use Rattle.command_laws.specs.ScriptTerms.{FaultDoes, ItemDoes}
 use Rattle.command_spec.specs.Outcome.{CommandOutcome}
 use Rattle.volume_script.proofs.Appended.{flip}
-use Rattle.volume_script.proofs.Content.{AreBytes, any_bytes, content_both, ended_content, no_content}
+use Rattle.volume_script.proofs.Content.{any_bytes, content_both, ended_content, no_content}
+use Rattle.command_laws.proofs.InputActLaws.{AreBytes}
 use Rattle.volume_script.proofs.Hearing.{early_of}
 use Rattle.volume_script.proofs.Input.{no_line_fault, no_line_early, early_fault, none_content, none_rest, on_content, on_rest, stop_content, stop_rest}
 use Rattle.command_laws.proofs.ScriptLifting.{out, TakesNone, replied_went, replied_cut}
 use Rattle.command_laws.proofs.ScriptReading.{Reads, reads_more, read_end, place_is, split_reading, acts_of-append, entries_behind-append, cartridge_is, do_more, split_doing}
 use Rattle.cartridge_front.proofs.Copies.{tells_two}
+use Rattle.qic_base.specs.Source.{IsInput}
 use Rattle.qic_base.specs.Sink as sinks
 use Rattle.qic_base.specs.SinkCalls as sink_calls
 use Rattle.qic_base.specs.Source as sources
@@ -358,7 +360,7 @@ module _ {T S K : Type 0} {t : tapes.Meaning T} {s : sources.Meaning S} {k : sin
         let early : EndsEarly rest = early_of heard.text heard.bytes heard.asked heard.is heard.short in
         let whole = whole_told (s.left now.source) (s.left new.source) rest behind.rest heard.gave behind.told in
         let told : IfSome (s.left now.source) (λ bytes. bytes ≡ rest) =
-        flip (s.left now.source) rest (subst (λ (l : List ℕ). IfSome (s.left now.source) (λ bytes. l ≡ bytes)) (ap (λ (l : List ℕ). rest ++ l) behind.has ∙ append-nil rest) whole) in
+        flip (s.left now.source) rest (subst (λ (l : List ℕ). IsInput (s.left now.source) l) (ap (λ (l : List ℕ). rest ++ l) behind.has ∙ append-nil rest) whole) in
         faulty new rest rest number at heard.acts same equal told heard.content (early_fault (lines + 1) rest early) heard.went heard.gave (inr heard.ended)
         (Tells-map t now.tape (λ c. EarlyDoes c store.words store.entries heard.asked heard.bytes heard.acts) (λ c. FaultDoes c store.words store.entries number rest heard.acts)
         (λ c does. early_does c heard.text heard.bytes heard.asked heard.acts heard.is heard.short number (omega arith) does) heard.told)

@@ -12,7 +12,7 @@ use Rattle.volume_script.specs.Items.{ItemMismatched}
 use Rattle.volume_script.specs.declared.fault.ScriptFault.{ScriptFault}
 use Rattle.command_laws.specs.ScriptItems.{EarlyDoes}
 use Rattle.command_spec.specs.Script.{Did, EndDoes}
-use Rattle.command_laws.specs.CommandTerms.{ItemDoes}
+use Rattle.command_laws.specs.ScriptTerms.{ItemDoes}
 use Rattle.qic_base.specs.Sink as sinks
 use Rattle.qic_base.specs.Source as sources
 use Rattle.qic_base.specs.Tape as tapes

@@ -5,7 +5,7 @@ use Rattle.qic_base.specs.Sink as sinks
 use Rattle.qic_base.specs.SinkCalls as sink_calls
 use Rattle.qic_base.specs.Source as sources
 use Rattle.qic_base.specs.Tape as tapes
-use Rattle.qic_base.specs.Terms.{reading}
+use Rattle.qic_base.specs.Alone.{reading}
 use Rattle.qic_base.specs.SourceCalls.{Gave, HasEnded}
 use Rattle.volume_store.specs.Appending.{AppendEnds, FaultsUnread}
 use Rattle.volume_store.specs.Mounting.{StoreView}

@@ -1,5 +1,5 @@
 -- How a run of a script ended (this project's own).
-use Rattle.std.specs.Prelude.{◌≡◌, ℕ, ◌++◌, ◌<◌, All, List, drop, IfSome, IfNone, Result, Ok, Err}
+use Rattle.std.specs.Prelude.{◌≡◌, ℕ, ◌++◌, ◌<◌, All, List, drop, IfNone, Result, Ok, Err}
 use Rattle.std.specs.Option.{option_map}
 use Rattle.qic_base.specs.Acts.{Act, text_of, Outside, Failing, TapeFails, SourceFails, SinkFails, Went, Cut}
 use Rattle.command_spec.specs.Input.{Item, Ending, IsScript}
@@ -9,6 +9,7 @@ use Rattle.volume_script.specs.declared.fault.ScriptFault.{ScriptFault}
 use Rattle.command_spec.specs.Script.{end_line, ScriptDoes}
 use Rattle.command_laws.specs.ScriptAnswers.{Answer, AllDone, FaultIn, script_answer, script_status}
 use Rattle.command_spec.specs.Outcome.{CommandOutcome}
+use Rattle.qic_base.specs.Source.{IsInput}
 use Rattle.qic_base.specs.Sink as sinks
 use Rattle.qic_base.specs.Source as sources
 use Rattle.qic_base.specs.Tape as tapes
@@ -24,7 +25,7 @@ Leaves s old new taken (FaultIn number place) = LeftAtFault place (s.left old) (
 -- or some input of bytes where it tells none.
 pub record Ended {T S K : Type 0} (t : tapes.Meaning T) (s : sources.Meaning S) (k : sinks.Meaning K) (store : StoreView) (old new : Outside T S K) (answer : Answer) : Type 0 where
   pub input : List ℕ
-  pub is_told : IfSome (s.left old.source) (λ bytes. input ≡ bytes)
+  pub is_told : IsInput (s.left old.source) input
   pub content : IfNone (s.left old.source) (All (λ b. b < 256) input)
   pub outcome : CommandOutcome
   pub told : tape_calls.Tells t old.tape (λ c. ScriptDoes c store.words store.entries input outcome)
@@ -50,7 +51,7 @@ pub record Mismatched {T S K : Type 0} (t : tapes.Meaning T) (s : sources.Meanin
 -- A fault of this object of the outside cut it off, in the midst of the acts of the plain machine's outcome.
 pub record CutOff {T S K : Type 0} (t : tapes.Meaning T) (s : sources.Meaning S) (k : sinks.Meaning K) (store : StoreView) (old new : Outside T S K) (failing : Failing) : Type 0 where
   pub input : List ℕ
-  pub is_told : IfSome (s.left old.source) (λ bytes. input ≡ bytes)
+  pub is_told : IsInput (s.left old.source) input
   pub content : IfNone (s.left old.source) (All (λ b. b < 256) input)
   pub told : tape_calls.Tells t old.tape (λ c. (outcome : CommandOutcome) → ScriptDoes c store.words store.entries input outcome →
       Cut t s k old new outcome.acts failing)

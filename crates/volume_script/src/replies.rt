@@ -3,7 +3,7 @@
 ghost use Rattle.std.specs.Prelude.{◌≡◌};
 ghost use Rattle.qic_base.specs.SinkCalls.{Writes};
 ghost use Rattle.command_spec.specs.Script.{no_volume_line, refusal_line};
-ghost use Rattle.command_laws.specs.CommandTerms.{restored_line};
+ghost use Rattle.command_laws.specs.ScriptTerms.{restored_line};
 ghost use Rattle.volume_script.specs.Promised.{replied_so};
 
 use crate::fault::ItemFault;

@@ -7,7 +7,7 @@ use Rattle.qic_base.specs.Tape.{Broke}
 use Rattle.qic_base.specs.TapeCalls.{Tells}
 use Rattle.qic_base.proofs.Steps.{Tells-map}
 use Rattle.qic_base.specs.Acts.{Cut, Failing, Outside, TapeFails, SourceFails}
-use Rattle.qic_base.specs.Terms.{no_sink, reading}
+use Rattle.qic_base.specs.Alone.{no_sink, reading}
 use Rattle.cartridge_spec.specs.TableSegment.{TableIs}
 use Rattle.cartridge_spec.specs.Settling.{settling_steps}
 use Rattle.segment_io.proofs.Going.{tells_always}

@@ -15,7 +15,7 @@ use Rattle.cartridge_laws.specs.AppendSettled.{IsSettledFor}
 use Rattle.cartridge_laws.specs.Table.{IsSoundList}
 use Rattle.cartridge_spec.specs.Appending.{taken_by}
 use Rattle.cartridge_spec.specs.TableSegment.{TableIs, table_cells}
-use Rattle.cartridge_laws.specs.Terms.{HasList}
+use Rattle.cartridge_laws.specs.TableCells.{HasList}
 use Rattle.cartridge_spec.specs.Says.{TableSays, AsRead, ByCode, LostSectors, Data, with_parity}
 use Rattle.cartridge_spec.specs.Settling.{changed_by, settling_steps}
 use Rattle.cartridge_spec.specs.Table.{Entry, Shows}
@@ -24,13 +24,13 @@ use Rattle.command_laws.proofs.StoreBehind.{input_behind, settled_behind}
 use Rattle.command_laws.proofs.StoreEnding.{took_fits, list_more}
 use Rattle.command_laws.proofs.StoreSettled.{table_sectors, table_size}
 use Rattle.command_spec.specs.Append.{Taking, Fits, TooLong, TooShort, taking, Kept, room_in, input_writes, entry_acts, append_acts}
-use Rattle.command_laws.specs.CommandTerms.{entry_for, free_in, bytes_taken, silently}
+use Rattle.command_laws.specs.AppendTerms.{entry_for, free_in, bytes_taken, silently}
 use Rattle.gf256_qic.proofs.Parities.{parity_block}
 use Rattle.qic_base.proofs.Giving.{Gave-nothing}
 use Rattle.qic_base.proofs.Joins.{went_both, went_then_cut, cut_is_longer}
 use Rattle.qic_base.proofs.Steps.{Tells-map, Broke-front, Done-before_reads}
-use Rattle.qic_base.proofs.Writing.{TakesBoth}
-use Rattle.qic_base.specs.Terms.{no_sink, reading, IsCartridge}
+use Rattle.qic_base.specs.Alone.{no_sink, reading}
+use Rattle.qic_base.specs.CartridgeTerms.{IsCartridge}
 use Rattle.qic_base.specs.Acts.{Outside, Act, Failing, TapeFails, SourceFails, Went, Cut, steps_of}
 use Rattle.qic_base.specs.Cartridge.{Cartridge}
 use Rattle.qic_base.specs.Step.{Step, effects}
@@ -45,12 +45,10 @@ use Rattle.volume_store.specs.Appending.{AppendEnds, kept_by, InputWent, InputWr
 use Rattle.volume_store.specs.Mounting.{StoreView}
 use Rattle.volume_store.specs.declared.appended.Appended.{Appended}
 use Rattle.cartridge_front.specs.declared.fault.StoreFault.{StoreFault}
+use Rattle.volume_input.proofs.Running.{no_text}
 use Rattle.qic_base.specs.Tape as tapes
 use Rattle.qic_base.specs.Source as sources
 use Rattle.cartridge_front.specs.declared.fault.StoreFault.TheVariants as fault
-
-pub no_text : TakesBoth no_sink
-no_text a b c xs ys first next = ap (λ (l : List ℕ). l ++ ys) first ∙ next
 
 -- ---- a told cartridge
 

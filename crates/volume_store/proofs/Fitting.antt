@@ -3,9 +3,11 @@ use Rattle.std.proofs.Common.{◌≡◌, ◌≢◌, ℕ, ◌-◌, ◌*◌, ◌/�
 use Rattle.std.specs.Option.{option_map}
 use Rattle.std.proofs.lemmas.List.{length-append}
 use Rattle.cartridge_laws.proofs.MountSettles.{settling_settles}
-use Rattle.cartridge_laws.specs.Terms.{HasList, slot_sector, last_end}
+use Rattle.cartridge_laws.specs.TableCells.{HasList}
+use Rattle.cartridge_laws.specs.Slots.{slot_sector}
 use Rattle.qic_base.specs.Cartridge.{Cartridge}
-use Rattle.qic_base.specs.Terms.{IsCartridge, reading}
+use Rattle.qic_base.specs.Alone.{reading}
+use Rattle.qic_base.specs.CartridgeTerms.{IsCartridge}
 use Rattle.qic_base.specs.Step.{Step, effects}
 use Rattle.qic_base.specs.Tape.{Meaning, Done}
 use Rattle.qic_base.specs.TapeCalls.{Tells}
@@ -17,7 +19,7 @@ use Rattle.qic_base.specs.Acts.{steps_of}
 use Rattle.cartridge_spec.specs.Shape.{IsArea}
 use Rattle.cartridge_spec.specs.TableSegment.{TableIs}
 use Rattle.cartridge_spec.specs.Table.{slot_bytes, table_with, Entry, Shows}
-use Rattle.cartridge_laws.specs.Table.{IsSoundList}
+use Rattle.cartridge_laws.specs.Table.{IsSoundList, last_end}
 use Rattle.cartridge_spec.specs.Settling.{changed_by, settling_steps}
 use Rattle.cartridge_laws.proofs.SlotBytes.{length-slot_bytes, slot_are_bytes}
 use Rattle.cartridge_laws.proofs.Slots.{slot_area}

@@ -6,16 +6,17 @@ use Rattle.cartridge_spec.specs.TableSegment.{TableIs}
 use Rattle.cartridge_spec.specs.Settling.{settling_steps}
 use Rattle.command_laws.proofs.StoreAgain.{table_one}
 use Rattle.command_spec.specs.Append.{Fits, input_writes}
-use Rattle.command_laws.specs.CommandTerms.{bytes_taken}
+use Rattle.command_laws.specs.AppendTerms.{bytes_taken}
 use Rattle.qic_base.proofs.Giving.{Gave-nothing}
 use Rattle.qic_base.proofs.Joins.{went_then_cut}
 use Rattle.qic_base.proofs.Steps.{Tells-map, Broke-front}
 use Rattle.qic_base.specs.Acts.{Act, Cut, Failing, Outside, SourceFails, TapeFails}
-use Rattle.qic_base.specs.Terms.{no_sink, reading}
+use Rattle.qic_base.specs.Alone.{no_sink, reading}
 use Rattle.qic_base.specs.Step.{Step}
 use Rattle.volume_input.proofs.Inputs.{left_of, whole_told}
 use Rattle.volume_input.specs.declared.written.Written.{Written}
-use Rattle.volume_store.proofs.Ending.{act_went, broke_cut, no_text}
+use Rattle.volume_store.proofs.Ending.{act_went, broke_cut}
+use Rattle.volume_input.proofs.Running.{no_text}
 use Rattle.volume_store.proofs.Taking.{content_always, untold_content}
 use Rattle.cartridge_front.specs.Again.{IsOfReading, IsSettledAgain, SettlesAgain}
 use Rattle.volume_store.specs.Appending.{AskedFor, AsksInRoom, CutBeforeEntry, HasGivenAll, HasRoomFor, InOrder, InputBroke, InputIs, InputWritten, ListsLast, MayAsk, acts_before_entry, kept_by}

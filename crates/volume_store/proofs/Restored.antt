@@ -1,7 +1,7 @@
 -- What a restore gave, by its answer, and the fit of a store behind a call that keeps its list.
 use Rattle.std.proofs.Common.{◌≡◌, ℕ, zero, suc, ◌-◌, ◌*◌, ◌<◌, ◌++◌, Bool, true, false, List, [], ◌∷◌, length, Option, Some, None, IfSome, Result, Ok, Err, refl, sym, ap, ◌∙◌, subst, arith, slice_get, append_assoc}
 use Rattle.std.proofs.lemmas.Option.{slice_get_past}
-use Rattle.cartridge_laws.specs.Terms.{HasList}
+use Rattle.cartridge_laws.specs.TableCells.{HasList}
 use Rattle.qic_base.specs.Cartridge.{Cartridge}
 use Rattle.qic_base.specs.Step.{Step}
 use Rattle.qic_base.specs.Tape.{Meaning, Done}
@@ -23,6 +23,7 @@ use Rattle.command_laws.specs.OutputText.{AreOf, printed}
 use Rattle.volume_store.specs.Mounting.{StoreView, StoreFits, KeepsStore}
 use Rattle.volume_store.specs.Restoring.{RestoreEnds, fault_of_output}
 use Rattle.volume_store.proofs.Storing.{one_length, still_primary, still_referenced}
+use Rattle.command_laws.proofs.OutputActsOfPieces.{no_step}
 use Rattle.qic_base.specs.Sink as sinks
 use Rattle.volume_output.specs.declared.fault.OutputFault.TheVariants as output
 
@@ -73,10 +74,6 @@ no_front : (xs ys : List Step) → xs ++ ys ≡ [] → xs ≡ []
 no_front [] ys none = refl
 no_front (x ∷ xs) ys none = absurd (cc)
 
--- acts of the first of some pieces take no step, in either form
-no_step : (steps : List Step) (acts : List Act) → steps ≡ [] → steps_of acts ≡ [] → steps ++ steps_of acts ≡ []
-no_step steps acts none rest = ap (λ (ss : List Step). ss ++ steps_of acts) none ∙ rest
-
 printed_in_no_step : (needed : List Piece) (lined : Bool) (acts : List Act) → AreOf needed acts → steps_of (printed lined needed acts) ≡ []
 printed_in_no_step [] true [] are = refl
 printed_in_no_step (piece ∷ needed) true [] are = refl
@@ -93,7 +90,7 @@ no_step_before acts at none =
     ∙ sym (steps_of-append at.front (at.act ∷ at.rest))
     ∙ ap (λ (xs : List Act). steps_of xs) at.parts ∙ none)
 
-pub told_still : {T : Type 0} (m : Meaning T) (old new : T) (steps : List Step) (P : Cartridge → Type 0) → steps ≡ [] → Done m old new steps → Tells m old P → Tells m new P
+told_still : {T : Type 0} (m : Meaning T) (old new : T) (steps : List Step) (P : Cartridge → Type 0) → steps ≡ [] → Done m old new steps → Tells m old P → Tells m new P
 told_still m old new steps P none done told =
     subst (λ (held : Option (Option Cartridge)). IfSome held (λ h. IfSome h P)) (sym (Done-told (subst (Done m old new) none done))) told
 

@@ -1,8 +1,9 @@
 -- What scrubbing in either form leaves of the volume table's list, done or cut off by the sink.
-use Rattle.std.proofs.Common.{◌≡◌, ℕ, ◌-◌, ◌++◌, false, List, length, Contains, Option, Some, None, inl, inr, IfSome, IsSomeAnd, Result, Ok, Err, refl, sym, ap, ◌∙◌, subst}
+use Rattle.std.proofs.Common.{◌≡◌, ℕ, ◌-◌, ◌++◌, List, length, Contains, Option, Some, None, inl, inr, IfSome, IsSomeAnd, Result, Ok, Err, refl, sym, ap, ◌∙◌, subst}
 use Rattle.std.specs.Option.{option_map}
 use Rattle.std.proofs.lemmas.List.Elements.{All-take}
-use Rattle.cartridge_laws.specs.Terms.{HasList, data_of}
+use Rattle.cartridge_laws.specs.TableCells.{HasList}
+use Rattle.cartridge_laws.specs.Segment.{data_of}
 use Rattle.qic_base.specs.Cartridge.{Cartridge, IsSector}
 use Rattle.qic_base.specs.Step.{effects, Torn}
 use Rattle.qic_base.specs.Tape.{Meaning}
@@ -11,7 +12,7 @@ use Rattle.qic_base.specs.declared.tape.SectorView.{SectorView}
 use Rattle.qic_base.specs.declared.tape.TapeInfo.{TapeInfo}
 use Rattle.qic_base.proofs.Steps.{Torn-all}
 use Rattle.qic_base.specs.Acts.{Act, Outside, SinkFails, Cut, steps_of}
-use Rattle.qic_base.specs.Terms.{no_source}
+use Rattle.qic_base.specs.Alone.{no_source}
 use Rattle.qic_base.proofs.Outcomes.{cut_is_torn}
 use Rattle.cartridge_spec.specs.TableSegment.{table_cells}
 use Rattle.cartridge_spec.specs.Says.{Agrees, whole_mask}
@@ -26,7 +27,7 @@ use Rattle.command_laws.specs.ScrubFound.{without_all}
 use Rattle.command_laws.specs.ScrubMended.{IsBeingMended}
 use Rattle.command_laws.specs.ScrubSayings.{Rise}
 use Rattle.command_spec.specs.Scrub.{Looked, whole_segment, looked_at, Finding, ScrubsAs}
-use Rattle.command_laws.specs.Terms.{counts_for}
+use Rattle.command_laws.specs.ScrubTerms.{counts_for}
 use Rattle.command_spec.specs.declared.depth.Depth.{Depth}
 use Rattle.command_laws.proofs.ScrubBeside.{not_the_table}
 use Rattle.command_laws.proofs.ScrubForms.{AsSeen, as_seen, IsLeft, stopped_left}
@@ -36,6 +37,7 @@ use Rattle.command_laws.proofs.ScrubStanding.{written_kept, looks_in_front}
 use Rattle.segment_mending.specs.declared.fault.ScrubFault.{ScrubFault}
 use Rattle.segment_mending.specs.declared.report.ScrubReport.{ScrubReport}
 use Rattle.segment_mending.specs.Mending.{HasScrubbed, ScrubCut, ScrubEnds, reported}
+use Rattle.volume_store.proofs.Worn.{Lists}
 use Rattle.qic_base.specs.Sink as sinks
 use Rattle.segment_mending.specs.declared.fault.ScrubFault.TheVariants as fault
 
@@ -80,10 +82,6 @@ left_same looked c e d same left i h =
       | inl is ↦ is
       | inr kept ↦ kept.0 ∙ sym (same i h) ∙ sym kept.1
     ]
-
--- its list stands where it may be written
-abbrev Lists : List Entry → Cartridge → Type 0
-Lists entries c = c.info.protected ≡ false → HasList c entries
 
 -- ---- a stop among the acts
 

@@ -1,7 +1,8 @@
 -- An append stage by stage, from a store that fits a unit whose cartridge may be written: the list, the fit, and how it ended.
 use Rattle.std.proofs.Common.{◌≡◌, ◌≢◌, ◌⊎◌, inl, inr, ℕ, ◌-◌, false, List, [], ◌∷◌, ◌++◌, length, Option, Err, sym, ◌∙◌, subst, arith}
-use Rattle.cartridge_laws.specs.Terms.{HasList}
-use Rattle.qic_base.specs.Terms.{IsCartridge, reading}
+use Rattle.cartridge_laws.specs.TableCells.{HasList}
+use Rattle.qic_base.specs.Alone.{reading}
+use Rattle.qic_base.specs.CartridgeTerms.{IsCartridge}
 use Rattle.qic_base.specs.Tape.{Meaning}
 use Rattle.qic_base.specs.TapeCalls.{Tells, IsToldRight}
 use Rattle.qic_base.proofs.Steps.{Tells-map}

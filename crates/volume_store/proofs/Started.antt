@@ -19,7 +19,7 @@ pub told_before : {T : Type 0} (t : tapes.Meaning T) (a b : T) → tapes.Done t 
 told_before t a b inserted P told = subst (λ (held : Option (Option Cartridge)). IfSome held P) (Done-told inserted) told
 
 -- .. what the drive knows since the insertion among them
-pub known_before : {T : Type 0} (t : tapes.Meaning T) (a b : T) (cartridge : Option TapeInfo) → tapes.Done t a b [] → IfSome (t.told b) (Knows cartridge) → IfSome (t.told a) (Knows cartridge)
+known_before : {T : Type 0} (t : tapes.Meaning T) (a b : T) (cartridge : Option TapeInfo) → tapes.Done t a b [] → IfSome (t.told b) (Knows cartridge) → IfSome (t.told a) (Knows cartridge)
 known_before t a b cartridge inserted known = told_before t a b inserted (Knows cartridge) known
 
 -- .. and what was told of the cartridge
@@ -42,7 +42,7 @@ pub record IsThere (cartridge : Option TapeInfo) : Type 0 where
   pub info : TapeInfo
   pub is : cartridge ≡ Some info
 
-pub is_there : (cartridge : Option TapeInfo) (P : TapeInfo → Type 0) → IsSomeAnd cartridge P → IsThere cartridge
+is_there : (cartridge : Option TapeInfo) (P : TapeInfo → Type 0) → IsSomeAnd cartridge P → IsThere cartridge
 is_there None P there = absurd there
 is_there (Some info) P there = record { info = info; is = refl }
 

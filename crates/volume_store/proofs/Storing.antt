@@ -6,7 +6,7 @@ use Rattle.std.specs.Option.{option_map, option_map_or}
 use Rattle.std.proofs.lemmas.List.Sums.{sum_by_push}
 use Rattle.cartridge_laws.proofs.MountSettles.{settling_settles}
 use Rattle.qic_base.specs.Cartridge.{Cartridge}
-use Rattle.qic_base.specs.Terms.{IsCartridge}
+use Rattle.qic_base.specs.CartridgeTerms.{IsCartridge}
 use Rattle.qic_base.specs.Step.{Step, WriteSector, changed, effects}
 use Rattle.qic_base.specs.Tape.{Meaning, Done}
 use Rattle.qic_base.specs.TapeCalls.{Tells, IsToldRight}
@@ -16,7 +16,7 @@ use Rattle.cartridge_spec.specs.Table.{Entry}
 use Rattle.cartridge_laws.specs.Table.{IsSoundList, LieBehind}
 use Rattle.cartridge_spec.specs.TableSegment.{TableIs}
 use Rattle.cartridge_spec.specs.Mounting.{settled}
-use Rattle.cartridge_laws.specs.Terms.{HasList}
+use Rattle.cartridge_laws.specs.TableCells.{HasList}
 use Rattle.cartridge_spec.specs.Settling.{writes_of, changed_by, settling_steps, block_writes, settling_places}
 use Rattle.cartridge_spec.specs.Shape.{sector_at, usable_places}
 use Rattle.cartridge_spec.specs.Says.{whole_mask, with_parity}
@@ -39,7 +39,7 @@ use Rattle.std.proofs.lemmas.Option.{same_Some}
 use Rattle.cartridge_front.specs.declared.table_reader.Unread.{Unread}
 use Rattle.cartridge_front.specs.Settling.{mending_steps, mending_places, collected_block}
 use Rattle.cartridge_front.proofs.Copies.{IsLearnt, told_learnt, tells_two}
-use Rattle.cartridge_front.proofs.Mending.{range_more}
+use Rattle.command_laws.proofs.ScrubNamed.{range_more}
 use Rattle.cartridge_front.proofs.Settled.{mending_settles, writes_info}
 use Rattle.command_laws.proofs.StoreSettled.{settled_list}
 
@@ -76,7 +76,7 @@ ends_within (x ∷ xs) before last (suc i) e order at =
 -- ---- what the mounting did
 
 -- the writes of the workspace settle a cartridge that was learnt
-pub settles_learnt : (host : Host) (c : Cartridge) (words : List ℕ) (sectors : List (List ℕ)) (entries : List Entry) (learnt : Learnt) (protected : Bool) → length sectors ≡ 32 →
+settles_learnt : (host : Host) (c : Cartridge) (words : List ℕ) (sectors : List (List ℕ)) (entries : List Entry) (learnt : Learnt) (protected : Bool) → length sectors ≡ 32 →
     protected ≡ is_protected (deck_of host) → IsLearnt host c → HasLearnt c words sectors entries learnt →
     Settles c (header_of learnt.header) words entries (mending_steps protected learnt.unread sectors)
 settles_learnt host c words sectors entries learnt protected room mark known has = record {
@@ -91,7 +91,7 @@ effects_changed [] sectors c = refl
 effects_changed (p ∷ places) [] c = refl
 effects_changed (p ∷ places) (bytes ∷ sectors) c = effects_changed places sectors (changed (WriteSector 2 p bytes) c)
 
-pub settling_effects : (area : List (List ℕ)) (c : Cartridge) → effects (settling_steps area c) (Some c) ≡ Some (changed_by (settling_steps area c) c)
+settling_effects : (area : List (List ℕ)) (c : Cartridge) → effects (settling_steps area c) (Some c) ≡ Some (changed_by (settling_steps area c) c)
 settling_effects area c = by_mark c.info.protected
   where
     by_mark : (b : Bool) →

@@ -6,18 +6,17 @@ use Rattle.std.proofs.Math.Seq.{drop-append_seam, take-append-add}
 use Rattle.std.proofs.lemmas.List.Elements.{All-nil, All-cons, All-append}
 use Rattle.std.proofs.lemmas.Option.{same_Some}
 use Rattle.std.proofs.lemmas.List.{length-append, take_all}
-use Rattle.cartridge_laws.specs.Table.{LieBehind}
+use Rattle.cartridge_laws.specs.Table.{LieBehind, last_end}
 use Rattle.cartridge_spec.specs.Appending.{end_behind, room, free_segments}
-use Rattle.cartridge_laws.specs.Terms.{last_end}
 use Rattle.cartridge_spec.specs.Table.{Entry}
 use Rattle.cartridge_spec.specs.Volumes.{carrying}
 use Rattle.command_laws.proofs.StoreTaking.{both_true}
 use Rattle.command_spec.specs.Append.{Fits, TooLong, taking, has_promised_room, TooShort, volume_acts, filled_acts, input_acts, Taking, input_writes}
-use Rattle.command_laws.specs.CommandTerms.{bytes_taken}
+use Rattle.command_laws.specs.AppendTerms.{bytes_taken}
 use Rattle.qic_base.proofs.Giving.{Gave-nothing, Gave-Gave, Gave-end}
 use Rattle.qic_base.proofs.Steps.{Done-nothing, Rose-after}
 use Rattle.qic_base.specs.Acts.{Act, Outside, Failing, Went, Cut, SourceFails}
-use Rattle.qic_base.specs.Terms.{no_sink, reading}
+use Rattle.qic_base.specs.Alone.{no_sink, reading}
 use Rattle.qic_base.specs.Tape.{Rose}
 use Rattle.qic_base.specs.SourceCalls.{Gave, HasEnded}
 use Rattle.tape_script.specs.Reading.{Skips}

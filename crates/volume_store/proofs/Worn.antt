@@ -1,7 +1,7 @@
 -- A store behind a sector that was worn.
 use Rattle.std.proofs.Common.{◌≡◌, false, List, ℕ, [], ◌∷◌, Option, Some, None, IfSome, sym, subst, Result, Ok, Err, refl}
 use Rattle.std.specs.Option.{option_map}
-use Rattle.cartridge_laws.specs.Terms.{HasList}
+use Rattle.cartridge_laws.specs.TableCells.{HasList}
 use Rattle.cartridge_spec.specs.Table.{Entry}
 use Rattle.command_laws.proofs.StoreWorn.{worn_list}
 use Rattle.drive_states.specs.Hand.{Wears}
@@ -14,7 +14,7 @@ use Rattle.qic_base.specs.TapeCalls.{Tells}
 use Rattle.drive_states.specs.declared.fault.HandFault.TheVariants as fault
 
 -- the list stands where it may be written
-abbrev Lists : List Entry → Cartridge → Type 0
+abbrev pub Lists : List Entry → Cartridge → Type 0
 Lists entries c = c.info.protected ≡ false → HasList c entries
 
 worn_told : {T : Type 0} (m : Meaning T) (old new : T) (segment sector : ℕ) (entries : List Entry) → Done m old new (Wear segment sector ∷ []) →

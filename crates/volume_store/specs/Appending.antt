@@ -7,9 +7,9 @@ use Rattle.cartridge_spec.specs.Says.{LostSectors, ByCode, TableSays}
 use Rattle.cartridge_spec.specs.Settling.{settling_steps}
 use Rattle.cartridge_spec.specs.Table.{Entry, Shows}
 use Rattle.command_spec.specs.Append.{Taking, taking, room_in, input_writes, Fits, TooLong, TooShort, Kept, append_acts, has_promised_room}
-use Rattle.command_laws.specs.CommandTerms.{entry_for, bytes_taken, silently}
+use Rattle.command_laws.specs.AppendTerms.{entry_for, bytes_taken, silently}
 use Rattle.qic_base.specs.Acts.{Outside, Went, Failing, Cut, TapeFails, SourceFails, Act}
-use Rattle.qic_base.specs.Terms.{no_sink}
+use Rattle.qic_base.specs.Alone.{no_sink}
 use Rattle.qic_base.specs.Cartridge.{Cartridge}
 use Rattle.qic_base.specs.Tape.{Rose}
 use Rattle.qic_base.specs.Step.{Step}
@@ -18,6 +18,7 @@ use Rattle.volume_input.specs.declared.written.Written.{Written}
 use Rattle.volume_store.specs.Mounting.{StoreView}
 use Rattle.volume_store.specs.declared.appended.Appended.{Appended}
 use Rattle.cartridge_front.specs.declared.fault.StoreFault.{StoreFault}
+use Rattle.qic_base.specs.Source.{IsInput}
 use Rattle.qic_base.specs.Source as sources
 use Rattle.qic_base.specs.Tape as tapes
 use Rattle.qic_base.specs.TapeCalls as tape_calls
@@ -26,7 +27,7 @@ use Rattle.cartridge_front.specs.declared.fault.StoreFault.TheVariants as fault
 -- The segments were written, and this became of the input that the source told, or of some input where it tells none.
 pub record InputWent {T S : Type 0} (t : tapes.Meaning T) (s : sources.Meaning S) (words : List ℕ) (entries : List Entry) (promised : Option ℕ) (old new : Outside T S (Unit {0})) (became : Taking) : Type 0 where
   pub input : List ℕ
-  pub is_told : IfSome (s.left old.source) (λ bytes. input ≡ bytes)
+  pub is_told : IsInput (s.left old.source) input
   pub content : IfNone (s.left old.source) (All (λ b. b < 256) input)
   pub took : taking (room words entries) promised input ≡ became
   pub went : Went t s no_sink old new (input_writes words entries promised input)
@@ -43,7 +44,7 @@ pub record InputWritten {T S : Type 0} (t : tapes.Meaning T) (s : sources.Meanin
 -- A fault of the tape or of the source cut the writes off.
 pub record InputBroke {T S : Type 0} (t : tapes.Meaning T) (s : sources.Meaning S) (words : List ℕ) (entries : List Entry) (promised : Option ℕ) (old new : Outside T S (Unit {0})) (failing : Failing) : Type 0 where
   pub input : List ℕ
-  pub is_told : IfSome (s.left old.source) (λ bytes. input ≡ bytes)
+  pub is_told : IsInput (s.left old.source) input
   pub content : IfNone (s.left old.source) (All (λ b. b < 256) input)
   pub cut : Cut t s no_sink old new (input_writes words entries promised input) failing
   pub tells : is_some (s.left new.source) ≡ is_some (s.left old.source)
@@ -75,7 +76,7 @@ pub record AppendRan {T S : Type 0} (t : tapes.Meaning T) (s : sources.Meaning S
   pub shown : Shows table store.entries
   pub known : tape_calls.Tells t old.tape (λ c. TableIs c table × (settling ≡ settling_steps table c))
   pub input : List ℕ
-  pub is_told : IfSome (s.left old.source) (λ bytes. input ≡ bytes)
+  pub is_told : IsInput (s.left old.source) input
   pub content : IfNone (s.left old.source) (All (λ b. b < 256) input)
   pub took : taking (room_in (kept_by store table settling)) promised input ≡ became
   pub went : Went t s no_sink old new (append_acts (kept_by store table settling) name date promised silently input)
@@ -104,7 +105,7 @@ pub record TableRefused {T S : Type 0} (t : tapes.Meaning T) (s : sources.Meanin
 -- A fault of the tape or of the source cut the acts off, whatever the reply would have been: it was not begun.
 pub record AppendCut {T S : Type 0} (t : tapes.Meaning T) (s : sources.Meaning S) (old new : Outside T S (Unit {0})) (store : StoreView) (name : List ℕ) (date : ℕ) (promised : Option ℕ) (failing : Failing) : Type 0 where
   pub input : List ℕ
-  pub is_told : IfSome (s.left old.source) (λ bytes. input ≡ bytes)
+  pub is_told : IsInput (s.left old.source) input
   pub content : IfNone (s.left old.source) (All (λ b. b < 256) input)
   pub told : tape_calls.Tells t old.tape (λ c. (table : List (List ℕ)) → TableIs c table → (reply : Entry → List ℕ) →
       Cut t s no_sink old new (append_acts (kept_by store table (settling_steps table c)) name date promised reply input) failing)
@@ -179,7 +180,7 @@ acts_before_entry kept promised input = record { steps = kept.settling; text = [
 -- A fault cut these off, and no write of the entry came.
 pub record CutBeforeEntry {T S : Type 0} (t : tapes.Meaning T) (s : sources.Meaning S) (old new : Outside T S (Unit {0})) (store : StoreView) (promised : Option ℕ) (failing : Failing) : Type 0 where
   pub input : List ℕ
-  pub is_told : IfSome (s.left old.source) (λ bytes. input ≡ bytes)
+  pub is_told : IsInput (s.left old.source) input
   pub content : IfNone (s.left old.source) (All (λ b. b < 256) input)
   pub told : tape_calls.Tells t old.tape (λ c. (table : List (List ℕ)) → TableIs c table →
       Cut t s no_sink old new (acts_before_entry (kept_by store table (settling_steps table c)) promised input) failing)
@@ -187,7 +188,7 @@ pub record CutBeforeEntry {T S : Type 0} (t : tapes.Meaning T) (s : sources.Mean
 -- the source had given all bytes of the volume
 pub record HasGivenAll {S : Type 0} (s : sources.Meaning S) (old new : S) (store : StoreView) (promised : Option ℕ) : Type 0 where
   pub input : List ℕ
-  pub is_told : IfSome (s.left old) (λ bytes. input ≡ bytes)
+  pub is_told : IsInput (s.left old) input
   pub content : IfNone (s.left old) (All (λ b. b < 256) input)
   pub bytes : List ℕ
   pub took : taking (room store.words store.entries) promised input ≡ Fits bytes

@@ -1,7 +1,7 @@
 -- How a cartridge is mounted, what a store shows of it, and when a store fits a unit (this project's own).
 use Rattle.std.specs.Prelude.{◌≡◌, ℕ, List, Result, Ok, Err, ◌⊎◌, [], ◌-◌, ◌*◌, true, false, length, IfSome, IsSomeAnd}
 use Rattle.cartridge_laws.specs.Table.{IsSoundList}
-use Rattle.cartridge_laws.specs.Terms.{HasList}
+use Rattle.cartridge_laws.specs.TableCells.{HasList}
 use Rattle.cartridge_spec.specs.Header.{Header}
 use Rattle.cartridge_spec.specs.Mounting.{Mounts}
 use Rattle.cartridge_spec.specs.Settling.{settling_steps}

@@ -4,7 +4,7 @@ use Rattle.cartridge_spec.specs.Table.{Entry}
 use Rattle.cartridge_spec.specs.Volumes.{volume_length}
 use Rattle.command_spec.specs.Restore.{volume_at, Restored, LostIn, MismatchIn, pieces}
 use Rattle.qic_base.specs.Acts.{Outside, TapeFails, SinkFails}
-use Rattle.qic_base.specs.Terms.{around}
+use Rattle.qic_base.specs.Alone.{around}
 use Rattle.volume_output.specs.Output.{GaveVolume, VolumeCut}
 use Rattle.volume_output.specs.Part.{OfPiece, ReadsPiece, LosesPiece, MismatchesPiece}
 use Rattle.volume_output.specs.declared.fault.OutputFault.{OutputFault}

@@ -1,10 +1,9 @@
 //! The input of an append taken, and written into the free segments.
 
 ghost use Rattle.std.specs.Prelude.{◌≡◌, ◌-◌, ◌+◌, ◌*◌, ◌≤◌, Some, None, true, length, IfSome};
-ghost use Rattle.cartridge_laws.specs.Terms.{last_end};
-ghost use Rattle.qic_base.specs.Terms.{reading};
+ghost use Rattle.qic_base.specs.Alone.{reading};
 ghost use Rattle.cartridge_spec.specs.Appending.{room};
-ghost use Rattle.cartridge_laws.specs.Table.{IsSoundList};
+ghost use Rattle.cartridge_laws.specs.Table.{IsSoundList, last_end};
 ghost use Rattle.drive_spec.specs.Terms.{is_referenced};
 ghost use Rattle.cartridge_spec.specs.Formatting.{IsLabel};
 ghost use Rattle.host_driver.specs.Calls.{IsReady, MayWrite, Keeps};

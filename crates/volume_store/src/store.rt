@@ -1,7 +1,7 @@
 //! A mounted cartridge.
 
 ghost use Rattle.std.specs.Prelude.{◌≡◌, ◌≢◌, ◌↔◌, ◌+◌, ◌-◌, ◌*◌, ◌^◌, ◌<◌, ◌≤◌, true, Err, IfOk, IfSome, slice_get, length};
-ghost use Rattle.qic_base.specs.Terms.{around, reading};
+ghost use Rattle.qic_base.specs.Alone.{around, reading};
 ghost use Rattle.drive_spec.specs.Terms.{is_protected};
 ghost use Rattle.drive_spec.specs.Deck.{segments_per_track};
 ghost use Rattle.drive_states.specs.Hand.{Wears};

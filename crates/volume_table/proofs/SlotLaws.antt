@@ -5,7 +5,7 @@ use Rattle.std.proofs.lemmas.Bool.{ne_eqb}
 use Rattle.cartridge_laws.proofs.TableSlotLaws.{used_not_free, has_bad_range-taken}
 use Rattle.cartridge_laws.specs.TableReading.{IsTakenBefore}
 use Rattle.cartridge_spec.specs.Table.{slot, is_free, is_used, slot_fault, some_free_below, has_bad_range, entry_in}
-use Rattle.cartridge_laws.specs.Terms.{ForeignSlot, BadRange}
+use Rattle.cartridge_laws.specs.Slots.{ForeignSlot, BadRange}
 use Rattle.qic_base.specs.Field.{number_at, little_endian}
 use Rattle.volume_table.specs.Entry.{entry_of}
 use Rattle.volume_table.specs.declared.entry.Entry.{Entry}

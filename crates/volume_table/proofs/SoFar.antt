@@ -4,7 +4,7 @@ use Rattle.std.specs.List.{slice_get}
 use Rattle.std.proofs.lemmas.List.{length-append}
 use Rattle.std.proofs.lemmas.Bool.Decides.{nat_tests}
 use Rattle.cartridge_spec.specs.Table.{slot, slot_fault, some_free_below, entry_in, is_free, is_used, has_bad_range}
-use Rattle.cartridge_laws.specs.Terms.{BadRange}
+use Rattle.cartridge_laws.specs.Slots.{BadRange}
 use Rattle.cartridge_spec.specs.Table as table
 use Rattle.volume_table.specs.declared.entry.Entry.{Entry}
 use Rattle.volume_table.specs.Entry.{entry_of}
@@ -23,11 +23,11 @@ pub record SoFar (area : List (List ℕ)) (last n taken : ℕ) (seen_free : Bool
   pub shown : (i : ℕ) → i < length entries → slice_get entries i ≡ Some (entry_in (slot area i))
   pub free : (i : ℕ) → length entries ≤ i → i < n → is_free (slot area i) ≡ true
 
-pub some_free_below-none : (area : List (List ℕ)) → false ≡ some_free_below area 0
+some_free_below-none : (area : List (List ℕ)) → false ≡ some_free_below area 0
 unfolding some_free_below
 some_free_below-none area = refl
 
-pub some_free_below-more : (area : List (List ℕ)) (n : ℕ) → some_free_below area (n + 1) ≡ (is_free (slot area n) || some_free_below area n)
+some_free_below-more : (area : List (List ℕ)) (n : ℕ) → some_free_below area (n + 1) ≡ (is_free (slot area n) || some_free_below area n)
 unfolding some_free_below
 some_free_below-more area n = rw add-one refl
 

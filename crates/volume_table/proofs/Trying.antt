@@ -7,12 +7,12 @@ use Rattle.std.proofs.lemmas.Bool.Decides.{nat_tests}
 use Rattle.std.proofs.lemmas.List.{length-append}
 use Rattle.std.proofs.lemmas.Nat.{or_comm}
 use Rattle.std.proofs.lemmas.Nat.Bits.{bit_at-zero, bit_at-lt, bit_at_or, bit_at-pow_same, bit_at-pow_other, bit_at_above, same_from_bits}
-use Rattle.qic_base.specs.Terms.{IsLost}
+use Rattle.qic_base.specs.CartridgeTerms.{IsLost}
 use Rattle.qic_base.specs.Cartridge.{lost_places}
 use Rattle.qic_base.proofs.LostSetLaws.{lost_places-lost, lost_places-kept}
 use Rattle.cartridge_laws.specs.Says.{LosesData}
 use Rattle.cartridge_spec.specs.Says.{set_of, with_used, sets_by}
-use Rattle.cartridge_laws.specs.Terms.{sets_by_one, sets_by_two}
+use Rattle.cartridge_laws.specs.TableCells.{sets_by_one, sets_by_two}
 use Rattle.volume_table.specs.Trials.{with_place, with_last_used, tried}
 
 -- ---- sets of places
@@ -118,7 +118,7 @@ places_below lost (suc n) =
 abbrev last_places : (place : ℕ) → (b : Bool) → List ℕ
 last_places place b = if b then place ∷ [] else []
 
-pub some_below : (lost n place : ℕ) → place < n → IsLost lost place → 1 ≤ length (lost_places lost n)
+some_below : (lost n place : ℕ) → place < n → IsLost lost place → 1 ≤ length (lost_places lost n)
 unfolding lost_places
 some_below lost zero place within is_lost = absurd (omega arith)
 some_below lost (suc n) place within is_lost =

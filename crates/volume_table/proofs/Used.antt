@@ -2,11 +2,13 @@
 use Rattle.std.proofs.Common.{◌≡◌, ◌↔◌, ℕ, zero, suc, ◌+◌, ◌*◌, ◌/◌, ◌%◌, ◌^◌, ◌<◌, inl, inr, refl, sym, ◌∙◌, ap, subst, arith, Bool, true, false, List, [], ◌∷◌, length, take, drop, map, Option, Some, None, slice_get, unwrap_or}
 use Rattle.std.specs.Prelude.{◌||◌, ◌==◌, if◌then◌else◌}
 use Rattle.std.proofs.lemmas.Bool.{cases_eq, cases_lt, cases_Bool, ne_eqb, eq-eqb, false≢true}
-use Rattle.qic_base.specs.Terms.{IsLost}
+use Rattle.qic_base.specs.CartridgeTerms.{IsLost}
 use Rattle.qic_base.specs.declared.tape.SectorView.{SectorView}
 use Rattle.qic_base.specs.declared.tape.SectorView.TheVariants.{Lost, Holds}
 use Rattle.cartridge_spec.specs.Shape.{sector_at}
-use Rattle.cartridge_laws.specs.Terms.{hidden, has_used_slot, last_used}
+use Rattle.cartridge_laws.specs.TableCells.{last_used}
+use Rattle.cartridge_laws.specs.Slots.{has_used_slot}
+use Rattle.cartridge_laws.specs.Segment.{hidden}
 use Rattle.cartridge_spec.specs.Says.{hidden_from, some_used_below, shows_used_slot, last_used_below}
 use Rattle.cartridge_spec.specs.Table.{slot, is_used}
 use Rattle.volume_table.specs.Trials.{ShowsUsed, IsLastUsed}
@@ -48,7 +50,7 @@ some_here bytes (suc n) j within used =
 -- ---- the sectors that are not lost
 
 -- the cell at a place of the sectors of which these are lost
-pub cell_at : (area : List (List ℕ)) (lost place i : ℕ) → i < length area →
+cell_at : (area : List (List ℕ)) (lost place i : ℕ) → i < length area →
     unwrap_or (slice_get (hidden_from lost place (map Holds area)) i) Lost ≡ (if lost / 2 ^ (place + i) % 2 == 1 then Lost else Holds (sector_at area i))
 unfolding hidden_from
 cell_at [] lost place i within = absurd (omega arith)
@@ -57,7 +59,7 @@ cell_at (bytes ∷ area) lost place (suc i) within =
     cell_at area lost (suc place) i (omega arith)
     ∙ ap (λ (k : ℕ). if lost / 2 ^ k % 2 == 1 then Lost else Holds (sector_at area i)) (omega arith)
 
-pub cell : (area : List (List ℕ)) (lost i : ℕ) → i < length area →
+cell : (area : List (List ℕ)) (lost i : ℕ) → i < length area →
     unwrap_or (slice_get (hidden lost (map Holds area)) i) Lost ≡ (if lost / 2 ^ i % 2 == 1 then Lost else Holds (sector_at area i))
 cell area lost i within =
     cell_at area lost 0 i within ∙ ap (λ (k : ℕ). if lost / 2 ^ k % 2 == 1 then Lost else Holds (sector_at area i)) (omega arith)

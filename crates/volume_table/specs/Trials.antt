@@ -1,10 +1,10 @@
 -- The sets of sectors that the reading of the table's segment leaves out of account, by the sectors that are lost (this
 -- project's profile).
 use Rattle.std.specs.Prelude.{◌≡◌, ℕ, ◌-◌, ◌^◌, ◌<◌, ◌++◌, true, List, [], ◌∷◌, Option, None, Some, length, replicate, bit_or}
-use Rattle.qic_base.specs.Terms.{IsLost}
+use Rattle.qic_base.specs.CartridgeTerms.{IsLost}
 use Rattle.qic_base.specs.Cartridge.{lost_places}
 use Rattle.cartridge_spec.specs.Shape.{sector_at}
-use Rattle.cartridge_laws.specs.Terms.{has_used_slot}
+use Rattle.cartridge_laws.specs.Slots.{has_used_slot}
 use Rattle.cartridge_spec.specs.Says.{sets_by}
 use Rattle.volume_table.specs.declared.sets_tried.Trials.{Trials}
 

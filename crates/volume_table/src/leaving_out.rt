@@ -4,7 +4,9 @@
 ghost use Rattle.std.specs.Prelude.{◌≡◌, ◌<◌, ◌≤◌, ◌↔◌, ◌+◌, ◌++◌, ℕ, List, length, map, slice_get, unwrap_or, IfSome};
 ghost use Rattle.qic_base.specs.Cartridge.{lost_places};
 ghost use Rattle.qic_base.specs.declared.tape.SectorView.TheVariants.{Holds, Lost};
-ghost use Rattle.cartridge_laws.specs.Terms.{hidden, has_used_slot, last_used};
+ghost use Rattle.cartridge_laws.specs.TableCells.{last_used};
+ghost use Rattle.cartridge_laws.specs.Slots.{has_used_slot};
+ghost use Rattle.cartridge_laws.specs.Segment.{hidden};
 ghost use Rattle.cartridge_laws.specs.Says.{LosesData};
 ghost use Rattle.cartridge_spec.specs.Shape.{sector_at};
 ghost use Rattle.cartridge_spec.specs.Says.{shows_used_slot};

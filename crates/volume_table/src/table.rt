@@ -2,7 +2,7 @@
 
 ghost use Rattle.std.specs.Prelude.{◌≡◌, ◌<◌, ◌≤◌, ◌↔◌, ◌++◌, ◌∷◌, [], length, slice_get, IsTrue, IsOk, IsErr, IfOk, OnOk, OnErr, IfErr};
 ghost use Rattle.cartridge_spec.specs.Table.{slot_bytes, Shows, HasNoFault, IsFirstFault};
-ghost use Rattle.cartridge_laws.specs.Terms.{slot_sector, with_slot};
+ghost use Rattle.cartridge_laws.specs.Slots.{slot_sector, with_slot};
 
 use crate::entry::Entry;
 use crate::fault::{TableFault, TableFull};

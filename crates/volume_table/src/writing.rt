@@ -2,8 +2,7 @@
 
 ghost use Rattle.std.specs.Prelude.{◌≡◌, ◌<◌, length};
 ghost use Rattle.cartridge_spec.specs.Table.{slot_bytes};
-ghost use Rattle.cartridge_laws.specs.Terms.{with_slot};
-ghost use Rattle.cartridge_laws.specs.Slots.{FitsSlot};
+ghost use Rattle.cartridge_laws.specs.Slots.{FitsSlot, with_slot};
 ghost use Rattle.volume_table.specs.Entry.{entry_of};
 
 use crate::entry::Entry;

@@ -14,9 +14,9 @@ use Rattle.command_laws.proofs.CommandUnread.{writable_unread}
 use Rattle.command_laws.proofs.CommandWhole.{append_whole, some_whole}
 use Rattle.command_laws.proofs.TextCommands.{dated_cases, two_words, three_words, dated_length, IsDateWord-value, IsRead, Reading, word_at, date_behind, named, date_value}
 use Rattle.command_laws.specs.CommandRecord.{CommandLaws}
-use Rattle.command_laws.specs.CommandTerms.{Appends}
+use Rattle.command_laws.specs.Outcomes.{Appends}
 use Rattle.command_spec.specs.Append.{AppendOutcome, append_command}
-use Rattle.command_laws.specs.Terms.{CanTake}
+use Rattle.command_laws.specs.Needs.{CanTake}
 use Rattle.command_spec.specs.Command.{HasForm, IsUnprotected}
 use Rattle.qic_base.specs.Field.{filled}
 use Rattle.command_spec.specs.declared.status.Status.TheVariants as status

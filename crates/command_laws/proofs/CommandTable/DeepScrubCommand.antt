@@ -24,11 +24,11 @@ use Rattle.command_laws.specs.CommandRecord.{CommandLaws}
 use Rattle.command_spec.specs.Command.{HasForm, CanBeMounted, IsUnprotected, ReadsAs}
 use Rattle.command_spec.specs.Scrub.{deep_scrub_command, Looked, looked_at, Finding, finding_acts, steps_for, without}
 use Rattle.command_spec.specs.Outcome.{CommandOutcome, settling_act}
-use Rattle.command_laws.specs.Terms.{DeepScrubOutcome, MendsDeep}
+use Rattle.command_laws.specs.Outcomes.{DeepScrubOutcome, MendsDeep}
 use Rattle.command_spec.specs.declared.depth.Depth.TheVariants.{Deep}
 use Rattle.qic_base.specs.Acts.{Act, steps_of}
 use Rattle.qic_base.specs.Cartridge.{Cartridge}
-use Rattle.qic_base.specs.Terms.{IsCartridge}
+use Rattle.qic_base.specs.CartridgeTerms.{IsCartridge}
 use Rattle.command_spec.specs.declared.status.Status.TheVariants as status
 use Rattle.command_spec.specs.declared.words.Words.TheVariants as words
 

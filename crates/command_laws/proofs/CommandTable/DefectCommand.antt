@@ -22,7 +22,7 @@ use Rattle.command_spec.specs.Command.{HasForm}
 use Rattle.command_spec.specs.Single.{DefectOutcome, defect_command}
 use Rattle.command_spec.specs.Outcome.{HasPlace}
 use Rattle.qic_base.specs.Cartridge.{view_at}
-use Rattle.qic_base.specs.Terms.{IsCartridge}
+use Rattle.qic_base.specs.CartridgeTerms.{IsCartridge}
 use Rattle.qic_base.specs.Step.{changed, Spoil}
 use Rattle.qic_base.specs.Tape.{spoil_answer}
 use Rattle.command_spec.specs.declared.status.Status.TheVariants as status

@@ -13,10 +13,10 @@ use Rattle.command_laws.proofs.CommandWhole.{shows_whole, some_whole}
 use Rattle.command_laws.proofs.TextCommands.{only, one_word, spelled_length, IsRead, Reading, named}
 use Rattle.command_laws.specs.CommandRecord.{CommandLaws}
 use Rattle.command_spec.specs.Command.{HasForm, CanBeMounted}
-use Rattle.command_laws.specs.Terms.{ListOutcome, listing}
+use Rattle.command_laws.specs.Outcomes.{ListOutcome, listing}
 use Rattle.command_spec.specs.Single.{list_command}
 use Rattle.command_spec.specs.Outcome.{Shows}
-use Rattle.qic_base.specs.Terms.{IsCartridge}
+use Rattle.qic_base.specs.CartridgeTerms.{IsCartridge}
 use Rattle.command_spec.specs.declared.status.Status.TheVariants as status
 use Rattle.command_spec.specs.declared.words.Words.TheVariants as words
 

@@ -22,7 +22,7 @@ use Rattle.command_spec.specs.Command.{HasForm}
 use Rattle.command_spec.specs.Single.{LoseOutcome, lose_command}
 use Rattle.command_spec.specs.Outcome.{HasPlace}
 use Rattle.qic_base.specs.Step.{changed, Wear}
-use Rattle.qic_base.specs.Terms.{IsCartridge}
+use Rattle.qic_base.specs.CartridgeTerms.{IsCartridge}
 use Rattle.command_spec.specs.declared.status.Status.TheVariants as status
 use Rattle.command_spec.specs.declared.words.Words.TheVariants as words
 

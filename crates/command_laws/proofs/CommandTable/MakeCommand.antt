@@ -14,8 +14,8 @@ use Rattle.command_laws.proofs.TextCommands.{only, three_words, spelled_length, 
 use Rattle.command_laws.specs.CommandRecord.{CommandLaws}
 use Rattle.command_spec.specs.Command.{HasForm, IsUnprotected}
 use Rattle.command_spec.specs.Make.{Making, CanMake, make_command}
-use Rattle.qic_base.specs.Terms.{IsCartridge}
-use Rattle.command_laws.specs.CommandTerms.{MakeOutcome}
+use Rattle.qic_base.specs.CartridgeTerms.{IsCartridge}
+use Rattle.command_laws.specs.Outcomes.{MakeOutcome}
 use Rattle.command_spec.specs.declared.status.Status.TheVariants as status
 use Rattle.command_spec.specs.declared.words.Words.TheVariants as words
 

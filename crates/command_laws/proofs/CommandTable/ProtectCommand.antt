@@ -13,7 +13,7 @@ use Rattle.command_laws.proofs.TextCommands.{only, two_words, spelled_length, Is
 use Rattle.command_laws.specs.CommandRecord.{CommandLaws, NeitherReads}
 use Rattle.command_spec.specs.Command.{HasForm}
 use Rattle.command_spec.specs.Lines.{protected_line}
-use Rattle.command_laws.specs.Terms.{ProtectOutcome}
+use Rattle.command_laws.specs.Outcomes.{ProtectOutcome}
 use Rattle.command_spec.specs.Single.{protect_command}
 use Rattle.qic_base.specs.Cartridge.{Cartridge}
 use Rattle.qic_base.specs.Step.{changed, SetProtected}
@@ -32,7 +32,7 @@ are_few : (on : Bool) (ws : List (List ℕ)) → HasForm ws (protect_command on)
 are_few true ws h = let l = spelled_length ws _ (only ws _ h) in (omega arith, omega arith)
 are_few false ws h = let l = spelled_length ws _ (only ws _ h) in (omega arith, omega arith)
 
-pub mark_keeps : (on : Bool) → KeepsAll (SetProtected on)
+mark_keeps : (on : Bool) → KeepsAll (SetProtected on)
 mark_keeps on = record {
   whole = λ held left inside. inside;
   stands = λ c plain stood. protected_stands c plain on stood;

@@ -17,7 +17,7 @@ use Rattle.command_laws.specs.CommandRecord.{CommandLaws, NeitherReads}
 use Rattle.command_spec.specs.Command.{HasForm}
 use Rattle.command_spec.specs.Pulses.{AreLevels, pulses_command}
 use Rattle.qic_base.specs.Step.{changed, SetReferenced}
-use Rattle.qic_base.specs.Terms.{IsCartridge}
+use Rattle.qic_base.specs.CartridgeTerms.{IsCartridge}
 use Rattle.command_spec.specs.declared.words.Words.TheVariants as words
 
 -- its words are read as it

@@ -14,10 +14,10 @@ use Rattle.command_laws.proofs.TextCommands.{only, two_words, spelled_length, Is
 use Rattle.command_laws.specs.CommandRecord.{CommandLaws}
 use Rattle.command_spec.specs.Command.{HasForm}
 use Rattle.command_spec.specs.Restore.{Gives, restore_command, restore_refused}
-use Rattle.command_laws.specs.Terms.{CanGive}
+use Rattle.command_laws.specs.Needs.{CanGive}
 use Rattle.command_spec.specs.declared.status.Status.{Status}
-use Rattle.qic_base.specs.Terms.{IsCartridge}
-use Rattle.command_laws.specs.CommandTerms.{RestoreOutcome}
+use Rattle.qic_base.specs.CartridgeTerms.{IsCartridge}
+use Rattle.command_laws.specs.Outcomes.{RestoreOutcome}
 use Rattle.command_spec.specs.declared.status.Status.TheVariants as status
 use Rattle.command_spec.specs.declared.words.Words.TheVariants as words
 

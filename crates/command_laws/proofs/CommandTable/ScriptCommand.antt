@@ -13,8 +13,8 @@ use Rattle.command_laws.specs.CommandRecord.{CommandLaws}
 use Rattle.command_spec.specs.Command.{HasForm, CanBeMounted}
 use Rattle.command_spec.specs.Script.{Scripting, end_line, script_command, script_refused}
 use Rattle.command_spec.specs.declared.status.Status.{Status}
-use Rattle.qic_base.specs.Terms.{IsCartridge}
-use Rattle.command_laws.specs.CommandTerms.{ScriptOutcome}
+use Rattle.qic_base.specs.CartridgeTerms.{IsCartridge}
+use Rattle.command_laws.specs.Outcomes.{ScriptOutcome}
 use Rattle.command_spec.specs.declared.status.Status.TheVariants as status
 use Rattle.command_spec.specs.declared.words.Words.TheVariants as words
 

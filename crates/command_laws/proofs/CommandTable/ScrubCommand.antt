@@ -14,12 +14,12 @@ use Rattle.command_laws.proofs.CommandWhole.{mends_whole, some_whole}
 use Rattle.command_laws.proofs.TextCommands.{only, one_word, spelled_length, IsRead, Reading, named}
 use Rattle.command_laws.specs.CommandRecord.{CommandLaws}
 use Rattle.command_spec.specs.Command.{HasForm, IsUnprotected, CanBeMounted}
-use Rattle.command_laws.specs.Terms.{Mends, ScrubOutcome}
+use Rattle.command_laws.specs.Outcomes.{Mends, ScrubOutcome}
 use Rattle.command_spec.specs.Scrub.{Counts, Finding, IsTextFor, counts_line, lines_for, looked_at, scrub_command}
 use Rattle.command_spec.specs.declared.depth.Depth.{Depth}
 use Rattle.command_spec.specs.declared.depth.Depth.TheVariants.{Shallow}
 use Rattle.cartridge_spec.specs.Table.{Entry}
-use Rattle.qic_base.specs.Terms.{IsCartridge}
+use Rattle.qic_base.specs.CartridgeTerms.{IsCartridge}
 use Rattle.command_spec.specs.declared.words.Words.{Words}
 use Rattle.command_spec.specs.declared.status.Status.TheVariants as status
 use Rattle.command_spec.specs.declared.words.Words.TheVariants as words

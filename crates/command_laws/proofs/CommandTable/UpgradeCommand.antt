@@ -16,7 +16,7 @@ use Rattle.command_laws.proofs.TextCommands.{one_word, only, spelled_length, IsR
 use Rattle.command_laws.specs.CommandRecord.{CommandLaws, NeitherReads}
 use Rattle.command_spec.specs.Command.{HasForm}
 use Rattle.command_spec.specs.Lines.{upgraded_line}
-use Rattle.command_laws.specs.Terms.{UpgradeOutcome}
+use Rattle.command_laws.specs.Outcomes.{UpgradeOutcome}
 use Rattle.command_spec.specs.Single.{upgrade_command}
 use Rattle.qic_base.specs.Cartridge.{Cartridge}
 use Rattle.qic_base.specs.Step.{Upgrade, changed}
@@ -70,7 +70,7 @@ upgrade_reading = record { name = codes "upgrade"; reads = λ behind. words.Upgr
 pub upgrade_read : (ws : List (List ℕ)) → HasForm ws upgrade_command.forms → IsRead upgrade_reading ws words.Upgrade
 upgrade_read ws h = let s = one_word ws _ (only ws _ h) in record { behind = []; are = named s.are s.one; is = refl }
 
-pub version_keeps : KeepsAll Upgrade
+version_keeps : KeepsAll Upgrade
 version_keeps = record {
   whole = λ held left inside. inside;
   stands = λ c plain stood. upgraded_stands c plain stood;

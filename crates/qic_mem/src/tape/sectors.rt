@@ -1,7 +1,7 @@
 //! The sectors of a cartridge in memory.
 
 ghost use Rattle.std.specs.Prelude.{◌≡◌, ◌≢◌, ◌<◌, ◌≤◌, ◌+◌, ◌++◌, length, drop, map, replicate, All, IfOk};
-ghost use Rattle.qic_base.specs.Terms.{IsView};
+ghost use Rattle.qic_base.specs.CartridgeTerms.{IsView};
 ghost use Rattle.qic_base.specs.Cartridge.{zero_sector};
 ghost use Rattle.qic_base.specs.Step.{written_view, formatted_view, worn_view, spoiled_view};
 ghost use Rattle.qic_base.specs.TapeCalls.{Reads, write_answer};

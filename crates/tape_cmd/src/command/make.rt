@@ -3,7 +3,7 @@
 ghost use Rattle.std.specs.Prelude.{◌≡◌, ◌≤◌};
 ghost use Rattle.command_spec.specs.declared.words.Words.TheVariants.{Make};
 ghost use Rattle.tape_cmd.specs.Make.{run_status};
-ghost use Rattle.command_laws.specs.CommandTerms.{EndsBlind};
+ghost use Rattle.command_laws.specs.RunTerms.{EndsBlind};
 
 use crate::Status;
 use drive_states::Unit;

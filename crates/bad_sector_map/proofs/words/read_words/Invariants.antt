@@ -1,6 +1,6 @@
 use Rattle.std.proofs.Common.{◌≡◌, ◌≤◌}
 use Rattle.std.specs.Vec.{vec_len, vec_capacity}
-use Rattle.cartridge_laws.specs.Terms.{words_in}
+use Rattle.cartridge_laws.specs.HeaderTerms.{words_in}
 use Rattle.bad_sector_map.proofs.words.read_words.Given as goal
 
 abbrev pub invariant-loop-segment : goal.invariant-loop-segment

@@ -1,5 +1,5 @@
 use Rattle.std.proofs.Common.{◌≡◌, ℕ, ◌<◌, get_or}
-use Rattle.cartridge_laws.specs.Terms.{byte_in, IsInMap}
+use Rattle.cartridge_laws.specs.HeaderTerms.{byte_in, IsInMap}
 use Rattle.cartridge_spec.specs.Header.{word_in}
 use Rattle.bad_sector_map.proofs.words.write_words.Given as goal
 

@@ -1,5 +1,5 @@
 use Rattle.std.proofs.Common.{◌≢◌, ◌∙◌, ℕ, List, take, Err, sym, ap, subst}
-use Rattle.cartridge_laws.specs.Terms.{HasList}
+use Rattle.cartridge_laws.specs.TableCells.{HasList}
 use Rattle.qic_base.proofs.Steps.{Tells-map}
 use Rattle.qic_base.specs.TapeCalls.{Tells}
 use Rattle.cartridge_spec.specs.TableSegment.{TableIs}

@@ -1,5 +1,5 @@
 use Rattle.std.proofs.Common.{◌≡◌, ℕ, ◌++◌, Bool, List, Err, sym, ap, ◌∙◌}
-use Rattle.cartridge_laws.specs.Terms.{sectors_of}
+use Rattle.cartridge_laws.specs.Segment.{sectors_of}
 use Rattle.drive_spec.specs.Terms.{is_protected}
 use Rattle.cartridge_spec.specs.Settling.{block_writes}
 use Rattle.cartridge_front.specs.declared.fault.StoreFault.{StoreFault}

@@ -2,7 +2,7 @@ use Rattle.std.proofs.Common.{◌≡◌, ℕ, List, length, take, drop, ap, ◌�
 use Rattle.std.proofs.lemmas.List.{take_at}
 use Rattle.cartridge_spec.specs.Says.{with_parity}
 use Rattle.cartridge_spec.specs.Table.{slot_bytes}
-use Rattle.cartridge_laws.specs.Terms.{with_slot}
+use Rattle.cartridge_laws.specs.Slots.{with_slot}
 use Rattle.cartridge_laws.proofs.Sayings.{parity_put}
 use Rattle.volume_table.specs.Entry.{entry_of}
 use Rattle.cartridge_front.proofs.table_writer.put_entry.Goals as goal

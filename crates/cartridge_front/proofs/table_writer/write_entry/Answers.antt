@@ -4,7 +4,8 @@ use Rattle.qic_base.specs.TapeCalls.{Does}
 use Rattle.qic_base.specs.Step.{Step}
 use Rattle.cartridge_spec.specs.Appending.{table_writes}
 use Rattle.cartridge_spec.specs.Says.{with_parity}
-use Rattle.cartridge_laws.specs.Terms.{sectors_of, slot_sector, with_slot}
+use Rattle.cartridge_laws.specs.Slots.{slot_sector, with_slot}
+use Rattle.cartridge_laws.specs.Segment.{sectors_of}
 use Rattle.cartridge_spec.specs.Table.{slot_bytes}
 use Rattle.cartridge_spec.specs.Settling.{block_writes}
 use Rattle.volume_table.specs.Entry.{entry_of}

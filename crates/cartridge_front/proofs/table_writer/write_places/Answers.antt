@@ -1,7 +1,7 @@
 use Rattle.std.proofs.Common.{◌≡◌, [], ℕ, ◌<◌, ◌^◌, sym, ap, ◌∙◌, subst, arith}
 use Rattle.qic_base.specs.Tape.{Done, Broke}
 use Rattle.qic_base.proofs.Steps.{Done-nothing}
-use Rattle.cartridge_laws.specs.Terms.{sectors_of}
+use Rattle.cartridge_laws.specs.Segment.{sectors_of}
 use Rattle.cartridge_laws.proofs.Segments.{count_of_whole}
 use Rattle.cartridge_spec.specs.Settling.{block_writes}
 use Rattle.segment_io.proofs.Going.{front_segment}

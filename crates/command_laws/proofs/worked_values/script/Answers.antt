@@ -3,7 +3,7 @@ use Rattle.cartridge_laws.proofs.EachElement.{each}
 use Rattle.command_spec.specs.Lines.{appended_line, count_lines, date_form, date_text, label_lines, list_text, name_text, number_line, place_line, trimmed, volume_line, volume_lines}
 use Rattle.command_spec.specs.Script.{no_volume_line}
 use Rattle.qic_base.specs.Cartridge.{lost_places}
-use Rattle.qic_base.specs.Terms.{IsPrintable}
+use Rattle.qic_base.specs.LineBytes.{IsPrintable}
 use Rattle.qic_base.specs.Field.{filled}
 use Rattle.std.specs.Fmt.{digits}
 use Rattle.command_laws.proofs.worked_values.script.Goals as goal

@@ -1,7 +1,7 @@
 use Rattle.std.proofs.Common.{ap, arith, codes, inl, inr, length, refl, ◌≡◌}
 use Rattle.cartridge_laws.proofs.EachElement.{each}
 use Rattle.command_spec.specs.Lines.{date_form}
-use Rattle.qic_base.specs.Terms.{IsPrintable}
+use Rattle.qic_base.specs.LineBytes.{IsPrintable}
 use Rattle.qic_base.specs.Field.{filled}
 use Rattle.std.specs.Fmt.{digits}
 use Rattle.command_laws.proofs.worked_values.words.Goals as goal

@@ -1,6 +1,6 @@
 use Rattle.std.proofs.Common.{◌≡◌, ℕ, ◌+◌, ◌-◌, ◌<◌, sym, ◌∙◌, subst, arith, length, List, set}
 use Rattle.std.proofs.lemmas.Bool.{false≢true}
-use Rattle.qic_base.specs.Terms.{IsLost}
+use Rattle.qic_base.specs.CartridgeTerms.{IsLost}
 use Rattle.qic_base.specs.Cartridge.{lost_places}
 use Rattle.erasure_solve.proofs.Places.{Gathered, gathered_none, gathered_kept, gathered_lost, found_below, degrees_from}
 use Rattle.erasure_solve.proofs.plan.degrees.Goals as goal

@@ -3,7 +3,8 @@ use Rattle.std.proofs.lemmas.Result.{err_from_is_err_and}
 use Rattle.cart_image.specs.Layout.{first_letter, put}
 use Rattle.flat_dump.specs.Cells.{imported_head}
 use Rattle.cart_image.proofs.Runs.{Halted-front}
-use Rattle.flat_dump.proofs.Running.{Runs-after, Runs-err, halted-is, ran-is}
+use Rattle.cart_image.proofs.Loops.{halted-is, ran-is}
+use Rattle.cart_image.proofs.Exits.{Runs-after, Runs-err}
 use Rattle.flat_dump.proofs.cells.sign.Goals as goal
 
 pub returns-in_err-put : goal.returns-in_err-put

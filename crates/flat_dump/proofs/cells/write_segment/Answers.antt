@@ -2,7 +2,8 @@ use Rattle.std.proofs.Common.{List, ℕ, length, ap, ◌∙◌}
 use Rattle.std.proofs.lemmas.Result.{err_from_is_err_and}
 use Rattle.flat_dump.specs.Cells.{append_steps, cells_of, joined}
 use Rattle.flat_dump.proofs.Copying.{length-segment}
-use Rattle.flat_dump.proofs.Running.{Runs-err, halted-is, ran-is}
+use Rattle.cart_image.proofs.Loops.{halted-is, ran-is}
+use Rattle.cart_image.proofs.Exits.{Runs-err}
 use Rattle.flat_dump.proofs.cells.write_segment.Goals as goal
 
 pub append-requires : goal.append-requires

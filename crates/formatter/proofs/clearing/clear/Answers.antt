@@ -5,7 +5,7 @@ use Rattle.qic_base.specs.Tape.{Done, Broke}
 use Rattle.qic_base.proofs.Steps.{Done-Done, Done-Broke, Broke-front}
 use Rattle.drive_spec.specs.declared.deck.Deck.{Deck}
 use Rattle.drive_spec.specs.Deck.{segments_per_track}
-use Rattle.cartridge_laws.specs.Terms.{segment_formats}
+use Rattle.cartridge_laws.specs.FormatMarks.{segment_formats}
 use Rattle.formatter.proofs.Places.{length_kept, length_referenced}
 use Rattle.formatter.proofs.clearing.clear.Goals as goal
 

@@ -4,7 +4,7 @@ use Rattle.qic_base.specs.Tape.{Done, Broke}
 use Rattle.qic_base.proofs.Steps.{Done-before_reads, Broke-before_reads}
 use Rattle.drive_spec.specs.Deck.{segments_per_track}
 use Rattle.cartridge_spec.specs.Formatting.{clearing_steps}
-use Rattle.cartridge_laws.specs.Terms.{IsFreshArea}
+use Rattle.cartridge_laws.specs.HeaderTerms.{IsFreshArea}
 use Rattle.formatter.proofs.Copies.{lent_room}
 use Rattle.formatter.proofs.Places.{size_known, length_known, length_kept, length_referenced, referenced_by, mark_kept, unmarked}
 use Rattle.formatter.proofs.Told.{marks_formattable, first_defect, all_done, all_broken}

@@ -4,7 +4,7 @@ use Rattle.cartridge_spec.specs.Header.{SpellsHeader}
 use Rattle.cartridge_spec.specs.Says.{with_parity}
 use Rattle.cartridge_laws.proofs.Sayings.{parity_put}
 use Rattle.cartridge_spec.specs.Formatting.{fresh_header}
-use Rattle.cartridge_laws.specs.Terms.{IsFreshArea}
+use Rattle.cartridge_laws.specs.HeaderTerms.{IsFreshArea}
 use Rattle.formatter.proofs.Copies.{block_data}
 use Rattle.formatter.proofs.header.spell.Goals as goal
 

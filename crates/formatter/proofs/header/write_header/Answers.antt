@@ -8,7 +8,7 @@ use Rattle.qic117_commands.specs.Views.{is_primary}
 use Rattle.host_driver.proofs.Keeping.{agrees_tape, cartridge_kept, may_write_kept}
 use Rattle.cartridge_spec.specs.Formatting.{copy_writes}
 use Rattle.cartridge_spec.specs.Says.{with_parity}
-use Rattle.cartridge_laws.specs.Terms.{IsFreshArea}
+use Rattle.cartridge_laws.specs.HeaderTerms.{IsFreshArea}
 use Rattle.formatter.specs.Formats.{header_writes}
 use Rattle.formatter.proofs.Copies.{lent, lent_room}
 use Rattle.formatter.proofs.Places.{length_known}

@@ -1,6 +1,6 @@
 use Rattle.std.proofs.Common.{◌≡◌, ℕ, ◌+◌, ◌*◌, true, subst, ◌∙◌, refl, arith}
 use Rattle.std.proofs.lemmas.Result.{err_from_is_err_and}
-use Rattle.qic_base.specs.Terms.{place_of}
+use Rattle.qic_base.specs.CartridgeTerms.{place_of}
 use Rattle.qic_base.specs.TapeCalls.{Tells}
 use Rattle.qic_base.proofs.Steps.{Done-after_reads, Broke-after_reads, Done-nothing, Tells-read}
 use Rattle.drive_states.specs.Reach.{reads_in, IsUnder}

@@ -1,6 +1,6 @@
 -- The sectors before the head are read, and marked where they can't be.
 use Rattle.std.proofs.Common.{◌≡◌, [], true, length}
-use Rattle.qic_base.specs.Terms.{place_of}
+use Rattle.qic_base.specs.CartridgeTerms.{place_of}
 use Rattle.qic_base.specs.Tape.{Done}
 use Rattle.qic_base.specs.TapeCalls.{Tells}
 use Rattle.drive_states.specs.Reach.{reads_in, IsUnder}

@@ -1,6 +1,6 @@
 use Rattle.std.proofs.Common.{◌≡◌, ℕ, ◌*◌, sym, ap, ◌∙◌, arith}
 use Rattle.cartridge_spec.specs.Header.{number, number_in}
-use Rattle.cartridge_laws.specs.Terms.{words_in}
+use Rattle.cartridge_laws.specs.HeaderTerms.{words_in}
 use Rattle.header_segments.proofs.Refusals.{refusal-segments}
 use Rattle.header_segments.proofs.reading.decode.Goals as goal
 
@@ -11,5 +11,5 @@ returns-in-None-clause-shown c =
     let read : number_in c.args.area.now 24 2 ≡ c.fields_of.result.segments_per_track = c.fields_of.ensures 2 (number 0 0 0) (omega arith) in
     record {
       header = c.fields_of.ensures;
-      map = c.read.ensures ∙ ap (λ (n : ℕ). words_in c.args.area.now (28 * n)) (c.from-segments.ensures ∙ sym drive ∙ read);
+      map = c.read.ensures ∙ ap (λ (n : ℕ). words_in c.args.area.now (28 * n)) (c.from.ensures ∙ sym drive ∙ read);
     }

@@ -1,5 +1,5 @@
 use Rattle.std.proofs.Common.{None, Err, ap, subst}
-use Rattle.qic_base.specs.Terms.{reading}
+use Rattle.qic_base.specs.Alone.{reading}
 use Rattle.qic_base.specs.SinkCalls.{Writes}
 use Rattle.cartridge_front.specs.declared.fault.StoreFault.{StoreFault}
 use Rattle.volume_store.specs.Appending.{AppendEnds}

@@ -1,5 +1,5 @@
 use Rattle.std.proofs.Common.{false, Err, subst}
-use Rattle.qic_base.specs.Terms.{around}
+use Rattle.qic_base.specs.Alone.{around}
 use Rattle.cartridge_front.specs.declared.fault.StoreFault.{StoreFault}
 use Rattle.volume_store.specs.Restoring.{RestoreEnds}
 use Rattle.host_commands.proofs.Restored.{restore_refused, restore_done, restore_failed}

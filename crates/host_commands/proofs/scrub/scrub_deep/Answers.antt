@@ -1,6 +1,6 @@
 use Rattle.std.proofs.Common.{Err, ap, subst}
 use Rattle.command_spec.specs.declared.depth.Depth.TheVariants.{Deep}
-use Rattle.qic_base.specs.Terms.{around}
+use Rattle.qic_base.specs.Alone.{around}
 use Rattle.volume_store.specs.Scrubbing.{MendEnds}
 use Rattle.volume_store.proofs.Opened.{unlocked_where}
 use Rattle.cartridge_front.specs.declared.fault.StoreFault.{StoreFault}

@@ -1,6 +1,6 @@
 -- The volumes before the present one were appended.
 use Rattle.std.proofs.Common.{◌≡◌, ◌-◌, ◌≤◌}
-use Rattle.qic_base.specs.Terms.{around, no_sink}
+use Rattle.qic_base.specs.Alone.{around, no_sink}
 use Rattle.volume_store.specs.Appending.{KeepsFormat}
 use Rattle.volume_store.specs.Mounting.{StoreFits}
 use Rattle.command_spec.specs.Make.{appending, made_list}

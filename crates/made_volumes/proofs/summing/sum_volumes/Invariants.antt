@@ -1,6 +1,6 @@
 -- The volumes before the present one were summed.
 use Rattle.std.proofs.Common.{ℕ, ◌+◌, ◌-◌, ◌≤◌}
-use Rattle.qic_base.specs.Terms.{around}
+use Rattle.qic_base.specs.Alone.{around}
 use Rattle.volume_store.specs.Mounting.{StoreFits, KeepsStore}
 use Rattle.command_spec.specs.Make.{summing}
 use Rattle.made_volumes.specs.Runs.{HasRun}

@@ -1,13 +1,14 @@
 use Rattle.std.proofs.Common.{◌≡◌, ℕ, ◌+◌, ◌<◌, ◌∷◌, [], List, length, Err, Ok, refl, sym, ap, ◌∙◌, subst, arith}
 use Rattle.std.proofs.lemmas.Grind.{common_steps}
 use Rattle.std.proofs.lemmas.List.{length-append}
-use Rattle.qic_base.specs.Terms.{IsLost, around, no_sink}
+use Rattle.qic_base.specs.Alone.{around, no_sink}
+use Rattle.qic_base.specs.CartridgeTerms.{IsLost}
 use Rattle.cartridge_spec.specs.Shape.{mask_at}
 use Rattle.drive_states.specs.Unit.{UnitView}
 use Rattle.volume_store.specs.Mounting.{StoreView}
 use Rattle.made_volumes.specs.declared.fault.MakeFault.{MakeFault}
 use Rattle.command_spec.specs.Make.{WearSector}
-use Rattle.command_laws.specs.CommandTerms.{wearing}
+use Rattle.command_laws.specs.MadeTerms.{wearing}
 use Rattle.made_volumes.specs.Runs.{HasRun, RunEnds}
 use Rattle.made_volumes.proofs.Going.{two_none, wear_begun, wear_next, wear_failed, two_stay}
 use Rattle.made_volumes.proofs.Loops.{two_below, two_next, two_passed}

@@ -1,9 +1,9 @@
 -- Of the usable sectors below the present one the first two were worn.
 use Rattle.std.proofs.Common.{◌≡◌, ℕ, length}
-use Rattle.qic_base.specs.Terms.{around, no_sink}
+use Rattle.qic_base.specs.Alone.{around, no_sink}
 use Rattle.cartridge_spec.specs.Shape.{mask_at}
 use Rattle.volume_store.specs.Mounting.{StoreFits}
-use Rattle.command_laws.specs.CommandTerms.{wearing}
+use Rattle.command_laws.specs.MadeTerms.{wearing}
 use Rattle.made_volumes.specs.Runs.{HasRun}
 use Rattle.made_volumes.proofs.Loops.{two_below}
 use Rattle.made_volumes.proofs.wearing.wear_first_two.Given as goal

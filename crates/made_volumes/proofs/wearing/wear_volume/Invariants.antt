@@ -1,6 +1,6 @@
 -- The segments below the present one were gone through.
 use Rattle.std.proofs.Common.{◌≡◌, ℕ, ◌≤◌}
-use Rattle.qic_base.specs.Terms.{around, no_sink}
+use Rattle.qic_base.specs.Alone.{around, no_sink}
 use Rattle.segment_mending.proofs.Looked.{carrying_below}
 use Rattle.volume_store.specs.Mounting.{StoreFits}
 use Rattle.command_spec.specs.Make.{wearing_in}

@@ -1,6 +1,6 @@
 -- The volumes before the present one were gone through.
 use Rattle.std.proofs.Common.{◌≡◌, ℕ, ◌-◌, ◌≤◌, take, drop}
-use Rattle.qic_base.specs.Terms.{around, no_sink}
+use Rattle.qic_base.specs.Alone.{around, no_sink}
 use Rattle.volume_store.specs.Mounting.{StoreFits}
 use Rattle.command_spec.specs.Make.{wearing_volumes}
 use Rattle.made_volumes.specs.Runs.{HasRun}

@@ -1,5 +1,6 @@
 use Rattle.std.proofs.Common.{ℕ, [], ◌∷◌, subst, arith}
-use Rattle.rescue_map.specs.Reads.{left_of, Gave}
+use Rattle.qic_base.specs.SourceCalls.{WereGiven}
+use Rattle.rescue_map.specs.Reads.{left_of}
 use Rattle.rescue_map.proofs.Lining.{next_byte, took_ended, took_last, took_none}
 use Rattle.rescue_map.proofs.line.read_line.Goals as goal
 
@@ -29,7 +30,7 @@ returns-in-Ok-Some-eq10-clause-took g c =
     took_ended (left_of m c.args.source.now c.args.buffer.now c.args.ahead.now) (left_of m c.loop-read.source c.loop-read.buffer c.loop-read.ahead)
     (left_of m c.next_byte.new.source c.next_byte.new.buffer c.next_byte.new.ahead) c.loop-read.scan c.loop-read.read c.finish.result
     c.loop-read.invariant.far c.loop-read-test.true
-    (subst (λ (b : ℕ). Gave (left_of m c.loop-read.source c.loop-read.buffer c.loop-read.ahead)
+    (subst (λ (b : ℕ). WereGiven (left_of m c.loop-read.source c.loop-read.buffer c.loop-read.ahead)
     (left_of m c.next_byte.new.source c.next_byte.new.buffer c.next_byte.new.ahead) (b ∷ [])) c.in-Ok-Some-eq10.field-0-0-test took)
     c.finish.ensures
 

@@ -1,6 +1,6 @@
 use Rattle.std.proofs.Common.{◌≡◌, ◌+◌, ℕ, Bool, refl, subst, arith}
 use Rattle.rescue_map.specs.Reads.{left_of, ReadFault}
-use Rattle.rescue_map.proofs.Giving.{ended_same}
+use Rattle.qic_base.proofs.Giving.{NoneLeft-now}
 use Rattle.rescue_map.proofs.Lining.{TookLine}
 use Rattle.rescue_map.proofs.Following.{next, line_fault, last_line, map_over, line_endless, line_too_many}
 use Rattle.rescue_map.proofs.reading.read_map.Goals as goal
@@ -28,7 +28,7 @@ returns-in-Ok-End-clause-reads g c =
     let new = left_of m c.read_line.new.source c.read_line.new.buffer c.read_line.new.ahead in
     let took = rw c.in-Ok-End.field-0-is at c.in-Ok-End.ensures.took in
     map_over m c.args.source.now c.read_line.new.source old c.read_line.new.buffer c.read_line.new.ahead c.loop-line.mask c.loop-line.progress.expected c.loop-line.progress.from
-    c.loop-line.line (c.loop-line.line + 1) c.finish.result c.loop-line.invariant.far took.0 took.1 (ended_same old new took.0 took.1) refl c.finish.ensures.ends
+    c.loop-line.line (c.loop-line.line + 1) c.finish.result c.loop-line.invariant.far took.0 took.1 (NoneLeft-now old new took.0 took.1) refl c.finish.ensures.ends
 
 pub returns-in-Ok-Endless-clause-reads : goal.returns-in-Ok-Endless-clause-reads
 returns-in-Ok-Endless-clause-reads g c =
@@ -64,7 +64,7 @@ returns-in-Ok-None-clause-reads g c =
     let new = left_of m c.next_byte.new.source c.next_byte.new.buffer c.next_byte.new.ahead in
     let took = rw c.in-Ok-None.field-0-is at c.in-Ok-None.ensures.took in
     map_over m c.args.source.now c.next_byte.new.source old c.next_byte.new.buffer c.next_byte.new.ahead c.loop-line.mask c.loop-line.progress.expected c.loop-line.progress.from
-    c.loop-line.line 1048577 c.finish-in-Ok-None.result c.loop-line.invariant.far took.0 took.1 (ended_same old new took.0 took.1) (omega arith) c.finish-in-Ok-None.ensures.ends
+    c.loop-line.line 1048577 c.finish-in-Ok-None.result c.loop-line.invariant.far took.0 took.1 (NoneLeft-now old new took.0 took.1) (omega arith) c.finish-in-Ok-None.ensures.ends
 
 pub returns-in-Ok-Some-clause-reads : goal.returns-in-Ok-Some-clause-reads
 returns-in-Ok-Some-clause-reads g c =

@@ -1,5 +1,5 @@
 use Rattle.std.proofs.Common.{◌≡◌, ℕ, ◌+◌, ◌≤◌, List, [], ◌∷◌, length, refl, ap, subst, sym, ◌∙◌, arith}
-use Rattle.qic_base.specs.Terms.{IsLost}
+use Rattle.qic_base.specs.CartridgeTerms.{IsLost}
 use Rattle.qic_base.specs.Cartridge.{lost_places}
 use Rattle.qic_base.specs.Step.{Step, WriteSector}
 use Rattle.qic_base.specs.TapeCalls.{Does}

@@ -2,7 +2,7 @@ use Rattle.std.proofs.Common.{ℕ, ◌<◌, Bool, true, cond, List, ap, arith, s
 use Rattle.std.proofs.lemmas.Bool.{lt-ltb}
 use Rattle.cartridge_laws.proofs.Segments.{count_of_whole}
 use Rattle.cartridge_spec.specs.Header.{has_signature}
-use Rattle.cartridge_laws.specs.Terms.{data_of}
+use Rattle.cartridge_laws.specs.Segment.{data_of}
 use Rattle.cartridge_spec.specs.Shape.{usable_count}
 use Rattle.segment_mending.proofs.locating.can_be_read.Goals as goal
 

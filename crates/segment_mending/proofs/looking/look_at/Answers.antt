@@ -1,11 +1,11 @@
 use Rattle.std.proofs.Common.{◌≡◌, ◌≤◌, ℕ, List, [], ◌∷◌, Option, Err, arith, false, length, subst}
 use Rattle.qic_base.proofs.Steps.{Done-nothing}
-use Rattle.qic_base.specs.Terms.{around}
+use Rattle.qic_base.specs.Alone.{around}
 use Rattle.qic_base.specs.SinkCalls.{Writes}
 use Rattle.qic_base.specs.TapeCalls.{Tells}
 use Rattle.cartridge_laws.proofs.Places.{count_below}
 use Rattle.cartridge_spec.specs.Shape.{usable_count}
-use Rattle.cartridge_laws.specs.Terms.{sectors_of}
+use Rattle.cartridge_laws.specs.Segment.{sectors_of}
 use Rattle.command_spec.specs.Scrub.{Counts, Looked, reads}
 use Rattle.segment_io.proofs.Going.{OnOk-then}
 use Rattle.segment_mending.specs.declared.fault.ScrubFault.{ScrubFault}

@@ -1,5 +1,5 @@
 use Rattle.std.proofs.Common.{◌≡◌, [], ◌∷◌, true, arith, Err}
-use Rattle.qic_base.specs.Terms.{around}
+use Rattle.qic_base.specs.Alone.{around}
 use Rattle.command_spec.specs.Scrub.{whole_segment}
 use Rattle.host_driver.proofs.Keeping.{cartridge_kept}
 use Rattle.segment_io.proofs.Going.{front_segment}

@@ -1,8 +1,8 @@
 use Rattle.std.proofs.Common.{◌≡◌, ℕ, ◌+◌, ◌-◌, ◌≤◌, ◌++◌, List, [], length, sym, ap, subst, ◌∙◌, arith, Err}
-use Rattle.qic_base.specs.Terms.{around}
+use Rattle.qic_base.specs.Alone.{around}
 use Rattle.cartridge_spec.specs.Volumes.{carrying}
 use Rattle.command_spec.specs.Scrub.{Looked}
-use Rattle.command_laws.specs.CommandTerms.{looked_segments}
+use Rattle.command_laws.specs.ScrubTerms.{looked_segments}
 use Rattle.host_driver.proofs.Keeping.{keeps_none, keeps_both}
 use Rattle.segment_mending.specs.declared.fault.ScrubFault.{ScrubFault}
 use Rattle.segment_mending.specs.Looking.{HasLooked, Looks}

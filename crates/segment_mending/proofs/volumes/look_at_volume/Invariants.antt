@@ -1,8 +1,8 @@
 -- The carrying segments below the present one were looked at.
 use Rattle.std.proofs.Common.{◌≤◌}
-use Rattle.qic_base.specs.Terms.{around}
+use Rattle.qic_base.specs.Alone.{around}
 use Rattle.host_driver.specs.Calls.{Keeps}
-use Rattle.command_laws.specs.CommandTerms.{looked_segments}
+use Rattle.command_laws.specs.ScrubTerms.{looked_segments}
 use Rattle.segment_mending.specs.Looking.{HasLooked}
 use Rattle.segment_mending.specs.Mending.{reported}
 use Rattle.segment_mending.proofs.Looked.{carrying_below}

@@ -1,6 +1,6 @@
 -- The carrying segments of the volumes before the present one were looked at.
 use Rattle.std.proofs.Common.{◌+◌, ◌*◌, ◌≤◌, take}
-use Rattle.qic_base.specs.Terms.{around}
+use Rattle.qic_base.specs.Alone.{around}
 use Rattle.host_driver.specs.Calls.{Keeps}
 use Rattle.command_spec.specs.Scrub.{looked_volumes}
 use Rattle.segment_mending.specs.Looking.{HasLooked}

@@ -1,10 +1,10 @@
 use Rattle.std.proofs.Common.{◌≡◌, ℕ, List, ap, sym, subst, ◌∙◌, arith, [], length}
-use Rattle.qic_base.specs.Terms.{around}
+use Rattle.qic_base.specs.Alone.{around}
 use Rattle.cartridge_spec.specs.Shape.{mask_at, usable_count}
-use Rattle.cartridge_laws.specs.Terms.{sectors_of}
+use Rattle.cartridge_laws.specs.Segment.{sectors_of}
 use Rattle.cartridge_spec.specs.Volumes.{carrying}
 use Rattle.command_spec.specs.Scrub.{Looked}
-use Rattle.command_laws.specs.CommandTerms.{looked_segments}
+use Rattle.command_laws.specs.ScrubTerms.{looked_segments}
 use Rattle.segment_mending.specs.Looking.{HasLooked}
 use Rattle.segment_mending.specs.Mending.{reported}
 use Rattle.segment_mending.proofs.Joining.{looked_none}

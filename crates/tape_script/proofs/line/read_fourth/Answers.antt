@@ -1,5 +1,5 @@
 use Rattle.std.proofs.Common.{◌+◌, ◌∷◌, drop, arith}
-use Rattle.command_laws.specs.CommandTerms.{words_of}
+use Rattle.command_laws.specs.Inputs.{words_of}
 use Rattle.tape_script.proofs.Splits.{some_word, longer}
 use Rattle.tape_script.proofs.Forms.{line_length}
 use Rattle.tape_script.proofs.line.read_fourth.Goals as goal

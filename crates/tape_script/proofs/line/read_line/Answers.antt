@@ -1,7 +1,7 @@
 use Rattle.std.proofs.Common.{◌≡◌, ◌≢◌, ◌⊎◌, List, ℕ, inl, inr, ◌+◌, ◌-◌, ◌∷◌, ◌++◌, [], refl, length, take, ap, ◌∙◌, arith}
 use Rattle.std.proofs.lemmas.List.{length_push, length-take-le}
 use Rattle.std.proofs.lemmas.List.Elements.{All-take}
-use Rattle.command_laws.specs.CommandTerms.{IsLine}
+use Rattle.command_laws.specs.Inputs.{IsLine}
 use Rattle.qic_base.specs.SourceCalls.{HasEnded}
 use Rattle.tape_script.proofs.Lined.{one_newline, BeginsWithNo-line, BeginsWithNo-open}
 use Rattle.tape_script.proofs.line.read_line.Goals as goal

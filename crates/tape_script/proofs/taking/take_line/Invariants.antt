@@ -1,6 +1,6 @@
 use Rattle.std.proofs.Common.{◌≡◌, ◌≤◌, ◌-◌, length, take}
 use Rattle.qic_base.specs.SourceCalls.{Gave}
-use Rattle.command_laws.specs.TextReading.{NoNewline}
+use Rattle.qic_base.specs.LineBytes.{NoNewline}
 use Rattle.tape_script.proofs.taking.take_line.Given as goal
 
 abbrev pub invariant-loop-len : goal.invariant-loop-len

@@ -1,7 +1,7 @@
 use Rattle.std.proofs.Common.{◌<◌, length, get_or, arith}
 use Rattle.std.proofs.lemmas.List.{get_or_default}
 use Rattle.std.proofs.lemmas.List.Edits.{map_over_more}
-use Rattle.command_laws.specs.CommandTerms.{printable}
+use Rattle.command_laws.specs.TextTerms.{printable}
 use Rattle.tape_script.proofs.text_line.make_printable.Goals as goal
 
 pub loop-byte-preserved : goal.loop-byte-preserved

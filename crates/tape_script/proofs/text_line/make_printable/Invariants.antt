@@ -1,5 +1,5 @@
 use Rattle.std.proofs.Common.{◌≡◌, ◌++◌, map, take, drop}
-use Rattle.command_laws.specs.CommandTerms.{printable}
+use Rattle.command_laws.specs.TextTerms.{printable}
 use Rattle.tape_script.proofs.text_line.make_printable.Given as goal
 
 abbrev pub invariant-loop-byte : goal.invariant-loop-byte

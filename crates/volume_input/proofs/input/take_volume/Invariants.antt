@@ -1,6 +1,6 @@
 -- The segments so far are filled, and written.
 use Rattle.std.proofs.Common.{◌-◌, length}
-use Rattle.qic_base.specs.Terms.{reading}
+use Rattle.qic_base.specs.Alone.{reading}
 use Rattle.cartridge_spec.specs.Volumes.{carrying}
 use Rattle.host_driver.specs.Calls.{Keeps}
 use Rattle.volume_input.proofs.Running.{SoFar}

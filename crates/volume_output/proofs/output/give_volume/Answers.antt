@@ -1,7 +1,7 @@
 use Rattle.std.proofs.Common.{◌≡◌, ℕ, ◌+◌, ◌-◌, ◌<◌, ◌≤◌, List, Err, arith}
 use Rattle.std.specs.Prelude.{min}
 use Rattle.std.proofs.lemmas.Result.{err_from_is_err_and}
-use Rattle.qic_base.specs.Terms.{around}
+use Rattle.qic_base.specs.Alone.{around}
 use Rattle.cartridge_spec.specs.Shape.{mask_at, capacity}
 use Rattle.host_driver.proofs.Keeping.{keeps_both}
 use Rattle.command_spec.specs.Restore.{Piece}

@@ -1,5 +1,5 @@
 -- However the segments from the present one on end, all end so.
-use Rattle.qic_base.specs.Terms.{around}
+use Rattle.qic_base.specs.Alone.{around}
 use Rattle.host_driver.specs.Calls.{Keeps}
 use Rattle.volume_output.specs.Form.{is_lined}
 use Rattle.volume_output.proofs.Walking.{left_from, GoesOn}

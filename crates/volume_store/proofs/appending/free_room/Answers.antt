@@ -1,5 +1,5 @@
 use Rattle.std.proofs.Common.{◌≡◌, ◌≤◌, ◌+◌, ◌-◌, ◌*◌, ℕ, length, ap, ◌∙◌, sym, arith}
-use Rattle.cartridge_laws.specs.Terms.{last_end}
+use Rattle.cartridge_laws.specs.Table.{last_end}
 use Rattle.cartridge_laws.proofs.AppendSegments.{room_most}
 use Rattle.cartridge_spec.specs.Volumes.{capacity_between}
 use Rattle.volume_store.proofs.Taking.{end_within}

@@ -1,5 +1,5 @@
 use Rattle.std.proofs.Common.{◌≡◌, ℕ, ◌+◌, None, Ok, subst, sym, ◌∙◌, arith}
-use Rattle.qic_base.specs.Terms.{reading}
+use Rattle.qic_base.specs.Alone.{reading}
 use Rattle.cartridge_spec.specs.Appending.{room}
 use Rattle.tape_script.specs.Reading.{Skips}
 use Rattle.volume_store.specs.Appending.{InputWent}

@@ -1,5 +1,5 @@
 use Rattle.std.proofs.Common.{◌≡◌, ◌⊎◌, inl, inr, ℕ, ◌-◌, ◌<◌, true, length, Some, subst, sym, ◌∙◌, arith}
-use Rattle.qic_base.specs.Terms.{reading}
+use Rattle.qic_base.specs.Alone.{reading}
 use Rattle.cartridge_spec.specs.Appending.{room}
 use Rattle.cartridge_spec.specs.Volumes.{carrying}
 use Rattle.volume_input.specs.Input.{HasWritten, EndedShort}

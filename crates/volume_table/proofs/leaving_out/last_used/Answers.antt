@@ -1,7 +1,7 @@
 use Rattle.std.proofs.Common.{◌≡◌, suc, ◌+◌, List, map, sym, ap, ◌∙◌, subst, arith, add-one}
 use Rattle.qic_base.specs.declared.tape.SectorView.{SectorView}
 use Rattle.qic_base.specs.declared.tape.SectorView.TheVariants.{Holds}
-use Rattle.cartridge_laws.specs.Terms.{hidden}
+use Rattle.cartridge_laws.specs.Segment.{hidden}
 use Rattle.cartridge_spec.specs.Says.{last_used_below}
 use Rattle.volume_table.proofs.Used.{last_none, last_here, last_before, IsAnswer, is_answer}
 use Rattle.volume_table.proofs.leaving_out.last_used.Goals as goal

@@ -1,6 +1,6 @@
 use Rattle.std.proofs.Common.{◌≡◌, map}
 use Rattle.qic_base.specs.declared.tape.SectorView.TheVariants.{Holds}
-use Rattle.cartridge_laws.specs.Terms.{hidden}
+use Rattle.cartridge_laws.specs.Segment.{hidden}
 use Rattle.cartridge_spec.specs.Says.{last_used_below}
 use Rattle.volume_table.proofs.leaving_out.last_used.Given as goal
 

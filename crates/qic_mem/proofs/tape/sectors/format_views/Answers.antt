@@ -1,5 +1,5 @@
 use Rattle.std.proofs.Common.{◌<◌, length, arith, rules}
-use Rattle.qic_base.specs.Terms.{IsView}
+use Rattle.qic_base.specs.CartridgeTerms.{IsView}
 use Rattle.std.proofs.lemmas.List.Elements.{All-set}
 use Rattle.std.proofs.lemmas.List.Edits.{map_over_more}
 use Rattle.qic_mem.proofs.tape.sectors.format_views.Goals as goal

@@ -1,6 +1,6 @@
 use Rattle.std.proofs.Common.{◌≡◌, ◌++◌, take, drop, map}
 use Rattle.std.specs.Prelude.{All}
-use Rattle.qic_base.specs.Terms.{IsView}
+use Rattle.qic_base.specs.CartridgeTerms.{IsView}
 use Rattle.qic_base.specs.Step.{worn_view}
 use Rattle.qic_mem.proofs.tape.sectors.wear_views.Given as goal
 

@@ -1,7 +1,7 @@
 use Rattle.std.proofs.Common.{◌≡◌, ◌≢◌, ◌⊎◌, ◌+◌, ◌-◌, ◌∷◌, ◌++◌, [], refl, List, ℕ, inl, inr, length, take, codes, ap, ◌∙◌, arith}
 use Rattle.std.proofs.lemmas.List.{length_push, length-take-le}
 use Rattle.std.proofs.lemmas.List.Elements.{All-take}
-use Rattle.command_laws.specs.CommandTerms.{IsTrain}
+use Rattle.command_laws.specs.Inputs.{IsTrain}
 use Rattle.command_spec.specs.Input.{IsLined}
 use Rattle.qic_base.specs.SourceCalls.{HasEnded}
 use Rattle.tape_script.proofs.Lined.{one_newline, BeginsWithNo-line, BeginsWithNo-open, BeginsWithNo-by, end_lined}

@@ -1,6 +1,6 @@
 use Rattle.std.proofs.Common.{◌≡◌, ◌-◌, List, length, take, Ok, Err, false, sym, ap, subst}
-use Rattle.cartridge_laws.specs.Terms.{HasList}
-use Rattle.qic_base.specs.Terms.{around}
+use Rattle.cartridge_laws.specs.TableCells.{HasList}
+use Rattle.qic_base.specs.Alone.{around}
 use Rattle.cartridge_spec.specs.Table.{Entry}
 use Rattle.header_segments.specs.Header.{header_of}
 use Rattle.qic_base.specs.TapeCalls.{Tells}

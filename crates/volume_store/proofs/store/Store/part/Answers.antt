@@ -1,7 +1,7 @@
 use Rattle.std.proofs.Common.{◌≡◌, ◌-◌, ◌<◌, inl, inr, false, take, Some, None, Ok, Err, refl, ap, ◌∙◌, arith, slice_get}
 use Rattle.cartridge_spec.specs.Table.{Entry}
 use Rattle.cartridge_spec.specs.Volumes.{carrying}
-use Rattle.cartridge_laws.specs.Terms.{HasList}
+use Rattle.cartridge_laws.specs.TableCells.{HasList}
 use Rattle.command_spec.specs.Restore.{pieces_of}
 use Rattle.header_segments.specs.Header.{header_of}
 use Rattle.qic_base.specs.TapeCalls.{Tells}

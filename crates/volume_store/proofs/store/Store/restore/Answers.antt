@@ -1,6 +1,6 @@
 use Rattle.std.proofs.Common.{◌≡◌, ◌-◌, ◌<◌, take, Some, Ok, Err, false, ap, ◌∙◌, arith, slice_get}
-use Rattle.cartridge_laws.specs.Terms.{HasList}
-use Rattle.qic_base.specs.Terms.{around}
+use Rattle.cartridge_laws.specs.TableCells.{HasList}
+use Rattle.qic_base.specs.Alone.{around}
 use Rattle.cartridge_spec.specs.Table.{Entry}
 use Rattle.cartridge_spec.specs.Volumes.{carrying, volume_length}
 use Rattle.header_segments.specs.Header.{header_of}

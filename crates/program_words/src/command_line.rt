@@ -1,0 +1,14 @@
+//! The words of a command line as the system hands them over.
+
+use std::env::Env;
+use std::{env, io};
+
+/// The words of the command line, the program's name the first of them. An error is a want of memory, or a word that is no
+/// UTF-8 text.
+pub fn read_command_line<R: Env + AllocGlobal>(rt: &R) -> io::Result<Vec<String>> {
+    let mut words = Vec::new(rt.alloc());
+    for word in env::args(rt)? {
+        words.push(word)?;
+    }
+    Ok(words)
+}
