@@ -1,12 +1,12 @@
 #!/usr/bin/env python3
-"""Lists lemmas that say the same in two files, where one of them could cite the other.
+"""Lists lemmas that say the same, where one of them could cite the other.
 
     bench/doubles.py            of all crates
     bench/doubles.py CRATE ..   those of which one is in such a crate
 
 Two lemmas say the same where their types are one text once bound names are left out of account, and each name that the
 types cite is imported from one file. One could cite the other where its crate stands on the other's, or where both are of one
-crate and the other's file doesn't come to it by its own imports. Lemmas within a module of a file are not looked at, nor
+crate and the first's file doesn't come to the other's by its own imports. Lemmas within a module of a file are not looked at, nor
 answers. It reads the files alone, in some seconds.
 """
 import re
