@@ -4,11 +4,7 @@ use std::env::Env;
 use std::{env, io};
 
 /// The words of the command line, the program's name the first of them. An error is a want of memory, or a word that is no
-/// UTF-8 text.
+/// UTF-8 text. No clause tells the words: `std::env::args` has none, and `Env` says of a word only that it fits its buffer.
 pub fn read_command_line<R: Env + AllocGlobal>(rt: &R) -> io::Result<Vec<String>> {
-    let mut words = Vec::new(rt.alloc());
-    for word in env::args(rt)? {
-        words.push(word)?;
-    }
-    Ok(words)
+    Ok(env::args(rt)?.collect(rt.alloc())?)
 }
