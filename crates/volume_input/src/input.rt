@@ -75,6 +75,5 @@ pub fn take_volume<T: Tape, S: Source>(
             Err(fault) => return Err(fault),
         }
     }
-    // Not reached: the segments carry `most` bytes.
-    Ok(written)
+    unreachable!("the segments carry `most` bytes")
 }

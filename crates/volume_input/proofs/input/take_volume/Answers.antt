@@ -109,8 +109,8 @@ loop-segment-preserved g c =
     }
 
 -- the segments don't end before the volume
-pub returns-clause-ends : goal.returns-clause-ends
-returns-clause-ends g c =
+pub unreachable-requires : goal.unreachable-requires
+unreachable-requires g c =
     let least = c.requires.ready.fits.sound.drive.deck.long in
-    absurd (not_over c.args.map.now c.args.first c.loop-segment.segment c.args.most (reading c.args.unit.now.tape c.args.source.now)
-    (reading c.loop-segment.unit.tape c.loop-segment.source) c.loop-segment.written c.loop-segment.invariant.far (omega arith) (omega arith) c.requires.room c.requires.within)
+    not_over c.args.map.now c.args.first c.loop-segment.segment c.args.most (reading c.args.unit.now.tape c.args.source.now)
+    (reading c.loop-segment.unit.tape c.loop-segment.source) c.loop-segment.written c.loop-segment.invariant.far (omega arith) (omega arith) c.requires.room c.requires.within
