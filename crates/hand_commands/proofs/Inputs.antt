@@ -3,7 +3,7 @@ use Rattle.std.proofs.Common.{◌≡◌, ℕ, ◌+◌, ◌≤◌, ◌<◌, List,
 use Rattle.std.specs.Option.{option_map}
 use Rattle.std.proofs.lemmas.List.{length-append, append_cancel_left, nil_from_length}
 use Rattle.command_laws.specs.Inputs.{IsTrain}
-use Rattle.command_spec.specs.Input.{IsPulse, Ending, AtEnd, AtStop, AtFault, HasStop, IsFault, ItemsEnd, HasItems, most_items}
+use Rattle.command_spec.specs.Input.{IsPulse, Ending, AtEnd, AtStop, AtFault, IsFault, ItemsEnd, HasItems, most_items}
 use Rattle.command_laws.proofs.TextDecimals.{one_number}
 use Rattle.command_laws.proofs.TextInputs as inputs
 use Rattle.command_laws.proofs.TextLined.{one_before}
@@ -97,18 +97,6 @@ comes_first (p ∷ ps) rest line place (q ∷ qs) ending are few read =
     (next.0, ap (λ xs. p ∷ xs) next.1 ∙ ap (λ (x : ℕ). x ∷ qs) one.trains)
 
 -- ---- the input, from what is left
-
-stop_told : (o : Option (List ℕ)) (rest : List ℕ) → o ≡ Some (codes "end\n" ++ rest) → IfSome o (λ bytes. bytes ≡ codes "end\n" ++ rest)
-stop_told None rest e = tt
-stop_told (Some bytes) rest e = cc
-
-none_told : (o : Option (List ℕ)) (rest : List ℕ) → o ≡ None → IfSome o (λ bytes. bytes ≡ rest)
-none_told None rest e = tt
-none_told (Some bytes) rest e = absurd (cc)
-
-pub stop_rest : (o p : Option (List ℕ)) → o ≡ option_map (λ rest. codes "end\n" ++ rest) p → Rest o HasStop
-stop_rest o None gave = record { rest = codes "end\n" ++ []; told = none_told o (codes "end\n" ++ []) gave; has = ([], refl) }
-stop_rest o (Some rest) gave = record { rest = codes "end\n" ++ rest; told = stop_told o rest gave; has = (rest, refl) }
 
 -- a byte that begins no line
 no_line : (line : ℕ) → IsFault IsPulse line (0 ∷ [])

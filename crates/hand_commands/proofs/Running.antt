@@ -14,7 +14,7 @@ use Rattle.command_spec.specs.Input.{IsPulse, Ending, AtEnd, AtStop, AtFault, It
 use Rattle.qic_base.specs.SourceCalls.{Gave}
 use Rattle.qic_base.proofs.Giving.{Gave-Gave, Gave-end, Gave-nothing}
 use Rattle.command_laws.proofs.TextReadings.{each_pulses}
-use Rattle.tape_script.proofs.Rests.{any_rest, ended_rest, whole_told, left_behind}
+use Rattle.tape_script.proofs.Rests.{any_rest, ended_rest, stop_rest, whole_told, left_behind}
 use Rattle.hand_commands.specs.declared.pulses.fault.PulseFault.{PulseFault}
 use Rattle.command_spec.specs.Pulses.{pulsed_row, train_acts, train_line, train_lines, pulses_taken}
 use Rattle.command_laws.specs.PulseRuns.{train_act, after_trains, Answer, AllSent, ScriptFault, pulses_answer, outcome_of}
@@ -22,7 +22,7 @@ use Rattle.hand_commands.specs.PulseRuns.{Leaves, Ended, CutOff}
 use Rattle.tape_script.specs.Reading.{GaveNoEnd}
 use Rattle.hand_commands.specs.PulseLines.{Heard, HasNoTrain, Hears, HearsEnd}
 use Rattle.hand_commands.proofs.Hearing.{rests, source_cut, steps_cut}
-use Rattle.hand_commands.proofs.Inputs.{ArePulses, ArePulses-push, read_behind, comes_first, stop_rest, fault_rest}
+use Rattle.hand_commands.proofs.Inputs.{ArePulses, ArePulses-push, read_behind, comes_first, fault_rest}
 use Rattle.command_laws.proofs.PulseMachineLaws.{fronts_do_fronts}
 use Rattle.command_laws.proofs.PulseTrains.{after_trains-append, train_acts-append, train_lines-append, pulse_short, after_train-counted}
 use Rattle.qic_base.specs.Sink as sinks

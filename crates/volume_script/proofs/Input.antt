@@ -8,10 +8,10 @@ use Rattle.command_laws.proofs.ScriptInput.{SameLine, same_line}
 use Rattle.command_laws.proofs.TextLined.{end_no_newline}
 use Rattle.command_spec.specs.Command.{Word, SpellsPart}
 use Rattle.command_laws.specs.Inputs.{words_of}
-use Rattle.command_spec.specs.Input.{IsLineText, IsItem, promised, Item, IsFault, most_items, HasStop}
+use Rattle.command_spec.specs.Input.{IsLineText, IsItem, promised, Item, IsFault, most_items}
 use Rattle.command_spec.specs.Script.{EndsEarly}
 use Rattle.command_spec.specs.declared.line.Line.{Line}
-use Rattle.tape_script.proofs.Rests.{Rest}
+use Rattle.tape_script.proofs.Rests.{Rest, stop_rest}
 use Rattle.volume_script.proofs.Content.{stop_bytes, zero_byte}
 use Rattle.command_laws.proofs.InputActLaws.{AreBytes}
 use Rattle.command_spec.specs.declared.line.Line.TheVariants as line
@@ -137,20 +137,6 @@ on_rest number (Some all) p n bytes beyond some long gave no_stop = record {
     no_item = λ within item. absurd (omega arith);
   };
 }
-
--- ---- what is left where the line `end` was given
-
-stop_told : (o : Option (List ℕ)) (rest : List ℕ) → o ≡ Some (codes "end\n" ++ rest) → IfSome o (λ bytes. bytes ≡ codes "end\n" ++ rest)
-stop_told None rest e = tt
-stop_told (Some bytes) rest e = cc
-
-none_told : (o : Option (List ℕ)) (rest : List ℕ) → o ≡ None → IfSome o (λ bytes. bytes ≡ rest)
-none_told None rest e = tt
-none_told (Some bytes) rest e = absurd (cc)
-
-pub stop_rest : (o p : Option (List ℕ)) → o ≡ option_map (λ rest. codes "end\n" ++ rest) p → Rest o HasStop
-stop_rest o None gave = record { rest = codes "end\n" ++ []; told = none_told o (codes "end\n" ++ []) gave; has = ([], refl) }
-stop_rest o (Some rest) gave = record { rest = codes "end\n" ++ rest; told = stop_told o rest gave; has = (rest, refl) }
 
 -- ---- of bytes, where none are told
 

@@ -15,7 +15,7 @@ use Rattle.command_spec.specs.Input.{Item, IsItem, IsFault, Ending, AtEnd, AtSto
 use Rattle.qic_base.specs.SourceCalls.{Gave, HasEnded}
 use Rattle.qic_base.proofs.Giving.{Gave-Gave, Gave-end, Gave-nothing}
 use Rattle.command_laws.proofs.TextInputs.{one_reading, no_ending}
-use Rattle.tape_script.proofs.Rests.{ended_rest, whole_told, left_behind}
+use Rattle.tape_script.proofs.Rests.{ended_rest, stop_rest, whole_told, left_behind}
 use Rattle.tape_script.specs.Reading.{GaveEnd}
 use Rattle.volume_store.specs.Mounting.{StoreView}
 use Rattle.volume_store.proofs.Ending.{back}
@@ -32,7 +32,7 @@ use Rattle.volume_script.proofs.Appended.{flip}
 use Rattle.volume_script.proofs.Content.{any_bytes, content_both, ended_content, no_content}
 use Rattle.command_laws.proofs.InputActLaws.{AreBytes}
 use Rattle.volume_script.proofs.Hearing.{early_of}
-use Rattle.volume_script.proofs.Input.{no_line_fault, no_line_early, early_fault, none_content, none_rest, on_content, on_rest, stop_content, stop_rest}
+use Rattle.volume_script.proofs.Input.{no_line_fault, no_line_early, early_fault, none_content, none_rest, on_content, on_rest, stop_content}
 use Rattle.command_laws.proofs.ScriptLifting.{out, TakesNone, replied_went, replied_cut}
 use Rattle.command_laws.proofs.ScriptReading.{Reads, reads_more, read_end, place_is, split_reading, acts_of-append, entries_behind-append, cartridge_is, do_more, split_doing}
 use Rattle.cartridge_front.proofs.Copies.{tells_two}
