@@ -14,7 +14,7 @@ use Rattle.cart_image.specs.declared.layout.Kind.TheVariants.{Planes}
 use Rattle.cart_image.specs.declared.layout.Layout.{Layout}
 use Rattle.cart_image.specs.declared.layout.Part.TheVariants.{Data}
 use Rattle.cart_image.specs.Layout.{signature, protected_place, referenced_place, layout_place, mark_byte, sectors, end_of, version_of, place, put, mark_steps}
-use Rattle.cart_image.specs.Image.{read_len, is_signed, is_length, cells_by, layout_in, layout_by, marks, head_of, view_in, views_in, cartridge_of, layout_of}
+use Rattle.cart_image.specs.Image.{read_len, is_signed, is_length, base_kind, layout_in, layout_by, marks, head_of, view_in, views_in, cartridge_of, layout_of}
 use Rattle.cart_image.specs.Whole.{cartridge_of-read, length-views}
 use Rattle.cart_image.proofs.Bytes.{OnlyIn, OnlyIn-torn, OnlyIn-written, OnlyIn-all, range-same, view-same}
 use Rattle.cart_image.proofs.Carries.{Means}
@@ -72,8 +72,8 @@ layout-same old new long size same =
     layout_of-is new ∙ by_parts (length new) (length old) _ _ _ _ _ _ _ _ _ _ size signed n mark base version ∙ sym (layout_of-is old)
   where
     by_parts : (len len' : ℕ) (s s' : Bool) (n n' : ℕ) (m m' : ℕ) (b b' : ℕ) (v v' : ℕ) → len ≡ len' → s ≡ s' → n ≡ n' → m ≡ m' → b ≡ b' → v ≡ v'
-        → (if s && is_length n then layout_in len n (if m == mark_byte then cells_by n b else (if v == 1 then Some Planes else None)) else None)
-        ≡ (if s' && is_length n' then layout_in len' n' (if m' == mark_byte then cells_by n' b' else (if v' == 1 then Some Planes else None)) else None)
+        → (if s && is_length n then layout_in len n (if m == mark_byte then base_kind n b else (if v == 1 then Some Planes else None)) else None)
+        ≡ (if s' && is_length n' then layout_in len' n' (if m' == mark_byte then base_kind n' b' else (if v' == 1 then Some Planes else None)) else None)
     by_parts len len' s s' n n' m m' b b' v v' e1 e2 e3 e4 e5 e6 = rw (e1, e2, e3, e4, e5, e6) refl
 
 -- a head by its layout

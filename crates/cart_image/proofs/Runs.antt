@@ -1,10 +1,10 @@
 -- What runs of disk steps leave, told and after a crash.
-use Rattle.std.proofs.Common.{◌≡◌, ℕ, ◌≤◌, ◌⊎◌, inl, inr, List, [], ◌∷◌, ◌++◌, refl, sym, ◌∙◌, ap, arith, Option, Some, None, is_some, subst}
+use Rattle.std.proofs.Common.{◌≡◌, ℕ, ◌≤◌, ◌⊎◌, inl, inr, List, [], ◌∷◌, ◌++◌, refl, sym, ◌∙◌, ap, arith, Some, is_some, subst}
 use Rattle.std.specs.Option.{option_map}
 use Rattle.qic_base.specs.Tape.{Rose}
 use Rattle.qic_base.specs.Disk.{Meaning, DiskStep, Look, WriteAt, SetLen, Sync, stored, Unsynced, Inside, IsSettled, Stored, Failed}
 use Rattle.cart_image.specs.Run.{Looks, Ran, Halted, after_steps, Pending, Crashed}
-use Rattle.qic_base.proofs.Steps.{Rose-after}
+use Rattle.qic_base.proofs.Steps.{Rose-after, is_some-option_map}
 
 -- whatever a run does, time goes on, and the disk tells its bytes as before
 pub record Passes {D : Type 0} (m : Meaning D) (old new : D) : Type 0 where
@@ -35,12 +35,8 @@ Passes-Passes first next = record {
       ];
 }
 
-is_some-map : {A B : Type 0} (f : A → B) (o : Option A) → is_some (option_map f o) ≡ is_some o
-is_some-map f None = refl
-is_some-map f (Some x) = refl
-
 Stored-Passes : {D : Type 0} {m : Meaning D} {a b : D} {step : DiskStep} → Stored m a b step → Passes m a b
-Stored-Passes {m = m} {a = a} {step = step} s = record { tells = ap is_some s.told ∙ is_some-map (stored step) (m.told a); later = s.later; telling = s.crashes.telling; clock = s.crashes.clock; kept = s.crashes.kept; parted = s.crashes.parted }
+Stored-Passes {m = m} {a = a} {step = step} s = record { tells = ap is_some s.told ∙ is_some-option_map (stored step) (m.told a); later = s.later; telling = s.crashes.telling; clock = s.crashes.clock; kept = s.crashes.kept; parted = s.crashes.parted }
 
 pub Failed-Passes : {D : Type 0} {m : Meaning D} {a b : D} {step : DiskStep} → Failed m a b step → Passes m a b
 Failed-Passes f = record { tells = f.tells; later = f.later; telling = f.crashes.telling; clock = f.crashes.clock; kept = f.crashes.kept; parted = f.crashes.parted }

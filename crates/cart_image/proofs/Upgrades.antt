@@ -16,7 +16,7 @@ use Rattle.cart_image.specs.declared.layout.Kind.TheVariants.{Planes, Cells, Cel
 use Rattle.cart_image.specs.declared.layout.Layout.{Layout}
 use Rattle.cart_image.specs.declared.layout.Part.TheVariants.{Data}
 use Rattle.cart_image.specs.Layout.{sectors, image_len, upgraded_len, protected_place, referenced_place, layout_place, base_place, mark_byte, end_of, plane_place, put, resize, cell, copy_steps, upgrade_steps}
-use Rattle.cart_image.specs.Image.{read_len, is_signed, is_length, cells_by as base_kind, kind_by, head_of, view_in, views_in, sector_bytes, read_as, cartridge_of, layout_of}
+use Rattle.cart_image.specs.Image.{read_len, is_signed, is_length, base_kind, kind_by, head_of, view_in, views_in, sector_bytes, read_as, cartridge_of, layout_of}
 use Rattle.cart_image.specs.Run.{after_steps, Crashed}
 use Rattle.cart_image.specs.Whole.{head-made, head_of-parts, cartridge_of-read, layout_of-read, length-views}
 use Rattle.cart_image.proofs.Bytes.{OnlyIn, OnlyIn-torn, OnlyIn-written, same_at, range-same, cell-is, view_in-is}

@@ -28,13 +28,13 @@ abbrev pub is_length : ℕ → Bool
 is_length n = nat_le 3 n && nat_le n LONGEST
 
 -- The base of a version 2 image is one of two.
-abbrev pub cells_by : (n base : ℕ) → Option Kind
-cells_by n base = if base == head_len then Some Cells else (if base == image_len n then Some CellsBehind else None)
+abbrev pub base_kind : (n base : ℕ) → Option Kind
+base_kind n base = if base == head_len then Some Cells else (if base == image_len n then Some CellsBehind else None)
 
 -- Where the layout mark stands, the version word isn't read; where it doesn't, the base isn't.
 abbrev pub kind_by : (n : ℕ) (head : List ℕ) → Option Kind
 kind_by n head =
-    if slice_index head layout_place == mark_byte then cells_by n (number_at head base_place 8)
+    if slice_index head layout_place == mark_byte then base_kind n (number_at head base_place 8)
     else (if number_at head version_place 2 == 1 then Some Planes else None)
 
 -- a layout that ends in a file of this length

@@ -2,7 +2,7 @@
 ghost use Rattle.std.specs.Prelude.{◌≡◌, ◌≢◌, ℕ, ◌+◌, ◌*◌, ◌<◌, ◌≤◌, List, length, slice_index, slice_index_or, slice_range, IfOk, IfSome, OnErr, false};
 ghost use Rattle.qic_base.specs.Disk.{IsSettled};
 ghost use Rattle.qic_base.specs.TapeCalls.{Reads};
-ghost use Rattle.cart_image.specs.Image.{cells_by, kind_by, layout_by, head_by as head_told, head_of, view_by, view_in, sector_bytes};
+ghost use Rattle.cart_image.specs.Image.{base_kind, kind_by, layout_by, head_by as head_told, head_of, view_by, view_in, sector_bytes};
 ghost use Rattle.cart_image.specs.Layout.{sectors, end_of, touches};
 ghost use Rattle.cart_image.specs.Run.{Looked};
 ghost use Rattle.cart_image.specs.State.{state_of, AreMarks};
@@ -28,7 +28,7 @@ pub enum SectorState {
 
 /// How the parts lie in a version 2 image with this base.
 fn cells_at(segments_per_track: u16, base: u64) -> Option<Kind>
-    ensures { result ≡ cells_by segments_per_track base }
+    ensures { result ≡ base_kind segments_per_track base }
 {
     if base == HEAD_LEN {
         Some(Kind::Cells)

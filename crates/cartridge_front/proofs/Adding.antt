@@ -10,7 +10,6 @@ use Rattle.qic_base.specs.Step.{Step}
 use Rattle.qic_base.specs.Tape.{Meaning, Done, Broke}
 use Rattle.qic_base.specs.TapeCalls.{Does}
 use Rattle.qic_base.proofs.Steps.{Done-Done, Done-Broke, Broke-front}
-use Rattle.erasure_solve.specs.Lost.{is_lost}
 use Rattle.erasure_solve.proofs.Places.{is_lost_from}
 use Rattle.cartridge_spec.specs.Shape.{sector_at}
 use Rattle.cartridge_spec.specs.Says.{with_parity}
@@ -19,6 +18,7 @@ use Rattle.cartridge_spec.specs.Settling.{writes_of, block_writes}
 use Rattle.cartridge_laws.specs.Writes.{named_writes}
 use Rattle.cartridge_spec.specs.Appending.{table_writes}
 use Rattle.cartridge_front.proofs.Mending.{index_of}
+use Rattle.qic_base.specs.CartridgeTerms.{is_lost}
 
 -- ---- the set of one place
 

@@ -8,7 +8,7 @@ use Rattle.cartridge_laws.specs.TableCells.{HasList}
 use Rattle.cartridge_spec.specs.Says.{HasNoBlock, ByCode, LostSectors, TableSays, hidden_from}
 use Rattle.cartridge_spec.specs.Settling.{settling_steps}
 use Rattle.cartridge_spec.specs.Table.{Entry, Shows, table_with}
-use Rattle.command_laws.proofs.StoreAgain.{list_shown, table_one}
+use Rattle.command_laws.proofs.StoreAgain.{list_shown}
 use Rattle.drive_spec.specs.Terms.{is_protected}
 use Rattle.drive_states.specs.Unit.{UnitView}
 use Rattle.host_driver.specs.Fits.{Fits, AgreesWithTape}
@@ -28,6 +28,7 @@ use Rattle.cartridge_front.specs.Finding.{FindsTable, refusal_of, Leaves}
 use Rattle.cartridge_front.specs.Settling.{mending_steps}
 use Rattle.cartridge_front.specs.declared.fault.StoreFault.{StoreFault}
 use Rattle.cartridge_front.specs.declared.table_reader.Unread.{Unread}
+use Rattle.cartridge_laws.proofs.MountOnce.{one_table}
 use Rattle.segment_io.specs.declared.fault.SegFault.TheVariants as seg
 use Rattle.cartridge_front.specs.declared.fault.StoreFault.TheVariants as fault
 
@@ -105,7 +106,7 @@ told_mending m host old u sectors unread fits agrees read room has =
 all_wanted : (wanted : (area : List (List ℕ)) → Cartridge → List Step) (c : Cartridge) (area : List (List ℕ)) (steps : List Step) → TableIs c area → steps ≡ wanted area c →
     (other : List (List ℕ)) → TableIs c other → (rest : List Step) × (steps ++ rest ≡ wanted other c)
 all_wanted wanted c area steps table are other again =
-    ([], append-nil steps ∙ are ∙ ap (λ (a : List (List ℕ)). wanted a c) (table_one c area other table again))
+    ([], append-nil steps ∙ are ∙ ap (λ (a : List (List ℕ)). wanted a c) (one_table c area other table again))
 
 -- ---- a call behind a reading
 

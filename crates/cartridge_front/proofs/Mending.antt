@@ -6,7 +6,6 @@ use Rattle.std.proofs.lemmas.List.{map-append, length-take-le, take_at}
 use Rattle.cartridge_spec.specs.Code.{parity_sectors}
 use Rattle.std.proofs.lemmas.List.FromFn.{get_or-range_with_len}
 use Rattle.qic_base.specs.Cartridge.{lost_places}
-use Rattle.erasure_solve.specs.Lost.{is_lost}
 use Rattle.cartridge_spec.specs.Shape.{sector_at, usable_places}
 use Rattle.cartridge_spec.specs.Says.{whole_mask}
 use Rattle.cartridge_laws.specs.Segment.{sectors_of, places_where}
@@ -16,6 +15,7 @@ use Rattle.cartridge_front.specs.declared.table_reader.Unread.{Unread}
 use Rattle.cartridge_front.specs.Settling.{collected_block, is_stale, mending_steps}
 use Rattle.qic_base.specs.Step.{Step, WriteSector}
 use Rattle.command_laws.proofs.ScrubNamed.{filter_more}
+use Rattle.qic_base.specs.CartridgeTerms.{is_lost}
 
 -- ---- the places of a set
 

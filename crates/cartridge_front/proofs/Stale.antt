@@ -10,8 +10,7 @@ use borrow.Rule.Slice.PartMut.{put_mid, post_of}
 use Rattle.std.proofs.lemmas.Option.{unwrap_or-slice_get}
 use Rattle.std.proofs.lemmas.Nat.Bits.{bit_at_set_same, bit_at_set_other}
 use Rattle.std.proofs.lemmas.Slice.Eq.{bytes_eq-Decides}
-use Rattle.qic_base.specs.CartridgeTerms.{IsLost}
-use Rattle.erasure_solve.specs.Lost.{is_lost}
+use Rattle.qic_base.specs.CartridgeTerms.{IsLost, is_lost}
 use Rattle.erasure_solve.proofs.Places.{is_lost_from}
 use Rattle.cartridge_spec.specs.Shape.{sector_at}
 use Rattle.cartridge_front.specs.Settling.{is_stale}

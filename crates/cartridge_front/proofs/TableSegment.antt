@@ -30,12 +30,6 @@ use Rattle.cartridge_front.specs.Reading.{IsReadBut, SolvesTable}
 use Rattle.segment_io.specs.declared.fault.SegFault.TheVariants as seg
 use Rattle.cartridge_front.specs.declared.fault.StoreFault.TheVariants as store
 
-pub get-take : {A : Type 0} (n : ℕ) (xs : List A) (i : ℕ) → i < n → slice_get (take n xs) i ≡ slice_get xs i
-get-take zero xs i h = absurd (omega arith)
-get-take (suc n) [] i h = refl
-get-take (suc n) (x ∷ xs) zero h = refl
-get-take (suc n) (x ∷ xs) (suc i) h = get-take n xs i (omega arith)
-
 -- a cell that isn't unreadable holds bytes
 readable_holds : (view : SectorView) → ¬ (IsUnreadable view) → (bytes : List ℕ) × (view ≡ Holds bytes)
 readable_holds Blank none = absurd (none refl)
@@ -43,8 +37,8 @@ readable_holds Defect none = absurd (none refl)
 readable_holds Lost none = absurd (none refl)
 readable_holds (Holds bytes) none = (bytes, refl)
 
-slice_get-take : (sectors : List (List ℕ)) (n i : ℕ) (bytes : List ℕ) → i < n → slice_get sectors i ≡ Some bytes → slice_get (take n sectors) i ≡ Some bytes
-slice_get-take sectors n i bytes within there =
+found-take : (sectors : List (List ℕ)) (n i : ℕ) (bytes : List ℕ) → i < n → slice_get sectors i ≡ Some bytes → slice_get (take n sectors) i ≡ Some bytes
+found-take sectors n i bytes within there =
     let inside : i < length sectors = slice_get_within sectors i bytes there in
     slice_get-get_or (take n sectors) i [] (omega (arith, length-take n sectors))
     ∙ ap Some (get_or-take n sectors i [] within)
@@ -66,7 +60,7 @@ collected_reads cells lost sectors count room gathered none = record {
         is_lost = (gathered.unreadable i).1 (subst (λ (o : Option SectorView). IsSomeAnd o IsUnreadable) (sym there) bad);
       })) in
       let holds : slice_get cells i ≡ Some (Holds held.0) = there ∙ ap Some held.1 in
-      (held.0, holds, slice_get-take sectors 29 i held.0 within (gathered.readable i held.0 holds));
+      (held.0, holds, found-take sectors 29 i held.0 within (gathered.readable i held.0 holds));
 }
 
 -- an unreadable cell among the first is counted

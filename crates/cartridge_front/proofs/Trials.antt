@@ -3,7 +3,7 @@ use Rattle.std.proofs.Common.{◌≡◌, ◌≢◌, ◌↔◌, ℕ, zero, suc, �
 use Rattle.std.proofs.lemmas.Bool.{cases_eq, cases_lt, eqb-true, eq-eqb, false≢true}
 use Rattle.std.proofs.lemmas.List.{length-take-le, take_at, take_all}
 use Rattle.std.proofs.lemmas.List.Elements.{All-nil, All-cons}
-use Rattle.qic_base.specs.CartridgeTerms.{IsLost}
+use Rattle.qic_base.specs.CartridgeTerms.{IsLost, is_lost}
 use Rattle.qic_base.specs.Cartridge.{lost_places}
 use Rattle.qic_base.specs.declared.tape.SectorView.{SectorView}
 use Rattle.qic_base.specs.declared.tape.SectorView.TheVariants.{Holds}
@@ -13,15 +13,15 @@ use Rattle.cartridge_laws.specs.TableCells.{unreadable_places, last_used, table_
 use Rattle.cartridge_laws.specs.Says.{LosesData}
 use Rattle.cartridge_laws.proofs.Hiding.{nothing_is_hidden}
 use Rattle.cartridge_laws.proofs.Readings.{AreSmall, small_sets}
-use Rattle.cartridge_laws.proofs.Sets.{names, IsOneOf, length-hidden, named_is_one, one_is_named, unreadable_is_named}
+use Rattle.cartridge_laws.proofs.Sets.{IsOneOf, length-hidden, named_is_one, one_is_named, unreadable_is_named}
 use Rattle.volume_table.proofs.Trying.{set_of_places}
 use Rattle.segment_io.specs.Gathered.{Gathered, NamesUnreadable}
 use Rattle.segment_io.specs.Reading.{HasSolved}
 use Rattle.segment_io.proofs.GatheredCells.{lost_within}
-use Rattle.segment_io.proofs.SolvedCells.{count_of_lost}
+use Rattle.segment_io.proofs.SolvedCells.{count_of_lost, slice_get-take}
 use Rattle.cartridge_front.specs.declared.table_reader.Unread.{Unread}
 use Rattle.cartridge_front.specs.Reading.{HoldsOther, Unsolved, IsSolvedAt, IsUnsolved, HasTableData}
-use Rattle.cartridge_front.proofs.TableSegment.{collected_loses, data_of-whole, get-take}
+use Rattle.cartridge_front.proofs.TableSegment.{collected_loses, data_of-whole}
 use Rattle.cartridge_front.proofs.Tried.{EachSet, Fits, each_fits, gathered_hidden, held_at, hidden_kept, last_lost, places_lost, same_lost}
 
 -- what was collected, and which sets are tried
@@ -51,7 +51,7 @@ sets_are : (cells : List SectorView) (lost : ℕ) (used : Option ℕ) (sectors :
 sets_are cells lost used sectors is =
     ap (λ (o : Option ℕ). 0 ∷ sets_by o (unreadable_places cells))
     (last_lost cells lost (take 29 sectors) is.count (length-take-le 29 sectors (omega (arith, is.room))) is.gathered.unreadable
-    (λ i bytes within at. get-take 29 sectors i within ∙ is.gathered.readable i bytes at) ∙ sym is.last)
+    (λ i bytes within at. slice_get-take 29 sectors i within ∙ is.gathered.readable i bytes at) ∙ sym is.last)
     ∙ ap (λ (ps : List ℕ). 0 ∷ sets_by used ps) (places_lost cells lost is.count is.gathered.unreadable)
 
 -- the places are those that are lost
@@ -62,7 +62,7 @@ lost_is_one cells lost i count names_them is =
 
 one_is_lost : (lost i : ℕ) → lost < 2 ^ 32 → IsOneOf (lost_places lost 32) i → IsLost lost i
 one_is_lost lost i within one =
-    let named : names lost i ≡ true = ap (λ (set : ℕ). names set i) (set_of_places lost within) ∙ one_is_named (lost_places lost 32) i one in
+    let named : is_lost lost i ≡ true = ap (λ (set : ℕ). is_lost set i) (set_of_places lost within) ∙ one_is_named (lost_places lost 32) i one in
     eqb-true _ 1 named
 
 -- ---- the sets outside which the cells were gathered
@@ -311,7 +311,7 @@ has_data cells lost used old new final set unread is solved size put same out = 
 
         not_other : (j : ℕ) (others : List ℕ) → IsLost set j → slice_get cells j ≡ Some (Holds others) → j ≢ i → ⊥
         not_other j others in_set seen apart =
-            elim (named_is_one (i ∷ lost_places lost 32) j (ap (λ (s : ℕ). names s j) (sym set_is) ∙ eq-eqb _ 1 in_set)) [
+            elim (named_is_one (i ∷ lost_places lost 32) j (ap (λ (s : ℕ). is_lost s j) (sym set_is) ∙ eq-eqb _ 1 in_set)) [
               | inl here ↦ apart here
               | inr one ↦ not_lost j others seen (one_is_lost lost j is.mask one)
             ]

@@ -5,22 +5,22 @@ use Rattle.std.specs.List.{range_with_len}
 use Rattle.std.specs.Option.{option_map}
 use Rattle.std.proofs.lemmas.Bool.{cases_Bool, cases_eq, eqb-true, eq-eqb, ne_eqb, false≢true}
 use Rattle.std.proofs.lemmas.Option.{slice_get_within, slice_get-get_or}
-use Rattle.qic_base.specs.CartridgeTerms.{IsLost}
+use Rattle.qic_base.specs.CartridgeTerms.{IsLost, is_lost}
 use Rattle.qic_base.specs.Cartridge.{lost_places}
 use Rattle.qic_base.specs.declared.tape.SectorView.{SectorView}
 use Rattle.qic_base.specs.declared.tape.SectorView.TheVariants.{Blank, Defect, Lost, Holds}
-use Rattle.erasure_solve.specs.Lost.{is_lost}
-use Rattle.erasure_solve.proofs.Places.{is_lost_from}
+use Rattle.erasure_solve.proofs.Places.{is_lost_from, lost_from}
 use Rattle.cartridge_laws.specs.Segment.{IsUnreadable, hidden}
 use Rattle.cartridge_spec.specs.Shape.{is_unreadable}
 use Rattle.cartridge_laws.specs.TableCells.{sets_by_one, sets_by_two, unreadable_places, last_used}
 use Rattle.cartridge_laws.specs.Slots.{has_used_slot}
 use Rattle.cartridge_spec.specs.Says.{hidden_from, set_of, with_used, sets_by, unreadable_from, last_used_below, shows_used_slot}
 use Rattle.cartridge_laws.proofs.Cells.{unreadable_at}
-use Rattle.cartridge_laws.proofs.Sets.{names, IsOneOf, named_is_one, one_is_named}
+use Rattle.cartridge_laws.proofs.Sets.{IsOneOf, named_is_one, one_is_named}
 use Rattle.volume_table.proofs.Used.{shows_lost, shows_kept}
 use Rattle.segment_io.specs.Gathered.{Gathered, NamesUnreadable, IsUnreadableAt}
 use Rattle.cartridge_front.proofs.Mending.{places_of_set}
+use Rattle.segment_io.proofs.SolvedCells.{unreadable_from_test}
 
 -- ---- which cells are lost
 
@@ -30,21 +30,12 @@ unreadable_named [] i un = absurd un
 unreadable_named (cell ∷ cells) zero un = un
 unreadable_named (cell ∷ cells) (suc i) un = unreadable_named cells i un
 
-named_unreadable : (cells : List SectorView) (i : ℕ) → unreadable_at cells i ≡ true → IsUnreadableAt cells i
-unfolding unreadable_at
-named_unreadable [] i un = absurd (false≢true un)
-named_unreadable (cell ∷ cells) zero un = un
-named_unreadable (cell ∷ cells) (suc i) un = named_unreadable cells i un
-
-lost_from : (lost i : ℕ) → is_lost lost i ≡ true → IsLost lost i
-lost_from lost i is = eqb-true (lost / 2 ^ i % 2) 1 is
-
 pub same_lost : (cells : List SectorView) (lost i : ℕ) → NamesUnreadable cells lost → is_lost lost i ≡ unreadable_at cells i
 same_lost cells lost i names =
     elim (cases_Bool (is_lost lost i)) [
       | inl is ↦ is ∙ sym (unreadable_named cells i ((names i).0 (lost_from lost i is)))
       | inr not ↦ elim (cases_Bool (unreadable_at cells i)) [
-        | inl un ↦ absurd (false≢true (sym not ∙ is_lost_from lost i ((names i).1 (named_unreadable cells i un))))
+        | inl un ↦ absurd (false≢true (sym not ∙ is_lost_from lost i ((names i).1 (unreadable_from_test cells i un))))
         | inr readable ↦ not ∙ sym readable
       ]
     ]
@@ -74,7 +65,7 @@ places_lost cells lost count names =
 -- ---- the cells outside a set
 
 abbrev hidden_cell : (set place : ℕ) → SectorView → SectorView
-hidden_cell set place cell = if names set place then Lost else cell
+hidden_cell set place cell = if is_lost set place then Lost else cell
 
 hidden_get : (set place : ℕ) (cells : List SectorView) (i : ℕ) →
     slice_get (hidden_from set place cells) i ≡ option_map (hidden_cell set (place + i)) (slice_get cells i)
@@ -190,9 +181,9 @@ EachSet P (set ∷ sets) = P set × EachSet P sets
 -- A set that is tried where these places are lost: it has them, and no place from 32 on; and where it has another sector of
 -- data, that is the last used one, and nothing else is in it.
 pub record Fits (used : Option ℕ) (places : List ℕ) (set : ℕ) : Type 0 where
-  pub covers : (i : ℕ) → IsOneOf places i → names set i ≡ true
-  pub within : (i : ℕ) → names set i ≡ true → i < 32
-  pub by_used : (i : ℕ) → i < 29 → names set i ≡ true → (IsOneOf places i → ⊥) → (used ≡ Some i) × (set ≡ set_of (i ∷ places))
+  pub covers : (i : ℕ) → IsOneOf places i → is_lost set i ≡ true
+  pub within : (i : ℕ) → is_lost set i ≡ true → i < 32
+  pub by_used : (i : ℕ) → i < 29 → is_lost set i ≡ true → (IsOneOf places i → ⊥) → (used ≡ Some i) × (set ≡ set_of (i ∷ places))
 
 one_of_both : (ps rs : List ℕ) (i : ℕ) → IsOneOf (ps ++ rs) i → IsOneOf ps i ⊎ IsOneOf rs i
 one_of_both [] rs i one = inr one

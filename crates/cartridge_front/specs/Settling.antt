@@ -2,12 +2,12 @@
 use Rattle.std.specs.Prelude.{ℕ, ◌||◌, ◌++◌, Bool, not, List, [], take, if◌then◌else◌}
 use Rattle.std.specs.Str.{bytes_eq}
 use Rattle.qic_base.specs.Step.{Step}
-use Rattle.erasure_solve.specs.Lost.{is_lost}
 use Rattle.cartridge_spec.specs.Shape.{sector_at}
 use Rattle.cartridge_spec.specs.Says.{with_parity}
 use Rattle.cartridge_laws.specs.Segment.{places_where}
 use Rattle.cartridge_spec.specs.Settling.{block_writes}
 use Rattle.cartridge_front.specs.declared.table_reader.Unread.{Unread}
+use Rattle.qic_base.specs.CartridgeTerms.{is_lost}
 
 -- the block of the table's segment as it was collected, by the data in its first 29 sectors
 abbrev pub collected_block : List (List ℕ) → List (List ℕ)

@@ -24,7 +24,7 @@ use segment_parity::put_parity;
 use volume_table::{Entry, Table, TableFull};
 
 /// The mask of the places of a whole segment's parity.
-const PARITY: u32 = 0xE000_0000;
+const PARITY_MASK: u32 = 0xE000_0000;
 
 /// Puts the entry into the next slot of the data, the first 29 of a segment's sectors. The answer is the sector that
 /// has the slot.
@@ -124,5 +124,5 @@ pub(crate) fn write_entry<T: Tape>(
 {
     let changed = put_entry(entry, work, table);
     write_places(host, unit, LostSet::from_mask(1 << changed), work)?;
-    write_places(host, unit, LostSet::from_mask(PARITY), work)
+    write_places(host, unit, LostSet::from_mask(PARITY_MASK), work)
 }

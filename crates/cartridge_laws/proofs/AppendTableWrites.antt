@@ -43,11 +43,11 @@ written_here c i old bytes holds = view_of_sector c 2 i (written_view bytes) ref
 worn_here : (c : Cartridge) (i : ℕ) (old : List ℕ) → view_at c 2 i ≡ Holds old → view_at (changed (Wear 2 i) c) 2 i ≡ Lost
 worn_here c i old holds = view_of_sector c 2 i worn_view refl ∙ ap worn_view holds
 
-written_other : (c : Cartridge) (i j : ℕ) (bytes : List ℕ) → i < 32 → j < 32 → j ≢ i → view_at (changed (WriteSector 2 i bytes) c) 2 j ≡ view_at c 2 j
+pub written_other : (c : Cartridge) (i j : ℕ) (bytes : List ℕ) → i < 32 → j < 32 → j ≢ i → view_at (changed (WriteSector 2 i bytes) c) 2 j ≡ view_at c 2 j
 written_other c i j bytes small h apart =
     view_of_other_sector c 2 i 2 j (written_view bytes (view_at c 2 i)) small h (λ e same. apart (sym same))
 
-worn_other : (c : Cartridge) (i j : ℕ) → i < 32 → j < 32 → j ≢ i → view_at (changed (Wear 2 i) c) 2 j ≡ view_at c 2 j
+pub worn_other : (c : Cartridge) (i j : ℕ) → i < 32 → j < 32 → j ≢ i → view_at (changed (Wear 2 i) c) 2 j ≡ view_at c 2 j
 worn_other c i j small h apart = view_of_other_sector c 2 i 2 j (worn_view (view_at c 2 i)) small h (λ e same. apart (sym same))
 
 -- ---- the sector of data

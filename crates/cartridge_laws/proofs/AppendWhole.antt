@@ -77,7 +77,7 @@ block_sectors sectors are =
     All-append IsSector sectors (parity_sectors sectors) are
     (parity_sectors-are_sectors sectors are)
 
-writes_whole : (segment : ℕ) (places : List ℕ) (sectors : List (List ℕ)) → All IsSector sectors → AreWrites IsOfSector (writes_of segment places sectors)
+pub writes_whole : (segment : ℕ) (places : List ℕ) (sectors : List (List ℕ)) → All IsSector sectors → AreWrites IsOfSector (writes_of segment places sectors)
 writes_whole segment [] sectors are = tt
 writes_whole segment (place ∷ places) [] are = tt
 writes_whole segment (place ∷ places) (bytes ∷ sectors) are =

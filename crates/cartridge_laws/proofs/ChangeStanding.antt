@@ -35,11 +35,11 @@ written_less c d s mask area less written = record {
 pub zero_less : (c d : Cartridge) (s mask : ℕ) → ReadsNoMore c d → Zero (cells_of c s mask) → Zero (cells_of d s mask)
 zero_less c d s mask less zeros i bytes at = zeros i bytes (held_before c d s mask i bytes less at)
 
-copies_less : (c d : Cartridge) (area : List (List ℕ)) → ReadsNoMore c d → CopiesAre c area → CopiesAre d area
+pub copies_less : (c d : Cartridge) (area : List (List ℕ)) → ReadsNoMore c d → CopiesAre c area → CopiesAre d area
 copies_less c d area less (inl written) = inl (written_less c d 0 whole_mask area less written)
 copies_less c d area less (inr other) = inr (zero_less c d 0 whole_mask less other.0, written_less c d 1 whole_mask area less other.1)
 
-volume_less : (c d : Cartridge) (words : List ℕ) (volume : Volume) → ReadsNoMore c d → VolumeStands c words volume → VolumeStands d words volume
+pub volume_less : (c d : Cartridge) (words : List ℕ) (volume : Volume) → ReadsNoMore c d → VolumeStands c words volume → VolumeStands d words volume
 volume_less c d words volume less stood = record {
   parts = All-weaker (PartStands c words) (PartStands d words)
       (λ part stands. written_less c d part.segment (mask_at words part.segment) part.sectors less stands)

@@ -13,6 +13,7 @@ use Rattle.qic_base.specs.CartridgeTerms.{place_of}
 use Rattle.qic_base.specs.Step.{worn_view, spoiled_view}
 use Rattle.qic_base.specs.declared.tape.SectorView.{SectorView}
 use Rattle.qic_base.specs.declared.tape.SectorView.TheVariants.{Blank, Holds, Defect, Lost}
+use Rattle.cartridge_laws.proofs.FormatWriting.{worn_holds}
 
 -- ---- views
 
@@ -71,17 +72,11 @@ one_view c segment sector change s i =
 abbrev pub ReadsNoMore : (c d : Cartridge) → Type 0
 ReadsNoMore c d = (s i : ℕ) (bytes : List ℕ) → view_at d s i ≡ Holds bytes → view_at c s i ≡ Holds bytes
 
-worn_holds_none : (view : SectorView) (bytes : List ℕ) → worn_view view ≡ Holds bytes → ⊥
-worn_holds_none Blank bytes is = cc
-worn_holds_none Defect bytes is = cc
-worn_holds_none Lost bytes is = cc
-worn_holds_none (Holds old) bytes is = cc
-
 pub worn_reads_no_more : (c : Cartridge) (segment sector : ℕ) → ReadsNoMore c (with_view c segment sector (worn_view (view_at c segment sector)))
 worn_reads_no_more c segment sector s i bytes at =
     elim (one_view c segment sector worn_view s i) [
       | inl stays ↦ sym stays ∙ at
-      | inr is ↦ absurd (worn_holds_none (view_at c s i) bytes (sym is ∙ at))
+      | inr is ↦ absurd (worn_holds (view_at c s i) bytes (sym is ∙ at))
     ]
 
 spoiled_holds : (view : SectorView) (bytes : List ℕ) → spoiled_view view ≡ Holds bytes → view ≡ Holds bytes

@@ -1,17 +1,16 @@
 -- What the steps that clear a cartridge leave, segment after segment.
-use Rattle.std.proofs.Common.{◌≡◌, ℕ, ◌<◌, ◌≤◌, length, true, refl, arith, ◌≢◌, ◌+◌, ◌*◌, inl, inr, sym, ap, ◌∙◌, subst, List, map, zero, suc, ◌↔◌}
+use Rattle.std.proofs.Common.{◌≡◌, ℕ, ◌<◌, ◌≤◌, length, true, refl, arith, ◌≢◌, ◌+◌, ◌*◌, inl, inr, sym, ap, ◌∙◌, subst, List, zero, suc, ◌↔◌}
 use Rattle.std.proofs.lemmas.Bool.{cases_eq, false≢true}
-use Rattle.std.specs.List.{range_with_len}
 use Rattle.cartridge_laws.proofs.FormatCopies.{HoldsZeros, zero_from_views, unformatted_from_bare}
 use Rattle.cartridge_laws.proofs.FormatViews.{length-with_segment, view_of_segment, view_of_other_segment}
 use Rattle.cartridge_laws.specs.FormatLaws.{ClearingClears, ClearedCopiesAreZero, ClearedIsUnformatted, ClearedShowsDefects}
-use Rattle.cartridge_laws.specs.FormatMarks.{IsClearedFrom}
+use Rattle.cartridge_laws.specs.FormatMarks.{IsClearedFrom, formats_from}
 use Rattle.cartridge_laws.specs.Segment.{IsUnreadable}
 use Rattle.cartridge_spec.specs.Formatting.{clearing_steps, IsDefect}
 use Rattle.cartridge_spec.specs.Settling.{changed_by}
 use Rattle.qic_base.specs.Cartridge.{Cartridge, view_at, zero_sector}
 use Rattle.qic_base.specs.CartridgeTerms.{IsCartridge}
-use Rattle.qic_base.specs.Step.{formatted_view, SetReferenced, changed, FormatSegment, Step}
+use Rattle.qic_base.specs.Step.{formatted_view, SetReferenced, changed, FormatSegment}
 use Rattle.qic_base.specs.declared.tape.SectorView.{SectorView}
 use Rattle.qic_base.specs.declared.tape.SectorView.TheVariants.{Blank, Defect, Lost, Holds}
 
@@ -48,10 +47,6 @@ cleared_more k c d cleared room =
           let apart : s ≢ k = λ e. absurd (omega arith) in
           view_of_other_segment d k s i formatted_view within h apart ∙ cleared.rest s i (omega arith) h;
     }
-
--- the segments from one on, as steps
-abbrev pub formats_from : (k m : ℕ) → List Step
-formats_from k m = map (λ s. FormatSegment s) (range_with_len k m)
 
 cleared_all : (m k n : ℕ) (c d : Cartridge) → k + m ≡ n → IsClearedTo k c d → 32 * n ≤ length c.views →
     IsClearedTo n c (changed_by (formats_from k m) d)

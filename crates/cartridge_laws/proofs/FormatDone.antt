@@ -1,6 +1,5 @@
 -- What all steps of formatting leave.
 use Rattle.std.proofs.Common.{◌≡◌, ℕ, List, length, arith, refl, ◌<◌, ◌≤◌, ◌∙◌, ap, ◌++◌, zero, suc, sym, subst, true, inl, ◌↔◌, ◌*◌, inr}
-use Rattle.std.proofs.lemmas.List.{length-append}
 use Rattle.std.proofs.lemmas.Bool.{cases_lt}
 use Rattle.cartridge_laws.proofs.FormatClearing.{cleared_to_the_end, formatted_zeros}
 use Rattle.cartridge_laws.proofs.FormatCopies.{HoldsZeros, IsCopyOf, copy_is_written, copy_is_readable, written_reads}
@@ -9,24 +8,18 @@ use Rattle.cartridge_laws.proofs.FormatFresh.{fresh_are_sound}
 use Rattle.cartridge_laws.proofs.FormatWriting.{IsWritable, IsWritten, copy_written, changed_by-append, view_of_written}
 use Rattle.cartridge_laws.specs.FormatLaws.{FormattingFormats, FormattedStands, FormattedIsLive, FormattedIsMarked}
 use Rattle.cartridge_laws.specs.FormatMarks.{IsFormattedFrom}
-use Rattle.cartridge_spec.specs.Code.{parity_sectors}
 use Rattle.cartridge_spec.specs.Formatting.{IsDefect, clearing_steps, copy_writes, HasNoDefectInFront, format_steps, IsFreshFor, fresh_plain}
 use Rattle.cartridge_spec.specs.Shape.{IsArea, sector_at, IsLive}
 use Rattle.cartridge_spec.specs.Says.{with_parity}
 use Rattle.cartridge_spec.specs.Settling.{changed_by}
 use Rattle.cartridge_spec.specs.Volumes.{Stands}
-use Rattle.gf256_qic.proofs.Parities.{length-parity_sectors}
 use Rattle.qic_base.specs.Cartridge.{zero_sector, Cartridge, view_at}
 use Rattle.qic_base.specs.CartridgeTerms.{IsCartridge}
 use Rattle.qic_base.specs.Step.{formatted_view, written_view, Step}
 use Rattle.qic_base.specs.declared.tape.SectorView.{SectorView}
 use Rattle.qic_base.specs.declared.tape.SectorView.TheVariants.{Blank, Defect, Lost, Holds}
 use Rattle.qic_base.specs.declared.tape.TapeInfo.{TapeInfo}
-
-pub length-with_parity : (area : List (List ℕ)) → IsArea area → length (with_parity area) ≡ 32
-length-with_parity area is_area =
-    let size : length area ≡ 29 = is_area.size in
-    omega (arith, length-append area (parity_sectors area), length-parity_sectors area)
+use Rattle.cartridge_laws.proofs.MountParts.{length-block}
 
 -- what holds of a cleared cartridge without a defect in front: its first segments hold zero bytes
 pub formatted_holds : (view : SectorView) → (IsDefect view → ⊥) → formatted_view view ≡ Holds zero_sector
@@ -83,7 +76,7 @@ both_written : (c : Cartridge) (area : List (List ℕ)) → IsCartridge c → Is
     IsFormattedFrom c (changed_by (copy_writes 1 (with_parity area)) (with_first c (with_parity area))) area
 both_written c area whole is_area front =
     let block : List (List ℕ) = with_parity area in
-    let long : length block ≡ 32 = length-with_parity area is_area in
+    let long : length block ≡ 32 = length-block area is_area in
     let before = cleared_to_the_end c whole in
     let first = first_written c block whole front long in
     let second = second_written c block whole front long in
@@ -99,11 +92,11 @@ both_written c area whole is_area front =
     by_copy : (copy i : ℕ) → copy < 2 → i < 32 →
         view_at (changed_by (copy_writes 1 (with_parity area)) (with_first c (with_parity area))) copy i ≡ Holds (sector_at (with_parity area) i)
     by_copy zero i below h =
-        let long : length (with_parity area) ≡ 32 = length-with_parity area is_area in
+        let long : length (with_parity area) ≡ 32 = length-block area is_area in
         (second_written c (with_parity area) whole front long).almost.others 0 i h (λ same. absurd (omega arith))
         ∙ view_of_written i (first_written c (with_parity area) whole front long) h
     by_copy (suc zero) i below h =
-        let long : length (with_parity area) ≡ 32 = length-with_parity area is_area in
+        let long : length (with_parity area) ≡ 32 = length-block area is_area in
         view_of_written i (second_written c (with_parity area) whole front long) h
     by_copy (suc (suc copy)) i below h = absurd (omega arith)
 
@@ -118,7 +111,7 @@ pub copy_stands : (c d : Cartridge) (label : List ℕ) (date : ℕ) (words : Lis
     IsFreshFor c label date words area → d.info ≡ record c.info { referenced = true } → IsCopyOf d 0 (with_parity area) → HoldsZeros d 2 →
     Stands d (fresh_plain c label date words area)
 copy_stands c d label date words area whole for info copy zeros =
-    let written = copy_is_written d 0 area (length-with_parity area for.fresh.size) copy in
+    let written = copy_is_written d 0 area (length-block area for.fresh.size) copy in
     let sound = fresh_are_sound c label date words area whole for in
     empty_stands c d label date words area whole for info written
     (written_reads d 0 area for.fresh.size sound.signature written (copy_is_readable d 0 (with_parity area) copy)) zeros
@@ -142,7 +135,7 @@ formatted_table old new area whole formatted =
 
 pub formatted_stands : FormattedStands
 formatted_stands old new label date words area whole for formatted =
-    let long : length (with_parity area) ≡ 32 = length-with_parity area for.fresh.size in
+    let long : length (with_parity area) ≡ 32 = length-block area for.fresh.size in
     let first = formatted_copy old new 0 area formatted (omega arith) in
     let second = formatted_copy old new 1 area formatted (omega arith) in
     record {

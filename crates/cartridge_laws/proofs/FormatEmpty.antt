@@ -18,13 +18,10 @@ use Rattle.qic_base.specs.Cartridge.{zero_sector, Cartridge, IsSector}
 use Rattle.qic_base.specs.CartridgeTerms.{IsCartridge}
 use Rattle.qic_base.specs.Field.{number_at, little_endian}
 use Rattle.qic_base.specs.declared.tape.TapeInfo.{TapeInfo}
-use Rattle.cartridge_laws.proofs.FreshBuilding.{zero_bytes}
+use Rattle.cartridge_laws.proofs.FreshBuilding.{zero_area, zero_bytes}
 use Rattle.cartridge_spec.specs.Table as tables
 
 -- ---- the empty table
-
-abbrev empty_table : List (List ℕ)
-empty_table = replicate 29 zero_sector
 
 -- no signature stands among zero bytes
 unsigned : (m k : ℕ) (bytes : List ℕ) → bytes ≡ replicate m 0 → k + 128 ≤ m → number_at (take 128 (drop k bytes)) 0 4 ≡ 0
@@ -36,19 +33,19 @@ unsigned m k bytes zeros room =
     ∙ ap (λ (xs : List ℕ). little_endian (take 4 (take 128 xs))) rest
     ∙ ap (λ (xs : List ℕ). little_endian (take 4 xs)) some
 
-free_slot : (i : ℕ) → i < 232 → is_free (slot empty_table i) ≡ true
-unfolding slot
+free_slot : (i : ℕ) → i < 232 → is_free (slot zero_area i) ≡ true
+unfolding slot zero_area
 free_slot i h =
-    let sector : sector_at empty_table (i / 8) ≡ zero_sector =
-    unwrap_or-slice_get empty_table (i / 8) [] ∙ get_or-replicate 29 (i / 8) zero_sector [] (omega arith) in
+    let sector : sector_at zero_area (i / 8) ≡ zero_sector =
+    unwrap_or-slice_get zero_area (i / 8) [] ∙ get_or-replicate 29 (i / 8) zero_sector [] (omega arith) in
     eq-eqb _ 0 (ap (λ (bytes : List ℕ). number_at (take 128 (drop (128 * (i % 8)) bytes)) 0 4) sector
     ∙ unsigned 1024 (128 * (i % 8)) zero_sector zero_bytes (omega arith))
 
-empty_has_no_fault : (last : ℕ) → HasNoFault empty_table last
+empty_has_no_fault : (last : ℕ) → HasNoFault zero_area last
 unfolding slot_fault
 empty_has_no_fault last i h = rw (free_slot i h) refl
 
-empty_shows : tables.Shows empty_table []
+empty_shows : tables.Shows zero_area []
 empty_shows = record {
   room = omega arith;
   used = λ i h. absurd (omega arith);
@@ -73,6 +70,7 @@ empty_is_plain c label date words area for = record {
 pub empty_stands : (c d : Cartridge) (label : List ℕ) (date : ℕ) (words : List ℕ) (area : List (List ℕ)) → IsCartridge c →
     IsFreshFor c label date words area → d.info ≡ record c.info { referenced = true } → Written (copy_cells d 0) area →
     CopyReads d 0 area → HoldsZeros d 2 → Stands d (fresh_plain c label date words area)
+unfolding zero_area
 empty_stands c d label date words area whole for info written reads zeros =
     let same : d.info.segments_per_track ≡ c.info.segments_per_track = ap (λ (i : TapeInfo). i.segments_per_track) info in
     let sound = fresh_are_sound c label date words area whole for in

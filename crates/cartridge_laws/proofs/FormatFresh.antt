@@ -1,7 +1,7 @@
 -- Fresh header data pass all tests, where no sector in front is marked.
-use Rattle.std.proofs.Common.{◌≡◌, ℕ, ◌-◌, ◌==◌, true, List, Option, None, refl, eq-eqb, [], ◌∷◌, ap, ◌∙◌, All, ◌<◌, arith, zero, suc, ◌^◌, get_or, take, ◌+◌, drop, inl, inr, length, ◌%◌, ◌/◌, sym, ◌*◌, ◌≤◌}
+use Rattle.std.proofs.Common.{◌≡◌, ℕ, ◌-◌, true, List, Option, None, eq-eqb, [], ◌∷◌, ap, ◌∙◌, All, ◌<◌, arith, zero, suc, ◌^◌, get_or, take, ◌+◌, drop, inl, inr, length, ◌%◌, ◌/◌, sym, ◌*◌, ◌≤◌}
 use Rattle.std.specs.Option.{option_or}
-use Rattle.std.proofs.lemmas.List.Elements.{All-head, All-tail, All-get_or}
+use Rattle.std.proofs.lemmas.List.Elements.{All-get_or}
 use Rattle.std.proofs.Math.Nat.{pow-suc}
 use Rattle.std.proofs.lemmas.List.{get_or-drop, get_or_past}
 use Rattle.std.proofs.lemmas.Bool.{cases_lt}
@@ -9,31 +9,16 @@ use Rattle.std.proofs.lemmas.Option.{unwrap_or-slice_get}
 use Rattle.std.proofs.lemmas.Nat.Bits.{same_from_bits_below, bit_at-zero}
 use Rattle.std.proofs.lemmas.List.FromFn.{get_or-map-range_with_len}
 use Rattle.cartridge_spec.specs.Formatting.{IsFreshFor}
-use Rattle.cartridge_spec.specs.Header.{Value, Number, Text, number_in, HoldsValue, value_fault, Field, HeaderFault, Holds, first_fault, word_in, header_fault, has_signature, profile_fields}
-use Rattle.cartridge_laws.specs.HeaderTerms.{field_fault, map_fault, words_in}
+use Rattle.cartridge_spec.specs.Header.{number_in, HeaderFault, first_fault, word_in, header_fault, has_signature, profile_fields}
+use Rattle.cartridge_laws.specs.HeaderTerms.{map_fault, words_in}
 use Rattle.cartridge_spec.specs.Shape.{sector_at}
 use Rattle.qic_base.specs.Cartridge.{IsSector, Cartridge}
 use Rattle.qic_base.specs.CartridgeTerms.{IsCartridge, IsLost}
 use Rattle.qic_base.specs.Field.{little_endian, number_at}
-use Rattle.qic_base.specs.declared.foreign.ForeignField.{ForeignField}
 use Rattle.cartridge_laws.proofs.HeaderReadingLaws.{any}
-use Rattle.cartridge_laws.proofs.HeaderRefusals.{map_fault-none}
+use Rattle.cartridge_laws.proofs.HeaderRefusals.{map_fault-none, first_fault-holds}
 
 -- ---- the fields
-
-value_fault-holds : (area : List (List ℕ)) (offset width : ℕ) (value : Value) (test : Option ForeignField) → HoldsValue area offset width value →
-    value_fault area offset width value test ≡ None
-value_fault-holds area offset width (Number value) test holds =
-    let equal : (number_in area offset width == value) ≡ true = eq-eqb _ _ holds in
-    rw equal refl
-value_fault-holds area offset width (Text bytes) test holds = refl
-
--- data that hold all values are at no fault
-first_fault-holds : (fs : List Field) (area : List (List ℕ)) → All (Holds area) fs → first_fault area fs ≡ None
-first_fault-holds [] area holds = refl
-first_fault-holds (f ∷ fs) area holds =
-    let none : field_fault area f ≡ None = value_fault-holds area f.offset f.width f.value f.test (All-head (Holds area) f fs holds) in
-    ap (λ (o : Option HeaderFault). option_or o (first_fault area fs)) none ∙ first_fault-holds fs area (All-tail (Holds area) f fs holds)
 
 -- ---- the words of the map
 

@@ -1,6 +1,6 @@
 -- What a stop among the steps that clear a cartridge leaves.
 use Rattle.std.proofs.Common.{◌⊎◌, ℕ, ◌≡◌, ◌<◌, ◌≤◌, true, sym, ◌∙◌, inl, refl, zero, suc, inr, ap, arith, List, Option, Some, None, IsSomeAnd, ◌+◌, ◌*◌, length}
-use Rattle.cartridge_laws.proofs.FormatClearing.{formatted_zeros, IsClearedTo, cleared_more, formats_from, cleared_none}
+use Rattle.cartridge_laws.proofs.FormatClearing.{formatted_zeros, IsClearedTo, cleared_more, cleared_none}
 use Rattle.cartridge_laws.proofs.FormatCopies.{HoldsZeros, Shrank, zero_from_views}
 use Rattle.cartridge_laws.proofs.FormatViews.{view_of_other_stopped}
 use Rattle.cartridge_laws.proofs.FormatWriting.{some_and}
@@ -11,6 +11,7 @@ use Rattle.qic_base.specs.Step.{formatted_view, FormatSegment, changed, SetRefer
 use Rattle.qic_base.specs.declared.tape.SectorView.{SectorView}
 use Rattle.qic_base.specs.declared.tape.SectorView.TheVariants.{Blank, Defect, Lost, Holds}
 use Rattle.qic_base.specs.declared.tape.TapeInfo.{TapeInfo}
+use Rattle.cartridge_laws.specs.FormatMarks.{formats_from}
 
 -- ---- what is left
 

@@ -11,7 +11,7 @@ use Rattle.cartridge_laws.proofs.Segments.{zero_does_not_read}
 use Rattle.cartridge_spec.specs.Formatting.{HasNoHeader, StandsCleanly}
 use Rattle.cartridge_laws.specs.VolumeParts.{PartStands}
 use Rattle.cartridge_laws.specs.Slots.{overlaps_before}
-use Rattle.cartridge_laws.specs.HeaderTerms.{IsBareCopy, IsInForce, CopiesAre, IsCleanCopy}
+use Rattle.cartridge_laws.specs.HeaderTerms.{IsBareCopy, IsInForce, CopiesAre, IsCleanCopy, NeitherReads}
 use Rattle.cartridge_spec.specs.Header.{has_signature, header_fault}
 use Rattle.cartridge_spec.specs.HeaderCopies.{CopyDoesNotRead, CopyReads, copy_cells, last_segment}
 use Rattle.cartridge_spec.specs.Shape.{IsArea, usable_places, mask_at, data_count, usable_count}
@@ -129,9 +129,6 @@ record HeaderStands (d : Cartridge) (area : List (List ℕ)) : Type 0 where
   in_force : IsInForce d area
   copies : CopiesAre d area
 
-abbrev HasNoCopy : Cartridge → Type 0
-HasNoCopy d = CopyDoesNotRead d 0 × CopyDoesNotRead d 1
-
 copy_decided : (d : Cartridge) (copy : ℕ) (area : List (List ℕ)) → IsArea area → has_signature area ≡ true → Written (copy_cells d copy) area →
     CopyReads d copy area ⊎ CopyDoesNotRead d copy
 copy_decided d copy area is_area signature written =
@@ -141,7 +138,7 @@ copy_decided d copy area is_area signature written =
     ]
 
 second_decided : (d : Cartridge) (area : List (List ℕ)) → IsArea area → has_signature area ≡ true → CopyDoesNotRead d 0 →
-    IsCleanCopy d 1 area → (Written (copy_cells d 1) area → CopiesAre d area) → HeaderStands d area ⊎ HasNoCopy d
+    IsCleanCopy d 1 area → (Written (copy_cells d 1) area → CopiesAre d area) → HeaderStands d area ⊎ NeitherReads d
 second_decided d area is_area signature none (inr zeros) copies = inr (none, zero_does_not_read d 1 zeros)
 second_decided d area is_area signature none (inl written) copies =
     elim (copy_decided d 1 area is_area signature written) [
@@ -150,7 +147,7 @@ second_decided d area is_area signature none (inl written) copies =
     ]
 
 header_decided : (d : Cartridge) (area : List (List ℕ)) → IsArea area → has_signature area ≡ true →
-    IsCleanCopy d 0 area → IsCleanCopy d 1 area → HeaderStands d area ⊎ HasNoCopy d
+    IsCleanCopy d 0 area → IsCleanCopy d 1 area → HeaderStands d area ⊎ NeitherReads d
 header_decided d area is_area signature (inr zeros) second =
     second_decided d area is_area signature (zero_does_not_read d 0 zeros) second (λ written. inr (zeros, written))
 header_decided d area is_area signature (inl written) second =
@@ -159,7 +156,7 @@ header_decided d area is_area signature (inl written) second =
       | inr none ↦ second_decided d area is_area signature none second (λ other. inl written)
     ]
 
-signature_in_force : (c : Cartridge) (area : List (List ℕ)) → IsInForce c area → has_signature area ≡ true
+pub signature_in_force : (c : Cartridge) (area : List (List ℕ)) → IsInForce c area → has_signature area ≡ true
 signature_in_force c area (inl first) = first.signature
 signature_in_force c area (inr second) = second.1.signature
 

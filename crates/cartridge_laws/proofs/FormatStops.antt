@@ -2,7 +2,7 @@
 use Rattle.std.proofs.Common.{◌⊎◌, inl, inr, ℕ, ◌≤◌, sym, ◌∙◌, arith, ◌≡◌, ◌<◌, List, ◌++◌, length, ap, subst, Option, Some, IsSomeAnd}
 use Rattle.cartridge_laws.proofs.FormatClearing.{cleared_to_the_end, formatted_zeros}
 use Rattle.cartridge_laws.proofs.FormatCopies.{unformatted_from_bare, bare_shrank, zero_from_views, HoldsZeros, zero_front_does_not_read, IsCopyOf}
-use Rattle.cartridge_laws.proofs.FormatDone.{cleared, cleared_front, copy_stands, with_first, first_written, length-with_parity, first_writable, second_writable}
+use Rattle.cartridge_laws.proofs.FormatDone.{cleared, cleared_front, copy_stands, with_first, first_written, first_writable, second_writable}
 use Rattle.cartridge_laws.proofs.FormatHalfway.{IsKeptOrBare, IsKeptCopy, clearing_stopped}
 use Rattle.cartridge_laws.proofs.FormatStanding.{kept_stands}
 use Rattle.cartridge_laws.proofs.FormatWriting.{some_weaker, IsUntouched, IsAlmostWritten, IsPartlyWritten, changed_by-append, effects-some, copy_stopped}
@@ -20,6 +20,7 @@ use Rattle.qic_base.specs.Cartridge.{Cartridge, view_at, zero_sector}
 use Rattle.qic_base.specs.CartridgeTerms.{IsCartridge}
 use Rattle.qic_base.specs.Step.{Step, effects, Torn}
 use Rattle.qic_base.specs.declared.tape.SectorView.TheVariants.{Holds}
+use Rattle.cartridge_laws.proofs.MountParts.{length-block}
 
 -- ---- among the steps that clear
 
@@ -105,7 +106,7 @@ second_left : (c d : Cartridge) (label : List ℕ) (date : ℕ) (words : List �
     IsFreshFor c label date words area → IsPartlyWritten 1 (with_parity area) (with_first c (with_parity area)) d →
     LeftByFormat c (fresh_plain c label date words area) d
 second_left c d label date words area whole for partly =
-    let first = first_written c (with_parity area) whole for.front (length-with_parity area for.fresh.size) in
+    let first = first_written c (with_parity area) whole for.front (length-block area for.fresh.size) in
     let left = others_left partly in
     let copy : IsCopyOf d 0 (with_parity area) = record {
       first = λ bytes view.
@@ -125,7 +126,7 @@ format_stopped : (c : Cartridge) (label : List ℕ) (date : ℕ) (words : List �
     IsSomeAnd left (LeftByFormat c (fresh_plain c label date words area))
 format_stopped c label date words area left whole for torn =
     let block : List (List ℕ) = with_parity area in
-    let long : length block ≡ 32 = length-with_parity area for.fresh.size in
+    let long : length block ≡ 32 = length-block area for.fresh.size in
     let clearing : List Step = clearing_steps c.info.segments_per_track in
     let first : List Step = copy_writes 0 block in
     let second : List Step = copy_writes 1 block in

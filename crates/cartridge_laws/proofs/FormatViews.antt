@@ -5,7 +5,7 @@ use Rattle.std.proofs.lemmas.List.{length-map, get_or-take, get_or_append_left, 
 use Rattle.std.proofs.lemmas.Bool.{cases_lt}
 use Rattle.std.specs.Prelude.{unwrap_or}
 use Rattle.qic_base.specs.Cartridge.{Cartridge, view_at, with_view}
-use Rattle.qic_base.specs.CartridgeTerms.{with_segment, place_of}
+use Rattle.qic_base.specs.CartridgeTerms.{with_segment, place_of, changed_views}
 use Rattle.qic_base.specs.Step.{SegmentBecame}
 use Rattle.qic_base.specs.declared.tape.SectorView.{SectorView}
 use Rattle.qic_base.specs.declared.tape.SectorView.TheVariants.{Blank}
@@ -15,10 +15,6 @@ view_from : (c : Cartridge) (segment sector : ℕ) → view_at c segment sector 
 view_from c segment sector = unwrap_or-slice_get c.views (32 * segment + sector) Blank
 
 -- ---- one segment changed
-
-abbrev changed_views : List SectorView → ℕ → (SectorView → SectorView) → List SectorView
-changed_views views segment change =
-    take (32 * segment) views ++ map change (take 32 (drop (32 * segment) views)) ++ drop (32 * (segment + 1)) views
 
 length-part : (views : List SectorView) (segment : ℕ) (change : SectorView → SectorView) → 32 * (segment + 1) ≤ length views →
     length (take (32 * segment) views ++ map change (take 32 (drop (32 * segment) views))) ≡ 32 * (segment + 1)

@@ -147,7 +147,7 @@ rear_written copy (suc j) bytes rear c long writable from h =
     ∙ writable.each (suc j) (get_or rear j []) h
     ∙ ap (λ (held : List ℕ). Holds held) (sym (unwrap_or-slice_get rear j []))
 
-worn_holds : (view : SectorView) (bytes : List ℕ) → worn_view view ≡ Holds bytes → ⊥
+pub worn_holds : (view : SectorView) (bytes : List ℕ) → worn_view view ≡ Holds bytes → ⊥
 worn_holds Blank bytes same = cc
 worn_holds Defect bytes same = cc
 worn_holds Lost bytes same = cc

@@ -36,7 +36,7 @@ number_bytes (suc width) value =
 
 -- ---- an area of zero bytes
 
-pub zero_area : List (List ℕ)
+unfoldable pub zero_area : List (List ℕ)
 zero_area = replicate 29 zero_sector
 
 zero_sector_is : IsSector zero_sector

@@ -19,7 +19,7 @@ use Rattle.qic_base.specs.Field.{little_endian, number_at}
 -- ---- words that an area shows
 
 -- a number of so many bytes
-little_endian-below : (n : ℕ) (xs : List ℕ) → All (λ b. b < 256) xs → little_endian (take n xs) < 256 ^ n
+pub little_endian-below : (n : ℕ) (xs : List ℕ) → All (λ b. b < 256) xs → little_endian (take n xs) < 256 ^ n
 little_endian-below zero xs small = omega arith
 little_endian-below (suc n) [] small =
     let some = little_endian-below n [] small in

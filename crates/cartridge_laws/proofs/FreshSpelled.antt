@@ -14,11 +14,9 @@ use Rattle.cartridge_laws.specs.HeaderTerms.{byte_in, IsInField, IsInMap, words_
 use Rattle.cartridge_spec.specs.Shape.{IsArea, sector_at}
 use Rattle.qic_base.specs.Cartridge.{IsSector}
 use Rattle.qic_base.specs.Field.{little_endian, number_at}
+use Rattle.qic_base.specs.Disk.{AreBytes}
 
 -- ---- a number determines its bytes
-
-abbrev AreBytes : List ℕ → Type 0
-AreBytes xs = All (λ b. b < 256) xs
 
 same_bytes : (xs ys : List ℕ) → AreBytes xs → AreBytes ys → length xs ≡ length ys → little_endian xs ≡ little_endian ys → xs ≡ ys
 same_bytes [] [] small less long same = refl

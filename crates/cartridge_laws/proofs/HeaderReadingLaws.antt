@@ -10,7 +10,7 @@ pub any : Field
 any = number 0 0 0
 
 -- the header that data show, field by field
-in_area : List (List ℕ) → Header
+unfoldable pub in_area : List (List ℕ) → Header
 in_area area = record {
   format_date = number_in area 14 4;
   write_date = number_in area 18 4;

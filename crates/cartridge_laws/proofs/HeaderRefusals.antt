@@ -15,7 +15,7 @@ use Rattle.qic_base.specs.declared.foreign.ForeignField.TheVariants.{SegmentsPer
 
 -- ---- a list of fields
 
-field_fault-holds : (area : List (List ℕ)) (offset width : ℕ) (value : Value) (test : Option ForeignField) → HoldsValue area offset width value → value_fault area offset width value test ≡ None
+pub field_fault-holds : (area : List (List ℕ)) (offset width : ℕ) (value : Value) (test : Option ForeignField) → HoldsValue area offset width value → value_fault area offset width value test ≡ None
 field_fault-holds area offset width (Number value) test holds =
     let equal : (number_in area offset width == value) ≡ true = eq-eqb _ _ holds in
     rw equal refl

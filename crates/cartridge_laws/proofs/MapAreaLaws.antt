@@ -10,10 +10,10 @@ use Rattle.qic_base.specs.Field.{little_endian_bytes, overwritten, little_endian
 
 -- ---- a sector of the area is written
 
-sector_at-set_same : (area : List (List ℕ)) (s : ℕ) (sector : List ℕ) → s < length area → sector_at (set area s sector) s ≡ sector
+pub sector_at-set_same : (area : List (List ℕ)) (s : ℕ) (sector : List ℕ) → s < length area → sector_at (set area s sector) s ≡ sector
 sector_at-set_same area s sector h = unwrap_or-slice_get (set area s sector) s [] ∙ get_or-set_same area s sector [] h
 
-sector_at-set_other : (area : List (List ℕ)) (s t : ℕ) (sector : List ℕ) → t ≢ s → sector_at (set area s sector) t ≡ sector_at area t
+pub sector_at-set_other : (area : List (List ℕ)) (s t : ℕ) (sector : List ℕ) → t ≢ s → sector_at (set area s sector) t ≡ sector_at area t
 sector_at-set_other area s t sector h =
     unwrap_or-slice_get (set area s sector) t [] ∙ get_or-set_other area s t sector [] h ∙ sym (unwrap_or-slice_get area t [])
 

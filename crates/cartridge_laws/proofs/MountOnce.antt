@@ -2,7 +2,7 @@
 use Rattle.std.proofs.Common.{◌≡◌, ℕ, List, inl, inr, None, ap, ◌∙◌, Some, sym, ◌<◌, arith, subst, refl, ◌*◌, [], ◌∷◌, All, ◌⊎◌, Bool, true, false, Option}
 use Rattle.std.proofs.lemmas.List.Elements.{All-nil, All-cons}
 use Rattle.cartridge_laws.proofs.Blocks.{says_always}
-use Rattle.cartridge_laws.proofs.HeaderReadingLaws.{header_is_determined}
+use Rattle.cartridge_laws.proofs.HeaderReadingLaws.{header_is_determined, in_area}
 use Rattle.cartridge_laws.proofs.Sayings.{says_is_function}
 use Rattle.cartridge_laws.proofs.Segments.{cells_are_views, length-whole_cells}
 use Rattle.cartridge_laws.proofs.TableLists.{volumes_are_determined}
@@ -87,7 +87,7 @@ not_otherwise c xs saying other (inr hx) says =
     let same : ByCode (Data xs) ≡ ByCode saying = table_says_is_function (table_cells c) (ByCode (Data xs)) (ByCode saying) hx says in
     other (cc)
 
-not_lost : (c : Cartridge) (xs : List (List ℕ)) (n : ℕ) → TableIs c xs → TableSays (table_cells c) (ByCode (LostSectors n)) → ⊥
+pub not_lost : (c : Cartridge) (xs : List (List ℕ)) (n : ℕ) → TableIs c xs → TableSays (table_cells c) (ByCode (LostSectors n)) → ⊥
 not_lost c xs n table lost = not_otherwise c xs (LostSectors n) (λ same. cc) table lost
 
 not_at_odds : (c : Cartridge) (xs : List (List ℕ)) → TableIs c xs → TableSays (table_cells c) (ByCode Mismatch) → ⊥
@@ -99,7 +99,7 @@ lost_not_at_odds c n lost none =
     table_says_is_function (table_cells c) (ByCode (LostSectors n)) (ByCode Mismatch) lost none in
     cc
 
-one_loss : (c : Cartridge) (m n : ℕ) → TableSays (table_cells c) (ByCode (LostSectors m)) → TableSays (table_cells c) (ByCode (LostSectors n)) → m ≡ n
+pub one_loss : (c : Cartridge) (m n : ℕ) → TableSays (table_cells c) (ByCode (LostSectors m)) → TableSays (table_cells c) (ByCode (LostSectors n)) → m ≡ n
 one_loss c m n hm hn =
     let same : ByCode (LostSectors m) ≡ ByCode (LostSectors n) =
     table_says_is_function (table_cells c) (ByCode (LostSectors m)) (ByCode (LostSectors n)) hm hn in
@@ -222,18 +222,8 @@ mounts_is_function c (Mounted header words table entries) m h g = mounted_alone 
 
 -- ---- it gives something
 
--- what data show
-header_in : List (List ℕ) → Header
-header_in area = record {
-  format_date = number_in area 14 4;
-  write_date = number_in area 18 4;
-  segments_per_track = number_in area 24 2;
-  label = text_in area 30 44;
-  label_date = number_in area 74 4;
-}
-
 words_shown : List (List ℕ) → List ℕ
-words_shown area = words_in area (28 * (header_in area).segments_per_track)
+words_shown area = words_in area (28 * (in_area area).segments_per_track)
 
 -- what holds of each of five fields holds of all
 all_five : (P : Field → Type 0) (f g h i j : Field) → P f → P g → P h → P i → P j → All P (f ∷ g ∷ h ∷ i ∷ j ∷ [])
@@ -241,8 +231,8 @@ all_five P f g h i j pf pg ph pi pj =
     All-cons P f (g ∷ h ∷ i ∷ j ∷ []) pf
     (All-cons P g (h ∷ i ∷ j ∷ []) pg (All-cons P h (i ∷ j ∷ []) ph (All-cons P i (j ∷ []) pi (All-cons P j [] pj (All-nil P)))))
 
-data_show : (area : List (List ℕ)) → headers.Shows area (header_in area) (words_shown area)
-unfolding header_in words_shown
+data_show : (area : List (List ℕ)) → headers.Shows area (in_area area) (words_shown area)
+unfolding in_area words_shown
 data_show area = record {
   header = all_five (Holds area)
       (number 14 4 (number_in area 14 4)) (number 18 4 (number_in area 18 4)) (number 24 2 (number_in area 24 2))
@@ -290,18 +280,18 @@ record Given (c : Cartridge) : Type 0 where
 outcome : (c : Cartridge) (m : Mounting) → Mounts c m → Given c
 outcome c m is = record { mounting = m; is = is }
 
-with_table : (c : Cartridge) (area table : List (List ℕ)) → IsFormatted c area (header_in area) (words_shown area) → TableIs c table →
+with_table : (c : Cartridge) (area table : List (List ℕ)) → IsFormatted c area (in_area area) (words_shown area) → TableIs c table →
     ((fault : TableFault) × IsFirstFault table (last_segment c) fault) ⊎ HasNoFault table (last_segment c) → Given c
 with_table c area table formatted reads (inl faulty) =
     outcome c (Foreign faulty.0) (inr (record {
-      formatted = record { area = area; header = header_in area; words = words_shown area; formatted = formatted };
+      formatted = record { area = area; header = in_area area; words = words_shown area; formatted = formatted };
       area = table;
       table = reads;
       first = faulty.1;
     }))
 with_table c area table formatted reads (inr sound) =
     let shown = sound_data_show_volumes table (last_segment c) sound in
-    outcome c (Mounted (header_in area) (words_shown area) table shown.0) (record {
+    outcome c (Mounted (in_area area) (words_shown area) table shown.0) (record {
       area = area;
       formatted = formatted;
       reads = reads;
@@ -309,16 +299,16 @@ with_table c area table formatted reads (inr sound) =
       shown = shown.1;
     })
 
-by_table : (c : Cartridge) (area : List (List ℕ)) (saying : TableSaying) → IsFormatted c area (header_in area) (words_shown area) →
+by_table : (c : Cartridge) (area : List (List ℕ)) (saying : TableSaying) → IsFormatted c area (in_area area) (words_shown area) →
     TableSays (table_cells c) saying → Given c
 by_table c area (AsRead table) formatted says =
     with_table c area table formatted (inl says) (data_are_sound_or_faulty table (last_segment c))
 by_table c area (ByCode (Data table)) formatted says =
     with_table c area table formatted (inr says) (data_are_sound_or_faulty table (last_segment c))
 by_table c area (ByCode (LostSectors n)) formatted says =
-    outcome c (TableLost n) (record { area = area; header = header_in area; words = words_shown area; formatted = formatted }, says)
+    outcome c (TableLost n) (record { area = area; header = in_area area; words = words_shown area; formatted = formatted }, says)
 by_table c area (ByCode Mismatch) formatted says =
-    outcome c TableMismatch (record { area = area; header = header_in area; words = words_shown area; formatted = formatted }, says)
+    outcome c TableMismatch (record { area = area; header = in_area area; words = words_shown area; formatted = formatted }, says)
 
 table_says : (c : Cartridge) → IsCartridge c → (saying : TableSaying) × TableSays (table_cells c) saying
 table_says c whole =

@@ -4,7 +4,7 @@ use Rattle.std.proofs.lemmas.List.{get_or_append_left}
 use Rattle.std.proofs.lemmas.Option.{unwrap_or-slice_get, slice_get-get_or}
 use Rattle.cartridge_laws.proofs.Cells.{IsReadable}
 use Rattle.cartridge_laws.proofs.FormatCopies.{view_held}
-use Rattle.cartridge_laws.proofs.Sets.{names, named_is_one, few_lost, IsNoneOf, unnamed_is_none}
+use Rattle.cartridge_laws.proofs.Sets.{named_is_one, few_lost, IsNoneOf, unnamed_is_none}
 use Rattle.cartridge_laws.specs.MountBlocks.{HoldsPart}
 use Rattle.cartridge_spec.specs.Code.{parity_sectors, IsCodeBlock}
 use Rattle.cartridge_spec.specs.Shape.{IsArea, sector_at, is_unreadable}
@@ -16,6 +16,7 @@ use Rattle.gf256_qic.specs.Code.{lost_below}
 use Rattle.qic_base.specs.Cartridge.{Cartridge}
 use Rattle.qic_base.specs.declared.tape.SectorView.{SectorView}
 use Rattle.qic_base.specs.declared.tape.SectorView.TheVariants.{Blank, Defect, Lost, Holds}
+use Rattle.qic_base.specs.CartridgeTerms.{is_lost}
 
 -- ---- the sectors of a table's block
 
@@ -67,9 +68,9 @@ code_block area is =
 
 -- ---- blocks that differ at few places
 
-pub few_named : (ps : List ℕ) (n : ℕ) → length ps ≤ 3 → lost_below (names (set_of ps)) n ≤ 3
+pub few_named : (ps : List ℕ) (n : ℕ) → length ps ≤ 3 → lost_below (is_lost (set_of ps)) n ≤ 3
 few_named ps n few =
-    let most : lost_below (names (set_of ps)) n ≤ length ps = few_lost ps (names (set_of ps)) n (named_is_one ps) in
+    let most : lost_below (is_lost (set_of ps)) n ≤ length ps = few_lost ps (is_lost (set_of ps)) n (named_is_one ps) in
     omega arith
 
 -- code blocks with the same sectors outside three places at most are the same
@@ -77,7 +78,7 @@ pub near_blocks : (xs ys : List (List ℕ)) (ps : List ℕ) → IsCodeBlock xs �
     length ps ≤ 3 →
     ((i : ℕ) → i < 32 → IsNoneOf ps i → sector_at xs i ≡ sector_at ys i) → xs ≡ ys
 near_blocks xs ys ps hx hy nx ny few same =
-    one_block (names (set_of ps)) xs ys hx hy
+    one_block (is_lost (set_of ps)) xs ys hx hy
     (record {
       size = nx ∙ sym ny;
       others = λ i h unnamed.

@@ -10,7 +10,7 @@ use Rattle.cartridge_laws.proofs.MountNear.{gone_or_read}
 use Rattle.cartridge_laws.proofs.MountPlaces.{AreSmall, rest_small, none_of_rest, where_fails}
 use Rattle.cartridge_laws.proofs.MountSeen.{none_of_first}
 use Rattle.cartridge_laws.proofs.MountSettling.{settling_writes, settling_small}
-use Rattle.cartridge_laws.proofs.MountSoFar.{written_here, written_other}
+use Rattle.cartridge_laws.proofs.MountSoFar.{written_here}
 use Rattle.cartridge_laws.proofs.MountWriting.{IsAllWritten, unsettled_data, all_written, same_written}
 use Rattle.cartridge_laws.proofs.Sets.{IsNoneOf}
 use Rattle.cartridge_laws.specs.MountBlocks.{HoldsPart}
@@ -24,6 +24,7 @@ use Rattle.qic_base.specs.Cartridge.{Cartridge, view_at}
 use Rattle.qic_base.specs.Step.{written_view, WriteSector, changed, Step}
 use Rattle.qic_base.specs.declared.tape.SectorView.{SectorView}
 use Rattle.qic_base.specs.declared.tape.SectorView.TheVariants.{Blank, Defect, Lost, Holds}
+use Rattle.cartridge_laws.proofs.AppendTableWrites.{written_other}
 
 -- ---- all writes
 

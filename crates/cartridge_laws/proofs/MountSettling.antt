@@ -7,7 +7,7 @@ use Rattle.cartridge_laws.proofs.MountFar.{IsApart, IsFar, is_far}
 use Rattle.cartridge_laws.proofs.MountLeftOut.{none_left_out, unsettled_test, no_other_is_part, left_out_data, unsettled_holds_not, settled_parity, left_out_parity, not_left_out, plain_places}
 use Rattle.cartridge_laws.proofs.MountNear.{PartOrGone, AllBut, first_gone, gone_not_read, few_gone, three_parts}
 use Rattle.cartridge_laws.proofs.MountPlaces.{one_place, AreSmall, rest_small, both_small, where_small}
-use Rattle.cartridge_laws.proofs.MountSoFar.{IsBase, nothing_yet, stopped_from, written_here, written_other, IsTest, worn_here, worn_other, worn_gone}
+use Rattle.cartridge_laws.proofs.MountSoFar.{IsBase, nothing_yet, stopped_from, written_here, IsTest, worn_here, worn_gone}
 use Rattle.cartridge_laws.proofs.MountStanding.{plain_is_table}
 use Rattle.cartridge_laws.proofs.MountStops.{plain_stopped, written_mild, worn_mild, IsOnTheWay, way_more, way_begun, some_both}
 use Rattle.cartridge_laws.proofs.MountWriting.{places_that, places_are, unsettled_data}
@@ -21,6 +21,7 @@ use Rattle.cartridge_laws.specs.TableCells.{is_unsettled, is_left_out}
 use Rattle.cartridge_spec.specs.Shape.{is_unreadable, sector_at}
 use Rattle.qic_base.specs.Cartridge.{Cartridge, view_at}
 use Rattle.qic_base.specs.Step.{Step, WriteSector, changed, written_view, Wear, worn_view, Torn}
+use Rattle.cartridge_laws.proofs.AppendTableWrites.{written_other, worn_other}
 
 -- ---- where a sector of data is unreadable
 

@@ -1,7 +1,7 @@
 -- The settling of a table that was read with a sector of data lost: each write, done or stopped, leaves the same reading.
 use Rattle.std.proofs.Common.{◌≡◌, ℕ, refl, List, ◌≢◌, ◌<◌, sym, ◌⊎◌, inl, inr, ◌≤◌, Bool, true, false, arith, ◌∙◌, ap, subst, ◌+◌, zero, suc, ◌∷◌, Option, Some, IsSomeAnd}
 use Rattle.std.proofs.lemmas.Bool.{cases_lt, cases_eq, cases_Bool}
-use Rattle.cartridge_laws.proofs.FormatViews.{view_of_sector, view_of_other_sector}
+use Rattle.cartridge_laws.proofs.FormatViews.{view_of_sector}
 use Rattle.cartridge_laws.proofs.FormatWriting.{some_and}
 use Rattle.cartridge_laws.proofs.MountNear.{IsRead, AllBut, gone_not_read, PartOrGone, same_reads, data_reads, first_gone, third_any, gone_or_read}
 use Rattle.cartridge_laws.proofs.MountWriting.{steps_that, steps_none, steps_passes, steps_fails}
@@ -14,22 +14,15 @@ use Rattle.qic_base.specs.Cartridge.{Cartridge, view_at}
 use Rattle.qic_base.specs.Step.{WriteSector, changed, written_view, Wear, worn_view, Step, Torn}
 use Rattle.qic_base.specs.declared.tape.SectorView.{SectorView}
 use Rattle.qic_base.specs.declared.tape.SectorView.TheVariants.{Blank, Defect, Lost, Holds}
+use Rattle.cartridge_laws.proofs.AppendTableWrites.{written_other, worn_other}
 
 -- ---- one sector changed
 
 pub written_here : (d : Cartridge) (i : ℕ) (bytes : List ℕ) → view_at (changed (WriteSector 2 i bytes) d) 2 i ≡ written_view bytes (view_at d 2 i)
 written_here d i bytes = view_of_sector d 2 i (written_view bytes) refl
 
-pub written_other : (d : Cartridge) (i j : ℕ) (bytes : List ℕ) → i < 32 → j < 32 → j ≢ i →
-    view_at (changed (WriteSector 2 i bytes) d) 2 j ≡ view_at d 2 j
-written_other d i j bytes small h apart =
-    view_of_other_sector d 2 i 2 j (written_view bytes (view_at d 2 i)) small h (λ e same. apart (sym same))
-
 pub worn_here : (d : Cartridge) (i : ℕ) → view_at (changed (Wear 2 i) d) 2 i ≡ worn_view (view_at d 2 i)
 worn_here d i = view_of_sector d 2 i worn_view refl
-
-pub worn_other : (d : Cartridge) (i j : ℕ) → i < 32 → j < 32 → j ≢ i → view_at (changed (Wear 2 i) d) 2 j ≡ view_at d 2 j
-worn_other d i j small h apart = view_of_other_sector d 2 i 2 j (worn_view (view_at d 2 i)) small h (λ e same. apart (sym same))
 
 -- what is written is taken, or the view stays unreadable
 taken_or_not : (bytes : List ℕ) (view : SectorView) →
@@ -46,7 +39,7 @@ worn_gone Lost = refl
 worn_gone (Holds old) = refl
 
 -- an unreadable sector stays as it is
-worn_same : (view : SectorView) → IsUnreadable view → worn_view view ≡ view
+pub worn_same : (view : SectorView) → IsUnreadable view → worn_view view ≡ view
 worn_same Blank gone = refl
 worn_same Defect gone = refl
 worn_same Lost gone = refl

@@ -7,7 +7,6 @@ use Rattle.cartridge_laws.proofs.AppendTable.{ready_count, done_table_shows}
 use Rattle.cartridge_laws.proofs.AppendVolume.{may_append}
 use Rattle.cartridge_laws.proofs.FormatWriting.{some_weaker}
 use Rattle.cartridge_laws.proofs.OneLossRead.{one_loss_reads_either}
-use Rattle.cartridge_laws.proofs.Slots.{other_sector}
 use Rattle.cartridge_laws.proofs.TableSlotLaws.{used_not_free}
 use Rattle.cartridge_laws.specs.AppendLaws.{new_table}
 use Rattle.cartridge_laws.specs.OneLossLaws.{AppendChangesOneSector, StoppedAppendReadsEither}
@@ -19,11 +18,12 @@ use Rattle.cartridge_laws.specs.Slots.{slot_sector}
 use Rattle.cartridge_spec.specs.Says.{some_used_below}
 use Rattle.cartridge_spec.specs.Volumes.{Volume, entries_of}
 use Rattle.qic_base.specs.Field.{overwritten}
+use Rattle.cartridge_laws.proofs.MapAreaLaws.{sector_at-set_other}
 
 -- ---- the slots of one sector
 
 -- slot j of a sector is that of the table
-slot_of_sector : (area : List (List ℕ)) (i j : ℕ) → j < 8 → slot (sector_at area i ∷ []) j ≡ slot area (8 * i + j)
+pub slot_of_sector : (area : List (List ℕ)) (i j : ℕ) → j < 8 → slot (sector_at area i ∷ []) j ≡ slot area (8 * i + j)
 unfolding slot
 slot_of_sector area i j small =
     let first : j / 8 ≡ 0 = omega arith in
@@ -37,11 +37,11 @@ slot_by_sector : (old new : List (List ℕ)) (n : ℕ) → sector_at old (n / 8)
 unfolding slot
 slot_by_sector old new n same = ap (λ (sector : List ℕ). take 128 (drop (128 * (n % 8)) sector)) same
 
-or_second : (a b : Bool) → b ≡ true → (a || b) ≡ true
+pub or_second : (a b : Bool) → b ≡ true → (a || b) ≡ true
 or_second true b is = refl
 or_second false b is = is
 
-some_used : (bytes : List ℕ) (m j : ℕ) → j < m → is_used (slot (bytes ∷ []) j) ≡ true → some_used_below bytes m ≡ true
+pub some_used : (bytes : List ℕ) (m j : ℕ) → j < m → is_used (slot (bytes ∷ []) j) ≡ true → some_used_below bytes m ≡ true
 unfolding some_used_below
 some_used bytes zero j h used = absurd (omega arith)
 some_used bytes (suc m) j h used =
@@ -103,7 +103,7 @@ append_changes_one_sector c plain name date bytes ready =
         new_area = done.0;
         data_sector = omega arith;
         others = λ i h apart.
-            sym (other_sector old k i (overwritten (sector_at old k) (128 * (n % 8)) (slot_bytes volume.entry)) apart);
+            sym (sector_at-set_other old k i (overwritten (sector_at old k) (128 * (n % 8)) (slot_bytes volume.entry)) apart);
         differs = λ same.
             let alike : slot old n ≡ slot new n = slot_by_sector old new n same in
             let kept : is_used (slot old n) ≡ false = free_not_used (slot old n) free in

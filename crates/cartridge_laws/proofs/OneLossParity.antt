@@ -3,13 +3,14 @@ use Rattle.std.proofs.Common.{◌≡◌, ℕ, ◌<◌, ◌∙◌, ap, List, leng
 use Rattle.std.specs.Option.{option_map}
 use Rattle.std.proofs.lemmas.Bool.{cases_eq, cases_lt}
 use Rattle.cartridge_laws.proofs.MountParts.{sector_there, few_named, length-block, code_block, near_blocks, front_sector}
-use Rattle.cartridge_laws.proofs.Sets.{names, IsNoneOf, unnamed_is_none}
+use Rattle.cartridge_laws.proofs.Sets.{IsNoneOf, unnamed_is_none}
 use Rattle.cartridge_laws.specs.OneLossLaws.{NearBlockIsTables, ParityBytesDiffer, ParityDiffers}
 use Rattle.cartridge_laws.specs.OneLossTables.{DifferInOne}
 use Rattle.cartridge_spec.specs.Code.{column, IsCodeBlock}
 use Rattle.cartridge_spec.specs.Says.{with_parity, set_of}
 use Rattle.cartridge_spec.specs.Shape.{sector_at}
 use Rattle.gf256_qic.proofs.Agreement.{slice_get-column, one_codeword, length-column}
+use Rattle.qic_base.specs.CartridgeTerms.{is_lost}
 
 -- ---- a code block near a table's
 
@@ -23,7 +24,7 @@ near_columns : (xs ys : List (List ℕ)) (j : ℕ) (ps : List ℕ) → IsCodeBlo
     column j xs ≡ column j ys
 near_columns xs ys j ps hx hy nx ny small few same =
     let count : length (column j xs) ≡ length xs = length-column j xs in
-    one_codeword (names (set_of ps)) (column j xs) (column j ys) (hx.columns j small) (hy.columns j small)
+    one_codeword (is_lost (set_of ps)) (column j xs) (column j ys) (hx.columns j small) (hy.columns j small)
     (record {
       size = length-column j xs ∙ nx ∙ sym ny ∙ sym (length-column j ys);
       others = λ i h unnamed.

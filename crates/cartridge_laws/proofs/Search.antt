@@ -18,7 +18,7 @@ decide_both P Q (inl p) (inl q) = inl (record { first = p; second = q })
 decide_both P Q (inl p) (inr not_so) = inr (λ both. not_so both.second)
 decide_both P Q (inr not_so) d = inr (λ both. not_so both.first)
 
-decide_as : (P Q : Type 0) → (P → Q) → (Q → P) → Decided P → Decided Q
+pub decide_as : (P Q : Type 0) → (P → Q) → (Q → P) → Decided P → Decided Q
 decide_as P Q to from (inl p) = inl (to p)
 decide_as P Q to from (inr not_so) = inr (λ q. not_so (from q))
 

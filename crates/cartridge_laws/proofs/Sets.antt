@@ -11,15 +11,12 @@ use Rattle.cartridge_laws.specs.TableCells.{unreadable_places}
 use Rattle.cartridge_laws.specs.Segment.{hidden}
 use Rattle.cartridge_spec.specs.Shape.{is_unreadable}
 use Rattle.gf256_qic.specs.Code.{lost_below}
-use Rattle.qic_base.specs.CartridgeTerms.{IsView}
+use Rattle.qic_base.specs.CartridgeTerms.{IsView, is_lost}
 use Rattle.qic_base.specs.declared.tape.SectorView.{SectorView}
 use Rattle.qic_base.specs.declared.tape.SectorView.TheVariants.{Lost, Holds}
 use Rattle.gf256_qic.proofs.Agreement.{one_if}
 
 -- ---- the places of a set
-
-abbrev pub names : (set place : ℕ) → Bool
-names set place = set / 2 ^ place % 2 == 1
 
 -- the place is one of these
 abbrev pub IsOneOf : List ℕ → ℕ → Type 0
@@ -31,7 +28,7 @@ abbrev pub IsNoneOf : List ℕ → ℕ → Type 0
 IsNoneOf [] i = Unit {0}
 IsNoneOf (p ∷ ps) i = (i ≢ p) × IsNoneOf ps i
 
-pub named_is_one : (ps : List ℕ) (i : ℕ) → names (set_of ps) i ≡ true → IsOneOf ps i
+pub named_is_one : (ps : List ℕ) (i : ℕ) → is_lost (set_of ps) i ≡ true → IsOneOf ps i
 unfolding set_of
 named_is_one [] i named =
     let bit : 0 / 2 ^ i % 2 ≡ 1 = eqb-true (0 / 2 ^ i % 2) 1 named in
@@ -47,7 +44,7 @@ named_is_one (p ∷ ps) i named =
           inr (named_is_one ps i (eq-eqb (bit_at (set_of ps) i) 1 (sym rest ∙ bit)))
     ]
 
-pub one_is_named : (ps : List ℕ) (i : ℕ) → IsOneOf ps i → names (set_of ps) i ≡ true
+pub one_is_named : (ps : List ℕ) (i : ℕ) → IsOneOf ps i → is_lost (set_of ps) i ≡ true
 unfolding set_of
 one_is_named [] i one = absurd one
 one_is_named (p ∷ ps) i (inl same) =
@@ -68,9 +65,9 @@ none_and_one [] i none one = one
 none_and_one (p ∷ ps) i none (inl same) = none.0 same
 none_and_one (p ∷ ps) i none (inr one) = none_and_one ps i none.1 one
 
-pub none_is_unnamed : (ps : List ℕ) (i : ℕ) → IsNoneOf ps i → names (set_of ps) i ≡ false
+pub none_is_unnamed : (ps : List ℕ) (i : ℕ) → IsNoneOf ps i → is_lost (set_of ps) i ≡ false
 none_is_unnamed ps i none =
-    elim (cases_Bool (names (set_of ps) i)) [
+    elim (cases_Bool (is_lost (set_of ps) i)) [
       | inl named ↦ absurd (none_and_one ps i none (named_is_one ps i named))
       | inr unnamed ↦ unnamed
     ]
@@ -79,9 +76,9 @@ none_from : (ps : List ℕ) (i : ℕ) → (IsOneOf ps i → ⊥) → IsNoneOf ps
 none_from [] i not_one = tt
 none_from (p ∷ ps) i not_one = (λ same. not_one (inl same), none_from ps i (λ one. not_one (inr one)))
 
-pub unnamed_is_none : (ps : List ℕ) (i : ℕ) → names (set_of ps) i ≡ false → IsNoneOf ps i
+pub unnamed_is_none : (ps : List ℕ) (i : ℕ) → is_lost (set_of ps) i ≡ false → IsNoneOf ps i
 unnamed_is_none ps i unnamed =
-    none_from ps i (λ one. let named : names (set_of ps) i ≡ true = one_is_named ps i one in absurd (cc))
+    none_from ps i (λ one. let named : is_lost (set_of ps) i ≡ true = one_is_named ps i one in absurd (cc))
 
 -- ---- the cells outside a set
 
@@ -98,44 +95,44 @@ hidden_or_not false cell bytes held = (refl, held)
 -- a cell that is seen to hold bytes is outside the set and holds them
 held_from : (set place : ℕ) (cells : List SectorView) (i : ℕ) (bytes : List ℕ) →
     slice_get (hidden_from set place cells) i ≡ Some (Holds bytes) →
-    (names set (place + i) ≡ false) × (slice_get cells i ≡ Some (Holds bytes))
+    (is_lost set (place + i) ≡ false) × (slice_get cells i ≡ Some (Holds bytes))
 unfolding hidden_from
 held_from set place [] i bytes seen = absurd (cc)
 held_from set place (cell ∷ cells) zero bytes seen =
-    let first : (if names set place then Lost else cell) ≡ Holds bytes = cc in
-    let both = hidden_or_not (names set place) cell bytes first in
+    let first : (if is_lost set place then Lost else cell) ≡ Holds bytes = cc in
+    let both = hidden_or_not (is_lost set place) cell bytes first in
     let same : place + 0 ≡ place = omega arith in
-    (ap (names set) same ∙ both.0, ap Some both.1)
+    (ap (is_lost set) same ∙ both.0, ap Some both.1)
 held_from set place (cell ∷ cells) (suc i) bytes seen =
     let rest = held_from set (suc place) cells i bytes seen in
     let same : place + suc i ≡ suc place + i = omega arith in
-    (ap (names set) same ∙ rest.0, rest.1)
+    (ap (is_lost set) same ∙ rest.0, rest.1)
 
 pub held_outside : (set : ℕ) (cells : List SectorView) (i : ℕ) (bytes : List ℕ) → slice_get (hidden set cells) i ≡ Some (Holds bytes) →
-    (names set i ≡ false) × (slice_get cells i ≡ Some (Holds bytes))
+    (is_lost set i ≡ false) × (slice_get cells i ≡ Some (Holds bytes))
 held_outside set cells i bytes seen =
     let here = held_from set 0 cells i bytes seen in
     let same : 0 + i ≡ i = omega arith in
-    (ap (names set) (sym same) ∙ here.0, here.1)
+    (ap (is_lost set) (sym same) ∙ here.0, here.1)
 
 -- and such a cell is seen
-seen_from : (set place : ℕ) (cells : List SectorView) (i : ℕ) (bytes : List ℕ) → names set (place + i) ≡ false →
+seen_from : (set place : ℕ) (cells : List SectorView) (i : ℕ) (bytes : List ℕ) → is_lost set (place + i) ≡ false →
     slice_get cells i ≡ Some (Holds bytes) → slice_get (hidden_from set place cells) i ≡ Some (Holds bytes)
 unfolding hidden_from
 seen_from set place [] i bytes unnamed held = absurd (cc)
 seen_from set place (cell ∷ cells) zero bytes unnamed held =
     let same : place + 0 ≡ place = omega arith in
-    let outside : names set place ≡ false = ap (names set) (sym same) ∙ unnamed in
+    let outside : is_lost set place ≡ false = ap (is_lost set) (sym same) ∙ unnamed in
     ap (λ (b : Bool). Some (if b then Lost else cell)) outside ∙ held
 seen_from set place (cell ∷ cells) (suc i) bytes unnamed held =
     let same : suc place + i ≡ place + suc i = omega arith in
-    seen_from set (suc place) cells i bytes (ap (names set) same ∙ unnamed) held
+    seen_from set (suc place) cells i bytes (ap (is_lost set) same ∙ unnamed) held
 
-pub seen_outside : (set : ℕ) (cells : List SectorView) (i : ℕ) (bytes : List ℕ) → names set i ≡ false →
+pub seen_outside : (set : ℕ) (cells : List SectorView) (i : ℕ) (bytes : List ℕ) → is_lost set i ≡ false →
     slice_get cells i ≡ Some (Holds bytes) → slice_get (hidden set cells) i ≡ Some (Holds bytes)
 seen_outside set cells i bytes unnamed held =
     let same : 0 + i ≡ i = omega arith in
-    seen_from set 0 cells i bytes (ap (names set) same ∙ unnamed) held
+    seen_from set 0 cells i bytes (ap (is_lost set) same ∙ unnamed) held
 
 view_or_lost : (b : Bool) (cell : SectorView) → IsView cell → IsView (if b then Lost else cell)
 view_or_lost true cell view = tt
@@ -145,8 +142,8 @@ pub views_hidden : (set place : ℕ) (cells : List SectorView) → All IsView ce
 unfolding hidden_from
 views_hidden set place [] views = All-nil IsView
 views_hidden set place (cell ∷ cells) views =
-    All-cons IsView (if names set place then Lost else cell) (hidden_from set (suc place) cells)
-    (view_or_lost (names set place) cell (All-head IsView cell cells views))
+    All-cons IsView (if is_lost set place then Lost else cell) (hidden_from set (suc place) cells)
+    (view_or_lost (is_lost set place) cell (All-head IsView cell cells views))
     (views_hidden set (suc place) cells (All-tail IsView cell cells views))
 
 -- ---- how many are unreadable
@@ -158,19 +155,19 @@ unreadable_or_not false cell un = inr un
 
 -- a cell that is seen as unreadable is in the set, or is unreadable
 unreadable_seen : (set place : ℕ) (cells : List SectorView) (i : ℕ) → unreadable_at (hidden_from set place cells) i ≡ true →
-    (names set (place + i) ≡ true) ⊎ (unreadable_at cells i ≡ true)
+    (is_lost set (place + i) ≡ true) ⊎ (unreadable_at cells i ≡ true)
 unfolding hidden_from unreadable_at
 unreadable_seen set place [] i un = absurd (cc)
 unreadable_seen set place (cell ∷ cells) zero un =
     let same : place + 0 ≡ place = omega arith in
-    elim (unreadable_or_not (names set place) cell un) [
-      | inl named ↦ inl (ap (names set) same ∙ named)
+    elim (unreadable_or_not (is_lost set place) cell un) [
+      | inl named ↦ inl (ap (is_lost set) same ∙ named)
       | inr here ↦ inr here
     ]
 unreadable_seen set place (cell ∷ cells) (suc i) un =
     let same : place + suc i ≡ suc place + i = omega arith in
     elim (unreadable_seen set (suc place) cells i un) [
-      | inl named ↦ inl (ap (names set) same ∙ named)
+      | inl named ↦ inl (ap (is_lost set) same ∙ named)
       | inr here ↦ inr here
     ]
 
@@ -276,6 +273,6 @@ few_outside cells ps among =
     few_unreadable (hidden (set_of ps) cells) ps (λ i un.
     let same : i ≡ 0 + i = omega arith in
     elim (unreadable_seen (set_of ps) 0 cells i un) [
-      | inl named ↦ named_is_one ps i (ap (names (set_of ps)) same ∙ named)
+      | inl named ↦ named_is_one ps i (ap (is_lost (set_of ps)) same ∙ named)
       | inr here ↦ among i here
     ])

@@ -1,37 +1,27 @@
 -- A table's data with one slot written: that slot has its bytes, and all others are as they were; so the data show one
 -- entry more.
-use Rattle.std.proofs.Common.{◌≡◌, ℕ, ◌-◌, ◌<◌, List, [], length, set, Option, ap, ◌≢◌, sym, subst, arith, ◌+◌, ◌++◌, take, drop, All, ◌*◌, ◌%◌, ◌∙◌, ◌/◌, inl, inr, ◌∷◌, slice_get, Some, true}
-use Rattle.std.specs.Prelude.{unwrap_or}
-use Rattle.std.proofs.lemmas.List.Elements.{All-get_or, All-append, All-take, All-drop, All-set}
-use Rattle.std.proofs.lemmas.Option.{unwrap_or-slice_get, slice_get-get_or, slice_get_within, get_or_from_slice_get}
-use Rattle.std.proofs.lemmas.List.{length-set, length_push, get_or_append_left, get_or_at}
+use Rattle.std.proofs.Common.{◌≡◌, ℕ, ◌-◌, ◌<◌, List, [], length, set, ap, ◌≢◌, sym, arith, ◌+◌, ◌++◌, take, drop, All, ◌*◌, ◌%◌, ◌∙◌, ◌/◌, inl, inr, ◌∷◌, slice_get, Some, true}
+use Rattle.std.proofs.lemmas.List.Elements.{All-append, All-take, All-drop, All-set}
+use Rattle.std.proofs.lemmas.Option.{slice_get-get_or, slice_get_within, get_or_from_slice_get}
+use Rattle.std.proofs.lemmas.List.{length-set, length_push, get_or_append_left}
 use Rattle.std.specs.List.{slice_range}
 use Rattle.std.proofs.lemmas.Bool.{cases_lt, cases_eq}
-use Rattle.cartridge_laws.proofs.Writing.{slice_get-set_same, slice_get-set_other}
 use Rattle.cartridge_spec.specs.Shape.{IsArea, sector_at}
 use Rattle.cartridge_laws.specs.Slots.{slot_sector, with_slot}
 use Rattle.cartridge_spec.specs.Table.{slot, Entry, Shows, entry_in, is_used, is_free}
 use Rattle.qic_base.proofs.FieldLaws.{length-overwritten, slice_range-overwritten, slice_range-overwritten_below, slice_range-overwritten_above}
 use Rattle.qic_base.specs.Cartridge.{IsSector}
 use Rattle.qic_base.specs.Field.{overwritten}
+use Rattle.cartridge_laws.proofs.FreshSpelled.{sector_is}
+use Rattle.cartridge_laws.proofs.MapAreaLaws.{sector_at-set_same, sector_at-set_other}
+use Rattle.cartridge_laws.proofs.TableTotals.{slice_get-last}
 
 -- ---- the sectors
-
-sector_of_set : (area : List (List ℕ)) (k : ℕ) (bytes : List ℕ) → k < length area → sector_at (set area k bytes) k ≡ bytes
-sector_of_set area k bytes h = ap (λ (o : Option (List ℕ)). unwrap_or o []) (slice_get-set_same area k bytes h)
-
-pub other_sector : (area : List (List ℕ)) (k i : ℕ) (bytes : List ℕ) → i ≢ k → sector_at (set area k bytes) i ≡ sector_at area i
-other_sector area k i bytes apart = ap (λ (o : Option (List ℕ)). unwrap_or o []) (slice_get-set_other area k i bytes apart)
 
 -- 29 sectors of 1,024 numbers, which may be no bytes
 pub record IsLong (area : List (List ℕ)) : Type 0 where
   pub size : length area ≡ 29
   pub sectors : (i : ℕ) → i < 29 → length (sector_at area i) ≡ 1024
-
-sector_is : (area : List (List ℕ)) (k : ℕ) → IsArea area → k < 29 → IsSector (sector_at area k)
-sector_is area k is h =
-    let size : length area ≡ 29 = is.size in
-    subst IsSector (sym (unwrap_or-slice_get area k [])) (All-get_or IsSector area k [] (omega arith) is.sectors)
 
 pub area_is_long : (area : List (List ℕ)) → IsArea area → IsLong area
 area_is_long area is = record { size = is.size; sectors = λ i h. (sector_is area i is h).size }
@@ -73,7 +63,7 @@ slot_written area i bytes is within long =
     let count : length area ≡ 29 = is.size in
     let size : length (sector_at area k) ≡ 1024 = is.sectors k (omega arith) in
     slot_range (with_slot area i bytes) i
-    ∙ ap (λ (sector : List ℕ). slice_range sector at (at + 128)) (sector_of_set area k (overwritten (sector_at area k) at bytes) (omega arith))
+    ∙ ap (λ (sector : List ℕ). slice_range sector at (at + 128)) (sector_at-set_same area k (overwritten (sector_at area k) at bytes) (omega arith))
     ∙ slice_range-overwritten (sector_at area k) bytes at (at + 128) (omega arith) (omega arith)
 
 same_sector : (area : List (List ℕ)) (i j : ℕ) (bytes : List ℕ) → IsLong area → i < 232 → length bytes ≡ 128 → j ≢ i → j / 8 ≡ i / 8 →
@@ -101,10 +91,10 @@ other_slot area i j bytes is within long apart =
     ∙ elim (cases_eq (j / 8) k) [
       | inl same ↦
           ap (λ (n : ℕ). slice_range (sector_at (set area k new) n) from (from + 128)) same
-          ∙ ap (λ (sector : List ℕ). slice_range sector from (from + 128)) (sector_of_set area k new (omega arith))
+          ∙ ap (λ (sector : List ℕ). slice_range sector from (from + 128)) (sector_at-set_same area k new (omega arith))
           ∙ same_sector area i j bytes is within long apart same
           ∙ ap (λ (n : ℕ). slice_range (sector_at area n) from (from + 128)) (sym same)
-      | inr other ↦ ap (λ (sector : List ℕ). slice_range sector from (from + 128)) (other_sector area k (j / 8) new other)
+      | inr other ↦ ap (λ (sector : List ℕ). slice_range sector from (from + 128)) (sector_at-set_other area k (j / 8) new other)
     ]
     ∙ sym (slot_range area j)
 
@@ -115,10 +105,6 @@ entry_before es e x i at =
     let within : i < length es = slice_get_within es i x at in
     slice_get-get_or (es ++ e ∷ []) i x (omega (arith, length_push es e))
     ∙ ap Some (get_or_append_left es (e ∷ []) x i within ∙ get_or_from_slice_get es i x x at)
-
-entry_last : (es : List Entry) (e : Entry) (i : ℕ) → i ≡ length es → slice_get (es ++ e ∷ []) i ≡ Some e
-entry_last es e i is =
-    slice_get-get_or (es ++ e ∷ []) i e (omega (arith, length_push es e)) ∙ ap Some (get_or_at es e [] e i (sym is))
 
 pub shows_more : (area : List (List ℕ)) (es : List Entry) (e : Entry) (bytes : List ℕ) (n : ℕ) → IsLong area → Shows area es → length es ≡ n → n < 232 →
     length bytes ≡ 128 → is_used bytes ≡ true → entry_in bytes ≡ e → Shows (with_slot area n bytes) (es ++ e ∷ [])
@@ -135,7 +121,7 @@ shows_more area es e bytes n is shows count within long used shown =
       shown = λ i h.
           elim (cases_eq i n) [
             | inl same ↦
-                entry_last es e i (omega arith)
+                slice_get-last es e i (omega arith)
                 ∙ sym (ap (λ (k : ℕ). Some (entry_in (slot new k))) same ∙ ap (λ (b : List ℕ). Some (entry_in b)) here ∙ ap Some shown)
             | inr apart ↦
                 entry_before es e (entry_in (slot new i)) i

@@ -93,7 +93,7 @@ slice_get-left xs ys i e here =
     slice_get-get_or (xs ++ ys) i e (omega (arith, length-append xs ys, within))
     ∙ ap Some (get_or_append_left xs ys e i within ∙ get_or_from_slice_get xs i e e here)
 
-slice_get-last : (xs : List Entry) (e : Entry) (i : ℕ) → i ≡ length xs → slice_get (xs ++ e ∷ []) i ≡ Some e
+pub slice_get-last : (xs : List Entry) (e : Entry) (i : ℕ) → i ≡ length xs → slice_get (xs ++ e ∷ []) i ≡ Some e
 slice_get-last xs e i here =
     slice_get-get_or (xs ++ e ∷ []) i e (omega (arith, length-append xs (e ∷ []), here))
     ∙ ap Some (ap (λ k. get_or (xs ++ e ∷ []) k e) here ∙ get_or-append_seam xs e [] e)

@@ -8,9 +8,13 @@ use Rattle.qic_base.specs.Step.{formatted_view, Step, FormatSegment}
 use Rattle.qic_base.specs.declared.tape.SectorView.TheVariants.{Holds}
 use Rattle.std.specs.List.{range_with_len}
 
--- the formats of the first segments, ascending
+-- so many segments from one on, ascending
+abbrev pub formats_from : (first count : ℕ) → List Step
+formats_from first count = map (λ s. FormatSegment s) (range_with_len first count)
+
+-- the first segments, ascending
 abbrev pub segment_formats : (count : ℕ) → List Step
-segment_formats count = map (λ s. FormatSegment s) (range_with_len 0 count)
+segment_formats count = formats_from 0 count
 
 -- ---- what the steps make of a cartridge
 

@@ -1,10 +1,10 @@
 -- Parts of what the specs say of the header and its copies, by names of their own.
 use Rattle.std.specs.Prelude.{ℕ, List, ◌+◌, ◌*◌, ◌/◌, ◌%◌, ◌≤◌, ◌<◌, ◌==◌, ◌⊎◌, not, Option, None, Some, slice_index, slice_range, map, if◌then◌else◌}
 use Rattle.std.specs.List.{range_with_len}
-use Rattle.cartridge_spec.specs.Formatting.{fresh_header}
+use Rattle.cartridge_spec.specs.Formatting.{HasNoHeader, fresh_header}
 use Rattle.cartridge_spec.specs.Header.{Field, Text, HeaderFault, SpellsHeader, value_fault, word_in}
 use Rattle.cartridge_spec.specs.Shape.{IsArea, sector_at}
-use Rattle.cartridge_spec.specs.HeaderCopies.{copy_cells, CopyReads, CopyDoesNotRead}
+use Rattle.cartridge_spec.specs.HeaderCopies.{copy_cells, CopyReads, CopyDoesNotRead, IsUnformatted}
 use Rattle.cartridge_spec.specs.Says.{Written, Zero, unreadable_count}
 use Rattle.qic_base.specs.Cartridge.{Cartridge}
 use Rattle.qic_base.specs.declared.foreign.ForeignField.{ForeignField}
@@ -61,6 +61,14 @@ IsCleanCopy c copy area = Written (copy_cells c copy) area ⊎ Zero (copy_cells 
 -- again
 abbrev pub IsBareCopy : Cartridge → (copy : ℕ) → Type 0
 IsBareCopy c copy = Zero (copy_cells c copy) ⊎ 3 < unreadable_count (copy_cells c copy)
+
+-- both header copies are bare, and so the cartridge is unformatted
+abbrev pub IsBare : Cartridge → Type 0
+IsBare c = HasNoHeader c × IsUnformatted c
+
+-- no header copy of it can be read
+abbrev pub NeitherReads : Cartridge → Type 0
+NeitherReads c = CopyDoesNotRead c 0 × CopyDoesNotRead c 1
 
 -- Copy 0 was written with the header data, whatever copy 1 holds; or copy 0 holds zero bytes and copy 1 was written
 -- with them.

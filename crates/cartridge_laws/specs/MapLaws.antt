@@ -1,8 +1,7 @@
 -- Laws of a segment's shape (QIC-80-MC).
 use Rattle.std.specs.Prelude.{ℕ, ◌^◌, ◌<◌, ◌≡◌, ◌*◌, length}
 use Rattle.cartridge_laws.specs.Shape.{data_places}
-use Rattle.cartridge_laws.specs.Segment.{mask_of}
-use Rattle.cartridge_spec.specs.Shape.{capacity}
+use Rattle.cartridge_spec.specs.Shape.{capacity, mask_of}
 use Rattle.qic_base.specs.CartridgeTerms.{IsLost}
 
 -- the bit of the mask is the turned bit of the map's word

@@ -1,22 +1,17 @@
 -- Sectors of a segment: sets of them, those of data, and those that can't be read or are seen so (the views are this project's
 -- profile).
-use Rattle.std.specs.Prelude.{◌≡◌, true, ℕ, List, ◌-◌, ◌^◌, Bool, filter, take, length, All}
-use Rattle.cartridge_spec.specs.Shape.{is_unreadable}
+use Rattle.std.specs.Prelude.{◌≡◌, true, ℕ, List, ◌-◌, Bool, filter, take, length, All}
+use Rattle.cartridge_spec.specs.Shape.{is_unreadable, usable_places}
 use Rattle.qic_base.specs.declared.tape.SectorView.{SectorView}
 use Rattle.std.specs.List.{range_with_len}
 use Rattle.cartridge_spec.specs.Says.{HasNoBlock, hidden_from, unreadable_count}
-use Rattle.qic_base.specs.Cartridge.{lost_places}
 
 abbrev pub IsUnreadable : SectorView → Type 0
 IsUnreadable view = is_unreadable view ≡ true
 
 -- the sectors 0 to 31 whose bits are 1, in ascending order
 abbrev pub sectors_of : ℕ → List ℕ
-sectors_of bits = lost_places bits 32
-
--- the mask of a segment, by its word in the bad sector map
-abbrev pub mask_of : ℕ → ℕ
-mask_of word = 2 ^ 32 - 1 - word
+sectors_of bits = usable_places bits
 
 -- the sectors of a block before its three of parity
 abbrev pub data_of : List (List ℕ) → List (List ℕ)

@@ -6,13 +6,12 @@ use Rattle.cartridge_spec.specs.Appending.{free_segments, room, taken_by, new_en
 use Rattle.cartridge_laws.specs.TableCells.{table_places, table_sets}
 use Rattle.cartridge_laws.specs.Slots.{slot_sector, BadRange, ForeignSlot}
 use Rattle.cartridge_laws.specs.HeaderTerms.{fault_as}
-use Rattle.cartridge_laws.specs.Segment.{mask_of}
 use Rattle.cartridge_spec.specs.Code.{parity, value_at, product, power}
 use Rattle.gf256_qic.specs.Code.{inverse}
 use Rattle.cartridge_spec.specs.Header.{Holds, profile_fields, header_fields, header_fault, number}
 use Rattle.cartridge_spec.specs.Formatting.{fresh_header, copy_writes, clearing_steps}
 use Rattle.cartridge_spec.specs.Says.{whole_mask}
-use Rattle.cartridge_spec.specs.Shape.{capacity, usable_places, marked_sectors}
+use Rattle.cartridge_spec.specs.Shape.{capacity, usable_places, marked_sectors, mask_of}
 use Rattle.cartridge_spec.specs.Table.{slot_bytes, entry_in, slot_fault, Entry}
 use Rattle.cartridge_spec.specs.Volumes.{volume_length}
 use Rattle.qic_base.specs.Cartridge.{new_cartridge, IsPlace, IsLength}

@@ -70,8 +70,6 @@ mounted_as plain = Mounted plain.header plain.words plain.table_area (entries_of
 abbrev pub Lists : Cartridge → Header → (words : List ℕ) → List Entry → Type 0
 Lists d header words entries = (table : List (List ℕ)) × Mounts d (Mounted header words table entries)
 
--- ---- a table's segment of which one sector more is lost, where an append wrote it
-
 -- ---- mounting and settling
 
 -- The cartridge is mounted as a plain one, and so is what a stop among the writes that settle its table leaves. Once it is settled,

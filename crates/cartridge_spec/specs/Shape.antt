@@ -5,9 +5,13 @@ use Rattle.qic_base.specs.Cartridge.{lost_places, IsSector}
 use Rattle.qic_base.specs.declared.tape.SectorView.{SectorView}
 use Rattle.qic_base.specs.declared.tape.SectorView.TheVariants.{Blank, Defect, Holds}
 
--- the mask of a segment, by the words of the bad sector map
+-- the mask of a segment, by its word in the bad sector map
+abbrev pub mask_of : ℕ → ℕ
+mask_of word = 2 ^ 32 - 1 - word
+
+-- and by the words of the map
 abbrev pub mask_at : List ℕ → ℕ → ℕ
-mask_at words segment = 2 ^ 32 - 1 - slice_index words segment
+mask_at words segment = mask_of (slice_index words segment)
 
 -- the usable sectors: those of 0 to 31 whose bits are 1, ascending
 abbrev pub usable_places : ℕ → List ℕ

@@ -6,7 +6,7 @@
 ghost use Rattle.std.specs.Prelude.{◌≡◌, ◌↔◌, ◌++◌, take, IsOk, OnOk};
 ghost use Rattle.cartridge_spec.specs.Code.{IsCodeBlock};
 ghost use Rattle.gf256_qic.specs.Code.{IsSolvable};
-ghost use Rattle.erasure_solve.specs.Lost.{is_lost};
+ghost use Rattle.qic_base.specs.CartridgeTerms.{is_lost};
 
 use erasure_solve::{SolveFault, solve};
 use qic_base::{LostSet, SECTOR, Sector};

@@ -3,7 +3,7 @@ use Rattle.std.proofs.Common.{◌≡◌, ℕ, Bool, true, false, List, refl, ◌
 use Rattle.std.specs.Prelude.{if◌then◌else◌}
 use Rattle.cartridge_spec.specs.Table.{Entry}
 use Rattle.command_spec.specs.Append.{Kept, room_in, input_writes, Taking, Fits, taking, entry_acts, append_acts, TooLong}
-use Rattle.command_laws.specs.AppendTerms.{entry_for, append_status}
+use Rattle.command_laws.specs.AppendTerms.{entry_for, status_by_room}
 use Rattle.qic_base.proofs.Joins.{text_of-append}
 use Rattle.qic_base.specs.Acts.{text_of, Act}
 use Rattle.command_laws.proofs.ScriptActs.{input_texts}
@@ -29,5 +29,5 @@ pub status_by : (flag : Bool) (have : ℕ) (input : List ℕ) (became : Taking) 
 status_by true have input became is = ((λ bytes fits. refl), (λ need most long. cc))
 status_by false have input became is = ((λ bytes fits. cc), (λ need most long. cc))
 
-pub status_fits : (have : ℕ) (input bytes : List ℕ) → taking have None input ≡ Fits bytes → append_status have input ≡ status.Done
+pub status_fits : (have : ℕ) (input bytes : List ℕ) → taking have None input ≡ Fits bytes → status_by_room have input ≡ status.Done
 status_fits have input bytes took = (status_by (nat_le 1 have && nat_le (length input) have) have input (taking have None input) refl).0 bytes took

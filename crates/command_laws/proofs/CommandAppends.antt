@@ -146,7 +146,7 @@ free_behind c plain =
     All-weaker (λ (s : ℕ). last + 1 ≤ s) (λ (s : ℕ). last < s) (λ s (h : last + 1 ≤ s). omega arith) (free_in (kept_of c plain))
     (carrying_from plain.words (last + 1) (length plain.words - 1))
 
-free_if : (before : ℕ) (some : Bool) (acts : List Act) → AreWrites (IsFree before) (steps_of acts) → AreWrites (IsFree before) (steps_of (cond some acts []))
+pub free_if : (before : ℕ) (some : Bool) (acts : List Act) → AreWrites (IsFree before) (steps_of acts) → AreWrites (IsFree before) (steps_of (cond some acts []))
 free_if before true acts free = free
 free_if before false acts free = tt
 

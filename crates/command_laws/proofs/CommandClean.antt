@@ -6,7 +6,7 @@ use Rattle.std.specs.Prelude.{is_some}
 use Rattle.cartridge_laws.proofs.AppendKeeping.{AreIn, IsKeptBut, in_append, steps_stopped}
 use Rattle.cartridge_laws.proofs.AppendOrders.{end_least}
 use Rattle.cartridge_laws.proofs.AppendSegments.{carrying_from, room_is}
-use Rattle.cartridge_laws.proofs.ChangeClean.{clean_less, no_header_less}
+use Rattle.cartridge_laws.proofs.ChangeClean.{clean_less}
 use Rattle.cartridge_laws.proofs.ChangeViews.{ReadsNoMore, worn_reads_no_more}
 use Rattle.cartridge_laws.proofs.FormatCopies.{unformatted_from_bare}
 use Rattle.cartridge_laws.proofs.FormatStanding.{same_cells}
@@ -154,9 +154,6 @@ module _ (P : Cartridge → Type 0) where
   sent_leaving c input outcome plain before behind left torn = trains_leave c left before behind (sent_leaves (Some c) left input outcome plain torn)
 
 -- ---- bare copies
-
-pub bare_from_less : (c d : Cartridge) → ReadsNoMore c d → HasNoHeader c → HasNoHeader d
-bare_from_less c d less bare = no_header_less c d less bare
 
 -- a cartridge with no header is not mounted
 bare_goes : (goes : Going) → GoesLeaving HasNoHeader goes

@@ -18,10 +18,10 @@ use Rattle.command_laws.specs.Intact.{IsIntact}
 use Rattle.command_spec.specs.Several.{IsHeard, Scripted, FirstLinesSpare}
 use Rattle.command_laws.specs.MadeTerms.{Makes}
 use Rattle.command_laws.specs.Outcomes.{ScriptOutcome, MakeOutcome}
-use Rattle.command_spec.specs.OneLoss.{SomeComeBack, LeftComesBack, with_items, with_made}
+use Rattle.command_spec.specs.OneLoss.{SomeComeBack, LeftComesBack}
 use Rattle.command_spec.specs.Outcome.{CommandOutcome}
 use Rattle.command_spec.specs.Script.{Did, ScriptDoes}
-use Rattle.command_spec.specs.ScriptLists.{CameFurther, GoesNoFurther, printed_by, ItemsSpare, ItemsSpareTable}
+use Rattle.command_spec.specs.ScriptLists.{CameFurther, GoesNoFurther, printed_by, ItemsSpare, ItemsSpareTable, with_items}
 use Rattle.qic_base.proofs.Steps.{Torn-append}
 use Rattle.qic_base.specs.Acts.{Act, steps_of}
 use Rattle.qic_base.specs.Cartridge.{Cartridge}
@@ -29,6 +29,7 @@ use Rattle.qic_base.specs.CartridgeTerms.{IsCartridge}
 use Rattle.qic_base.specs.Step.{effects, Torn}
 use Rattle.command_spec.specs.Input.{Item}
 use Rattle.command_spec.specs.declared.status.Status.{Status}
+use Rattle.command_spec.specs.Make.{with_made}
 use Rattle.command_spec.specs.declared.status.Status.TheVariants as status
 
 -- ---- the settling comes first

@@ -13,11 +13,13 @@ use Rattle.command_spec.specs.Outcome.{CommandOutcome, output_of}
 use Rattle.command_spec.specs.declared.status.Status.{Status}
 use Rattle.command_spec.specs.declared.words.Words.{Words}
 use Rattle.qic_base.proofs.Outcomes.{cut_is_torn, cut_stops, cut_took_front, cut_fell_none, cut_rose}
-use Rattle.qic_base.proofs.Steps.{Torn-all, Stops-left}
+use Rattle.qic_base.proofs.Steps.{Torn-all, Stops-left, is_some-option_map}
 use Rattle.qic_base.specs.Acts.{Failing, TapeFails, SourceFails, SinkFails, Outside, Act, steps_of, text_of, Cut, FailingRose}
 use Rattle.qic_base.specs.Cartridge.{Cartridge}
 use Rattle.qic_base.specs.CartridgeTerms.{IsCartridge}
 use Rattle.qic_base.specs.Step.{Step as TapeStep, effects, Torn}
+use Rattle.command_laws.proofs.MadeMachineLaws.{done_or_not}
+use Rattle.qic_base.specs.Source.{IsInput}
 use Rattle.qic_base.specs.Tape as tapes
 use Rattle.qic_base.specs.TapeCalls as tape_calls
 use Rattle.command_spec.specs.declared.status.Status.TheVariants as status
@@ -53,10 +55,6 @@ fault_no_outcome TapeFails = refl
 fault_no_outcome SourceFails = refl
 fault_no_outcome SinkFails = refl
 
-pub done_or_not : (answer : Status) → (answer ≡ status.Done) ⊎ (answer ≢ status.Done)
-done_or_not status.Done = inl refl
-done_or_not answer = inr (λ is. cc)
-
 -- ---- what is told
 
 -- what the laws of the objects give, before a run and after it
@@ -75,8 +73,8 @@ told_whole (Some c) (Some (Some d)) size right told =
     let same : d ≡ c = cc in subst IsCartridge same right.0
 
 pub over_map : {A : Type 0} (held : Option A) (left : Option (List ℕ)) (P R : A → List ℕ → Type 0) →
-    IfSome held (λ a. (input : List ℕ) × IfSome left (λ bytes. input ≡ bytes) × P a input) →
-    ((a : A) (input : List ℕ) → held ≡ Some a → P a input → R a input) → IfSome held (λ a. (input : List ℕ) × IfSome left (λ bytes. input ≡ bytes) × R a input)
+    IfSome held (λ a. (input : List ℕ) × IsInput left input × P a input) →
+    ((a : A) (input : List ℕ) → held ≡ Some a → P a input → R a input) → IfSome held (λ a. (input : List ℕ) × IsInput left input × R a input)
 over_map None left P R known follows = tt
 over_map (Some a) left P R known follows = (known.0, known.1, follows a known.0 refl known.2)
 
@@ -99,10 +97,6 @@ done_torn : {T : Type 0} (t : tapes.Meaning T) (a b : T) (steps : List TapeStep)
     IsSomeAnd (t.told b) (λ left. Torn steps held left)
 done_torn t a b steps held did told =
     subst (λ (o : Option (Option Cartridge)). IsSomeAnd o (λ left. Torn steps held left)) (sym (after_steps t a b steps held did told)) (Torn-all steps held)
-
-pub is_some-map : {A B : Type 0} (f : A → B) (o : Option A) → is_some (option_map f o) ≡ is_some o
-is_some-map f None = refl
-is_some-map f (Some a) = refl
 
 -- ---- stops
 
@@ -209,21 +203,21 @@ module _ {T S K : Type 0} (t : tapes.Meaning T) (s : sources.Meaning S) (k : sin
   -- ---- runs one after the other
 
   input_tells : (why : Status) (taken : ℕ) (before after : Option (List ℕ)) → InputLeft why taken before after → is_some after ≡ is_some before
-  input_tells (status.ScriptFault line place) taken before after left = ap is_some left.1 ∙ is_some-map _ before
-  input_tells why taken before after left = ap is_some left ∙ is_some-map _ before
+  input_tells (status.ScriptFault line place) taken before after left = ap is_some left.1 ∙ is_some-option_map _ before
+  input_tells why taken before after left = ap is_some left ∙ is_some-option_map _ before
 
   sink_tells : Laws t s k old new → (text : List ℕ) → k.took old.sink text new.sink → is_some (k.written new.sink) ≡ is_some (k.written old.sink)
-  sink_tells laws text took = ap is_some (laws.told old.sink new.sink text took) ∙ is_some-map (λ bytes. bytes ++ text) (k.written old.sink)
+  sink_tells laws text took = ap is_some (laws.told old.sink new.sink text took) ∙ is_some-option_map (λ bytes. bytes ++ text) (k.written old.sink)
 
   tape_tells : (acts : List Act) (failing : Failing) → Cut t s k old new acts failing → is_some (t.told new.tape) ≡ is_some (t.told old.tape)
   tape_tells acts TapeFails cut = cut.broke.tells
-  tape_tells acts SourceFails cut = ap is_some cut.did.told ∙ is_some-map (effects (steps_of cut.front)) (t.told old.tape)
-  tape_tells acts SinkFails cut = ap is_some cut.did.told ∙ is_some-map (effects (steps_of cut.at.front ++ cut.at.act.steps)) (t.told old.tape)
+  tape_tells acts SourceFails cut = ap is_some cut.did.told ∙ is_some-option_map (effects (steps_of cut.front)) (t.told old.tape)
+  tape_tells acts SinkFails cut = ap is_some cut.did.told ∙ is_some-option_map (effects (steps_of cut.at.front ++ cut.at.act.steps)) (t.told old.tape)
 
   pub ends_joins : Laws t s k old new → CommandEnds t s k command old new answer → Joins t s k old new
   ends_joins laws (inl finished) = record {
     counts = record { tape = finished.went.did.later; source = finished.went.source_later; sink = finished.went.wrote.later };
-    tape = ap is_some finished.went.did.told ∙ is_some-map (effects (steps_of finished.outcome.acts)) (t.told old.tape);
+    tape = ap is_some finished.went.did.told ∙ is_some-option_map (effects (steps_of finished.outcome.acts)) (t.told old.tape);
     source = input_tells answer finished.outcome.taken (s.left old.source) (s.left new.source) finished.left;
     sink = sink_tells laws (output_of finished.outcome) finished.went.wrote.took;
     stops = (steps_of finished.outcome.acts, finished.went.did.stops);

@@ -16,14 +16,14 @@ use Rattle.command_laws.proofs.CommandAdded.{replied_text, status_fits}
 use Rattle.command_laws.proofs.CommandAppends.{appended_line_is_some}
 use Rattle.command_laws.proofs.CommandEnds.{Laws, over_at, told_whole}
 use Rattle.command_laws.proofs.CommandOpened.{quiet}
-use Rattle.command_laws.proofs.CommandSeveral.{heard_fault, never_sink, no_more, some_long, none_left}
+use Rattle.command_laws.proofs.CommandSeveral.{heard_fault, never_sink, some_long, none_left}
 use Rattle.command_laws.proofs.CommandTable.{plain_answers}
 use Rattle.command_laws.proofs.CommandTold.{input_of, input_told}
 use Rattle.command_laws.proofs.CommandVolumes.{done_now, Did, carried_out_did, now_weaker}
 use Rattle.command_laws.proofs.MadeLeaving.{made_are_listed, make_lists}
 use Rattle.command_laws.proofs.MountedListed.{mounted_listed}
 use Rattle.command_laws.proofs.MountedListing.{append_front_lists, append_lists, settled_lists}
-use Rattle.command_laws.proofs.ScriptListing.{listed_behind_act, listed_between, listed_done, listed_none}
+use Rattle.command_laws.proofs.ScriptListing.{listed_behind_act, listed_between, listed_done, listed_none, no_rest}
 use Rattle.command_laws.proofs.ScriptMachineLaws.{one_outcome as one_script}
 use Rattle.command_laws.proofs.TextWords.{one_command}
 use Rattle.command_laws.specs.MountedListed.{IsListed, listed_behind}
@@ -31,7 +31,7 @@ use Rattle.command_laws.specs.MountedListing.{AddsNone}
 use Rattle.cartridge_spec.specs.Appending.{entry_behind}
 use Rattle.command_spec.specs.Append.{Kept, Taking, Fits, TooLong, append_acts, room_in, taking, AppendOutcome, appended, kept_over}
 use Rattle.command_laws.specs.MadeTerms.{Makes, AppendedFrom}
-use Rattle.command_laws.specs.AppendTerms.{entry_for, append_status}
+use Rattle.command_laws.specs.AppendTerms.{entry_for, status_by_room}
 use Rattle.command_laws.specs.Outcomes.{Appends, ScriptOutcome, MakeOutcome}
 use Rattle.command_laws.specs.CommandFields.{Yields}
 use Rattle.command_spec.specs.Headline.{ToldNow}
@@ -111,7 +111,7 @@ module _ (c : Cartridge) (header : Header) (words : List ℕ) (table : List (Lis
     abbrev acts_by : Kept → (input : List ℕ) → List Act
     acts_by kept input = append_acts kept name date None (reply_behind (length entries)) input
 
-    fits_where_done : (have : ℕ) (input : List ℕ) → append_status have input ≡ status.Done → taking have None input ≡ Fits input
+    fits_where_done : (have : ℕ) (input : List ℕ) → status_by_room have input ≡ status.Done → taking have None input ≡ Fits input
     fits_where_done have input done = by_flag (nat_le 1 have && nat_le (length input) have) done
       where
         by_flag : (flag : Bool) → cond flag status.Done (status.Full (min (length input) (have + 1)) have) ≡ status.Done →
@@ -152,7 +152,7 @@ module _ (c : Cartridge) (header : Header) (words : List ℕ) (table : List (Lis
       where
         -- an entry is written by the last act, which prints
         none_added : (front rest : List Act) → front ++ rest ≡ settling ∷ acts_by (kept_over still words entries table) input →
-            (append_status (room_in (kept_over still words entries table)) input ≢ status.Done) ⊎ (text_of front ≡ []) → AddsNone rest (taking (room_in (kept_over still words entries table)) None input)
+            (status_by_room (room_in (kept_over still words entries table)) input ≢ status.Done) ⊎ (text_of front ≡ []) → AddsNone rest (taking (room_in (kept_over still words entries table)) None input)
         none_added front (y ∷ ys) parts before = inl (λ none. cc)
         none_added front [] parts (inl other) =
             inr (λ bytes took. other (status_fits (room_in (kept_over still words entries table)) input bytes took))
@@ -163,7 +163,7 @@ module _ (c : Cartridge) (header : Header) (words : List ℕ) (table : List (Lis
             (sym (replied_text kept name date (reply_behind (length entries)) input bytes took) ∙ ap text_of (sym parts ∙ append-nil front) ∙ quiet))
 
         by_front : (xs : List Act) → xs ++ rest ≡ settling ∷ acts_by (kept_over still words entries table) input →
-            (append_status (room_in (kept_over still words entries table)) input ≢ status.Done) ⊎ (text_of xs ≡ []) → ListsNow entries (effects (steps_of xs) (Some c))
+            (status_by_room (room_in (kept_over still words entries table)) input ≢ status.Done) ⊎ (text_of xs ≡ []) → ListsNow entries (effects (steps_of xs) (Some c))
         by_front [] parts before = lists_before (Some c) refl
         by_front (x ∷ more) parts before =
             let first : x ≡ settling = cc in
@@ -390,7 +390,7 @@ module _ (c : Cartridge) (header : Header) (words : List ℕ) (table : List (Lis
             text ≡ text_of front ++ some → Broken text (effects (steps_of front ++ act.steps) (Some c))
         by_front [] act rest some unsaid parts written lacks is =
             let first : act ≡ quiet (settling_steps table c) = cc in
-            absurd (lacks (no_more some unsaid (written ∙ ap (λ (a : Act). a.text) first)))
+            absurd (lacks (no_rest some unsaid (written ∙ ap (λ (a : Act). a.text) first)))
         by_front (x ∷ more) act rest some unsaid parts written lacks is =
             let first : x ≡ quiet (settling_steps table c) = cc in
             let behind : more ++ act ∷ rest ≡ came.acts = cc in
@@ -486,7 +486,7 @@ module _ (seed count : ℕ) (few : count ≤ 200) (c : Cartridge) (header : Head
           HasSome (effects (steps_of front ++ act.steps) (Some c)) × HasMade count (effects (steps_of front ++ act.steps) (Some c))
       by_part [] act rest said unsaid parts written lacks =
           let first : act ≡ quiet (settling_steps table c) = cc in
-          absurd (lacks (no_more said unsaid (written ∙ ap (λ (a : Act). a.text) first)))
+          absurd (lacks (no_rest said unsaid (written ∙ ap (λ (a : Act). a.text) first)))
       by_part (x ∷ more) act rest said unsaid parts written lacks =
           let first : x ≡ quiet (settling_steps table c) = cc in
           let behind : more ++ act ∷ rest ≡ did.acts = cc in

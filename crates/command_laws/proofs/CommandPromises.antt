@@ -33,6 +33,7 @@ use Rattle.qic_base.specs.Acts.{Act, Outside, Failing, TapeFails, SourceFails, S
 use Rattle.qic_base.specs.Alone.{no_source, around}
 use Rattle.qic_base.specs.Cartridge.{Cartridge}
 use Rattle.qic_base.specs.Tape.{Rose}
+use Rattle.qic_base.specs.Source.{IsInput}
 use Rattle.command_spec.specs.declared.status.Status.TheVariants as status
 use Rattle.qic_base.specs.Sink as sinks
 use Rattle.qic_base.specs.Source as sources
@@ -47,7 +48,7 @@ machine_answers = machine_answers_where one_command each_words
 -- ---- a command that reads no input, over any source
 
 over_left : {A : Type 0} (held : Option A) (left : Option (List ℕ)) (P R : A → List ℕ → Type 0) → IfSome held (λ a. (input : List ℕ) × Unit {0} × P a input) →
-    ((a : A) (input other : List ℕ) → P a input → R a other) → IfSome held (λ a. (input : List ℕ) × IfSome left (λ bytes. input ≡ bytes) × R a input)
+    ((a : A) (input other : List ℕ) → P a input → R a other) → IfSome held (λ a. (input : List ℕ) × IsInput left input × R a input)
 over_left None left P R known follows = tt
 over_left (Some a) left P R known follows = (input_of left, input_told left, follows a known.0 (input_of left) known.2)
 
@@ -246,7 +247,7 @@ idle_appends_none seed count words es status.NoMemory is = tt
 idle_appends_none seed count words es answer is = absurd (cc)
 
 over_any : (o : Option (Option Cartridge)) (left : Option (List ℕ)) (R : Option Cartridge → List ℕ → Type 0) → ((held : Option Cartridge) (input : List ℕ) → o ≡ Some held → R held input) →
-    IfSome o (λ held. (input : List ℕ) × IfSome left (λ bytes. input ≡ bytes) × R held input)
+    IfSome o (λ held. (input : List ℕ) × IsInput left input × R held input)
 over_any None left R follows = tt
 over_any (Some held) left R follows = (input_of left, input_told left, follows held (input_of left) refl)
 

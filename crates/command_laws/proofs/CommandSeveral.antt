@@ -5,7 +5,6 @@ use Rattle.cartridge_laws.proofs.FormatWriting.{effects-some, some_and}
 use Rattle.cartridge_laws.proofs.MountKeeping.{stopped_stands}
 use Rattle.cartridge_laws.proofs.MountStanding.{standing_mounts_only_so}
 use Rattle.cartridge_laws.proofs.MountWhole.{settling_effects}
-use Rattle.cartridge_spec.specs.Appending.{with_all}
 use Rattle.cartridge_spec.specs.Mounting.{Mounts, mounted_as, Mounting, settled}
 use Rattle.cartridge_spec.specs.TableSegment.{IsTableLive}
 use Rattle.cartridge_spec.specs.Settling.{changed_by, settling_steps}
@@ -28,7 +27,7 @@ use Rattle.command_laws.proofs.TextWords.{one_command}
 use Rattle.command_laws.specs.ActStops.{Behind, IsLeftBy}
 use Rattle.command_laws.specs.MountedHeld.{IsHeld}
 use Rattle.command_laws.specs.MountedKept.{IsKept, IsOpen}
-use Rattle.command_laws.specs.ScriptStanding.{WentNoFurther, plain_behind}
+use Rattle.command_laws.specs.ScriptStanding.{WentNoFurther}
 use Rattle.command_spec.specs.Headline.{ToldNow, StopLeaves, WordsLeave, EachLeft}
 use Rattle.command_spec.specs.Input.{Item}
 use Rattle.command_spec.specs.Several.{IsHeard, FirstLinesSpare, Scripted, SomeMade, AllAnswered, AllMade, Generated, LinesLeave, OverInput}
@@ -37,10 +36,10 @@ use Rattle.command_laws.specs.MadeTerms.{AppendedFrom, Makes}
 use Rattle.command_laws.specs.Outcomes.{ScriptOutcome, MakeOutcome}
 use Rattle.command_laws.specs.CommandFields.{Yields}
 use Rattle.command_spec.specs.Machine.{HasValues, Spells, may_come_from, fault_of, is_fault, CommandEnds, IsOfBytes}
-use Rattle.command_spec.specs.Make.{AppendedBy, made_contents, Making}
+use Rattle.command_spec.specs.Make.{AppendedBy, Making, with_made}
 use Rattle.command_spec.specs.Outcome.{Going, CommandOutcome, refused, Opened, OpenOutcome}
 use Rattle.command_spec.specs.Script.{Scripting}
-use Rattle.command_spec.specs.ScriptLists.{CameFurther, ItemsSpare, StandsAnswered}
+use Rattle.command_spec.specs.ScriptLists.{CameFurther, ItemsSpare, StandsAnswered, plain_behind}
 use Rattle.command_spec.specs.Volumes.{IsCarriedOut}
 use Rattle.command_spec.specs.declared.status.Status.{Status}
 use Rattle.command_spec.specs.declared.words.Words.{Words}
@@ -52,6 +51,8 @@ use Rattle.qic_base.specs.CartridgeTerms.{IsCartridge}
 use Rattle.qic_base.specs.Step.{effects, Step as TapeStep, Torn}
 use Rattle.command_laws.proofs.CommandTold.{input_of, input_told, input_bytes}
 use Rattle.qic_base.specs.Source.{IsInput}
+use Rattle.command_laws.proofs.ScriptListing.{no_rest}
+use Rattle.command_laws.proofs.CommandComplete.{GoesOn}
 use Rattle.command_spec.specs.declared.status.Status.TheVariants as status
 use Rattle.qic_base.specs.Tape as tapes
 use Rattle.qic_base.specs.TapeCalls as tape_calls
@@ -62,11 +63,7 @@ use Rattle.command_spec.specs.declared.words.Words.TheVariants as commands
 
 -- ---- a cartridge that stands for a plain one, mounted
 
--- what is mounted as the plain cartridge, or refused
-pub record WasMounted (goes : Going) (c : Cartridge) (plain : Plain) (outcome : CommandOutcome) : Type 0 where
-  pub mounts : Mounts c (mounted_as plain)
-  pub did : goes c plain.header plain.words plain.table_area (entries_of plain) outcome
-
+-- what is refused, and not for a line that was heard
 pub record WasTurned (outcome : CommandOutcome) : Type 0 where
   pub why : Status
   pub is : outcome ≡ refused why
@@ -78,7 +75,7 @@ never_heard lost (inl done) = cc
 never_heard lost (inr (line, place, is)) = cc
 
 pub mounted_or_turned : (goes : Going) (c : Cartridge) (plain : Plain) (outcome : CommandOutcome) → Stands c plain → OpenOutcome goes (Some c) outcome →
-    WasTurned outcome ⊎ WasMounted goes c plain outcome
+    WasTurned outcome ⊎ GoesOn goes c plain outcome
 mounted_or_turned goes c plain outcome stood (m, mounts, opened) =
     elim (standing_mounts_only_so c plain m stood mounts) [
       | inl same ↦ inr (record { mounts = subst (Mounts c) same mounts; did = subst (λ (a : Mounting). Opened goes c a outcome) same opened })
@@ -87,16 +84,11 @@ mounted_or_turned goes c plain outcome stood (m, mounts, opened) =
 
 -- ---- what acts print
 
--- of a text that is empty nothing is left
-pub no_more : (some more : List ℕ) → some ++ more ≡ [] → more ≡ []
-no_more [] more is = is
-no_more (x ∷ xs) more is = cc
-
 -- .. so none is left of it where an act and those before it print nothing
 pub none_left : (front : List Act) (act : Act) (some more : List ℕ) → some ++ more ≡ act.text → text_of (front ++ act ∷ []) ≡ [] → more ≡ []
 none_left front act some more written none =
-    let last : act.text ++ [] ≡ [] = no_more (text_of front) (act.text ++ []) (sym (text_of-append front (act ∷ [])) ∙ none) in
-    no_more some more (written ∙ sym (append-nil act.text) ∙ last)
+    let last : act.text ++ [] ≡ [] = no_rest (text_of front) (act.text ++ []) (sym (text_of-append front (act ∷ [])) ∙ none) in
+    no_rest some more (written ∙ sym (append-nil act.text) ∙ last)
 
 pub some_long : (text : List ℕ) → text ≢ [] → 0 < length text
 some_long [] some = absurd (some refl)
@@ -144,7 +136,7 @@ module _ (c : Cartridge) (plain : Plain) (whole : IsCartridge c) (stood : Stands
       elim (begun at.front (at.act ∷ at.rest) acts at.parts) [
         | inl (none, all) ↦
             let first : at.act ≡ settling = cc in
-            absurd (at.lacks (no_more at.some at.more (at.written ∙ ap (λ (a : Act). a.text) first)))
+            absurd (at.lacks (no_rest at.some at.more (at.written ∙ ap (λ (a : Act). a.text) first)))
         | inr (more, is, parts) ↦ record {
           front = more;
           act = at.act;
@@ -406,7 +398,7 @@ module _ (seed count : ℕ) (few : count ≤ 200) (c : Cartridge) (plain : Plain
       live_kept (settled plain.table_area c) plain run.held (settled_live c plain.table_area run.mounts.reads live)
 
   abbrev HasMade : (n : ℕ) → Option Cartridge → Type 0
-  HasMade n left = IsSomeAnd left (λ d. Stands d (with_all plain (made_contents seed 1 n)))
+  HasMade n left = IsSomeAnd left (λ d. Stands d (with_made plain seed n))
 
   -- a stop leaves some of the volumes
   pub make_stopped : (outcome : CommandOutcome) (left : Option Cartridge) → IsTableLive c → MakeOutcome seed count (Some c) outcome → Torn (steps_of outcome.acts) (Some c) left →
@@ -479,7 +471,7 @@ module _ (seed count : ℕ) (few : count ≤ 200) (c : Cartridge) (plain : Plain
               made.0,
               appended_by seed count plain.words (entries_of plain) outcome.status made.0 made.1
                   (subst (λ (why : Status). AppendedFrom seed 1 count plain.words (entries_of plain) why made.0) (sym (ap (λ (o : CommandOutcome). o.status) run.is)) made.2),
-              some_and (λ d. Stands d (with_all plain (made_contents seed 1 made.0))) (changed_by (steps_of run.acts) (settled plain.table_area c)) (effects (steps_of outcome.acts) (Some c))
+              some_and (λ d. Stands d (with_made plain seed made.0)) (changed_by (steps_of run.acts) (settled plain.table_area c)) (effects (steps_of outcome.acts) (Some c))
                   made.3 (ap (λ (o : CommandOutcome). effects (steps_of o.acts) (Some c)) run.is ∙ behind_front c plain whole stood run.mounts run.acts),
             )
       ]
@@ -526,7 +518,7 @@ makes_volumes t s k words command old new answer laws spelled values ends seed c
             made.0,
             subst (λ (why : Status). AppendedBy seed count plain.words (entries_of plain) why made.0) all.0 made.1,
             now_weaker t old.tape new.tape
-                (λ left is. subst (λ (o : Option Cartridge). IsSomeAnd o (λ d. Stands d (with_all plain (made_contents seed 1 made.0)))) (sym is) made.2)
+                (λ left is. subst (λ (o : Option Cartridge). IsSomeAnd o (λ d. Stands d (with_made plain seed made.0))) (sym is) made.2)
                 (done_now t old.tape new.tape (steps_of ran.outcome.acts) (Some c) all.1 told),
           );
       all = λ live which. elim which [

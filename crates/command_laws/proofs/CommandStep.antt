@@ -9,13 +9,14 @@ use Rattle.cartridge_spec.specs.Shape.{IsArea}
 use Rattle.cartridge_spec.specs.Mounting.{Mounted, Mounts}
 use Rattle.cartridge_spec.specs.Table.{Entry}
 use Rattle.cartridge_spec.specs.Volumes.{Plain, Stands}
-use Rattle.command_laws.proofs.CommandClean.{bare_from_less, clean_from_less}
+use Rattle.command_laws.proofs.CommandClean.{clean_from_less}
 use Rattle.command_laws.proofs.CommandPlainLaws.{only_step}
 use Rattle.command_laws.proofs.CommandSteps.{by_outcome}
 use Rattle.command_spec.specs.Outcome.{CommandOutcome, StepOutcome}
 use Rattle.qic_base.specs.Acts.{steps_of}
 use Rattle.qic_base.specs.Cartridge.{Cartridge}
 use Rattle.qic_base.specs.Step.{Step, changed, Torn, Halfway}
+use Rattle.cartridge_laws.proofs.ChangeClean.{no_header_less}
 
 -- The step keeps what a cartridge stands for, what it is mounted as, and its header copies, for no sector reads more; it is done
 -- or not, and puts in no new cartridge.
@@ -66,4 +67,4 @@ module _ (step : Step) (text : Cartridge → List ℕ) where
 
   pub step_bare : KeepsAll step → (c : Cartridge) → HasNoHeader c → (outcome : CommandOutcome) (left : Option Cartridge) →
       StepOutcome step text (Some c) outcome → Torn (steps_of outcome.acts) (Some c) left → IsSomeAnd left HasNoHeader
-  step_bare keeps c bare outcome left is torn = step_leaves HasNoHeader keeps c outcome left bare (bare_from_less c (changed step c) (keeps.reads c) bare) is torn
+  step_bare keeps c bare outcome left is torn = step_leaves HasNoHeader keeps c outcome left bare (no_header_less c (changed step c) (keeps.reads c) bare) is torn

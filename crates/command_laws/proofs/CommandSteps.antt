@@ -27,7 +27,7 @@ use Rattle.command_spec.specs.Input.{Item, Ending, AtEnd, AtStop, AtFault}
 use Rattle.command_spec.specs.Lines.{reply_behind}
 use Rattle.command_spec.specs.Outcome.{CommandOutcome, Going, Opened, OpenOutcome, WritableOutcome, Shows, settling_act}
 use Rattle.command_laws.specs.Outcomes.{Printing, Mends, Appends}
-use Rattle.command_spec.specs.Pulses.{SentOutcome, train_acts, train_changes, pulsed_row}
+use Rattle.command_spec.specs.Pulses.{SentOutcome, train_acts}
 use Rattle.command_laws.specs.PulseRuns.{info_of}
 use Rattle.command_spec.specs.Restore.{Gives, pieces, framed, GivingEnd, Restored, LostIn, MismatchIn}
 use Rattle.command_spec.specs.Script.{reply, refusal_line, Scripting, Did, Meeting, Refuses, Finds, acts_on, append_did, taken_as, given_as, LineDoes, acts_of, ItemsDo, EndDoes, cartridge_behind, entries_behind, place_behind}
@@ -35,7 +35,7 @@ use Rattle.command_spec.specs.Scrub.{Looked, looked_at, reads, steps_in, mending
 use Rattle.command_spec.specs.declared.line.Line.{Line}
 use Rattle.drive_spec.specs.Effects.{ticked}
 use Rattle.drive_spec.specs.Record.{Record, power_on}
-use Rattle.drive_spec.specs.Steps.{reference_steps, command_steps, is_idle}
+use Rattle.drive_spec.specs.Steps.{reference_steps, command_steps, is_idle, train_changes}
 use Rattle.drive_spec.specs.declared.deck.Deck.{Deck}
 use Rattle.qic117_commands.specs.Commands.{command_at}
 use Rattle.qic117_commands.specs.declared.command.Command.TheVariants.{WriteReference}
@@ -48,6 +48,7 @@ use Rattle.command_spec.specs.declared.status.Status.{Status}
 use Rattle.command_laws.proofs.ScrubPlain.{as_plain}
 use Rattle.command_laws.specs.ScrubPlain.{looking_acts}
 use Rattle.command_spec.specs.declared.depth.Depth.TheVariants.{Shallow}
+use Rattle.drive_spec.specs.Row.{pulsed_row}
 use Rattle.cartridge_spec.specs.Mounting as mounting
 use Rattle.command_spec.specs.declared.refusal.Refusal.TheVariants as why
 use Rattle.command_spec.specs.declared.line.Line.TheVariants as line

@@ -12,11 +12,11 @@ use Rattle.cartridge_spec.specs.Formatting.{HasNoHeader}
 use Rattle.cartridge_spec.specs.HeaderCopies.{CopyDoesNotRead, IsUnformatted, copy_cells}
 use Rattle.cartridge_spec.specs.Mounting.{Mounting}
 use Rattle.cartridge_spec.specs.Says.{whole_mask}
-use Rattle.command_laws.specs.CommandRecord.{NeitherReads}
 use Rattle.command_spec.specs.Outcome.{CommandOutcome, Going, OpenOutcome, Opened, WritableOutcome}
 use Rattle.qic_base.specs.Acts.{steps_of}
 use Rattle.qic_base.specs.Cartridge.{Cartridge, view_at}
 use Rattle.qic_base.specs.Step.{Step, SetReferenced, Wear, changed, worn_view, Torn}
+use Rattle.cartridge_laws.specs.HeaderTerms.{NeitherReads}
 use Rattle.cartridge_spec.specs.Mounting as mounting
 
 alike_reads : (c d : Cartridge) (copy : ℕ) → CellsAlike (copy_cells c copy) (copy_cells d copy) → CopyDoesNotRead c copy → CopyDoesNotRead d copy

@@ -22,7 +22,7 @@ use Rattle.command_laws.proofs.CommandKeeping.{same_stands}
 use Rattle.command_laws.proofs.CommandPlainLaws.{FormatLeaves, format_leaves}
 use Rattle.command_laws.proofs.CommandTable.{laws_of, plain_answers}
 use Rattle.command_laws.proofs.TextWords.{one_command}
-use Rattle.command_laws.specs.RunTerms.{IsBare, WasNotDone}
+use Rattle.command_laws.specs.RunTerms.{WasNotDone}
 use Rattle.command_spec.specs.Command.{Command}
 use Rattle.command_spec.specs.Commands.{traits_of, command_of}
 use Rattle.command_spec.specs.Single.{FormatOutcome}
@@ -30,7 +30,7 @@ use Rattle.command_spec.specs.Headline.{ToldNow, EachLeft, StopLeaves, WordsLeav
 use Rattle.command_laws.specs.CommandFields.{Yields}
 use Rattle.command_spec.specs.Machine.{HasValues, Spells, IsOfBytes, fault_of, may_come_from, IsCutOff, Finished, CommandEnds, is_fault}
 use Rattle.command_spec.specs.Outcome.{CommandOutcome}
-use Rattle.command_spec.specs.Volumes.{IsCarriedOut, StandsEmpty, FormatsOrNot, AreBytes, StandsAppended, AppendedOrNot, IsChanged, StillHolds}
+use Rattle.command_spec.specs.Volumes.{IsCarriedOut, StandsEmpty, FormatsOrNot, TellsBytes, StandsAppended, AppendedOrNot, IsChanged, StillHolds}
 use Rattle.command_spec.specs.declared.status.Status.{Status}
 use Rattle.command_spec.specs.declared.words.Words.{Words}
 use Rattle.qic_base.proofs.Steps.{Done-nothing}
@@ -39,6 +39,7 @@ use Rattle.qic_base.specs.Cartridge.{Cartridge, new_cartridge}
 use Rattle.qic_base.specs.CartridgeTerms.{IsCartridge}
 use Rattle.qic_base.specs.Step.{Step as TapeStep, effects, Renew, Torn}
 use Rattle.qic_base.specs.Source.{IsInput}
+use Rattle.cartridge_laws.specs.HeaderTerms.{IsBare}
 use Rattle.qic_base.specs.Tape as tapes
 use Rattle.qic_base.specs.TapeCalls as tape_calls
 use Rattle.qic_base.specs.Sink as sinks
@@ -177,7 +178,7 @@ stops_format t told words a b right leaves = each_weaker t a b right (λ held le
 -- ---- appending
 
 -- an input is one of bytes, told or not
-pub of_bytes : (told : Option (List ℕ)) (input : List ℕ) → AreBytes told → IsInput told input → IfNone told (All (λ b. b < 256) input) → All (λ b. b < 256) input
+pub of_bytes : (told : Option (List ℕ)) (input : List ℕ) → TellsBytes told → IsInput told input → IfNone told (All (λ b. b < 256) input) → All (λ b. b < 256) input
 of_bytes None input known is given = given
 of_bytes (Some bytes) input known is given = subst (λ (xs : List ℕ). All (λ b. b < 256) xs) (sym is) known
 
@@ -264,7 +265,7 @@ module _ {T S K : Type 0} (t : tapes.Meaning T) (s : sources.Meaning S) (k : sin
         did = all.1;
       }
 
-renewed_effect : (segments : ℕ) (held : Option Cartridge) → effects (Renew segments ∷ []) held ≡ Some (new_cartridge segments)
+pub renewed_effect : (segments : ℕ) (held : Option Cartridge) → effects (Renew segments ∷ []) held ≡ Some (new_cartridge segments)
 renewed_effect segments None = refl
 renewed_effect segments (Some c) = refl
 

@@ -3,7 +3,7 @@ use Rattle.std.proofs.Common.{◌≡◌, ℕ, zero, suc, ◌+◌, ◌-◌, arith
 use Rattle.std.proofs.lemmas.List.{length-drop}
 use Rattle.std.proofs.lemmas.List.Elements.{All-drop, All-get_or, All-head, All-tail}
 use Rattle.std.proofs.lemmas.Option.{slice_get-get_or}
-use Rattle.cartridge_laws.proofs.MountOnce.{mounts_is_function}
+use Rattle.cartridge_laws.proofs.MountOnce.{mounts_is_function, not_lost}
 use Rattle.cartridge_laws.proofs.MountSettled.{settled_stands}
 use Rattle.cartridge_laws.proofs.MountStanding.{standing_mounts}
 use Rattle.cartridge_spec.specs.Appending.{has_room, with_all}
@@ -15,7 +15,7 @@ use Rattle.command_laws.proofs.CopyGoing.{behind}
 use Rattle.command_laws.proofs.CopyLeaving.{copied_some, missing_is}
 use Rattle.command_laws.proofs.CopyStanding.{entries_in, open_behind, room_is, side_behind, side_for, with_volume}
 use Rattle.command_laws.proofs.CopyValues.{IsOriginal, originals}
-use Rattle.command_laws.proofs.MadeMachineLaws.{never_lost, never_unlocked}
+use Rattle.command_laws.proofs.MadeMachineLaws.{never_unlocked}
 use Rattle.command_laws.proofs.MountedHeld.{mounted_open}
 use Rattle.command_laws.proofs.RestoreGivenBack.{given_whole}
 use Rattle.command_laws.proofs.RestoreStanding.{volume_is_long}
@@ -67,7 +67,7 @@ module _ (c : Cartridge) (one : Plain) (reads : ReadsAs c one) where
 
 volume_goes : (c : Cartridge) (one : Plain) (volume : Volume) (original : IsOriginal c one volume) (d : Cartridge) (p : Plain) (held : IsOpen d p) (acts : List Act) (answer : CopyStatus) →
     GivesWhole c one volume → has_room p (volume_length one.words volume.entry) ≡ true → CopiesVolume (side_for c one) volume.entry (side_for d p) acts answer → answer ≡ status.Done
-volume_goes c one volume original d p held acts answer gives room (inl lost) = absurd (never_lost d p.table_area lost.lost held.table lost.says)
+volume_goes c one volume original d p held acts answer gives room (inl lost) = absurd (not_lost d p.table_area lost.lost held.table lost.says)
 volume_goes c one volume original d p held acts answer gives room (inr (table, reads, inl full)) =
     let enough : has_room_for (side_for c one) volume.entry (side_for d p) ≡ true =
     room_is c one volume original d p held ∙ ap (has_room p) (volume_is_long c one volume original.has) ∙ room in

@@ -1,13 +1,13 @@
 -- A copy comes to one status and one text.
 use Rattle.std.proofs.Common.{◌⊎◌, ◌≡◌, ◌≢◌, ℕ, true, false, List, [], ◌∷◌, ◌++◌, Option, Some, None, inl, inr, refl, sym, ap, ◌∙◌, subst}
-use Rattle.cartridge_laws.proofs.MountOnce.{mounts_is_function, one_table}
+use Rattle.cartridge_laws.proofs.MountOnce.{mounts_is_function, one_table, not_lost}
 use Rattle.cartridge_laws.proofs.TableSayings.{table_says_is_function}
 use Rattle.cartridge_spec.specs.TableSegment.{table_cells}
 use Rattle.cartridge_spec.specs.Mounting.{Mounting}
 use Rattle.cartridge_spec.specs.Says.{ByCode, LostSectors}
 use Rattle.cartridge_spec.specs.Table.{Entry}
 use Rattle.command_laws.proofs.MadeAnswered.{quiet_front}
-use Rattle.command_laws.proofs.MadeMachineLaws.{never_lost, never_unlocked}
+use Rattle.command_laws.proofs.MadeMachineLaws.{never_unlocked}
 use Rattle.command_laws.proofs.RestoreEndings.{restores_is_function}
 use Rattle.command_laws.proofs.RestoreGiven.{given_is_function}
 use Rattle.command_laws.proofs.ScriptActs.{input_texts}
@@ -90,8 +90,8 @@ module _ (from : Side) (e : Entry) (to : Side) where
       table_says_is_function (table_cells to.cartridge) (ByCode (LostSectors one.lost)) (ByCode (LostSectors other.lost)) one.says other.says in
       let same : one.lost ≡ other.lost = cc in
       same_all a b x y (one.does ∙ sym other.does) (one.answered ∙ ap (λ (n : ℕ). status.To (fault.Lost 2 n)) same ∙ sym other.answered)
-  volume_one a b x y (inl one) (inr (table, reads, other)) = absurd (never_lost to.cartridge table one.lost reads one.says)
-  volume_one a b x y (inr (table, reads, one)) (inl other) = absurd (never_lost to.cartridge table other.lost reads other.says)
+  volume_one a b x y (inl one) (inr (table, reads, other)) = absurd (not_lost to.cartridge table one.lost reads one.says)
+  volume_one a b x y (inr (table, reads, one)) (inl other) = absurd (not_lost to.cartridge table other.lost reads other.says)
   volume_one a b x y (inr (table, reads, one)) (inr (again, read, other)) =
       let same : table ≡ again = one_table to.cartridge table again reads read in
       one_append again a b x y (subst (λ (t : List (List ℕ)). IsFull from e to t a x ⊎ IsGiven from e to t a x) same one) other

@@ -14,11 +14,10 @@ use Rattle.command_laws.proofs.CopyLeaving.{CopiesTo, behind_are, kept, to_does,
 use Rattle.command_laws.proofs.CopyOnce.{begun_text}
 use Rattle.command_laws.proofs.CopyStanding.{StandsWith, copies_next, copies_stopped, done_parts, done_text, done_volume, entries_in, is_next, kept_behind, last_acts, like_next, quiet_acts, quiet_text, side_for, stands_either, stands_more, stands_none, stopped_volume, with_volume}
 use Rattle.command_laws.proofs.CopyValues.{IsOriginal}
-use Rattle.command_laws.proofs.MadeAnswered.{quiet_front}
+use Rattle.command_laws.proofs.MadeAnswered.{quiet_front, next_torn}
 use Rattle.command_laws.proofs.MountedFronts.{ends_in, front_within, no_nil}
 use Rattle.command_laws.proofs.MountedKeeping.{kept_open}
 use Rattle.command_laws.proofs.ScriptActs.{full_acts}
-use Rattle.command_laws.proofs.ScriptAnswered.{next_torn}
 use Rattle.command_laws.specs.ActStops.{IsLeftBy}
 use Rattle.command_laws.specs.CopyLaws.{PrintedCopiesStand}
 use Rattle.command_laws.specs.MountedKept.{IsKept, IsOpen}

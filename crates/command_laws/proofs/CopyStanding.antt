@@ -1,5 +1,5 @@
 -- What a copy leaves of a target that stands for a plain cartridge, done or stopped.
-use Rattle.std.proofs.Common.{◌⊎◌, ◌≡◌, ℕ, suc, ◌+◌, ◌-◌, ◌<◌, ◌≤◌, nat_lt, arith, Bool, true, false, cond, List, [], ◌∷◌, ◌++◌, map, length, take, All, Option, Some, IsSomeAnd, inl, inr, refl, sym, ap, ◌∙◌, subst, append-nil}
+use Rattle.std.proofs.Common.{◌⊎◌, ◌≡◌, ℕ, suc, ◌+◌, ◌-◌, ◌<◌, ◌≤◌, nat_lt, arith, Bool, true, cond, List, [], ◌∷◌, ◌++◌, map, length, take, All, Option, Some, IsSomeAnd, inl, inr, refl, sym, ap, ◌∙◌, subst, append-nil}
 use Rattle.std.proofs.lemmas.List.{length-map, map-append, take_all}
 use Rattle.std.proofs.lemmas.List.Elements.{All-head, All-tail, All-weaker}
 use Rattle.cartridge_laws.proofs.AppendSegments.{carrying_from}
@@ -19,7 +19,6 @@ use Rattle.cartridge_spec.specs.Table.{Entry}
 use Rattle.command_laws.proofs.CopyGoing.{behind, next_behind, next_like}
 use Rattle.command_laws.proofs.CopyValues.{IsOriginal, given_whole}
 use Rattle.command_laws.proofs.InputActLaws.{input_is_free}
-use Rattle.command_laws.proofs.MadeMachineLaws.{never_lost}
 use Rattle.command_laws.proofs.MountedKeeping.{acts_stopped, changed_by_acts, kept_open}
 use Rattle.command_laws.proofs.MountedStanding.{all_writes, kept_appended, open_appended, stopped_appended, same_less}
 use Rattle.command_laws.proofs.RestoreStanding.{volume_is_long}
@@ -37,6 +36,8 @@ use Rattle.qic_base.specs.Acts.{Act, steps_of, text_of}
 use Rattle.qic_base.specs.Cartridge.{Cartridge}
 use Rattle.qic_base.specs.Step.{Step, Torn}
 use Rattle.command_laws.proofs.MadeStops.{some_split}
+use Rattle.cartridge_laws.proofs.MountOnce.{not_lost}
+use Rattle.command_laws.proofs.CommandAppends.{free_if}
 use Rattle.command_spec.specs.declared.copy_status.CopyStatus.TheVariants as status
 
 -- a cartridge that stands for a plain one, as a side of a copy
@@ -45,13 +46,9 @@ side_for c plain = record { cartridge = c; words = plain.words; entries = entrie
 
 -- ---- segments written behind the volumes
 
-pub writes_if : (before : ℕ) (some : Bool) (acts : List Act) → AreWrites (IsFree before) (steps_of acts) → AreWrites (IsFree before) (steps_of (cond some acts []))
-writes_if before true acts free = free
-writes_if before false acts free = tt
-
-behind_last : (kept : Kept) (n : ℕ) (bytes : List ℕ) → AreWrites (IsFree (last_end kept.entries)) (steps_of (input_writes kept.words kept.entries (Some n) bytes))
+pub behind_last : (kept : Kept) (n : ℕ) (bytes : List ℕ) → AreWrites (IsFree (last_end kept.entries)) (steps_of (input_writes kept.words kept.entries (Some n) bytes))
 behind_last kept n bytes =
-    writes_if (last_end kept.entries) (has_promised_room (room_in kept) (Some n)) (input_acts kept.words (free_in kept) n true bytes)
+    free_if (last_end kept.entries) (has_promised_room (room_in kept) (Some n)) (input_acts kept.words (free_in kept) n true bytes)
     (input_is_free (last_end kept.entries) kept.words (free_in kept) n true bytes
     (All-weaker (λ (s : ℕ). last_end kept.entries + 1 ≤ s) (λ (s : ℕ). last_end kept.entries < s) (λ s (h : last_end kept.entries + 1 ≤ s). omega arith) (free_in kept)
     (carrying_from kept.words (last_end kept.entries + 1) (length kept.words - 1))))
@@ -246,7 +243,7 @@ module _ (c : Cartridge) (one : Plain) (volume : Volume) (original : IsOriginal 
 
   pub stopped_volume : (acts : List Act) (answer : CopyStatus) (left : Option Cartridge) → CopiesVolume (side_for c one) volume.entry (side_for d p) acts answer →
       Torn (steps_of acts) (Some d) left → StoppedIn p (length content) next left
-  stopped_volume acts answer left (inl lost) torn = absurd (never_lost d p.table_area lost.lost held.table lost.says)
+  stopped_volume acts answer left (inl lost) torn = absurd (not_lost d p.table_area lost.lost held.table lost.says)
   stopped_volume acts answer left (inr (table, reads, inl full)) torn =
       Before (full_stands c one volume original d p opened table acts answer left (standing_data d p table held.stands reads) full torn)
   stopped_volume acts answer left (inr (table, reads, inr is)) torn =

@@ -1,7 +1,6 @@
 -- The volumes of a cartridge that stands for a plain one can be appended to another one: their names, dates and bytes.
-use Rattle.std.proofs.Common.{◌≡◌, ℕ, zero, suc, ◌-◌, ◌*◌, ◌/◌, ◌%◌, ◌^◌, ◌<◌, ◌≤◌, List, [], ◌∷◌, ◌++◌, All, Contains, Some, refl, sym, ap, ◌∙◌, subst, arith, get_or, slice_get, length, take, drop, inl, inr}
+use Rattle.std.proofs.Common.{◌≡◌, ℕ, ◌-◌, ◌*◌, ◌/◌, ◌%◌, ◌^◌, ◌<◌, ◌≤◌, List, [], ◌∷◌, ◌++◌, All, Contains, Some, refl, sym, ap, ◌∙◌, subst, arith, get_or, slice_get, length, drop, inl, inr}
 use Rattle.std.specs.Option.{option_map}
-use Rattle.std.proofs.Math.Nat.{pow-suc}
 use Rattle.std.proofs.lemmas.List.{append-nil, length-drop, length-map, length-take-le}
 use Rattle.std.proofs.lemmas.List.Elements.{All-append, All-contains_itself, All-drop, All-from_get_or, All-get_or, All-head, All-tail, All-take, All-contains}
 use Rattle.std.proofs.lemmas.Option.{slice_get-get_or, slice_get-map, get_or_from_slice_get, unwrap_or-slice_get}
@@ -17,21 +16,14 @@ use Rattle.command_spec.specs.Copying.{GivenBytes}
 use Rattle.command_spec.specs.Restore.{Restored, Restores, pieces_in}
 use Rattle.qic_base.specs.Acts.{Act, text_of}
 use Rattle.qic_base.specs.Cartridge.{Cartridge, IsSector}
-use Rattle.qic_base.specs.Field.{little_endian, number_at}
+use Rattle.qic_base.specs.Field.{number_at}
+use Rattle.cartridge_laws.proofs.FreshMarks.{little_endian-below}
 
 -- ---- a slot of the table's data
 
-little_below : (n : ℕ) (xs : List ℕ) → All (λ b. b < 256) xs → little_endian (take n xs) < 256 ^ n
-little_below zero xs small = omega arith
-little_below (suc n) [] small = let more = little_below n [] small in omega (arith, pow-suc 256 n)
-little_below (suc n) (x ∷ xs) small =
-    let first : x < 256 = All-head (λ b. b < 256) x xs small in
-    let rest : little_endian (take n xs) < 256 ^ n = little_below n xs (All-tail (λ b. b < 256) x xs small) in
-    omega (arith, pow-suc 256 n)
-
 date_below : (bytes : List ℕ) → All (λ b. b < 256) bytes → number_at bytes 52 4 < 2 ^ 32
 unfolding number_at
-date_below bytes small = little_below 4 (drop 52 bytes) (All-drop (λ b. b < 256) 52 bytes small)
+date_below bytes small = little_endian-below 4 (drop 52 bytes) (All-drop (λ b. b < 256) 52 bytes small)
 
 module _ (area : List (List ℕ)) (is : IsArea area) (i : ℕ) (within : i < 232) where
   abbrev sector : List ℕ

@@ -27,11 +27,10 @@ use Rattle.command_laws.proofs.ScrubForms.{IsLeft, as_seen, stopped_left}
 use Rattle.command_laws.proofs.ScrubFormsStanding.{stopped_form_stands}
 use Rattle.command_laws.proofs.ScrubFormsTable.{left_table, seen_table, table_same}
 use Rattle.command_laws.proofs.ScrubMounted.{clean_copy, mounted_order}
-use Rattle.command_laws.proofs.ScrubSeen.{IsSeen, SameIn, same_back, wrong_same}
+use Rattle.command_laws.proofs.ScrubSeen.{IsSeen, same_back, wrong_same}
 use Rattle.command_laws.proofs.ScrubStanding.{copy_reads, in_force, looks_in_front, table_kept}
 use Rattle.command_laws.specs.ScrubFound.{without_all}
 use Rattle.command_laws.specs.ScrubSayings.{Rise}
-use Rattle.command_laws.specs.ScrubTerms.{IsFirstCopyRight}
 use Rattle.command_laws.specs.Outcomes.{DeepScrubOutcome, MendsDeep}
 use Rattle.command_spec.specs.Outcome.{CommandOutcome, Opened}
 use Rattle.command_spec.specs.Scrub.{Looked, looked_at, whole_segment, Finding, IsWrong, ScrubsAs, ScrubsBy}
@@ -41,6 +40,8 @@ use Rattle.qic_base.specs.Acts.{Act, steps_of}
 use Rattle.qic_base.specs.Cartridge.{Cartridge}
 use Rattle.qic_base.specs.declared.tape.SectorView.{SectorView}
 use Rattle.qic_base.specs.declared.tape.TapeInfo.{TapeInfo}
+use Rattle.command_laws.specs.SilentSectors.{IsSameIn}
+use Rattle.command_laws.specs.DeepScrubLaws.{IsFirstCopyRight}
 
 -- ---- a header copy in which no sector is wrong
 
@@ -49,7 +50,7 @@ NoneWrongIn c copy = (sector : ℕ) (sectors : List (List ℕ)) → IsWrong c (w
 
 -- is as it was before the first write, and what is mended of it is mended as by a scrub
 seen_copy : (depth : Depth) (c e : Cartridge) (looked : List Looked) (fs : List Finding) (copy : ℕ) → Rise looked → Contains looked (whole_segment copy) →
-    IsSeen depth c e looked fs → NoneWrongIn c copy → SameIn c e copy
+    IsSeen depth c e looked fs → NoneWrongIn c copy → IsSameIn c e copy
 seen_copy depth c e looked fs copy rise among seen none i h =
     elim (seen.each copy i h) [
       | inl same ↦ same
@@ -59,24 +60,24 @@ seen_copy depth c e looked fs copy rise among seen none i h =
           absurd (none i found.sectors (subst (λ (l : Looked). IsWrong c l i found.sectors) at found.wrong))
     ]
 
-left_copy : (looked : List Looked) (c e d : Cartridge) (copy : ℕ) → SameIn c e copy → (left : IsLeft looked c e d) → SameIn left.other d copy
+left_copy : (looked : List Looked) (c e d : Cartridge) (copy : ℕ) → IsSameIn c e copy → (left : IsLeft looked c e d) → IsSameIn left.other d copy
 left_copy looked c e d copy same left i h =
     elim (left.behind.each copy i h) [
       | inl is ↦ is
       | inr kept ↦ kept.0 ∙ sym (same i h) ∙ sym kept.1
     ]
 
-clean_same : (c d : Cartridge) (copy : ℕ) (area : List (List ℕ)) → SameIn c d copy → IsCleanCopy c copy area → IsCleanCopy d copy area
+clean_same : (c d : Cartridge) (copy : ℕ) (area : List (List ℕ)) → IsSameIn c d copy → IsCleanCopy c copy area → IsCleanCopy d copy area
 clean_same c d copy area same clean =
     subst (λ (cells : List SectorView). Written cells area ⊎ Zero cells) (sym (same_cells c d copy whole_mask same)) clean
 
-reads_same : (c d : Cartridge) (copy : ℕ) (area : List (List ℕ)) → SameIn c d copy → CopyReads c copy area → CopyReads d copy area
+reads_same : (c d : Cartridge) (copy : ℕ) (area : List (List ℕ)) → IsSameIn c d copy → CopyReads c copy area → CopyReads d copy area
 reads_same c d copy area same reads = record {
   says = subst (λ (cells : List SectorView). Says cells (Data area)) (sym (same_cells c d copy whole_mask same)) reads.says;
   signature = reads.signature;
 }
 
-none_same : (c d : Cartridge) (copy : ℕ) → SameIn c d copy → CopyDoesNotRead c copy → CopyDoesNotRead d copy
+none_same : (c d : Cartridge) (copy : ℕ) → IsSameIn c d copy → CopyDoesNotRead c copy → CopyDoesNotRead d copy
 none_same c d copy same none area reads = none area (reads_same d c copy area (same_back c d copy same) reads)
 
 clean_not_wrong : (c : Cartridge) (copy : ℕ) (area : List (List ℕ)) → IsArea area → IsCleanCopy c copy area → NoneWrongIn c copy
@@ -93,7 +94,7 @@ read_not_wrong c copy area reads sector ds wrong =
 copy_left : (depth : Depth) (c e d : Cartridge) (looked : List Looked) (fs : List Finding) (copy : ℕ) (area : List (List ℕ)) → copy < 2 → IsArea area → Rise looked →
     Contains looked (whole_segment copy) → IsSeen depth c e looked fs → IsCleanCopy c copy area → IsLeft looked c e d → IsCleanCopy d copy area
 copy_left depth c e d looked fs copy area small is_area rise among seen clean left =
-    let same : SameIn c e copy = seen_copy depth c e looked fs copy rise among seen (clean_not_wrong c copy area is_area clean) in
+    let same : IsSameIn c e copy = seen_copy depth c e looked fs copy rise among seen (clean_not_wrong c copy area is_area clean) in
     clean_same left.other d copy area (left_copy looked c e d copy same left)
     (clean_copy looked e left.other copy area small rise among left.way is_area (clean_same c e copy area same clean))
 
@@ -113,7 +114,7 @@ form_clean depth c ws entries last acts area is_area order scrubs clean left tor
 
 -- ---- what it is mounted as
 
-force_same : (c d : Cartridge) (area : List (List ℕ)) → SameIn c d 0 → SameIn c d 1 → IsInForce c area → IsInForce d area
+force_same : (c d : Cartridge) (area : List (List ℕ)) → IsSameIn c d 0 → IsSameIn c d 1 → IsInForce c area → IsInForce d area
 force_same c d area first second (inl reads) = inl (reads_same c d 0 area first reads)
 force_same c d area first second (inr other) = inr (none_same c d 0 first other.0, reads_same c d 1 area second other.1)
 
@@ -123,14 +124,14 @@ force_left : (depth : Depth) (c e d : Cartridge) (ws : List ℕ) (entries : List
 force_left depth c e d ws entries fs area rise seen none left (inl reads) =
     let looked : List Looked = looked_at ws entries in
     let front = looks_in_front ws entries rise in
-    let same : SameIn c e 0 = seen_copy depth c e looked fs 0 rise front.first seen none in
+    let same : IsSameIn c e 0 = seen_copy depth c e looked fs 0 rise front.first seen none in
     inl (reads_same left.other d 0 area (left_copy looked c e d 0 same left)
     (copy_reads looked e left.other 0 area rise front.first left.way (reads_same c e 0 area same reads)))
 force_left depth c e d ws entries fs area rise seen none left (inr other) =
     let looked : List Looked = looked_at ws entries in
     let front = looks_in_front ws entries rise in
-    let first : SameIn c e 0 = seen_copy depth c e looked fs 0 rise front.first seen none in
-    let second : SameIn c e 1 = seen_copy depth c e looked fs 1 rise front.second seen (read_not_wrong c 1 area other.1) in
+    let first : IsSameIn c e 0 = seen_copy depth c e looked fs 0 rise front.first seen none in
+    let second : IsSameIn c e 1 = seen_copy depth c e looked fs 1 rise front.second seen (read_not_wrong c 1 area other.1) in
     force_same left.other d area (left_copy looked c e d 0 first left) (left_copy looked c e d 1 second left)
     (in_force looked e left.other area front left.way (force_same c e area first second (inr other)))
 
@@ -138,7 +139,7 @@ table_left : (depth : Depth) (c e d : Cartridge) (ws : List ℕ) (entries : List
     IsSeen depth c e (looked_at ws entries) fs → IsLeft (looked_at ws entries) c e d → TableIs c area → TableIs d area
 table_left depth c e d ws entries fs area rise seen left reads =
     let looked : List Looked = looked_at ws entries in
-    let same : SameIn c e 2 = seen_table depth c e looked fs seen in
+    let same : IsSameIn c e 2 = seen_table depth c e looked fs seen in
     table_same left.other d area (left_table looked c e d same left)
     (table_kept looked e left.other area (looks_in_front ws entries rise) left.way (table_same c e area same reads))
 
@@ -203,7 +204,7 @@ deep_clean area is_area c header ws table entries outcome mounts on clean =
 settled_right : (c : Cartridge) (table : List (List ℕ)) → TableIs c table → NoneWrongIn c 0 → NoneWrongIn (settled table c) 0
 settled_right c table reads none sector ds wrong =
     let e : Cartridge = settled table c in
-    let same : SameIn c e 0 = λ i h. (settled_keeps_table c table reads).others 0 i h (λ is. omega arith) in
+    let same : IsSameIn c e 0 = λ i h. (settled_keeps_table c table reads).others 0 i h (λ is. omega arith) in
     none sector ds (wrong_same e c (whole_segment 0) sector ds (same_back c e 0 same) wrong)
 
 deep_goes_mounted : (c : Cartridge) (header : Header) (ws : List ℕ) (table : List (List ℕ)) (entries : List Entry) (outcome : CommandOutcome) → NoneWrongIn c 0 →

@@ -10,7 +10,6 @@ use Rattle.cartridge_laws.specs.Shape.{Carries}
 use Rattle.cartridge_spec.specs.Appending.{part_writes, in_sectors}
 use Rattle.cartridge_spec.specs.Code.{parity_sectors}
 use Rattle.cartridge_spec.specs.Says.{with_parity}
-use Rattle.cartridge_spec.specs.Settling.{writes_of}
 use Rattle.cartridge_spec.specs.Shape.{mask_at, capacity, data_count, usable_places}
 use Rattle.command_laws.specs.InputLaws.{VolumeIsWrites, VolumePrintsNothing, FilledPrintsNothing, InputPrintsNothing, VolumeIsFree, FilledIsFree, InputIsFree, VolumeIsOfSectors, FilledIsOfSectors, InputIsOfSectors}
 use Rattle.command_spec.specs.Append.{segment_act, volume_acts, filled_acts, input_acts}
@@ -18,6 +17,8 @@ use Rattle.gf256_qic.proofs.Parities.{parity_sectors-are_sectors}
 use Rattle.qic_base.specs.Acts.{Act, steps_of, text_of}
 use Rattle.qic_base.specs.Cartridge.{IsSector}
 use Rattle.qic_base.specs.Step.{Step}
+use Rattle.cartridge_laws.proofs.AppendWhole.{writes_whole}
+use Rattle.qic_base.specs.Disk.{AreBytes}
 
 -- ---- a whole volume
 
@@ -128,9 +129,6 @@ input_is_free before words segments most exact input past =
 
 -- ---- whole sectors
 
-abbrev pub AreBytes : List ℕ → Type 0
-AreBytes bytes = All (λ b. b < 256) bytes
-
 -- any segment will do
 abbrev Anywhere : ℕ → Type 0
 Anywhere s = Unit {0}
@@ -138,12 +136,6 @@ Anywhere s = Unit {0}
 anywhere : (segments : List ℕ) → All Anywhere segments
 anywhere [] = All-nil Anywhere
 anywhere (s ∷ ss) = All-cons Anywhere s ss tt (anywhere ss)
-
-pub writes_whole : (s : ℕ) (places : List ℕ) (sectors : List (List ℕ)) → All IsSector sectors → AreWrites IsOfSector (writes_of s places sectors)
-writes_whole s [] sectors are = tt
-writes_whole s (place ∷ places) [] are = tt
-writes_whole s (place ∷ places) (bytes ∷ sectors) are =
-    (All-head IsSector bytes sectors are, writes_whole s places sectors (All-tail IsSector bytes sectors are))
 
 act_whole : (words : List ℕ) (s : ℕ) (bytes : List ℕ) → Anywhere s → AreBytes bytes → AreWrites IsOfSector (segment_act words s bytes).steps
 act_whole words s bytes any are =

@@ -15,28 +15,30 @@ use Rattle.command_laws.proofs.CommandOneLoss.{kept_whole}
 use Rattle.command_laws.proofs.IntactKeeping.{intact_is_one, whole_needs_no_steps, less_comes, next_comes, one_comes}
 use Rattle.command_laws.proofs.MountedFronts.{ends_in}
 use Rattle.command_laws.proofs.MountedKeeping.{changed_by_acts}
-use Rattle.command_laws.proofs.ScriptAnswered.{parted_stop, StopsBehind, Tears, acts_are, first_do, first_have, first_speak, long, more_printed, speak, stops_behind, torn_there}
+use Rattle.command_laws.proofs.ScriptAnswered.{parted_stop, StopsBehind, Tears, acts_are, first_do, first_have, first_speak, long, more_printed, speak, stops_behind}
 use Rattle.command_laws.proofs.ScriptReached.{AllLeave, Reached, leave_weaker, reached_behind, reached_between}
 use Rattle.command_laws.proofs.ScriptReading.{cartridge_is}
 use Rattle.command_laws.proofs.ScriptSpeaking.{AllSpeak}
-use Rattle.command_laws.proofs.ScriptStanding.{ItemLeaves, early_entry, early_writes, item_leaves, items_have_bytes, next_do, next_is}
+use Rattle.command_laws.proofs.ScriptStanding.{ItemLeaves, early_entry, item_leaves, items_have_bytes, next_do, next_is}
 use Rattle.command_laws.specs.ActStops.{Behind, Between}
 use Rattle.command_laws.specs.Intact.{IsIntact, StoppedScriptComesBack, AnsweredScriptComesBack, DoneScriptComesBack}
 use Rattle.command_laws.specs.MountedHeld.{IsHeld}
-use Rattle.command_laws.specs.ScriptStanding.{HaveBytes, plain_after, plain_behind}
+use Rattle.command_laws.specs.ScriptStanding.{HaveBytes, plain_after}
 use Rattle.command_spec.specs.Append.{Kept, entry_acts, input_writes, kept_over, room_in, taking}
 use Rattle.command_spec.specs.Input.{AtEnd, AtFault, AtStop, Ending, Item}
 use Rattle.command_spec.specs.Lines.{reply_behind}
-use Rattle.command_spec.specs.OneLoss.{ComesBackAsOneOf, SomeComeBack, with_items}
+use Rattle.command_spec.specs.OneLoss.{ComesBackAsOneOf, SomeComeBack}
 use Rattle.command_spec.specs.Script.{Did, EndDoes, Finds, ItemsDo, Meeting, Meets, Refuses, ScriptDoes, acts_of, acts_on, cartridge_behind, entries_behind, place_behind}
 use Rattle.command_laws.specs.ScriptTerms.{FaultDoes}
 use Rattle.command_spec.specs.Outcome.{CommandOutcome}
-use Rattle.command_spec.specs.ScriptLists.{ItemsSpare, ItemsSpareTable, CameFurther, GoesNoFurther, printed_by}
+use Rattle.command_spec.specs.ScriptLists.{ItemsSpare, ItemsSpareTable, CameFurther, GoesNoFurther, printed_by, with_items, plain_behind}
 use Rattle.qic_base.proofs.Joins.{steps_of-append, text_of-append}
 use Rattle.qic_base.proofs.Steps.{Torn-all, Torn-nothing}
 use Rattle.qic_base.specs.Acts.{Act, steps_of, next_steps, text_of}
 use Rattle.qic_base.specs.Cartridge.{Cartridge}
 use Rattle.qic_base.specs.Step.{Step, Torn}
+use Rattle.command_laws.proofs.CopyStanding.{behind_last}
+use Rattle.command_laws.proofs.MadeAnswered.{torn_behind}
 
 -- ---- the first items
 
@@ -84,7 +86,7 @@ items_come : (n : ℕ) (items : List Item) (dids : List Did) (c : Cartridge) (pl
     ItemsDo c plain.words (entries_of plain) items dids → Apart c plain (take n items) (take n dids) → EndComes (cartridge_behind c (take n dids)) (with_items plain items dids n) last →
     AllLeave Tears (λ m. SomeComeBack (with_items plain items dids) m n) c (take n dids) last
 items_come zero items dids c plain last some intact has ran behind ends =
-    λ front rest left parts torn. one_comes (with_items plain items dids) 0 left (ends left (torn_there front rest last c left parts torn))
+    λ front rest left parts torn. one_comes (with_items plain items dids) 0 left (ends left (torn_behind front rest last c left parts torn))
 items_come (suc n) [] dids c plain last some intact has ran behind ends = absurd (omega arith)
 items_come (suc n) (item ∷ items) [] c plain last some intact has ran behind ends = absurd ran
 items_come (suc n) (item ∷ items) (did ∷ dids) c plain last some intact has ran behind ends =
@@ -120,7 +122,7 @@ items_come (suc n) (item ∷ items) (did ∷ dids) c plain last some intact has 
           next = (omega arith, omega arith);
           within = omega arith;
           comes = subst (λ (p : Plain). IsSomeAnd left (ComesBackAsOneOf plain p)) (same 0)
-              (now.stopped left (torn_there front (act ∷ rest) did.acts c left whole torn));
+              (now.stopped left (torn_behind front (act ∷ rest) did.acts c left whole torn));
         });
       },
       leave_weaker Tears (λ m. SomeComeBack (with_items next items dids) m n) (λ m. SomeComeBack all (suc m) (suc n)) shift d (take n dids) last
@@ -148,7 +150,7 @@ early_comes c plain name n date bytes (Finds table) left intact meets short torn
     some_weaker left
     (λ d known f lost loses. inl (whole_comes_back d plain known.0
     (kept_whole c d plain.table_area (last_end (entries_of plain)) (last_end_least c plain intact.kept.stands) known.1 intact.table) intact.kept.stands.whole.table_area f lost loses))
-    (free_writes_stand c plain (steps_of writes) left intact.kept.stands (early_writes kept n bytes) now)
+    (free_writes_stand c plain (steps_of writes) left intact.kept.stands (behind_last kept n bytes) now)
 
 fault_comes : (c : Cartridge) (plain : Plain) (number : ℕ) (rest : List ℕ) (acts : List Act) (left : Option Cartridge) → IsIntact c plain →
     FaultDoes c plain.words (entries_of plain) number rest acts → Torn (steps_of acts) (Some c) left → IsSomeAnd left (ComesBackAsOneOf plain plain)

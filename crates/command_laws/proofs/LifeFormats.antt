@@ -11,12 +11,10 @@ use Rattle.cartridge_spec.specs.Says.{with_parity}
 use Rattle.cartridge_spec.specs.Volumes.{Plain, Stands}
 use Rattle.command_laws.proofs.CommandPlainLaws.{format_leaves}
 use Rattle.command_laws.proofs.CommandTable.{only_new_renews}
-use Rattle.command_laws.proofs.CommandVolumes.{cleared_is_bare, format_bare, format_standing, formatted_fresh}
+use Rattle.command_laws.proofs.CommandVolumes.{cleared_is_bare, format_bare, format_standing, formatted_fresh, renewed_effect}
 use Rattle.command_laws.proofs.CommandUnread.{neither_from_bare, neither_from_unformatted}
 use Rattle.command_laws.proofs.LifeUnformatted.{IsReferenced, formatting_references}
-use Rattle.command_laws.specs.CommandRecord.{NeitherReads}
 use Rattle.command_laws.specs.Outcomes.{NewOutcome}
-use Rattle.command_laws.specs.RunTerms.{IsBare}
 use Rattle.command_laws.specs.Life.{Ended, Answered, Stopped, Becomes, IsSoundWith, IsSound, IsWithout, Leaves, MayEnd, begun_by}
 use Rattle.command_spec.specs.Single.{FormatOutcome}
 use Rattle.command_spec.specs.Outcome.{CommandOutcome}
@@ -29,6 +27,7 @@ use Rattle.qic_base.specs.Cartridge.{Cartridge, new_cartridge}
 use Rattle.qic_base.specs.CartridgeTerms.{IsCartridge}
 use Rattle.qic_base.specs.Step.{Renew, effects, Torn}
 use Rattle.command_laws.proofs.CopyPrinted.{left_torn}
+use Rattle.cartridge_laws.specs.HeaderTerms.{NeitherReads, IsBare}
 use Rattle.command_spec.specs.declared.status.Status.TheVariants as status
 use Rattle.command_spec.specs.declared.words.Words.TheVariants as words
 
@@ -66,16 +65,12 @@ new_sound : (segments : ℕ) (begun : Bool) (left : Option Cartridge) → IfSome
 new_sound segments begun left whole is =
     without_bare begun left whole (subst (λ (o : Option Cartridge). IsSomeAnd o HasNoHeader) (sym is) (new_has_no_header segments))
 
-pub renewed : (segments : ℕ) (held : Option Cartridge) → effects (Renew segments ∷ []) held ≡ Some (new_cartridge segments)
-renewed segments None = refl
-renewed segments (Some c) = refl
-
 pub new_makes : (segments : ℕ) (input : List ℕ) (ended : Ended) (begun : Bool) (held left : Option Cartridge) (before : Option Plain) (outcome : CommandOutcome) →
     IsSound begun held before → NewOutcome segments outcome → Leaves ended outcome held left → IfSome left IsCartridge → Makes (words.New segments) input ended begun held left before
 new_makes segments input (Answered answer printed) begun held left before outcome sound is leaves whole = (
   None,
   refl,
-  new_sound segments false left whole (leaves.2 ∙ ap (λ (o : CommandOutcome). effects (steps_of o.acts) held) is ∙ renewed segments held),
+  new_sound segments false left whole (leaves.2 ∙ ap (λ (o : CommandOutcome). effects (steps_of o.acts) held) is ∙ renewed_effect segments held),
 )
 new_makes segments input (Stopped printed) begun held left before outcome sound is leaves whole =
     by_stop (subst (λ (o : CommandOutcome). Torn (steps_of o.acts) held left) is (torn_by (Stopped printed) outcome held left leaves))
@@ -83,7 +78,7 @@ new_makes segments input (Stopped printed) begun held left before outcome sound 
     by_stop : Torn (Renew segments ∷ []) held left → Makes (words.New segments) input (Stopped printed) begun held left before
     by_stop (inl same) = (before, inl refl, subst (λ (o : Option Cartridge). IsSound begun o before) (sym same) sound)
     by_stop (inr (inl none)) = (None, inr refl, subst (λ (o : Option Cartridge). IsSound begun o None) (sym none) tt)
-    by_stop (inr (inr new)) = (None, inr refl, new_sound segments begun left whole (new ∙ renewed segments held))
+    by_stop (inr (inr new)) = (None, inr refl, new_sound segments begun left whole (new ∙ renewed_effect segments held))
 
 -- ---- formatting
 

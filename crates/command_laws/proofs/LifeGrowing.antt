@@ -12,8 +12,8 @@ use Rattle.command_laws.proofs.CommandLeft.{leaves_whole}
 use Rattle.command_laws.proofs.CommandAppends.{course, done_fits, fits, kept_of}
 use Rattle.command_laws.proofs.RestoreGivenBack.{given, given_whole}
 use Rattle.command_laws.proofs.CommandTable.{has_values}
-use Rattle.command_laws.proofs.CommandVolumes.{formatted_fresh}
-use Rattle.command_laws.proofs.LifeFormats.{torn_by, renewed}
+use Rattle.command_laws.proofs.CommandVolumes.{formatted_fresh, renewed_effect}
+use Rattle.command_laws.proofs.LifeFormats.{torn_by}
 use Rattle.command_laws.proofs.LifeLaws.{event_makes}
 use Rattle.command_laws.proofs.WholeSteps.{new_whole}
 use Rattle.command_laws.specs.Life.{Answered, Becomes, Ended, Event, Happens, IsEmptied, IsSound, Lives, Loses, Runs, Stopped, begun_behind}
@@ -70,7 +70,7 @@ pub new_and_format_begin : NewAndFormatBegin
 new_and_format_begin segments label date answer input other printed text begun held left life =
     let first = life.1.0 in
     let is_new : life.0 ≡ Some (new_cartridge segments) =
-    first.leaves.2 ∙ ap (λ (o : CommandOutcome). effects (steps_of o.acts) held) first.plain ∙ renewed segments held in
+    first.leaves.2 ∙ ap (λ (o : CommandOutcome). effects (steps_of o.acts) held) first.plain ∙ renewed_effect segments held in
     format_begins label date other text false (new_cartridge segments) left (new_whole segments first.values)
     (subst (λ (o : Option Cartridge). Lives (Runs (run_of (words.Format label date) other (Answered status.Done text)) ∷ []) false o left) is_new life.2)
 

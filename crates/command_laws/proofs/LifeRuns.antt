@@ -12,11 +12,9 @@ use Rattle.cartridge_spec.specs.Mounting.{settled}
 use Rattle.cartridge_spec.specs.Settling.{changed_by}
 use Rattle.cartridge_spec.specs.Volumes.{Plain, Stands, entries_of}
 use Rattle.command_laws.proofs.CommandAppends.{append_done, append_refused, append_stopped}
-use Rattle.command_laws.proofs.CommandEnds.{done_or_not}
-use Rattle.command_laws.proofs.CommandSeveral.{WasMounted, WasTurned, behind_front, make_done, make_printed, make_stopped, mounted_or_turned, script_answered, script_stopped}
+use Rattle.command_laws.proofs.CommandSeveral.{WasTurned, behind_front, make_done, make_printed, make_stopped, mounted_or_turned, script_answered, script_stopped}
 use Rattle.command_laws.proofs.CommandTable.{copies_stay_bare, copies_stay_clean, laws_of, only_new_renews}
 use Rattle.command_laws.proofs.LifeFormats.{Makes, torn_by}
-use Rattle.command_laws.specs.CommandRecord.{NeitherReads}
 use Rattle.command_laws.proofs.MountedHeld.{mounted_held}
 use Rattle.command_laws.proofs.ScriptAnswered.{done_script_stands}
 use Rattle.command_laws.proofs.ScriptSpeaking.{as_many}
@@ -28,10 +26,10 @@ use Rattle.command_spec.specs.Input.{Item}
 use Rattle.command_spec.specs.Several.{IsHeard}
 use Rattle.command_spec.specs.Machine.{HasValues}
 use Rattle.command_laws.specs.Outcomes.{ScriptOutcome}
-use Rattle.command_spec.specs.Make.{made_contents}
+use Rattle.command_spec.specs.Make.{made_contents, with_made}
 use Rattle.command_spec.specs.Outcome.{CommandOutcome, output_of}
 use Rattle.command_spec.specs.Script.{Did, ScriptDoes, Scripting}
-use Rattle.command_spec.specs.ScriptLists.{all_added}
+use Rattle.command_spec.specs.ScriptLists.{all_added, with_items, plain_behind}
 use Rattle.command_laws.specs.CommandFields.{KeepsCopies, KeepsLive, KeepsVolumes, Yields}
 use Rattle.command_spec.specs.declared.status.Status.{Status}
 use Rattle.command_spec.specs.declared.words.Words.{Words}
@@ -39,6 +37,9 @@ use Rattle.qic_base.specs.Acts.{Act, steps_of, text_of}
 use Rattle.qic_base.specs.Cartridge.{Cartridge}
 use Rattle.qic_base.specs.CartridgeTerms.{IsCartridge}
 use Rattle.qic_base.specs.Step.{Step, Renew, WriteSector, effect, effects, Halfway, Torn}
+use Rattle.command_laws.proofs.MadeMachineLaws.{done_or_not}
+use Rattle.command_laws.proofs.CommandComplete.{GoesOn}
+use Rattle.cartridge_laws.specs.HeaderTerms.{NeitherReads}
 use Rattle.command_spec.specs.Several as several
 use Rattle.command_spec.specs.declared.status.Status.TheVariants as status
 use Rattle.command_spec.specs.declared.words.Words.TheVariants as words
@@ -176,15 +177,15 @@ module _ (seed count : ℕ) (c : Cartridge) (input : List ℕ) (begun : Bool) (p
   RunMakes ended = Makes (words.Make seed count) input ended begun (Some c) left (Some plain)
 
   abbrev StandsMade : ℕ → Option Cartridge → Type 0
-  StandsMade n l = IsSomeAnd l (λ d. Stands d (with_all plain (made_contents seed 1 n)))
+  StandsMade n l = IsSomeAnd l (λ d. Stands d (with_made plain seed n))
 
-  made_sound : (n : ℕ) → Torn (steps_of outcome.acts) (Some c) left → StandsMade n left → IsSound begun left (Some (with_all plain (made_contents seed 1 n)))
+  made_sound : (n : ℕ) → Torn (steps_of outcome.acts) (Some c) left → StandsMade n left → IsSound begun left (Some (with_made plain seed n))
   made_sound n torn stands =
-      ready_after (words.Make seed count) c input begun plain left outcome (with_all plain (made_contents seed 1 n)) (all_header plain (made_contents seed 1 n)) (λ segments is. cc) tt ready yields torn whole stands
+      ready_after (words.Make seed count) c input begun plain left outcome (with_made plain seed n) (all_header plain (made_contents seed 1 n)) (λ segments is. cc) tt ready yields torn whole stands
 
   all_made : (ended : Ended) → Torn (steps_of outcome.acts) (Some c) left → StandsMade count left → RunMakes ended
   all_made ended torn stands = (
-    Some (with_all plain (made_contents seed 1 count)),
+    Some (with_made plain seed count),
     record { made = count; within = omega arith; all = λ which. refl; is = refl },
     made_sound count torn stands,
   )
@@ -192,7 +193,7 @@ module _ (seed count : ℕ) (c : Cartridge) (input : List ℕ) (begun : Bool) (p
   some_made : (ended : Ended) → (WasDone ended ⊎ HasPrinted ended → ⊥) → Torn (steps_of outcome.acts) (Some c) left → RunMakes ended
   some_made ended never torn =
       let stopped = make_stopped seed count few c plain ready.whole ready.stands outcome left ready.live yields torn in (
-        Some (with_all plain (made_contents seed 1 stopped.0)),
+        Some (with_made plain seed stopped.0),
         record { made = stopped.0; within = stopped.1; all = λ which. absurd (never which); is = refl },
         made_sound stopped.0 torn stopped.2,
       )
@@ -267,21 +268,21 @@ module _ (c : Cartridge) (input : List ℕ) (begun : Bool) (plain : Plain) (left
   -- its lines were carried out
   some_lines : (ended : Ended) (came : CommandOutcome) (does : ScriptDoes (settled plain.table_area c) plain.words (entries_of plain) input came) (n : ℕ) → n ≤ length does.items →
       AnsweredAmong ended does.items does.dids n → Torn (steps_of outcome.acts) (Some c) left →
-      IsSomeAnd left (λ d. Stands d (with_all plain (all_added (entries_of plain) (take n does.items) (take n does.dids)))) → ScriptMakes ended
+      IsSomeAnd left (λ d. Stands d (with_items plain does.items does.dids n)) → ScriptMakes ended
   some_lines ended came does n within answered torn stands = (
-    Some (with_all plain (all_added (entries_of plain) (take n does.items) (take n does.dids))),
+    Some (with_items plain does.items does.dids n),
     inl (record { run = came; does = does; count = n; within = within; answered = answered; is = refl }),
-    script_sound (with_all plain (all_added (entries_of plain) (take n does.items) (take n does.dids))) (all_header plain (all_added (entries_of plain) (take n does.items) (take n does.dids))) torn stands,
+    script_sound (with_items plain does.items does.dids n) (all_header plain (all_added (entries_of plain) (take n does.items) (take n does.dids))) torn stands,
   )
 
   all_lines : (items : List Item) (dids : List Did) → length dids ≡ length items →
-      with_all plain (all_added (entries_of plain) (take (length items) items) (take (length items) dids)) ≡ with_all plain (all_added (entries_of plain) items dids)
+      with_all plain (all_added (entries_of plain) (take (length items) items) (take (length items) dids)) ≡ plain_behind plain items dids
   all_lines items dids long =
       ap (λ (xs : List Item). with_all plain (all_added (entries_of plain) xs (take (length items) dids))) (take_all (length items) items (omega arith))
-      ∙ ap (λ (ds : List Did). with_all plain (all_added (entries_of plain) items ds)) (take_all (length items) dids (omega arith))
+      ∙ ap (λ (ds : List Did). plain_behind plain items ds) (take_all (length items) dids (omega arith))
 
   -- the lines, as words of a script ask for them
-  abbrev as_scripted : (was : WasMounted (Scripting input) c plain outcome) → several.Scripted input (codes "script" ∷ []) c plain
+  abbrev as_scripted : (was : GoesOn (Scripting input) c plain outcome) → several.Scripted input (codes "script" ∷ []) c plain
   as_scripted was = record {
     spelled = inl (refl, tt);
     bytes = bytes;
@@ -290,7 +291,7 @@ module _ (c : Cartridge) (input : List ℕ) (begun : Bool) (plain : Plain) (left
     does = was.did.does;
   }
 
-  lines_make : (ended : Ended) → CommandSpares words.Script ended input left c → WasMounted (Scripting input) c plain outcome → Leaves ended outcome (Some c) left → ScriptMakes ended
+  lines_make : (ended : Ended) → CommandSpares words.Script ended input left c → GoesOn (Scripting input) c plain outcome → Leaves ended outcome (Some c) left → ScriptMakes ended
   lines_make (Answered answer printed) spares was (is, said, all) =
       let came : CommandOutcome = was.did.came in
       let does : ScriptDoes (settled plain.table_area c) plain.words (entries_of plain) input was.did.came = was.did.does in

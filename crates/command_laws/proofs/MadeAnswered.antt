@@ -52,7 +52,7 @@ append_prints_nothing seed c words es volume acts answer (inr (free, inr lost)) 
 
 -- ---- a stop behind a front of acts
 
-next_torn : (rest : List Act) (held left : Option Cartridge) → Torn (next_steps rest) held left → Torn (steps_of rest) held left
+pub next_torn : (rest : List Act) (held left : Option Cartridge) → Torn (next_steps rest) held left → Torn (steps_of rest) held left
 next_torn [] held left torn = torn
 next_torn (act ∷ rest) held left torn = Torn-front act.steps (steps_of rest) held left torn
 

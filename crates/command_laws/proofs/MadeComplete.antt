@@ -7,19 +7,20 @@ use Rattle.cartridge_spec.specs.Appending.{with_all, with_bytes}
 use Rattle.cartridge_spec.specs.Settling.{changed_by}
 use Rattle.cartridge_spec.specs.Table.{Entry}
 use Rattle.cartridge_spec.specs.Volumes.{carrying_segments, Plain, entries_of, Volume, Stands, volume_length}
-use Rattle.command_laws.proofs.MadeMachineLaws.{never_unlocked, never_lost, RunsBehind, RunsFront, after_items-append, runs_behind, runs_front}
+use Rattle.command_laws.proofs.MadeMachineLaws.{never_unlocked, RunsBehind, RunsFront, after_items-append, runs_behind, runs_front}
 use Rattle.command_laws.proofs.MadeStops.{AreStill, still_after, still_done, entries_more, StillBehind, behind_next, done_append_open, sum_in_no_step, appends_done, behind_is_still}
 use Rattle.command_laws.proofs.RestoreStanding.{restores_byte_for_byte}
 use Rattle.command_laws.specs.MadeLaws.{MadeWhereThereIsRoom}
 use Rattle.command_laws.specs.MountedKept.{IsOpen}
 use Rattle.command_laws.specs.RestoreLaws.{HasVolume}
-use Rattle.command_spec.specs.Make.{made_bytes, made_contents, MakeStep, AppendMade, WearSector, ScrubAll, SumVolume, wearing_in, wearing_volumes, StepDoes, Runs, made_answer, appending, summing, made_list, making, made_name}
+use Rattle.command_spec.specs.Make.{made_bytes, made_contents, MakeStep, AppendMade, WearSector, ScrubAll, SumVolume, wearing_in, wearing_volumes, StepDoes, Runs, made_answer, appending, summing, made_list, making, made_name, with_made}
 use Rattle.command_laws.specs.MadeTerms.{before_sums, first_two, IsSummed, after_items, wearing}
 use Rattle.command_spec.specs.Restore.{volume_at, LosesFew, pieces, Restores, ending_status}
 use Rattle.qic_base.specs.Acts.{Act, steps_of, text_of}
 use Rattle.qic_base.specs.Cartridge.{Cartridge}
 use Rattle.qic_base.specs.Step.{Step}
 use Rattle.command_spec.specs.declared.status.Status.{Status}
+use Rattle.cartridge_laws.proofs.MountOnce.{not_lost}
 use Rattle.command_spec.specs.declared.status.Status.TheVariants as status
 
 -- ---- worn sectors, and a scrub
@@ -89,7 +90,7 @@ append_goes : (seed : ℕ) (c : Cartridge) (plain : Plain) (volume : ℕ) (acts 
     made_answer seed plain.words (entries_of plain) volume ≡ status.Done → StepDoes seed c plain.words (entries_of plain) (AppendMade volume) acts answer → answer ≡ status.Done
 append_goes seed c plain volume acts answer held room (inl refused) = absurd (never_unlocked c refused.0 held.unprotected)
 append_goes seed c plain volume acts answer held room (inr (free, inl appended)) = appended.answered ∙ room
-append_goes seed c plain volume acts answer held room (inr (free, inr lost)) = absurd (never_lost c plain.table_area lost.0 held.table lost.1)
+append_goes seed c plain volume acts answer held room (inr (free, inr lost)) = absurd (not_lost c plain.table_area lost.0 held.table lost.1)
 
 -- so many volumes, from this one on, have room when their turn comes
 abbrev HaveRoomFrom : (seed : ℕ) → (words : List ℕ) → List Entry → (volume n : ℕ) → Type 0
@@ -201,7 +202,7 @@ made_where_there_is_room seed count c plain acts answer small held room few make
     let ran : Runs seed c words es front begun.acts status.Done = subst (λ (a : Status). Runs seed c words es front begun.acts a) done begun.runs in
     let behind : RunsBehind seed c words es front sums begun.acts acts answer = runs_behind seed c words es front sums begun.acts acts answer ran here in
     let d : Cartridge = changed_by (steps_of begun.acts) c in
-    let more : Plain = with_all plain (made_contents seed 1 count) in
+    let more : Plain = with_made plain seed count in
     let now : IsOpen d more = appends_done seed rest count c plain 1 begun.acts (omega arith) held still ran in
     let same : more.words ≡ words = made_words seed count plain 1 in
     let list : entries_of more ≡ made_list seed count words es = made_entries seed count plain 1 in

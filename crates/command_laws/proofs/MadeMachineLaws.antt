@@ -1,9 +1,6 @@
 -- The plain machine of `make`: it does one thing, and how its steps join.
 use Rattle.std.proofs.Common.{◌≡◌, List, sym, ◌∙◌, true, false, inl, inr, ℕ, ◌⊎◌, [], ap, Some, subst, ◌∷◌, ◌++◌, refl, append_assoc, append-nil, ◌≢◌}
-use Rattle.cartridge_laws.proofs.MountOnce.{one_table}
-use Rattle.cartridge_laws.proofs.TableSayings.{table_says_is_function}
-use Rattle.cartridge_spec.specs.TableSegment.{table_cells, TableIs}
-use Rattle.cartridge_spec.specs.Says.{AsRead, ByCode, Data, LostSectors, TableSays}
+use Rattle.cartridge_laws.proofs.MountOnce.{one_table, not_lost, one_loss}
 use Rattle.cartridge_spec.specs.Settling.{changed_by}
 use Rattle.cartridge_spec.specs.Table.{Entry}
 use Rattle.cartridge_spec.specs.Volumes.{volume_length}
@@ -31,28 +28,17 @@ both_are a b x y acts answer p q r s = (p ∙ sym q, r ∙ sym s)
 pub never_unlocked : (c : Cartridge) → c.info.protected ≡ true → c.info.protected ≡ false → ⊥
 never_unlocked c locked free = let same : true ≡ false = sym locked ∙ free in cc
 
--- a table that reads has not lost too much
-pub never_lost : (c : Cartridge) (area : List (List ℕ)) (lost : ℕ) → TableIs c area → TableSays (table_cells c) (ByCode (LostSectors lost)) → ⊥
-never_lost c area lost (inl reads) says =
-    let same : AsRead area ≡ ByCode (LostSectors lost) = table_says_is_function (table_cells c) (AsRead area) (ByCode (LostSectors lost)) reads says in cc
-never_lost c area lost (inr solved) says =
-    let same : ByCode (Data area) ≡ ByCode (LostSectors lost) = table_says_is_function (table_cells c) (ByCode (Data area)) (ByCode (LostSectors lost)) solved says in cc
-
-one_lost : (c : Cartridge) (m n : ℕ) → TableSays (table_cells c) (ByCode (LostSectors m)) → TableSays (table_cells c) (ByCode (LostSectors n)) → m ≡ n
-one_lost c m n one other =
-    let same : ByCode (LostSectors m) ≡ ByCode (LostSectors n) = table_says_is_function (table_cells c) (ByCode (LostSectors m)) (ByCode (LostSectors n)) one other in cc
-
 one_append : (seed : ℕ) (c : Cartridge) (words : List ℕ) (es : List Entry) (volume : ℕ) (a b : List Act) (x y : Status) →
     IsAppended seed c words es volume a x ⊎ IsTableLost c a x → IsAppended seed c words es volume b y ⊎ IsTableLost c b y → Same a b x y
 one_append seed c words es volume a b x y (inl one) (inl other) =
     let same : one.table ≡ other.table = one_table c one.table other.table one.reads other.reads in
     both_are a b x y (made_acts seed c words es other.table volume) (made_answer seed words es volume)
     (one.does ∙ ap (λ (t : List (List ℕ)). made_acts seed c words es t volume) same) other.does one.answered other.answered
-one_append seed c words es volume a b x y (inl one) (inr other) = absurd (never_lost c one.table other.0 one.reads other.1)
-one_append seed c words es volume a b x y (inr one) (inl other) = absurd (never_lost c other.table one.0 other.reads one.1)
+one_append seed c words es volume a b x y (inl one) (inr other) = absurd (not_lost c one.table other.0 one.reads other.1)
+one_append seed c words es volume a b x y (inr one) (inl other) = absurd (not_lost c other.table one.0 other.reads one.1)
 one_append seed c words es volume a b x y (inr one) (inr other) =
     both_are a b x y [] (status.Lost 2 other.0) one.2 other.2
-    (one.3 ∙ ap (λ (n : ℕ). status.Lost 2 n) (one_lost c one.0 other.0 one.1 other.1)) other.3
+    (one.3 ∙ ap (λ (n : ℕ). status.Lost 2 n) (one_loss c one.0 other.0 one.1 other.1)) other.3
 
 one_sum : (c : Cartridge) (words : List ℕ) (es : List Entry) (number : ℕ) (a b : List Act) (x y : Status) →
     IsSummed c words es number a x → IsSummed c words es number b y → Same a b x y

@@ -226,7 +226,7 @@ wears_volumes words [] = tt
 wears_volumes words (e ∷ es) =
     wears_both (wearing_in words (carrying_segments words e)) (wearing_volumes words es) (wears_in words (carrying_segments words e)) (wears_volumes words es)
 
-entry_there : (es : List Entry) (n : ℕ) → n < length es → (e : Entry) × (slice_get es n ≡ Some e)
+pub entry_there : (es : List Entry) (n : ℕ) → n < length es → (e : Entry) × (slice_get es n ≡ Some e)
 entry_there [] n within = absurd (omega arith)
 entry_there (e ∷ es) zero within = (e, refl)
 entry_there (e ∷ es) (suc n) within = entry_there es n (omega arith)

@@ -20,7 +20,7 @@ use Rattle.cartridge_spec.specs.Settling.{settling_steps, changed_by}
 use Rattle.cartridge_spec.specs.Shape.{mask_at, usable_places}
 use Rattle.cartridge_spec.specs.Table.{Entry}
 use Rattle.cartridge_spec.specs.Volumes.{Plain, entries_of, Stands, volume_length, carrying_segments, Volume, worn}
-use Rattle.command_laws.proofs.MadeMachineLaws.{never_lost, never_unlocked, runs_one}
+use Rattle.command_laws.proofs.MadeMachineLaws.{never_unlocked, runs_one}
 use Rattle.command_laws.proofs.MadeMadeBytes.{length-made_bytes}
 use Rattle.command_laws.proofs.MountedKeeping.{kept_open, scrubbed_open, worn_open, acts_stopped, changed_by_acts}
 use Rattle.command_laws.proofs.MountedStanding.{all_writes, no_writes, open_appended, kept_appended, stopped_appended}
@@ -39,6 +39,7 @@ use Rattle.qic_base.specs.Field.{filled}
 use Rattle.qic_base.specs.Step.{Step, Wear, Torn}
 use Rattle.command_spec.specs.declared.status.Status.{Status}
 use Rattle.command_laws.proofs.ScrubPlain.{as_plain}
+use Rattle.cartridge_laws.proofs.MountOnce.{not_lost}
 use Rattle.command_spec.specs.declared.status.Status.TheVariants as status
 
 -- a fact of two or of one, of what a stop left
@@ -141,7 +142,7 @@ module _ (seed : ℕ) (c : Cartridge) (plain : Plain) (held : IsOpen c plain) (v
       IsAppended seed c plain.words (entries_of plain) volume acts answer
   append_is acts answer (inl refused) = absurd (never_unlocked c refused.0 held.unprotected)
   append_is acts answer (inr (free, inl appended)) = appended
-  append_is acts answer (inr (free, inr lost)) = absurd (never_lost c plain.table_area lost.0 held.table lost.1)
+  append_is acts answer (inr (free, inr lost)) = absurd (not_lost c plain.table_area lost.0 held.table lost.1)
 
   -- where it was carried out there was room, and all its steps were done
   pub done_append : (acts : List Act) → StepDoes seed c plain.words (entries_of plain) (AppendMade volume) acts status.Done →

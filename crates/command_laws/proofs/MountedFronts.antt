@@ -55,7 +55,7 @@ front_within (x ∷ front) rest (a ∷ acts) entry e short none =
 pub no_nil : (x : Act) (xs : List Act) → x ∷ xs ≢ []
 no_nil x xs e = absurd (cc)
 
-no_first : (xs ys : List Step) → xs ++ ys ≡ [] → xs ≡ []
+pub no_first : (xs ys : List Step) → xs ++ ys ≡ [] → xs ≡ []
 no_first [] ys none = refl
 no_first (x ∷ xs) ys none = absurd (cc)
 

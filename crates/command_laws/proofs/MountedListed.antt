@@ -42,7 +42,7 @@ use Rattle.command_laws.proofs.ScrubApart.{looked_rise}
 use Rattle.command_laws.proofs.ScrubDone.{done_being_mended}
 use Rattle.command_laws.proofs.ScrubPlain.{as_plain}
 use Rattle.command_laws.proofs.ScrubStanding.{looks_in_front, written_kept}
-use Rattle.command_laws.proofs.StoreAgain.{list_shown, table_one}
+use Rattle.command_laws.proofs.StoreAgain.{list_shown}
 use Rattle.command_laws.proofs.StoreBehind.{AreBehind, input_behind, settled_behind}
 use Rattle.command_laws.proofs.StoreEnding.{list_more, took_fits}
 use Rattle.command_laws.proofs.StoreSettled.{settled_list}
@@ -56,6 +56,7 @@ use Rattle.command_spec.specs.Scrub.{looked_at, whole_segment}
 use Rattle.qic_base.specs.Acts.{Act, steps_of}
 use Rattle.qic_base.specs.Step.{Step}
 use Rattle.qic_base.specs.declared.tape.TapeInfo.{TapeInfo}
+use Rattle.cartridge_laws.proofs.MountOnce.{one_table}
 
 -- ---- the block of a list
 
@@ -140,7 +141,7 @@ module _ (c : Cartridge) (words : List ℕ) (entries : List Entry) (table : List
   area : IsArea table
   area =
       let has : HasList c entries = listed.list mark in
-      subst IsArea (table_one c (data_of has.block) table
+      subst IsArea (one_table c (data_of has.block) table
       (written_table c (data_of has.block) (listed_area c entries has) (listed_written c entries has) (can_be_read c table reads)) reads)
       (listed_area c entries has)
 

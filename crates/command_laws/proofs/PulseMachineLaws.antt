@@ -4,7 +4,7 @@ use Rattle.std.proofs.lemmas.List.{length-append}
 use Rattle.command_laws.proofs.PulseTrains.{pulse_line, train_acts-append}
 use Rattle.command_laws.proofs.TextInputs.{one_reading, pulses}
 use Rattle.command_laws.proofs.TextReadings.{each_pulses}
-use Rattle.command_laws.specs.PulseLaws.{EachOutcome, OneOutcome, TrainsAreLines, FaultsAreBehind, FrontsDoFronts}
+use Rattle.command_laws.specs.PulseLaws.{PulsesHaveAnOutcome, PulsesHaveOneOutcome, TrainsAreLines, FaultsAreBehind, FrontsDoFronts}
 use Rattle.command_spec.specs.Input.{IsPulse, Ending, HasItems, most_items, AtEnd, AtStop, AtFault, input_status}
 use Rattle.command_spec.specs.Outcome.{CommandOutcome}
 use Rattle.command_laws.specs.PulseRuns.{PulseRun, PulsesOutcome, info_of, outcome_of, after_trains, pulses_answer, sent, sent_status}
@@ -14,14 +14,14 @@ use Rattle.drive_spec.specs.Record.{power_on}
 use Rattle.qic_base.specs.Acts.{Act}
 use Rattle.qic_base.specs.Cartridge.{Cartridge}
 
-pub each_outcome : EachOutcome
+pub each_outcome : PulsesHaveAnOutcome
 each_outcome known input =
     let reading = each_pulses input in (
       outcome_of (power_on known) input reading.0 reading.1.0,
       record { trains = reading.0; ending = reading.1.0; read = reading.1.1; comes = refl },
     )
 
-pub one_outcome : OneOutcome
+pub one_outcome : PulsesHaveOneOutcome
 one_outcome known input a b first second =
     let same = one_reading IsPulse pulses 1 0 input first.trains second.trains first.ending second.ending first.read second.read in
     first.comes ∙ ap (λ ps. outcome_of (power_on known) input ps first.ending) same.0

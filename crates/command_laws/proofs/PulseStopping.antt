@@ -1,17 +1,18 @@
 -- What a stop in trains leaves.
 use Rattle.std.proofs.Common.{◌≡◌, List, [], ◌∷◌, Bool, true, false, if◌then◌else◌, refl, is_none, Option, Some, None, ℕ, ◌++◌, ◌⊎◌, inl, inr, subst, ◌∙◌}
 use Rattle.command_laws.specs.PulseLaws.{StopsLeave}
-use Rattle.command_spec.specs.Pulses.{train_changes, pulsed_row, train_acts}
+use Rattle.command_spec.specs.Pulses.{train_acts}
 use Rattle.drive_spec.specs.Terms.{refusal_of}
 use Rattle.drive_spec.specs.Effects.{ticked}
 use Rattle.drive_spec.specs.Record.{Record}
-use Rattle.drive_spec.specs.Steps.{reference_steps, command_steps, is_idle}
+use Rattle.drive_spec.specs.Steps.{reference_steps, command_steps, is_idle, train_changes}
 use Rattle.drive_spec.specs.declared.deck.Deck.{Deck}
 use Rattle.qic117_commands.specs.Commands.{command_at}
 use Rattle.qic117_commands.specs.declared.command.Command.{Command}
 use Rattle.qic117_commands.specs.declared.command.Command.TheVariants.{WriteReference}
 use Rattle.qic_base.specs.Cartridge.{Cartridge}
 use Rattle.qic_base.specs.Step.{Step, SetReferenced, effect, Torn}
+use Rattle.drive_spec.specs.Row.{pulsed_row}
 use Rattle.qic_base.specs.Acts as acts
 
 -- all of the steps write the reference bursts

@@ -3,15 +3,14 @@ use Rattle.std.proofs.Common.{◌≡◌, ℕ, List, [], ◌∷◌, ◌++◌, ◌
 use Rattle.std.proofs.lemmas.List.{length_push}
 use Rattle.std.proofs.lemmas.Bool.Decides.{nat_tests}
 use Rattle.command_spec.specs.Input.{IsPulse}
-use Rattle.command_spec.specs.Pulses.{pulsed_row, train_acts, train_line, train_lines, train_changes}
+use Rattle.command_spec.specs.Pulses.{train_acts, train_line, train_lines}
 use Rattle.command_laws.specs.PulseRuns.{train_act, after_trains}
 use Rattle.drive_spec.specs.Terms.{refusal_of, obeyed, idled, longer}
 use Rattle.drive_spec.specs.Deck.{is_streaming}
 use Rattle.drive_spec.specs.Effects.{given, reset, ticked}
 use Rattle.drive_spec.specs.Parameters.{parameter_trains, parameter_values, parameter_code}
 use Rattle.drive_spec.specs.Record.{Record}
-use Rattle.drive_spec.specs.Row.{heard, by_command, by_refusal, given_more, moved_on, latched, showing, after_gap}
-use Rattle.drive_spec.specs.Steps.{gap_steps}
+use Rattle.drive_spec.specs.Row.{heard, by_command, by_refusal, given_more, moved_on, latched, showing, pulsed_row}
 use Rattle.drive_spec.specs.declared.under_way.Parameter.{Parameter}
 use Rattle.drive_spec.specs.declared.under_way.UnderWay.{UnderWay}
 use Rattle.drive_spec.specs.declared.under_way.UnderWay.TheVariants.{Nothing, Report, Awaited}
@@ -92,9 +91,9 @@ module _ (b : Record) (train : ℕ) where
   idled-counted true = refl
   idled-counted false = refl
 
-pub after_train-counted : (r : Record) (train : ℕ) → (pulsed_row r train).train ≡ 0
+pub pulsed_row-counted : (r : Record) (train : ℕ) → (pulsed_row r train).train ≡ 0
 unfolding pulsed_row
-after_train-counted r train = by_count (train == 0) refl
+pulsed_row-counted r train = by_count (train == 0) refl
   where
     by_count : (none : Bool) → (train == 0) ≡ none →
         (if none then idled (record r { deck = ticked r.deck; train = train }) else obeyed (record r { deck = ticked r.deck; line = false; train = 0 }) train).train ≡ 0
@@ -102,14 +101,3 @@ after_train-counted r train = by_count (train == 0) refl
         let zero : train ≡ 0 = grind (arith, nat_tests) in
         idled-counted (record r { deck = ticked r.deck; train = train }) train (is_streaming (ticked r.deck).motion) ∙ zero
     by_count false e = obeyed-counted (record r { deck = ticked r.deck; line = false; train = 0 }) train (train == number_of Reset)
-
--- ---- the pulses of one train
-
--- so many pulses were sent, and a gap
-pub sent : (start counted : Record) (n train : ℕ) → counted ≡ record start { train = n } → n ≡ train → after_gap counted ≡ pulsed_row start train
-unfolding pulsed_row
-sent start counted n train same all = ap after_gap same ∙ ap (λ (k : ℕ). after_gap (record start { train = k })) all
-
-pub sent_steps : (start counted : Record) (n train : ℕ) → counted ≡ record start { train = n } → n ≡ train → gap_steps counted ≡ train_changes start train
-unfolding train_changes
-sent_steps start counted n train same all = ap gap_steps same ∙ ap (λ (k : ℕ). gap_steps (record start { train = k })) all

@@ -5,7 +5,7 @@ use Rattle.cartridge_laws.proofs.Cells.{count_of_readable, readable_from_count}
 use Rattle.cartridge_laws.proofs.ChangeStanding.{count_grows}
 use Rattle.cartridge_laws.proofs.ChangeViews.{ReadsNoMore, held_before, worn_reads_no_more}
 use Rattle.cartridge_laws.proofs.FormatCopies.{view_held, unformatted_from_bare}
-use Rattle.cartridge_laws.proofs.FormatDone.{formatted_holds, formatting_formats, cleared, cleared_front, first_writable, first_written, length-with_parity, second_writable, with_first}
+use Rattle.cartridge_laws.proofs.FormatDone.{formatted_holds, formatting_formats, cleared, cleared_front, first_writable, first_written, second_writable, with_first}
 use Rattle.cartridge_laws.proofs.FormatHalfway.{IsKeptOrBare, clearing_stopped}
 use Rattle.cartridge_laws.proofs.FormatStanding.{same_cells}
 use Rattle.cartridge_laws.proofs.FormatWriting.{effects-some, some_weaker, IsPartlyWritten, changed_by-append, copy_stopped, some_and}
@@ -30,9 +30,9 @@ use Rattle.command_laws.specs.ReadableLaws.{ComesBackCanBeRead, FormattedCanBeRe
 use Rattle.command_spec.specs.Single.{FormatOutcome}
 use Rattle.command_spec.specs.Headline.{EachLeft, Stepped, ToldNow, StopLeaves, WordsLeave}
 use Rattle.command_spec.specs.Machine.{Spells, is_fault}
-use Rattle.command_spec.specs.OneLoss.{ComesBackAsOneOf, with_items, with_made, with_one, StoppedComesBack}
+use Rattle.command_spec.specs.OneLoss.{ComesBackAsOneOf, with_one, StoppedComesBack}
 use Rattle.command_spec.specs.Outcome.{CommandOutcome}
-use Rattle.command_spec.specs.ScriptLists.{ItemsSpareTable}
+use Rattle.command_spec.specs.ScriptLists.{ItemsSpareTable, with_items}
 use Rattle.command_laws.specs.CommandFields.{KeepsLive, Yields}
 use Rattle.command_spec.specs.Volumes.{StillHolds}
 use Rattle.command_spec.specs.declared.status.Status.{Status}
@@ -50,6 +50,8 @@ use Rattle.command_laws.proofs.ReadableProtected.{protected_script_reads}
 use Rattle.command_spec.specs.Several.{OverInput, Scripted}
 use Rattle.qic_base.specs.Source.{IsInput}
 use Rattle.cartridge_laws.proofs.FormatStops.{bare_kept}
+use Rattle.cartridge_laws.proofs.MountParts.{length-block}
+use Rattle.command_spec.specs.Make.{with_made}
 use Rattle.qic_base.specs.Tape as tapes
 use Rattle.qic_base.specs.Sink as sinks
 use Rattle.qic_base.specs.Source as sources
@@ -204,7 +206,7 @@ format_torn : (c : Cartridge) (area : List (List ℕ)) (left : Option Cartridge)
     Torn (format_steps c.info.segments_per_track area) (Some c) left → IsSomeAnd left ReadableOrNot
 format_torn c area left whole is_area front reads torn =
     let block : List (List ℕ) = with_parity area in
-    let long : length block ≡ 32 = length-with_parity area is_area in
+    let long : length block ≡ 32 = length-block area is_area in
     let clearing : List Step = clearing_steps c.info.segments_per_track in
     let first : List Step = copy_writes 0 block in
     let second : List Step = copy_writes 1 block in

@@ -22,7 +22,7 @@ not_mismatch : (cells : List SectorView) (sectors : List (List ℕ)) → Says ce
 not_mismatch cells sectors data_said none = none.1 data_said.1.block data_said.1.code data_said.1.agrees
 
 -- a piece that is read ends nothing
-read_goes_on : (c : Cartridge) (words : List ℕ) (piece : Piece) (act : Act) (ending : GivingEnd) → IsRead c words piece act →
+pub read_goes_on : (c : Cartridge) (words : List ℕ) (piece : Piece) (act : Act) (ending : GivingEnd) → IsRead c words piece act →
     PieceEnds c words piece ending → ⊥
 read_goes_on c words piece act Restored read ends = ends
 read_goes_on c words piece act (LostIn s n) read ends = not_lost (piece_cells c words piece) read.sectors n read.says ends.1
@@ -44,7 +44,7 @@ data_of_saying (Data sectors) = sectors
 data_of_saying (LostSectors n) = []
 data_of_saying Mismatch = []
 
-one_act : (c : Cartridge) (words : List ℕ) (piece : Piece) (x y : Act) → IsRead c words piece x → IsRead c words piece y → x ≡ y
+pub one_act : (c : Cartridge) (words : List ℕ) (piece : Piece) (x y : Act) → IsRead c words piece x → IsRead c words piece y → x ≡ y
 unfolding data_of_saying
 one_act c words piece x y hx hy =
     let same : Data hx.sectors ≡ Data hy.sectors =

@@ -14,6 +14,7 @@ use Rattle.cartridge_spec.specs.Volumes.{Plain, WearSpares}
 use Rattle.command_spec.specs.declared.line.Line.{Line}
 use Rattle.qic_base.specs.Cartridge.{Cartridge, IsPlace}
 use Rattle.qic_base.specs.Step.{Step}
+use Rattle.command_laws.proofs.CommandOpened.{quiet}
 use Rattle.command_spec.specs.declared.line.Line.TheVariants as line
 
 -- ---- lines that wear a sector
@@ -32,10 +33,6 @@ line_spares c plain (line.Lose segment sector) spares = spares segment sector re
 line_spares c plain asked spares = tt
 
 -- ---- acts
-
--- an act that prints nothing
-abbrev pub quietly : List Step → Act
-quietly steps = record { steps = steps; text = [] }
 
 not_less : (m n : ℕ) → n ≤ m → nat_lt m n ≡ false
 not_less m n le = elim (cases_Bool (nat_lt m n)) [
@@ -74,8 +71,8 @@ module _ (kept : Kept) (name : List ℕ) (date n : ℕ) (input : List ℕ) (enou
 
   pub same_acts : (reply : Entry → List ℕ) → append_acts kept name date (Some n) reply input ≡ append_acts kept name date (Some n) reply (take n input)
   same_acts reply =
-      ap (λ (acts : List Act). quietly kept.settling ∷ (acts ++ entry_acts kept name date reply (taking (room_in kept) (Some n) input))) same_writes
-      ∙ ap (λ (became : Taking). quietly kept.settling ∷ (input_writes kept.words kept.entries (Some n) (take n input) ++ entry_acts kept name date reply became)) same_taking
+      ap (λ (acts : List Act). quiet kept.settling ∷ (acts ++ entry_acts kept name date reply (taking (room_in kept) (Some n) input))) same_writes
+      ∙ ap (λ (became : Taking). quiet kept.settling ∷ (input_writes kept.words kept.entries (Some n) (take n input) ++ entry_acts kept name date reply became)) same_taking
 
 -- ---- what became of an input
 
@@ -117,10 +114,10 @@ module _ (kept : Kept) (name : List ℕ) (date n : ℕ) (small : has_promised_ro
   full_taking bytes = ap (λ (b : Bool). cond b (cond (nat_lt (length bytes) n) (TooShort n (length bytes)) (Fits (take n bytes))) (TooLong n (room_in kept))) small
 
   -- the table is settled alone
-  pub full_acts : (reply : Entry → List ℕ) (bytes : List ℕ) → append_acts kept name date (Some n) reply bytes ≡ quietly kept.settling ∷ []
+  pub full_acts : (reply : Entry → List ℕ) (bytes : List ℕ) → append_acts kept name date (Some n) reply bytes ≡ quiet kept.settling ∷ []
   full_acts reply bytes =
-      ap (λ (b : Bool). quietly kept.settling ∷ (cond b (input_acts kept.words (free_in kept) n true bytes) [] ++ entry_acts kept name date reply (taking (room_in kept) (Some n) bytes))) small
-      ∙ ap (λ (became : Taking). quietly kept.settling ∷ entry_acts kept name date reply became) (full_taking bytes)
+      ap (λ (b : Bool). quiet kept.settling ∷ (cond b (input_acts kept.words (free_in kept) n true bytes) [] ++ entry_acts kept name date reply (taking (room_in kept) (Some n) bytes))) small
+      ∙ ap (λ (became : Taking). quiet kept.settling ∷ entry_acts kept name date reply became) (full_taking bytes)
 
 -- ---- too few
 
@@ -128,8 +125,8 @@ module _ (kept : Kept) (name : List ℕ) (date n : ℕ) (small : has_promised_ro
 pub short_acts : (kept : Kept) (name : List ℕ) (date n : ℕ) (one other : Entry → List ℕ) (input : List ℕ) (asked got : ℕ) → taking (room_in kept) (Some n) input ≡ TooShort asked got →
     append_acts kept name date (Some n) one input ≡ append_acts kept name date (Some n) other input
 short_acts kept name date n one other input asked got took =
-    ap (λ (became : Taking). quietly kept.settling ∷ (input_writes kept.words kept.entries (Some n) input ++ entry_acts kept name date one became)) took
-    ∙ sym (ap (λ (became : Taking). quietly kept.settling ∷ (input_writes kept.words kept.entries (Some n) input ++ entry_acts kept name date other became)) took)
+    ap (λ (became : Taking). quiet kept.settling ∷ (input_writes kept.words kept.entries (Some n) input ++ entry_acts kept name date one became)) took
+    ∙ sym (ap (λ (became : Taking). quiet kept.settling ∷ (input_writes kept.words kept.entries (Some n) input ++ entry_acts kept name date other became)) took)
 
 -- ---- the reply
 
@@ -142,7 +139,7 @@ input_texts kept promised input = by_room (has_promised_room (room_in kept) prom
 
 -- all acts but the last
 abbrev pub front_acts : Kept → (n : ℕ) → (input : List ℕ) → List Act
-front_acts kept n input = quietly kept.settling ∷ input_writes kept.words kept.entries (Some n) input
+front_acts kept n input = quiet kept.settling ∷ input_writes kept.words kept.entries (Some n) input
 
 -- the last one, whose reply is this
 abbrev pub last_act : Kept → (name : List ℕ) → (date : ℕ) → (reply : Entry → List ℕ) → (bytes : List ℕ) → List Act
@@ -150,7 +147,7 @@ last_act kept name date reply bytes = entry_acts kept name date reply (Fits byte
 
 module _ (kept : Kept) (name : List ℕ) (date n : ℕ) (input bytes : List ℕ) (took : taking (room_in kept) (Some n) input ≡ Fits bytes) where
   pub fits_acts : (reply : Entry → List ℕ) → append_acts kept name date (Some n) reply input ≡ front_acts kept n input ++ last_act kept name date reply bytes
-  fits_acts reply = ap (λ (became : Taking). quietly kept.settling ∷ (input_writes kept.words kept.entries (Some n) input ++ entry_acts kept name date reply became)) took
+  fits_acts reply = ap (λ (became : Taking). quiet kept.settling ∷ (input_writes kept.words kept.entries (Some n) input ++ entry_acts kept name date reply became)) took
 
   front_text : text_of (front_acts kept n input) ≡ []
   front_text = input_texts kept (Some n) input

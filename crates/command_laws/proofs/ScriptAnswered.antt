@@ -15,32 +15,20 @@ use Rattle.command_laws.proofs.ScriptReading.{cartridge_is}
 use Rattle.command_laws.proofs.ScriptSpeaking.{AllSpeak, as_many, script_speaks}
 use Rattle.command_laws.proofs.ScriptStanding.{fault_stands, items_have_bytes, items_stand, ItemLeaves, item_leaves, next_do, next_is}
 use Rattle.command_laws.specs.MountedHeld.{IsHeld}
-use Rattle.command_laws.specs.ScriptStanding.{HaveBytes, AnsweredBetween, AnsweredBehind, StoppedScriptStands, DoneScriptStands, plain_behind, plain_after}
+use Rattle.command_laws.specs.ScriptStanding.{HaveBytes, AnsweredBetween, AnsweredBehind, StoppedScriptStands, DoneScriptStands, plain_after}
 use Rattle.command_spec.specs.Input.{Ending, AtEnd, AtStop, AtFault, Item}
 use Rattle.command_spec.specs.Script.{EndDoes, ScriptDoes, cartridge_behind, entries_behind, place_behind, Did, ItemsDo, acts_of}
 use Rattle.command_spec.specs.Outcome.{CommandOutcome}
-use Rattle.command_spec.specs.ScriptLists.{FirstSpare, ItemsSpare, StandsAnswered, printed_by}
+use Rattle.command_spec.specs.ScriptLists.{FirstSpare, ItemsSpare, StandsAnswered, printed_by, plain_behind}
 use Rattle.qic_base.proofs.Joins.{steps_of-append, text_of-append}
-use Rattle.qic_base.proofs.Steps.{Torn-front, Torn-behind, Torn-append, Torn-nothing, Torn-all}
+use Rattle.qic_base.proofs.Steps.{Torn-append, Torn-nothing, Torn-all}
 use Rattle.qic_base.specs.Acts.{Act, steps_of, next_steps, text_of}
 use Rattle.qic_base.specs.Cartridge.{Cartridge}
 use Rattle.qic_base.specs.Step.{Step, Torn}
 use Rattle.command_laws.proofs.MadeStops.{some_split}
+use Rattle.command_laws.proofs.MadeAnswered.{torn_behind}
 
 -- ---- stops among acts
-
-pub next_torn : (acts : List Act) (held left : Option Cartridge) → Torn (next_steps acts) held left → Torn (steps_of acts) held left
-next_torn [] held left torn = torn
-next_torn (act ∷ acts) held left torn = Torn-front act.steps (steps_of acts) held left torn
-
--- a stop in the act behind a front
-pub torn_there : (front rest acts : List Act) (c : Cartridge) (left : Option Cartridge) → front ++ rest ≡ acts → Torn (next_steps rest) (Some (changed_by (steps_of front) c)) left →
-    Torn (steps_of acts) (Some c) left
-torn_there front rest acts c left parts torn =
-    subst (λ (ss : List Step). Torn ss (Some c) left) (sym (steps_of-append front rest) ∙ ap steps_of parts)
-    (Torn-behind (steps_of front) (steps_of rest) (Some c) left
-    (subst (λ (held : Option Cartridge). Torn (steps_of rest) held left) (sym (effects-some (steps_of front) c))
-    (next_torn rest (Some (changed_by (steps_of front) c)) left torn)))
 
 -- a stop among acts is one in the act behind a front
 pub record StopsBehind (acts : List Act) (c : Cartridge) (left : Option Cartridge) : Type 0 where
@@ -103,7 +91,7 @@ StandsBehind plain items dids n left = IsSomeAnd left (λ d. Stands d (plain_beh
 all_stand : (items : List Item) (dids : List Did) (c : Cartridge) (plain : Plain) (last : List Act) → IsHeld c plain → IsTableLive c → HaveBytes items →
     ItemsDo c plain.words (entries_of plain) items dids → ItemsSpare c plain items dids → EndStands (cartridge_behind c dids) (plain_behind plain items dids) last →
     AllLeave Tears (StandsBehind plain items dids) c dids last
-all_stand [] [] c plain last held live has ran spares ends = λ front rest left parts torn. ends left (torn_there front rest last c left parts torn)
+all_stand [] [] c plain last held live has ran spares ends = λ front rest left parts torn. ends left (torn_behind front rest last c left parts torn)
 all_stand [] (did ∷ dids) c plain last held live has ran spares ends = absurd ran
 all_stand (item ∷ items) [] c plain last held live has ran spares ends = absurd ran
 all_stand (item ∷ items) (did ∷ dids) c plain last held live has ran spares ends =
@@ -116,7 +104,7 @@ all_stand (item ∷ items) (did ∷ dids) c plain last held live has ran spares 
         done = subst (λ (p : Plain). Stands d p) one leaves.done.stands;
         stopped = λ front act rest left whole torn. some_split (λ e. Stands e plain) (λ e. Stands e first) left
             (subst (λ (p : Plain). IsSomeAnd left (λ e. Stands e plain ⊎ Stands e p)) one
-            (leaves.stopped live left (torn_there front (act ∷ rest) did.acts c left whole torn)));
+            (leaves.stopped live left (torn_behind front (act ∷ rest) did.acts c left whole torn)));
       },
       leave_weaker Tears (StandsBehind next items dids) (λ n. StandsBehind plain (item ∷ items) (did ∷ dids) (suc n))
           (λ n left. subst (λ (p : Plain). IsSomeAnd left (λ e. Stands e p)) (next_is plain item did (take n items) (take n dids) leaves.entries)) d dids last

@@ -1,8 +1,8 @@
 -- Whether an append's line begins some bytes, with fewer behind it than it promises.
 use Rattle.std.proofs.Common.{ℕ, List, ◌≡◌, ◌+◌, [], ◌∷◌, ◌++◌, sym, ap, ◌∙◌, append_assoc, subst, ◌<◌, ◌≤◌, arith, length, refl, inr, inl}
 use Rattle.std.proofs.lemmas.List.{append_cancel_left}
-use Rattle.command_laws.proofs.TextDeciding.{along, at_most, both, has_form}
-use Rattle.cartridge_laws.proofs.Search.{Decided}
+use Rattle.command_laws.proofs.TextDeciding.{at_most, both, has_form}
+use Rattle.cartridge_laws.proofs.Search.{Decided, decide_as}
 use Rattle.command_laws.proofs.TextLined.{one_before}
 use Rattle.command_laws.proofs.TextReadings.{Cut, cut, no_line_without}
 use Rattle.command_laws.specs.Inputs.{IsLine, words_of}
@@ -35,13 +35,13 @@ has_at : (rest : List ℕ) (c : Cut rest) (early : EndsEarly rest) → IsLine c.
 has_at rest c early = subst (λ (t : List ℕ). IsLine t (line_of rest early)) (at_cut rest c early).before early.lined.has
 
 below : (m n : ℕ) → Decided (m < n)
-below m n = along (m + 1 ≤ n) (m < n) (λ h. omega arith) (λ h. omega arith) (at_most (m + 1) n)
+below m n = decide_as (m + 1 ≤ n) (m < n) (λ h. omega arith) (λ h. omega arith) (at_most (m + 1) n)
 
 -- the only line that the bytes before the first newline can be
 by_line : (rest : List ℕ) (c : Cut rest) (l : Line) → lines.guess (words_of c.before) ≡ l → Decided (EndsEarly rest)
 by_line rest c (line.Append name count date) is =
     let asked : Line = line.Append name count date in
-    along ((length c.before ≤ 127) × (IsLine c.before asked × (length c.rest < count))) (EndsEarly rest)
+    decide_as ((length c.before ≤ 127) × (IsLine c.before asked × (length c.rest < count))) (EndsEarly rest)
     (λ h. record {
       name = name;
       promised = count;

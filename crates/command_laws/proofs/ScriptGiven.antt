@@ -3,6 +3,7 @@ use Rattle.std.proofs.Common.{◌≡◌, ℕ, ◌+◌, List, ◌++◌, Option, S
 use Rattle.std.specs.Option.{option_map}
 use Rattle.std.proofs.Math.Seq.{take-append_seam}
 use Rattle.std.proofs.lemmas.List.{length-append, length-take, length-drop, take_all, nil_from_length, drop-take}
+use Rattle.qic_base.specs.Source.{IsInput}
 
 -- a source that tells nothing tells nothing later
 untold : (p : Option (List ℕ)) (given : List ℕ) → None ≡ option_map (λ rest. given ++ rest) p → p ≡ None
@@ -34,7 +35,7 @@ told_all all rest given input n count left is long limit told enough after =
     is ∙ ap (λ (bs : List ℕ). bs ++ rest) (sym same)
 
 pub gave_all : (o p : Option (List ℕ)) (given input : List ℕ) (n count left : ℕ) → o ≡ option_map (λ rest. given ++ rest) p → length given ≡ count → n ≡ left + count →
-    IfSome (option_map (take n) o) (λ bytes. input ≡ bytes) → n ≤ length input → option_map (take left) p ≡ option_map (drop n) (option_map (take n) o) →
+    IsInput (option_map (take n) o) input → n ≤ length input → option_map (take left) p ≡ option_map (drop n) (option_map (take n) o) →
     o ≡ option_map (λ rest. take n input ++ rest) p
 gave_all None p given input n count left is long limit told enough after = gives_untold p given (take n input) is
 gave_all (Some all) None given input n count left is long limit told enough after = absurd (cc)
@@ -64,7 +65,7 @@ pub record GaveFew (o p : Option (List ℕ)) (input : List ℕ) : Type 0 where
   pub ended : IfSome p (λ bytes. bytes ≡ [])
 
 pub gave_few : (o p : Option (List ℕ)) (given input : List ℕ) (n count left : ℕ) → o ≡ option_map (λ rest. given ++ rest) p → length given ≡ count → n ≡ left + count →
-    IfSome (option_map (take n) o) (λ bytes. input ≡ bytes) → length input < n → option_map (take left) p ≡ option_map (drop (length input)) (option_map (take n) o) → GaveFew o p input
+    IsInput (option_map (take n) o) input → length input < n → option_map (take left) p ≡ option_map (drop (length input)) (option_map (take n) o) → GaveFew o p input
 gave_few None p given input n count left is long limit told short after =
     record { gave = gives_untold p given input is; ended = subst (λ (q : Option (List ℕ)). IfSome q (λ bytes. bytes ≡ [])) (sym (untold p given is)) tt }
 gave_few (Some all) None given input n count left is long limit told short after = absurd (cc)
@@ -84,7 +85,7 @@ pub record Behind (o : Option (List ℕ)) (n : ℕ) (input : List ℕ) : Type 0 
   pub enough : n ≤ length rest → n ≤ length input
   pub few : length rest < n → input ≡ rest
 
-pub behind : (o : Option (List ℕ)) (n : ℕ) (input : List ℕ) → IfSome (option_map (take n) o) (λ bytes. input ≡ bytes) → Behind o n input
+pub behind : (o : Option (List ℕ)) (n : ℕ) (input : List ℕ) → IsInput (option_map (take n) o) input → Behind o n input
 behind None n input told = record { rest = input; told = tt; front = refl; enough = λ e. e; few = λ e. refl }
 behind (Some all) n input told = record {
   rest = all;

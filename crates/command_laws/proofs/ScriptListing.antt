@@ -73,7 +73,7 @@ front_alone [] act rest x parts = refl
 front_alone (y ∷ []) act rest x parts = let none : act ∷ rest ≡ [] = cc in absurd (cc)
 front_alone (y ∷ z ∷ front) act rest x parts = let none : z ∷ (front ++ act ∷ rest) ≡ [] = cc in absurd (cc)
 
-no_rest : (xs ys : List ℕ) → xs ++ ys ≡ [] → ys ≡ []
+pub no_rest : (xs ys : List ℕ) → xs ++ ys ≡ [] → ys ≡ []
 no_rest [] ys none = none
 no_rest (x ∷ xs) ys none = absurd (cc)
 

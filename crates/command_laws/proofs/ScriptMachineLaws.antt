@@ -8,7 +8,7 @@ use Rattle.command_laws.proofs.ScriptPlain.{meets_one}
 use Rattle.command_laws.proofs.ScriptReading.{Reads, place_is, split_doing}
 use Rattle.command_laws.proofs.TextInputs.{one_reading}
 use Rattle.command_laws.specs.ScriptItems.{EarlyDoes}
-use Rattle.command_laws.specs.ScriptLaws.{OneOutcome, StopsInOne}
+use Rattle.command_laws.specs.ScriptLaws.{ScriptHasOneOutcome, StopsInOne}
 use Rattle.command_spec.specs.Input.{Item, input_status, IsItem, Ending, HasItems, IsScript, AtEnd, AtStop, AtFault}
 use Rattle.command_spec.specs.Script.{place_behind, items_taken, Meeting, acts_on, EndDoes, Did, ItemsDo, cartridge_behind, entries_behind, acts_of}
 use Rattle.command_laws.specs.ScriptTerms.{FaultDoes}
@@ -92,7 +92,7 @@ one_doing c words entries items a b first second =
 made : List Did → List Act → ℕ → Ending → CommandOutcome
 made dids last taken ending = record { acts = acts_of dids ++ last; taken = taken; status = input_status ending }
 
-pub one_outcome : OneOutcome
+pub one_outcome : ScriptHasOneOutcome
 unfolding made
 one_outcome c words entries input x y a b =
     let reading = one_reading IsItem inputs.items 1 0 input b.items a.items b.ending a.ending b.read a.read in

@@ -13,7 +13,7 @@ use Rattle.command_laws.proofs.TextDeciding.{at_most}
 use Rattle.cartridge_laws.proofs.Search.{Decided}
 use Rattle.command_laws.proofs.TextReadings.{each_script}
 use Rattle.command_laws.specs.MountedListed.{IsListed, listed_behind}
-use Rattle.command_laws.specs.ScriptLaws.{EachOutcome}
+use Rattle.command_laws.specs.ScriptLaws.{ScriptHasAnOutcome}
 use Rattle.command_spec.specs.Append.{Kept, Taking, Fits, TooLong, TooShort, room_in, taking, kept_over}
 use Rattle.command_spec.specs.Input.{Item, input_status, IsLineText, IsItem, Ending, HasItems, most_items, AtEnd, AtStop, AtFault}
 use Rattle.command_spec.specs.Lines.{reply_behind, lost_line, list_text}
@@ -184,7 +184,7 @@ end_does c words entries rest (AtFault number place) listed = fault_does c words
 
 -- ---- the outcome
 
-pub each_outcome : EachOutcome
+pub each_outcome : ScriptHasAnOutcome
 each_outcome c words entries input listed =
     let reading = each_script input in
     let all = items_done 1 0 c words entries input reading.0 reading.1.0 reading.1.1 listed in

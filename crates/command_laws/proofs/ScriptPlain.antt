@@ -2,11 +2,10 @@
 use Rattle.std.proofs.Common.{◌≡◌, ℕ, List, inl, inr, true, refl, false, ap, ◌∙◌, sym, Some, subst, None}
 use Rattle.cartridge_laws.proofs.TableSayings.{table_says_is_function}
 use Rattle.cartridge_spec.specs.TableSegment.{table_cells, TableIs}
-use Rattle.cartridge_spec.specs.Says.{AsRead, ByCode, Data, LostSectors, TableSays}
+use Rattle.cartridge_spec.specs.Says.{ByCode, LostSectors, TableSays}
 use Rattle.cartridge_spec.specs.Table.{Entry}
 use Rattle.command_laws.proofs.RestoreEndings.{restores_is_function}
 use Rattle.command_laws.proofs.ScrubOneWrong.{form_is_function}
-use Rattle.command_laws.proofs.StoreAgain.{table_one}
 use Rattle.command_spec.specs.Restore.{framed, pieces, Restores}
 use Rattle.command_spec.specs.Script.{Meeting, Refuses, Finds, Meets, Did, given_as, LineDoes, append_did}
 use Rattle.command_laws.specs.RestoreTerms.{RestoreDoes}
@@ -14,17 +13,12 @@ use Rattle.command_spec.specs.declared.depth.Depth.TheVariants.{Shallow}
 use Rattle.command_spec.specs.declared.line.Line.{Line}
 use Rattle.qic_base.specs.Acts.{Act}
 use Rattle.qic_base.specs.Cartridge.{Cartridge}
+use Rattle.cartridge_laws.proofs.MountOnce.{one_table, not_lost}
 use Rattle.command_spec.specs.declared.refusal.Refusal.TheVariants as why
 use Rattle.command_spec.specs.Restore as restoring
 use Rattle.command_spec.specs.declared.line.Line.TheVariants as line
 
 -- ---- what an append meets
-
-pub not_lost : (c : Cartridge) (table : List (List ℕ)) (lost : ℕ) → TableIs c table → TableSays (table_cells c) (ByCode (LostSectors lost)) → ⊥
-not_lost c table lost (inl reads) says =
-    let same : AsRead table ≡ ByCode (LostSectors lost) = table_says_is_function (table_cells c) (AsRead table) (ByCode (LostSectors lost)) reads says in absurd (cc)
-not_lost c table lost (inr solved) says =
-    let same : ByCode (Data table) ≡ ByCode (LostSectors lost) = table_says_is_function (table_cells c) (ByCode (Data table)) (ByCode (LostSectors lost)) solved says in absurd (cc)
 
 -- a protected cartridge is met so
 meets_protected : (c : Cartridge) (m : Meeting) → c.info.protected ≡ true → Meets c m → m ≡ Refuses why.Protected
@@ -59,7 +53,7 @@ meets_table c (Refuses (why.Full need have)) table mark is meets = absurd meets
 meets_table c (Refuses (why.NoVolume number count)) table mark is meets = absurd meets
 meets_table c (Refuses (why.Mismatch segment)) table mark is meets = absurd meets
 meets_table c (Refuses (why.Place segment sector)) table mark is meets = absurd meets
-meets_table c (Finds other) table mark is meets = ap (λ (d : List (List ℕ)). Finds d) (table_one c other table meets.1 is)
+meets_table c (Finds other) table mark is meets = ap (λ (d : List (List ℕ)). Finds d) (one_table c other table meets.1 is)
 
 -- what it meets is one thing
 pub meets_one : (c : Cartridge) (m n : Meeting) → Meets c m → Meets c n → n ≡ m

@@ -1,24 +1,19 @@
 -- What the items of a script leave of a cartridge that stands for a plain one, done or stopped.
-use Rattle.std.proofs.Common.{◌≡◌, ℕ, ◌<◌, List, length, All, ◌+◌, [], ◌∷◌, ◌++◌, subst, ◌⊎◌, Option, Some, IsSomeAnd, ◌-◌, Bool, cond, ap, inl, sym, ◌∙◌, false, nat_lt, arith, inr, ◌==◌, true, take, append-nil, refl, ◌≤◌, ◌≢◌}
+use Rattle.std.proofs.Common.{◌≡◌, ℕ, ◌<◌, List, length, All, ◌+◌, [], ◌∷◌, ◌++◌, subst, ◌⊎◌, Option, Some, IsSomeAnd, ◌-◌, Bool, cond, ap, inl, sym, ◌∙◌, false, nat_lt, arith, inr, ◌==◌, true, take, append-nil, refl, ◌≢◌}
 use Rattle.std.proofs.lemmas.Bool.{eq-eqb, cases_Bool, eqb-true, lt-ltb}
 use Rattle.std.proofs.lemmas.List.{length-append, map-append, take_all}
-use Rattle.std.proofs.lemmas.List.Elements.{All-weaker}
-use Rattle.cartridge_laws.proofs.AppendSegments.{carrying_from}
 use Rattle.cartridge_laws.proofs.AppendVolume.{free_writes_stand}
 use Rattle.cartridge_laws.proofs.FormatWriting.{some_weaker, some_and}
 use Rattle.cartridge_laws.proofs.MountKeeping.{stopped_stands}
 use Rattle.cartridge_laws.proofs.MountSettled.{settled_stands}
 use Rattle.cartridge_laws.proofs.MountStanding.{standing_data}
 use Rattle.cartridge_laws.proofs.MountWhole.{settling_effects}
-use Rattle.cartridge_laws.specs.AppendWrites.{AreWrites, IsFree}
 use Rattle.cartridge_spec.specs.Appending.{appended_volume, has_room, with_bytes, with_all}
-use Rattle.cartridge_laws.specs.Table.{last_end}
 use Rattle.cartridge_spec.specs.TableSegment.{IsTableLive}
 use Rattle.cartridge_spec.specs.Mounting.{settled}
 use Rattle.cartridge_spec.specs.Settling.{changed_by, settling_steps}
 use Rattle.cartridge_spec.specs.Table.{Entry}
 use Rattle.cartridge_spec.specs.Volumes.{Plain, Stands, entries_of, Volume, worn, WearSpares}
-use Rattle.command_laws.proofs.InputActLaws.{input_is_free}
 use Rattle.command_laws.proofs.IntactKeeping.{appends_leave_intact, intact_is_one, scrubs_leave_intact, wears_leave_intact, whole_needs_no_steps}
 use Rattle.command_laws.proofs.MountedHeld.{held_open, open_held, settled_held, settling_live, scrubbed_held, scrubbed_live, worn_held, worn_is_live}
 use Rattle.command_laws.proofs.MountedKeeping.{live_kept}
@@ -31,17 +26,17 @@ use Rattle.command_laws.proofs.ScrubPlain.{as_plain}
 use Rattle.command_laws.specs.Intact.{IsIntact}
 use Rattle.command_laws.specs.MountedHeld.{IsHeld}
 use Rattle.command_laws.specs.MountedKept.{IsAppendable, IsKept, IsOpen}
-use Rattle.command_laws.specs.ScriptStanding.{LineHasBytes, HaveBytes, ItemsHaveBytes, HasBytes, StoppedItemStands, ItemsStand, FaultStands, plain_after, plain_behind}
-use Rattle.command_spec.specs.Append.{Kept, Taking, Fits, TooLong, TooShort, append_acts, room_in, taking, entry_acts, has_promised_room, input_acts, input_writes, kept_over}
+use Rattle.command_laws.specs.ScriptStanding.{LineHasBytes, HaveBytes, ItemsHaveBytes, HasBytes, StoppedItemStands, ItemsStand, FaultStands, plain_after}
+use Rattle.command_spec.specs.Append.{Kept, Taking, Fits, TooLong, TooShort, append_acts, room_in, taking, entry_acts, has_promised_room, input_writes, kept_over}
 use Rattle.command_laws.specs.ScriptTerms.{ItemDoes, LineSpares, LineSparesTable}
 use Rattle.command_laws.specs.RestoreTerms.{RestoreDoes}
-use Rattle.command_laws.specs.AppendTerms.{entry_for, free_in}
+use Rattle.command_laws.specs.AppendTerms.{entry_for}
 use Rattle.command_laws.specs.Inputs.{IsLine}
 use Rattle.command_spec.specs.Input.{IsLined, promised, Item, IsItem, Ending, HasItems}
 use Rattle.command_spec.specs.Lines.{reply_behind, lost_line}
 use Rattle.command_spec.specs.Restore.{Restored, LostIn, MismatchIn, framed, pieces}
 use Rattle.command_spec.specs.Script.{Did, Meeting, Finds, Meets, Refuses, append_did, line_refused, taken_as, given_as, LineDoes, ItemsDo, entries_behind, acts_on, cartridge_behind}
-use Rattle.command_spec.specs.ScriptLists.{item_added, all_added, line_contents}
+use Rattle.command_spec.specs.ScriptLists.{item_added, all_added, line_contents, plain_behind}
 use Rattle.command_spec.specs.OneLoss.{ComesBackAsOneOf}
 use Rattle.command_spec.specs.Scrub.{ScrubsAs}
 use Rattle.command_spec.specs.declared.depth.Depth.TheVariants.{Shallow}
@@ -53,7 +48,7 @@ use Rattle.qic_base.specs.Acts.{steps_of, Act}
 use Rattle.qic_base.specs.Cartridge.{Cartridge}
 use Rattle.qic_base.specs.Step.{Step, Wear, Torn}
 use Rattle.command_laws.proofs.CopyGoing.{with_all-append}
-use Rattle.command_laws.proofs.CopyStanding.{writes_if}
+use Rattle.command_laws.proofs.CopyStanding.{behind_last}
 use Rattle.command_spec.specs.declared.line.Line.TheVariants as line
 use Rattle.cartridge_laws.specs.AppendLaws as appends
 use Rattle.command_spec.specs.declared.refusal.Refusal.TheVariants as why
@@ -408,14 +403,6 @@ early_entry kept name date n reply bytes short =
     (cond (has_promised_room (room_in kept) (Some n)) (cond b (TooShort n (length bytes)) (Fits (take n bytes))) (TooLong n (room_in kept))))) (lt-ltb (length bytes) n short)
     ∙ no_entry kept name date n reply bytes (has_promised_room (room_in kept) (Some n))
 
--- all that it writes behind the settling lies behind the volumes
-pub early_writes : (kept : Kept) (n : ℕ) (bytes : List ℕ) → AreWrites (IsFree (last_end kept.entries)) (steps_of (input_writes kept.words kept.entries (Some n) bytes))
-early_writes kept n bytes =
-    writes_if (last_end kept.entries) (has_promised_room (room_in kept) (Some n)) (input_acts kept.words (free_in kept) n true bytes)
-    (input_is_free (last_end kept.entries) kept.words (free_in kept) n true bytes
-    (All-weaker (λ (s : ℕ). last_end kept.entries + 1 ≤ s) (λ (s : ℕ). last_end kept.entries < s) (λ s (h : last_end kept.entries + 1 ≤ s). omega arith) (free_in kept)
-    (carrying_from kept.words (last_end kept.entries + 1) (length kept.words - 1))))
-
 early_stands : (c : Cartridge) (plain : Plain) (name : List ℕ) (n date : ℕ) (bytes : List ℕ) (m : Meeting) (left : Option Cartridge) → Stands c plain → Meets c m → length bytes < n →
     Torn (steps_of (acts_on c plain.words (entries_of plain) name n date bytes m)) (Some c) left → IsSomeAnd left (λ d. Stands d plain)
 early_stands c plain name n date bytes (Refuses w) left stood meets short torn = some_and (λ d. Stands d plain) c left stood torn
@@ -432,7 +419,7 @@ early_stands c plain name n date bytes (Finds table) left stood meets short torn
     elim (Torn-append (settling_steps table c) (steps_of writes) (Some c) left now) [
       | inl front ↦ stopped_stands c plain table left stood meets.1 front
       | inr behind ↦ some_weaker left (λ d known. known.0)
-          (free_writes_stand (settled table c) plain (steps_of writes) left (settled_stands c plain table stood meets.1) (early_writes kept n bytes)
+          (free_writes_stand (settled table c) plain (steps_of writes) left (settled_stands c plain table stood meets.1) (behind_last kept n bytes)
           (subst (λ (o : Option Cartridge). Torn (steps_of writes) o left) (settling_effects c table meets.1) behind))
     ]
 

@@ -25,7 +25,7 @@ use Rattle.cartridge_spec.specs.Says.{cells_of, Says, Data, Mismatch, Written, Z
 use Rattle.cartridge_spec.specs.Table.{slot_fault}
 use Rattle.cartridge_spec.specs.Volumes.{Part, parts_of, Volume, VolumeStands, carrying_segments, Plain, Stands, entries_of, worn}
 use Rattle.command_laws.proofs.ScrubApart.{contains_cases}
-use Rattle.command_laws.proofs.ScrubSeen.{SameIn, IsFoundWrong}
+use Rattle.command_laws.proofs.ScrubSeen.{IsFoundWrong}
 use Rattle.cartridge_laws.proofs.Writing.{cell_at}
 use Rattle.command_spec.specs.Scrub.{Looked, cells_at, looked_at, looked_volumes, whole_segment, IsSearched, IsWrong}
 use Rattle.command_laws.specs.ScrubTerms.{looked_segments}
@@ -36,6 +36,7 @@ use Rattle.qic_base.specs.Cartridge.{Cartridge, IsSector, view_at, zero_sector}
 use Rattle.qic_base.specs.declared.tape.SectorView.{SectorView}
 use Rattle.qic_base.specs.declared.tape.SectorView.TheVariants.{Holds}
 use Rattle.qic_base.specs.declared.tape.TapeInfo.{TapeInfo}
+use Rattle.command_laws.specs.SilentSectors.{IsSameIn}
 
 -- ---- a segment that was written
 
@@ -137,7 +138,7 @@ standing_wrong depth c plain s i stood found =
 pub record IsBeside (k e : Cartridge) (plain : Plain) : Type 0 where
   pub info : e.info ≡ k.info
   pub no_more : (s i : ℕ) (bytes : List ℕ) → i < 32 → (s ≡ 1 → ⊥) → view_at e s i ≡ Holds bytes → view_at k s i ≡ Holds bytes
-  pub table : SameIn k e 2
+  pub table : IsSameIn k e 2
   pub first : CopyReads e 0 plain.header_area
 
 cell_before : (k e : Cartridge) (s mask i : ℕ) (bytes : List ℕ) →
@@ -200,7 +201,7 @@ first_copy k e plain beside (inr other) =
     (λ i bytes at. other.0 i bytes (cell_before k e 0 (whole_segment 0).mask i bytes (λ j held h view. beside.no_more 0 j held h (λ is. omega arith) view) at))
     plain.header_area beside.first)
 
-table_beside : (k e : Cartridge) (area : List (List ℕ)) → SameIn k e 2 → Written (table_cells k) area ⊎ ReadsAll (table_cells k) area →
+table_beside : (k e : Cartridge) (area : List (List ℕ)) → IsSameIn k e 2 → Written (table_cells k) area ⊎ ReadsAll (table_cells k) area →
     Written (table_cells e) area ⊎ ReadsAll (table_cells e) area
 table_beside k e area same stand =
     subst (λ (cells : List SectorView). Written cells area ⊎ ReadsAll cells area) (sym (same_cells k e 2 (whole_segment 2).mask same)) stand

@@ -6,7 +6,7 @@ use Rattle.cartridge_laws.proofs.AppendKeeping.{IsIn, AreIn}
 use Rattle.cartridge_laws.proofs.AppendWhole.{sector_writes_are_cartridge}
 use Rattle.cartridge_laws.proofs.FormatStanding.{same_cells}
 use Rattle.cartridge_laws.proofs.FormatViews.{view_of_sector, view_of_other_sector}
-use Rattle.cartridge_laws.proofs.FormatWriting.{some_weaker, effects-some}
+use Rattle.cartridge_laws.proofs.FormatWriting.{some_weaker, effects-some, some_and}
 use Rattle.cartridge_laws.specs.AppendWrites.{AreWrites, IsOfSector}
 use Rattle.cartridge_spec.specs.Says.{Saying, Says, Data, with_parity}
 use Rattle.cartridge_spec.specs.Settling.{changed_by}
@@ -172,13 +172,10 @@ pub record StopsBoth (c e y : Cartridge) (ss : List Step) (d : Cartridge) : Type
   pub torn : Torn ss (Some y) (Some other)
   pub behind : IsBehind c e d other
 
-stopped_at : (P : Cartridge → Type 0) (d : Cartridge) (left : Option Cartridge) → P d → left ≡ Some d → IsSomeAnd left P
-stopped_at P d left holds is = subst (λ (o : Option Cartridge). IsSomeAnd o P) (sym is) holds
-
 half_both : (c e d y : Cartridge) (s : Step) (ss : List Step) (left : Option Cartridge) → IsIn IsPlaced s → TakeAlike c e → IsBehind c e d y →
     Halfway s (Some d) left → IsSomeAnd left (StopsBoth c e y (s ∷ ss))
 half_both c e d y (WriteSector segment sector bytes) ss left is take behind half =
-    stopped_at (StopsBoth c e y (WriteSector segment sector bytes ∷ ss)) (worn segment sector d) left (record {
+    some_and (StopsBoth c e y (WriteSector segment sector bytes ∷ ss)) (worn segment sector d) left (record {
       other = worn segment sector y;
       torn = inr (inl refl);
       behind = changed_both c e d y segment sector worn_view refl (λ old. refl) is.1 take behind;
@@ -193,9 +190,9 @@ half_both c e d y Upgrade ss left is take behind half = absurd is
 
 stops_both : (c e d y : Cartridge) (ss : List Step) (left : Option Cartridge) → AreIn IsPlaced ss → TakeAlike c e → IsBehind c e d y →
     Torn ss (Some d) left → IsSomeAnd left (StopsBoth c e y ss)
-stops_both c e d y [] left are take behind is = stopped_at (StopsBoth c e y []) d left (record { other = y; torn = refl; behind = behind }) is
+stops_both c e d y [] left are take behind is = some_and (StopsBoth c e y []) d left (record { other = y; torn = refl; behind = behind }) is
 stops_both c e d y (s ∷ ss) left are take behind (inl is) =
-    stopped_at (StopsBoth c e y (s ∷ ss)) d left (record { other = y; torn = inl refl; behind = behind }) is
+    some_and (StopsBoth c e y (s ∷ ss)) d left (record { other = y; torn = inl refl; behind = behind }) is
 stops_both c e d y (s ∷ ss) left are take behind (inr (inl half)) = half_both c e d y s ss left are.0 take behind half
 stops_both c e d y (s ∷ ss) left are take behind (inr (inr torn)) =
     some_weaker left (λ x stops. record { other = stops.other; torn = inr (inr stops.torn); behind = stops.behind })

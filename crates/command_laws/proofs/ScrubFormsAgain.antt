@@ -9,7 +9,7 @@ use Rattle.cartridge_spec.specs.Shape.{IsLive, usable_places, usable_count}
 use Rattle.command_laws.proofs.ScrubAgain.{AfterFirst, segment_again, live_at}
 use Rattle.command_laws.proofs.ScrubApart.{contains_first, contains_more}
 use Rattle.command_laws.proofs.ScrubForms.{as_seen, finds_at_once_is, form_steps, mended_as_seen, scrubbed_as_seen}
-use Rattle.command_laws.proofs.ScrubSeen.{SameIn, IsSeen, FoundOf, found_of, wrong_same}
+use Rattle.command_laws.proofs.ScrubSeen.{IsSeen, FoundOf, found_of, wrong_same}
 use Rattle.command_laws.proofs.ScrubStanding.{unread_kept, fewer_unreadable, said_kept}
 use Rattle.command_laws.specs.DeepScrubLaws.{SecondFormWritesNothing}
 use Rattle.command_laws.specs.ScrubFound.{FindAtOnce, finds_at_once, without_all}
@@ -23,6 +23,7 @@ use Rattle.gf256_qic.proofs.Parities.{block_count}
 use Rattle.qic_base.specs.Acts.{Act, steps_of}
 use Rattle.qic_base.specs.Cartridge.{Cartridge, view_at}
 use Rattle.qic_base.specs.Step.{Step}
+use Rattle.command_laws.specs.SilentSectors.{IsSameIn}
 
 -- ---- no sector is wrong behind the first
 
@@ -52,10 +53,10 @@ reads_not_wrong looked e d l Mismatch sector es rise among way says can wrong = 
 
 -- one that does not read is as it was
 unread_not_wrong : (depth : Depth) (looked : List Looked) (c e d : Cartridge) (l : Looked) (s : Saying) (w : Option ℕ) (sector : ℕ) (es : List (List ℕ)) →
-    Rise looked → Contains looked l → IsBeingMended looked e d → HasFound depth c l s w → SameIn (without w l c) e l.segment → Says (cells_at e l) s →
+    Rise looked → Contains looked l → IsBeingMended looked e d → HasFound depth c l s w → IsSameIn (without w l c) e l.segment → Says (cells_at e l) s →
     reads l s ≡ false → IsSearched depth l → IsWrong d l sector es → ⊥
 unread_not_wrong depth looked c e d l s None sector es rise among way found seen says fails searched wrong =
-    let kept : SameIn e d l.segment =
+    let kept : IsSameIn e d l.segment =
     unread_kept looked e d l rise among way (λ ds said can.
     false≢true (sym fails ∙ ap (reads l) (says_is_function (cells_at e l) s (Data ds) says said) ∙ can)) in
     found.1 searched sector es (wrong_same d c l sector es (λ i h. sym (kept i h ∙ seen i h)) wrong)
@@ -63,7 +64,7 @@ unread_not_wrong depth looked c e d l s (Some found_sector) sector es rise among
     false≢true (sym fails ∙ ap (reads l) found.2 ∙ found.3.can_be_read)
 
 not_wrong : (depth : Depth) (looked : List Looked) (c e d : Cartridge) (l : Looked) (f : Finding) (sector : ℕ) (es : List (List ℕ)) → Rise looked →
-    Contains looked l → IsBeingMended looked e d → Finds depth c l f → SameIn (without f.wrong l c) e l.segment → Says (cells_at e l) f.saying →
+    Contains looked l → IsBeingMended looked e d → Finds depth c l f → IsSameIn (without f.wrong l c) e l.segment → Says (cells_at e l) f.saying →
     IsSearched depth l → IsWrong d l sector es → ⊥
 not_wrong depth looked c e d l f sector es rise among way found seen says searched wrong =
     elim (cases_Bool (reads l f.saying)) [

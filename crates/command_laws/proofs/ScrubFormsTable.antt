@@ -8,7 +8,7 @@ use Rattle.cartridge_spec.specs.Says.{Data, TableSays, AsRead, ByCode}
 use Rattle.cartridge_spec.specs.Shape.{IsLive}
 use Rattle.command_laws.proofs.ScrubBeside.{not_the_table}
 use Rattle.command_laws.proofs.ScrubForms.{as_seen, IsLeft, stopped_left}
-use Rattle.command_laws.proofs.ScrubSeen.{SameIn, IsSeen}
+use Rattle.command_laws.proofs.ScrubSeen.{IsSeen}
 use Rattle.command_laws.proofs.ScrubSettled.{mending_settled}
 use Rattle.command_laws.proofs.ScrubStanding.{table_kept, looks_in_front}
 use Rattle.command_laws.specs.DeepScrubLaws.{StoppedFormTable, DoneFormTable, StoppedFormIsSettled, DoneFormIsSettled}
@@ -20,28 +20,29 @@ use Rattle.qic_base.specs.Acts.{steps_of}
 use Rattle.qic_base.specs.Cartridge.{Cartridge}
 use Rattle.qic_base.specs.Step.{effects}
 use Rattle.qic_base.specs.declared.tape.SectorView.{SectorView}
+use Rattle.command_laws.specs.SilentSectors.{IsSameIn}
 
 -- ---- the same views of the table's segment
 
-pub table_same : (c d : Cartridge) (area : List (List ℕ)) → SameIn c d 2 → TableIs c area → TableIs d area
+pub table_same : (c d : Cartridge) (area : List (List ℕ)) → IsSameIn c d 2 → TableIs c area → TableIs d area
 table_same c d area same reads =
     subst (λ (cells : List SectorView). TableSays cells (AsRead area) ⊎ TableSays cells (ByCode (Data area)))
     (sym (same_cells c d 2 (whole_segment 2).mask same)) reads
 
-settled_same : (c d : Cartridge) (area : List (List ℕ)) → SameIn c d 2 → IsSettledFor c area → IsSettledFor d area
+settled_same : (c d : Cartridge) (area : List (List ℕ)) → IsSameIn c d 2 → IsSettledFor c area → IsSettledFor d area
 settled_same c d area same known = record {
   table = table_same c d area same known.table;
   live = λ i h live. same i h ∙ known.live i h (subst IsLive (same i h) live);
 }
 
-pub seen_table : (depth : Depth) (c e : Cartridge) (looked : List Looked) (fs : List Finding) → IsSeen depth c e looked fs → SameIn c e 2
+pub seen_table : (depth : Depth) (c e : Cartridge) (looked : List Looked) (fs : List Finding) → IsSeen depth c e looked fs → IsSameIn c e 2
 seen_table depth c e looked fs seen i h =
     elim (seen.each 2 i h) [
       | inl same ↦ same
       | inr lost ↦ absurd (not_the_table depth lost.found.at lost.found.searched lost.found.here)
     ]
 
-pub left_table : (looked : List Looked) (c e d : Cartridge) → SameIn c e 2 → (left : IsLeft looked c e d) → SameIn left.other d 2
+pub left_table : (looked : List Looked) (c e d : Cartridge) → IsSameIn c e 2 → (left : IsLeft looked c e d) → IsSameIn left.other d 2
 left_table looked c e d same left i h =
     elim (left.behind.each 2 i h) [
       | inl is ↦ is
@@ -56,7 +57,7 @@ stopped_form_table depth c words entries last acts area left order scrubs reads 
     let fs : List Finding = scrubs.findings in
     let e : Cartridge = without_all c looked fs in
     let run = as_seen depth c words entries last acts order scrubs in
-    let same : SameIn c e 2 = seen_table depth c e looked fs run.seen in
+    let same : IsSameIn c e 2 = seen_table depth c e looked fs run.seen in
     some_weaker left (λ d is.
     table_same is.other d area (left_table looked c e d same is)
     (table_kept looked e is.other area (looks_in_front words entries run.rise) is.way (table_same c e area same reads)))
@@ -73,7 +74,7 @@ stopped_form_is_settled depth c words entries last acts area left order scrubs k
     let fs : List Finding = scrubs.findings in
     let e : Cartridge = without_all c looked fs in
     let run = as_seen depth c words entries last acts order scrubs in
-    let same : SameIn c e 2 = seen_table depth c e looked fs run.seen in
+    let same : IsSameIn c e 2 = seen_table depth c e looked fs run.seen in
     some_weaker left (λ d is.
     settled_same is.other d area (left_table looked c e d same is)
     (mending_settled e is.other area looked (looks_in_front words entries run.rise) is.way (settled_same c e area same known)))

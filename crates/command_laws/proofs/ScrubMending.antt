@@ -28,6 +28,7 @@ use Rattle.qic_base.specs.CartridgeTerms.{IsCartridge}
 use Rattle.qic_base.specs.Step.{written_view, worn_view, WriteSector, changed, Wear, Step, FormatSegment, SetReferenced, SetProtected, Renew, Spoil, Upgrade, effects, Halfway, Torn}
 use Rattle.qic_base.specs.declared.tape.SectorView.{SectorView}
 use Rattle.qic_base.specs.declared.tape.SectorView.TheVariants.{Blank, Defect, Lost, Holds}
+use Rattle.cartridge_laws.proofs.MountSoFar.{worn_same}
 
 -- ---- one view
 
@@ -37,12 +38,6 @@ written_once Blank bytes unread = inl refl
 written_once Defect bytes unread = inl refl
 written_once Lost bytes unread = inr (refl, refl)
 written_once (Holds held) bytes unread = absurd (cc)
-
-worn_once : (old : SectorView) → IsUnreadable old → worn_view old ≡ old
-worn_once Blank unread = refl
-worn_once Defect unread = refl
-worn_once Lost unread = refl
-worn_once (Holds held) unread = absurd (cc)
 
 -- ---- on the way
 
@@ -100,7 +95,7 @@ worn_more : (looked : List Looked) (c d : Cartridge) (s i : ℕ) (bytes : List �
     IsBeingMended looked c (changed (Wear s i) d)
 worn_more looked c d s i bytes named way =
     mended_more looked c d s i bytes worn_view named.1 refl named.0 (elim (way.each s i named.1) [
-      | inl same ↦ inl (ap worn_view same ∙ worn_once (view_at c s i) named.0.unreadable)
+      | inl same ↦ inl (ap worn_view same ∙ worn_same (view_at c s i) named.0.unreadable)
       | inr has ↦ inl (ap worn_view has.3 ∙ sym has.2)
     ]) way
 

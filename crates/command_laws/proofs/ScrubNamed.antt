@@ -19,14 +19,11 @@ use Rattle.command_laws.specs.ScrubLaws.{CountOfNamed, StepsByPlaces}
 use Rattle.command_spec.specs.Scrub.{mending_writes, Looked, cells_at}
 use Rattle.qic_base.proofs.LostSetLaws.{lost_places-above}
 use Rattle.qic_base.specs.Cartridge.{Cartridge, view_at, lost_places}
-use Rattle.qic_base.specs.CartridgeTerms.{IsLost}
+use Rattle.qic_base.specs.CartridgeTerms.{IsLost, is_lost}
 use Rattle.qic_base.specs.Step.{Step, WriteSector}
 use Rattle.qic_base.specs.declared.tape.SectorView.{SectorView}
 
 -- ---- the places of a set
-
-in_set : (set place : ℕ) → Bool
-in_set set place = set / 2 ^ place % 2 == 1
 
 pub range_more : (a n : ℕ) → range_with_len a (suc n) ≡ range_with_len a n ++ (a + n) ∷ []
 range_more a zero = ap (λ (k : ℕ). k ∷ []) (sym (add-zero a))
@@ -40,12 +37,12 @@ filter_more test n =
     ap (filter test) (range_more 0 n ∙ ap (λ (k : ℕ). range_with_len 0 n ++ k ∷ []) (zero-add n))
     ∙ filter-append test (range_with_len 0 n) (n ∷ [])
 
-places_filter : (set n : ℕ) → lost_places set n ≡ filter (in_set set) (range_with_len 0 n)
-unfolding lost_places in_set
+places_filter : (set n : ℕ) → lost_places set n ≡ filter (is_lost set) (range_with_len 0 n)
+unfolding lost_places
 places_filter set zero = refl
 places_filter set (suc n) =
     ap (λ (l : List ℕ). l ++ (if set / 2 ^ n % 2 == 1 then n ∷ [] else [])) (places_filter set n)
-    ∙ sym (filter_more (in_set set) n)
+    ∙ sym (filter_more (is_lost set) n)
 
 -- ---- the writes, place by place
 
@@ -120,8 +117,7 @@ view_some : (o : Option SectorView) (view : SectorView) → o ≡ Some view → 
 view_some o view is some = subst (λ (p : Option SectorView). IsSomeAnd p IsUnreadable) is some
 
 names_tell : (c : Cartridge) (l : Looked) (lost k : ℕ) → Names (cells_at c l) lost → k < usable_count l.mask →
-    in_set lost k ≡ is_unreadable (view_at c l.segment (get_or (usable_places l.mask) k 0))
-unfolding in_set
+    is_lost lost k ≡ is_unreadable (view_at c l.segment (get_or (usable_places l.mask) k 0))
 names_tell c l lost k names h =
     let view : SectorView = view_at c l.segment (get_or (usable_places l.mask) k 0) in
     let at : slice_get (cells_at c l) k ≡ Some view = cell_at c l.segment l.mask k h in
@@ -158,14 +154,14 @@ mending_named c l lost sectors block names room are =
     let long : length block ≡ n = ap (λ (ss : List (List ℕ)). length ss) (sym are) ∙ size in
     sym (ap (λ (ps : List ℕ). writes_of l.segment (map (λ place. slice_index all place) ps) (map (λ place. sector_at sectors place) ps))
     (places_below c l lost names ∙ places_filter lost n)
-    ∙ writes_of_map l.segment (λ place. slice_index all place) (λ place. sector_at sectors place) (filter (in_set lost) (range_with_len 0 n))
-    ∙ writes_follow c l.segment 0 all sectors (in_set lost) all block (record {
+    ∙ writes_of_map l.segment (λ place. slice_index all place) (λ place. sector_at sectors place) (filter (is_lost lost) (range_with_len 0 n))
+    ∙ writes_follow c l.segment 0 all sectors (is_lost lost) all block (record {
       room = omega arith;
       index = λ k h. ap (λ (p : ℕ). get_or all p 0) (zero-add k);
       bytes = λ k h.
           ap (sector_at sectors) (zero-add k) ∙ unwrap_or-slice_get sectors k [] ∙ sym (get_or-take n sectors k [] h)
           ∙ ap (λ (ss : List (List ℕ)). get_or ss k []) are;
-      tells = λ k h. ap (in_set lost) (zero-add k) ∙ names_tell c l lost k names h;
+      tells = λ k h. ap (is_lost lost) (zero-add k) ∙ names_tell c l lost k names h;
     }))
 
 pub steps_by_places : StepsByPlaces

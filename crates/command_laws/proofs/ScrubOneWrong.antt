@@ -7,7 +7,7 @@ use Rattle.cartridge_laws.proofs.Blocks.{says_always}
 use Rattle.cartridge_laws.proofs.Cells.{unreadable_count-first, one_agreeing_block}
 use Rattle.cartridge_laws.proofs.ChangeViews.{held_before, worn_reads_no_more}
 use Rattle.cartridge_laws.proofs.FormatCopies.{no_fewer_unreadable, one_at_most}
-use Rattle.cartridge_laws.proofs.FormatWriting.{effects-some}
+use Rattle.cartridge_laws.proofs.FormatWriting.{effects-some, worn_holds}
 use Rattle.cartridge_laws.proofs.Places.{usable_small}
 use Rattle.cartridge_laws.proofs.Sayings.{says_is_function}
 use Rattle.cartridge_laws.proofs.Segments.{count_of_cells, cells_are_views, view_of_cartridge}
@@ -80,12 +80,6 @@ cell_unworn c l place sector i bytes is apart at =
     (λ same e. apart (same_place l.mask i place h is.within (sym e ∙ sym is.index))))
     ∙ sym (cell_at c l.segment l.mask i h) ∙ at
 
-pub worn_not_held : (view : SectorView) (bytes : List ℕ) → worn_view view ≡ Holds bytes → ⊥
-worn_not_held Blank bytes is = cc
-worn_not_held Defect bytes is = cc
-worn_not_held Lost bytes is = cc
-worn_not_held (Holds old) bytes is = cc
-
 -- and that one can't be read
 pub cell_worn : (c : Cartridge) (l : Looked) (place sector : ℕ) (bytes : List ℕ) → IsPlace l place sector →
     slice_get (cells_at (worn l.segment sector c) l) place ≡ Some (Holds bytes) → ⊥
@@ -94,7 +88,7 @@ cell_worn c l place sector bytes is at =
     let both : Some (Holds bytes) ≡ Some (view_at d l.segment sector) =
     sym at ∙ cell_at d l.segment l.mask place is.within ∙ ap (λ (j : ℕ). Some (view_at d l.segment j)) is.index in
     let view : view_at d l.segment sector ≡ Holds bytes = cc in
-    worn_not_held (view_at c l.segment sector) bytes (sym (worn_here c l.segment sector) ∙ view)
+    worn_holds (view_at c l.segment sector) bytes (sym (worn_here c l.segment sector) ∙ view)
 
 pub worn_count : (c : Cartridge) (l : Looked) (place sector : ℕ) → IsPlace l place sector →
     unreadable_count (cells_at (worn l.segment sector c) l) ≤ unreadable_count (cells_at c l) + 1

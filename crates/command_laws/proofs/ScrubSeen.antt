@@ -21,6 +21,7 @@ use Rattle.qic_base.specs.Cartridge.{Cartridge, view_at}
 use Rattle.qic_base.specs.Step.{Step, worn_view}
 use Rattle.qic_base.specs.declared.tape.SectorView.{SectorView}
 use Rattle.qic_base.specs.declared.tape.SectorView.TheVariants.{Blank, Defect, Lost, Holds}
+use Rattle.command_laws.specs.SilentSectors.{IsSameIn}
 
 -- ---- a sector worn
 
@@ -32,14 +33,10 @@ pub worn_elsewhere : (c : Cartridge) (segment sector s i : ℕ) → sector < 32 
 worn_elsewhere c segment sector s i small h apart =
     view_of_other_sector c segment sector s i (worn_view (view_at c segment sector)) small h apart
 
--- the views of a segment are the same
-abbrev pub SameIn : (c d : Cartridge) (segment : ℕ) → Type 0
-SameIn c d segment = (i : ℕ) → i < 32 → view_at d segment i ≡ view_at c segment i
-
-pub same_back : (c d : Cartridge) (segment : ℕ) → SameIn c d segment → SameIn d c segment
+pub same_back : (c d : Cartridge) (segment : ℕ) → IsSameIn c d segment → IsSameIn d c segment
 same_back c d segment same i h = sym (same i h)
 
-worn_same : (c d : Cartridge) (segment sector : ℕ) → sector < 32 → SameIn c d segment → SameIn (worn segment sector c) (worn segment sector d) segment
+worn_same : (c d : Cartridge) (segment sector : ℕ) → sector < 32 → IsSameIn c d segment → IsSameIn (worn segment sector c) (worn segment sector d) segment
 worn_same c d segment sector small same i h =
     elim (cases_eq i sector) [
       | inl is ↦
@@ -55,7 +52,7 @@ worn_same c d segment sector small same i h =
 pub wrong_small : {c : Cartridge} {l : Looked} {sector : ℕ} {ds : List (List ℕ)} → IsWrong c l sector ds → sector < 32
 wrong_small {l = l} wrong = subst (λ (i : ℕ). i < 32) wrong.index (usable_small l.mask wrong.place wrong.within)
 
-pub wrong_same : (c d : Cartridge) (l : Looked) (sector : ℕ) (ds : List (List ℕ)) → SameIn c d l.segment → IsWrong c l sector ds →
+pub wrong_same : (c d : Cartridge) (l : Looked) (sector : ℕ) (ds : List (List ℕ)) → IsSameIn c d l.segment → IsWrong c l sector ds →
     IsWrong d l sector ds
 wrong_same c d l sector ds same wrong =
     let cells : cells_at c l ≡ cells_at d l = sym (same_cells c d l.segment l.mask same) in
@@ -71,7 +68,7 @@ wrong_same c d l sector ds same wrong =
       can_be_read = wrong.can_be_read;
     }
 
-found_same : (depth : Depth) (c d : Cartridge) (l : Looked) (s : Saying) (w : Option ℕ) → SameIn c d l.segment → HasFound depth c l s w →
+found_same : (depth : Depth) (c d : Cartridge) (l : Looked) (s : Saying) (w : Option ℕ) → IsSameIn c d l.segment → HasFound depth c l s w →
     HasFound depth d l s w
 found_same depth c d l s None same found = (
   subst (λ (xs : List SectorView). Says xs s) (sym (same_cells c d l.segment l.mask same)) found.0,
@@ -79,7 +76,7 @@ found_same depth c d l s None same found = (
 )
 found_same depth c d l s (Some sector) same found = (found.0, found.1, found.2, wrong_same c d l sector found.1 same found.3)
 
-finds_same : (depth : Depth) (c d : Cartridge) (l : Looked) (f : Finding) → SameIn c d l.segment → Finds depth c l f → Finds depth d l f
+finds_same : (depth : Depth) (c d : Cartridge) (l : Looked) (f : Finding) → IsSameIn c d l.segment → Finds depth c l f → Finds depth d l f
 finds_same depth c d l f same found = found_same depth c d l f.saying f.wrong same found
 
 -- the wrong sector, if one was found, is one of the segment
@@ -91,7 +88,7 @@ found_small : (depth : Depth) (c : Cartridge) (l : Looked) (s : Saying) (w : Opt
 found_small depth c l s None found = tt
 found_small depth c l s (Some sector) found = wrong_small found.3
 
-without_same : (c d : Cartridge) (l : Looked) (w : Option ℕ) → IsSmall w → SameIn c d l.segment → SameIn (without w l c) (without w l d) l.segment
+without_same : (c d : Cartridge) (l : Looked) (w : Option ℕ) → IsSmall w → IsSameIn c d l.segment → IsSameIn (without w l c) (without w l d) l.segment
 without_same c d l None small same = same
 without_same c d l (Some sector) small same = worn_same c d l.segment sector small same
 
@@ -121,15 +118,15 @@ pub record FoundAtOnce (depth : Depth) (c d : Cartridge) (ls : List Looked) (fs 
 
 later_same : (depth : Depth) (c d : Cartridge) (l : Looked) (f : Finding) (ls : List Looked) → All (λ m. l.segment < m.segment) ls → AreAlike c d ls →
     AreAlike c (changed_by (steps_for d l f) d) ls
-later_same depth c d l f [] past same = All-nil (λ (m : Looked). SameIn c (changed_by (steps_for d l f) d) m.segment)
+later_same depth c d l f [] past same = All-nil (λ (m : Looked). IsSameIn c (changed_by (steps_for d l f) d) m.segment)
 later_same depth c d l f (m ∷ ms) past same =
     let e : Cartridge = changed_by (steps_for d l f) d in
     let kept = steps_kept (λ t i. t ≡ l.segment) (steps_for d l f) d (steps_stay (λ t. t ≡ l.segment) (without f.wrong l d) l f.saying refl) in
     let behind : l.segment < m.segment = All-head (λ (n : Looked). l.segment < n.segment) m ms past in
-    let here : SameIn c d m.segment = All-head (λ (n : Looked). SameIn c d n.segment) m ms same in
-    All-cons (λ (n : Looked). SameIn c e n.segment) m ms
+    let here : IsSameIn c d m.segment = All-head (λ (n : Looked). IsSameIn c d n.segment) m ms same in
+    All-cons (λ (n : Looked). IsSameIn c e n.segment) m ms
     (λ i h. kept.others m.segment i h (λ (is : m.segment ≡ l.segment). omega arith) ∙ here i h)
-    (later_same depth c d l f ms (All-tail (λ (n : Looked). l.segment < n.segment) m ms past) (All-tail (λ (n : Looked). SameIn c d n.segment) m ms same))
+    (later_same depth c d l f ms (All-tail (λ (n : Looked). l.segment < n.segment) m ms past) (All-tail (λ (n : Looked). IsSameIn c d n.segment) m ms same))
 
 turn_at_once : (depth : Depth) (ls : List Looked) (fs : List Finding) (c d : Cartridge) → Rise ls → AreAlike c d ls → FindInTurn depth d ls fs →
     FoundAtOnce depth c d ls fs
@@ -137,11 +134,11 @@ turn_at_once depth [] [] c d rise same found = record { found = tt; acts = refl 
 turn_at_once depth [] (f ∷ fs) c d rise same found = absurd found
 turn_at_once depth (l ∷ ls) [] c d rise same found = absurd found
 turn_at_once depth (l ∷ ls) (f ∷ fs) c d rise same found =
-    let here : SameIn c d l.segment = All-head (λ (n : Looked). SameIn c d n.segment) l ls same in
+    let here : IsSameIn c d l.segment = All-head (λ (n : Looked). IsSameIn c d n.segment) l ls same in
     let now : Finds depth c l f = finds_same depth d c l f (same_back c d l.segment here) found.0 in
     let rest : FoundAtOnce depth c (changed_by (steps_for d l f) d) ls fs =
     turn_at_once depth ls fs c (changed_by (steps_for d l f) d) rise.1
-    (later_same depth c d l f ls rise.0 (All-tail (λ (n : Looked). SameIn c d n.segment) l ls same)) found.1 in
+    (later_same depth c d l f ls rise.0 (All-tail (λ (n : Looked). IsSameIn c d n.segment) l ls same)) found.1 in
     let steps : steps_for d l f ≡ steps_for c l f =
     steps_alike (without f.wrong l c) (without f.wrong l d) l f.saying (without_same c d l f.wrong (finds_small depth c l f now) here) in
     record {
@@ -172,7 +169,7 @@ without_all_elsewhere depth c b (l ∷ ls) (f ∷ fs) s i found h other =
 abbrev pub AreSeen : (e c : Cartridge) → List Looked → List Finding → Type 0
 AreSeen e c [] fs = Unit {0}
 AreSeen e c (l ∷ ls) [] = Unit {0}
-AreSeen e c (l ∷ ls) (f ∷ fs) = SameIn (without f.wrong l c) e l.segment × AreSeen e c ls fs
+AreSeen e c (l ∷ ls) (f ∷ fs) = IsSameIn (without f.wrong l c) e l.segment × AreSeen e c ls fs
 
 -- one whose views are the same in these segments
 seen_same : (depth : Depth) (e b c d : Cartridge) (ls : List Looked) (fs : List Finding) → FindAtOnce depth b ls fs → AreAlike c d ls → AreSeen e d ls fs →
@@ -180,16 +177,16 @@ seen_same : (depth : Depth) (e b c d : Cartridge) (ls : List Looked) (fs : List 
 seen_same depth e b c d [] fs found same seen = tt
 seen_same depth e b c d (l ∷ ls) [] found same seen = tt
 seen_same depth e b c d (l ∷ ls) (f ∷ fs) found same seen = (
-  λ i h. seen.0 i h ∙ without_same c d l f.wrong (finds_small depth b l f found.0) (All-head (λ (n : Looked). SameIn c d n.segment) l ls same) i h,
-  seen_same depth e b c d ls fs found.1 (All-tail (λ (n : Looked). SameIn c d n.segment) l ls same) seen.1,
+  λ i h. seen.0 i h ∙ without_same c d l f.wrong (finds_small depth b l f found.0) (All-head (λ (n : Looked). IsSameIn c d n.segment) l ls same) i h,
+  seen_same depth e b c d ls fs found.1 (All-tail (λ (n : Looked). IsSameIn c d n.segment) l ls same) seen.1,
 )
 
 without_behind : (c : Cartridge) (l : Looked) (w : Option ℕ) (ls : List Looked) → IsSmall w → All (λ m. l.segment < m.segment) ls →
     AreAlike c (without w l c) ls
-without_behind c l w [] small past = All-nil (λ (m : Looked). SameIn c (without w l c) m.segment)
+without_behind c l w [] small past = All-nil (λ (m : Looked). IsSameIn c (without w l c) m.segment)
 without_behind c l w (m ∷ ms) small past =
     let behind : l.segment < m.segment = All-head (λ (n : Looked). l.segment < n.segment) m ms past in
-    All-cons (λ (n : Looked). SameIn c (without w l c) n.segment) m ms
+    All-cons (λ (n : Looked). IsSameIn c (without w l c) n.segment) m ms
     (λ i h. without_elsewhere c l w m.segment i small h (λ (is : m.segment ≡ l.segment). omega arith))
     (without_behind c l w ms small (All-tail (λ (n : Looked). l.segment < n.segment) m ms past))
 
@@ -213,7 +210,7 @@ are_seen depth c ls fs rise found = seen_all depth c c ls fs rise found
 pub record FoundOf (depth : Depth) (c e : Cartridge) (l : Looked) : Type 0 where
   pub finding : Finding
   pub finds : Finds depth c l finding
-  pub seen : SameIn (without finding.wrong l c) e l.segment
+  pub seen : IsSameIn (without finding.wrong l c) e l.segment
   pub says : Says (cells_at e l) finding.saying
 
 pub found_of : (depth : Depth) (c e : Cartridge) (ls : List Looked) (fs : List Finding) (l : Looked) → FindAtOnce depth c ls fs → AreSeen e c ls fs →
@@ -266,7 +263,7 @@ pub record IsFoundWrong (depth : Depth) (c : Cartridge) (ls : List Looked) (s i 
 -- it held bytes, and is lost
 pub record IsLostNow (depth : Depth) (c e : Cartridge) (ls : List Looked) (s i : ℕ) : Type 0 where
   pub found : IsFoundWrong depth c ls s i
-  pub seen : SameIn (worn found.at.segment i c) e found.at.segment
+  pub seen : IsSameIn (worn found.at.segment i c) e found.at.segment
   pub old : List ℕ
   pub held : view_at c s i ≡ Holds old
   pub lost : view_at e s i ≡ Lost
@@ -278,7 +275,7 @@ worn_once Lost = inl refl
 worn_once (Holds old) = inr (old, refl, refl)
 
 here_seen : (depth : Depth) (c e : Cartridge) (l : Looked) (ls : List Looked) (s : Saying) (w : Option ℕ) (i : ℕ) → HasFound depth c l s w → i < 32 →
-    SameIn (without w l c) e l.segment →
+    IsSameIn (without w l c) e l.segment →
     (view_at e l.segment i ≡ view_at c l.segment i) ⊎ IsLostNow depth c e (l ∷ ls) l.segment i
 here_seen depth c e l ls s None i found h same = inl (same i h)
 here_seen depth c e l ls s (Some sector) i found h same =

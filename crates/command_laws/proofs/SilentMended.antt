@@ -7,7 +7,7 @@ use Rattle.std.proofs.lemmas.List.Elements.{All-contains}
 use Rattle.cartridge_laws.proofs.Cells.{one_agreeing_block}
 use Rattle.cartridge_laws.proofs.ChangeViews.{held_before, worn_reads_no_more}
 use Rattle.cartridge_laws.proofs.FormatCopies.{written_reads}
-use Rattle.cartridge_laws.proofs.FormatStanding.{same_cells}
+use Rattle.cartridge_laws.proofs.FormatStanding.{same_cells, signature_in_force}
 use Rattle.cartridge_laws.proofs.Places.{count_below, usable_small}
 use Rattle.cartridge_laws.proofs.Sayings.{says_is_function, written_is_said}
 use Rattle.cartridge_laws.proofs.Segments.{count_of_cells, count_of_whole}
@@ -25,8 +25,8 @@ use Rattle.command_laws.proofs.ScrubApart.{contains_cases, contains_first, one_l
 use Rattle.command_laws.proofs.ScrubBeside.{beside_stands, written_before, written_not_wrong, not_the_table, HasWritten, volumes_written}
 use Rattle.command_laws.proofs.ScrubForms.{as_seen, mended_as_seen}
 use Rattle.command_laws.proofs.ScrubMounted.{in_order}
-use Rattle.command_laws.proofs.ScrubOneWrong.{IsPlace, wrong_place, worn_count, finds_one, worn_not_held}
-use Rattle.command_laws.proofs.ScrubSeen.{SameIn, IsSeen, found_of, worn_here, worn_elsewhere}
+use Rattle.command_laws.proofs.ScrubOneWrong.{IsPlace, wrong_place, worn_count, finds_one}
+use Rattle.command_laws.proofs.ScrubSeen.{IsSeen, found_of, worn_here, worn_elsewhere}
 use Rattle.command_laws.proofs.ScrubStanding.{mending_stands}
 use Rattle.cartridge_laws.proofs.Writing.{cell_at}
 use Rattle.command_laws.specs.DeepScrubLaws.{SilentSectorsAreMended, SilentSectorsAreMounted}
@@ -41,6 +41,7 @@ use Rattle.qic_base.specs.Cartridge.{Cartridge, view_at}
 use Rattle.qic_base.specs.declared.tape.SectorView.{SectorView}
 use Rattle.qic_base.specs.declared.tape.SectorView.TheVariants.{Lost, Holds}
 use Rattle.qic_base.specs.declared.tape.TapeInfo.{TapeInfo}
+use Rattle.cartridge_laws.proofs.FormatWriting.{worn_holds}
 
 -- ---- one segment
 
@@ -57,7 +58,7 @@ worn_before k c l one j held h view =
     let small : one.sector < 32 = subst (λ (i : ℕ). i < 32) one.index (usable_small l.mask one.place one.within) in
     elim (cases_eq j one.sector) [
       | inl same ↦
-          absurd (worn_not_held (view_at c l.segment one.sector) held
+          absurd (worn_holds (view_at c l.segment one.sector) held
           (sym (worn_here c l.segment one.sector) ∙ subst (λ (i : ℕ). view_at d l.segment i ≡ Holds held) same view))
       | inr apart ↦
           sym (one.others j h apart) ∙ sym (worn_elsewhere c l.segment one.sector l.segment j small h (λ here e. apart (sym e))) ∙ view
@@ -110,10 +111,6 @@ silent_wrong k c l known one =
 
 -- ---- the segments of a cartridge that stands
 
-the_signature : (k : Cartridge) (area : List (List ℕ)) → IsInForce k area → has_signature area ≡ true
-the_signature k area (inl first) = first.signature
-the_signature k area (inr second) = second.1.signature
-
 -- each one but that of the second header copy, and the table's, is known
 looked_known : (k : Cartridge) (plain : Plain) (l : Looked) → Stands k plain → Rise (looked_at plain.words (entries_of plain)) →
     Written (copy_cells k 0) plain.header_area → Contains (looked_at plain.words (entries_of plain)) l → (l.segment ≡ 1 → ⊥) → (l.segment ≡ 2 → ⊥) →
@@ -129,7 +126,7 @@ looked_known k plain l stood rise first among not_second not_table =
           carries = omega (arith, count_of_whole);
         };
         can = ap (λ (b : Bool). cond b (has_signature plain.header_area) true) (lt-ltb 0 2 (omega arith))
-            ∙ the_signature k plain.header_area stood.header.in_force;
+            ∙ signature_in_force k plain.header_area stood.header.in_force;
       })
       | inr behind ↦ elim (contains_cases (whole_segment 1) l (whole_segment 2 ∷ rest) behind) [
         | inl is ↦ absurd (not_second (sym (ap (λ (m : Looked). m.segment) is)))
@@ -175,8 +172,8 @@ module _ (k c e : Cartridge) (plain : Plain) (fs : List Finding) (stood : Stands
       let same : of.finding ≡ wrong =
       finds_one Deep c l of.finding wrong of.finds
       (λ is. one.not_table (sym one.here ∙ is), known.has.xs, refl, silent_wrong k c l known one.one) in
-      let worn_seen : SameIn (worn l.segment one.one.sector c) e l.segment =
-      subst (λ (f : Finding). SameIn (without f.wrong l c) e l.segment) same of.seen in
+      let worn_seen : IsSameIn (worn l.segment one.one.sector c) e l.segment =
+      subst (λ (f : Finding). IsSameIn (without f.wrong l c) e l.segment) same of.seen in
       subst (λ (t : ℕ). view_at k t i ≡ Holds bytes) one.here
       (worn_before k c l one.one i bytes h (sym (worn_seen i h) ∙ subst (λ (t : ℕ). view_at e t i ≡ Holds bytes) (sym one.here) view))
 
@@ -190,7 +187,7 @@ module _ (k c e : Cartridge) (plain : Plain) (fs : List Finding) (stood : Stands
         ]
       ]
 
-  table_same : SameIn k e 2
+  table_same : IsSameIn k e 2
   table_same i h =
       elim (silent.each 2) [
         | inr one ↦ absurd (one.not_table refl)
@@ -208,7 +205,7 @@ module _ (k c e : Cartridge) (plain : Plain) (fs : List Finding) (stood : Stands
       (contains_first (whole_segment 0) (whole_segment 1 ∷ whole_segment 2 ∷ looked_volumes plain.words (entries_of plain))) in
       let cells : cells_at e (whole_segment 0) ≡ cells_at (without of.finding.wrong (whole_segment 0) c) (whole_segment 0) =
       same_cells (without of.finding.wrong (whole_segment 0) c) e 0 (whole_segment 0).mask of.seen in
-      written_reads e 0 plain.header_area stood.whole.header_area (the_signature k plain.header_area stood.header.in_force)
+      written_reads e 0 plain.header_area stood.whole.header_area (signature_in_force k plain.header_area stood.header.in_force)
       (written_before k e 0 (whole_segment 0).mask plain.header_area (λ j held h view. no_more 0 j held h (λ is. omega arith) view) silent.first)
       (subst (λ (xs : List SectorView). unreadable_count xs ≤ 3) (sym cells)
       (first_few k c plain of.finding.saying of.finding.wrong stood silent of.finds silent.copy))
@@ -235,7 +232,7 @@ silent_sectors_are_mended k c plain acts stood silent scrubs =
 first_copy_reads : (k c : Cartridge) (plain : Plain) → Stands k plain → DiffersSilently k c plain → IsSameIn k c 0 →
     unreadable_count (copy_cells c 0) ≤ 3 → CopyReads c 0 plain.header_area
 first_copy_reads k c plain stood silent same few =
-    written_reads c 0 plain.header_area stood.whole.header_area (the_signature k plain.header_area stood.header.in_force)
+    written_reads c 0 plain.header_area stood.whole.header_area (signature_in_force k plain.header_area stood.header.in_force)
     (subst (λ (cells : List SectorView). Written cells plain.header_area) (sym (same_cells k c 0 (whole_segment 0).mask same)) silent.first) few
 
 silent_in_force : (k c : Cartridge) (plain : Plain) → Stands k plain → DiffersSilently k c plain → Rise (looked_at plain.words (entries_of plain)) →
@@ -257,7 +254,7 @@ silent_in_force k c plain stood silent rise (inr second) =
             λ area copy_reads.
                 let both : Data area ≡ Mismatch = says_is_function (copy_cells c 0) (Data area) Mismatch copy_reads.says wrong.mismatch in
                 absurd (cc),
-            written_reads c 1 plain.header_area stood.whole.header_area (the_signature k plain.header_area stood.header.in_force)
+            written_reads c 1 plain.header_area stood.whole.header_area (signature_in_force k plain.header_area stood.header.in_force)
                 (subst (λ (cells : List SectorView). Written cells plain.header_area) (sym (same_cells k c 1 (whole_segment 1).mask second.0)) second.1) second.2,
           )
     ]

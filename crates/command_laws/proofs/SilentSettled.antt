@@ -15,10 +15,9 @@ use Rattle.cartridge_spec.specs.Says.{unreadable_count, with_parity, whole_mask}
 use Rattle.cartridge_spec.specs.Settling.{changed_by, settling_steps, writes_of}
 use Rattle.cartridge_spec.specs.Shape.{IsLive, sector_at, usable_places}
 use Rattle.cartridge_spec.specs.Volumes.{Plain, Stands}
-use Rattle.command_laws.proofs.ScrubSeen.{SameIn}
 use Rattle.command_laws.proofs.SilentMended.{silent_sectors_are_mended, table_reads}
 use Rattle.command_laws.specs.DeepScrubLaws.{SilentSectorsEnd}
-use Rattle.command_laws.specs.SilentSectors.{HasOneSilent, HasCopy, DiffersSilently}
+use Rattle.command_laws.specs.SilentSectors.{HasOneSilent, HasCopy, DiffersSilently, IsSameIn}
 use Rattle.command_spec.specs.Outcome.{CommandOutcome}
 use Rattle.command_spec.specs.Scrub.{Looked, cells_at, whole_segment}
 use Rattle.qic_base.specs.Acts.{steps_of}
@@ -30,7 +29,7 @@ use Rattle.qic_base.specs.declared.tape.SectorView.TheVariants.{Blank, Defect, L
 -- ---- the same views
 
 abbrev AllSame : (c e : Cartridge) → Type 0
-AllSame c e = (segment : ℕ) → SameIn c e segment
+AllSame c e = (segment : ℕ) → IsSameIn c e segment
 
 count_same : (c e : Cartridge) (l : Looked) (n : ℕ) → AllSame c e → unreadable_count (cells_at c l) ≤ n → unreadable_count (cells_at e l) ≤ n
 count_same c e l n same few =
@@ -85,7 +84,7 @@ settled_view part Defect holds = refl
 settled_view part Lost holds = let both : Lost ≡ Holds part = holds tt in absurd (cc)
 settled_view part (Holds old) holds = sym (holds tt)
 
-table_same : (k c : Cartridge) (plain : Plain) → DiffersSilently k c plain → SameIn k c 2
+table_same : (k c : Cartridge) (plain : Plain) → DiffersSilently k c plain → IsSameIn k c 2
 table_same k c plain silent =
     elim (silent.each 2) [
       | inl same ↦ same
@@ -96,7 +95,7 @@ settling_same : (k c : Cartridge) (plain : Plain) → IsSettledFor k plain.table
     c.info.protected ≡ false → AllSame c (settled plain.table_area c)
 settling_same k c plain known silent reads unprotected segment i h =
     let area : List (List ℕ) = plain.table_area in
-    let same : SameIn k c 2 = table_same k c plain silent in
+    let same : IsSameIn k c 2 = table_same k c plain silent in
     let all : Cartridge = changed_by (writes_of 2 (usable_places whole_mask) (with_parity area)) c in
     let written : IsAllWritten (with_parity area) c (settled area c) =
     subst (IsAllWritten (with_parity area) c) (sym (ap (λ (b : Bool). cond b c all) unprotected)) (all_written (with_parity area) c (length-table_block c area reads)) in

@@ -7,21 +7,11 @@ use Rattle.cartridge_laws.proofs.TableSayings.{table_says_is_function, said_is_t
 use Rattle.cartridge_spec.specs.TableSegment.{table_cells, TableIs}
 use Rattle.cartridge_laws.specs.TableCells.{HasList}
 use Rattle.cartridge_laws.specs.Segment.{data_of}
-use Rattle.cartridge_spec.specs.Says.{Data, AsRead, ByCode, ReadsAll, Agrees, TableSays, HasBlock}
+use Rattle.cartridge_spec.specs.Says.{Data, ByCode, ReadsAll, Agrees, TableSays, HasBlock}
 use Rattle.cartridge_spec.specs.Table.{Entry, Shows}
 use Rattle.qic_base.specs.Cartridge.{Cartridge}
 
 -- ---- the table's data are one
-
-pub table_one : (c : Cartridge) (one other : List (List ℕ)) → TableIs c one → TableIs c other → one ≡ other
-table_one c one other (inl reads) (inl again) =
-    let same : AsRead one ≡ AsRead other = table_says_is_function (table_cells c) (AsRead one) (AsRead other) reads again in cc
-table_one c one other (inl reads) (inr solved) =
-    let same : AsRead one ≡ ByCode (Data other) = table_says_is_function (table_cells c) (AsRead one) (ByCode (Data other)) reads solved in cc
-table_one c one other (inr solved) (inl reads) =
-    let same : ByCode (Data one) ≡ AsRead other = table_says_is_function (table_cells c) (ByCode (Data one)) (AsRead other) solved reads in cc
-table_one c one other (inr solved) (inr again) =
-    let same : ByCode (Data one) ≡ ByCode (Data other) = table_says_is_function (table_cells c) (ByCode (Data one)) (ByCode (Data other)) solved again in cc
 
 -- data that are all read are those of a block that agrees
 read_block : (c : Cartridge) (area block : List (List ℕ)) → ReadsAll (table_cells c) area → Agrees (table_cells c) block → area ≡ data_of block

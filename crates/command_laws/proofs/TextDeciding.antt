@@ -10,7 +10,7 @@ use Rattle.command_spec.specs.Command.{IsNumber, IsDateWord, Part, Word, Number,
 use Rattle.command_spec.specs.Lines.{date_form}
 use Rattle.qic_base.specs.Field.{IsDate, date_word, IsNameText, filled}
 use Rattle.qic_base.specs.LineBytes.{IsPrintable}
-use Rattle.cartridge_laws.proofs.Search.{Decided}
+use Rattle.cartridge_laws.proofs.Search.{Decided, decide_as}
 
 pub both : (P Q : Type 0) → Decided P → Decided Q → Decided (P × Q)
 both P Q (inl p) (inl q) = inl (p, q)
@@ -21,10 +21,6 @@ either : (P Q : Type 0) → Decided P → Decided Q → Decided (P ⊎ Q)
 either P Q (inl p) q = inl (inl p)
 either P Q (inr none) (inl q) = inl (inr q)
 either P Q (inr none) (inr neither) = inr (λ h. elim h [ inl p ↦ none p | inr q ↦ neither q ])
-
-pub along : (P Q : Type 0) → (P → Q) → (Q → P) → Decided P → Decided Q
-along P Q to from (inl p) = inl (to p)
-along P Q to from (inr none) = inr (λ q. none (from q))
 
 not_it : (P : Type 0) → Decided P → Decided (P → ⊥)
 not_it P (inl p) = inr (λ none. none p)
@@ -47,7 +43,7 @@ same_number m n = by_test (m ≡ n) (m == n) (λ e. grind (arith, nat_tests)) (�
 
 is_number : (word : List ℕ) (n : ℕ) → Decided (IsNumber word n)
 is_number word n =
-    along ((word ≡ decimal n) × (n ≤ 999999999)) (IsNumber word n) (λ h. record { digits = h.0; nine = h.1 }) (λ h. (h.digits, h.nine))
+    decide_as ((word ≡ decimal n) × (n ≤ 999999999)) (IsNumber word n) (λ h. record { digits = h.0; nine = h.1 }) (λ h. (h.digits, h.nine))
     (both (word ≡ decimal n) (n ≤ 999999999) (same_bytes word (decimal n)) (at_most n 999999999))
 
 is_printable : (b : ℕ) → Decided (IsPrintable b)
@@ -56,7 +52,7 @@ is_printable b = both (0x20 ≤ b) (b ≤ 0x7E) (at_most 0x20 b) (at_most b 0x7E
 all_printable : (bytes : List ℕ) → Decided (All IsPrintable bytes)
 all_printable [] = inl (λ k d here. absurd (omega arith))
 all_printable (b ∷ bytes) =
-    along (IsPrintable b × All IsPrintable bytes) (All IsPrintable (b ∷ bytes))
+    decide_as (IsPrintable b × All IsPrintable bytes) (All IsPrintable (b ∷ bytes))
     (λ h. joined h.0 h.1) (λ h. (h 0 b (omega arith), λ k d here. h (suc k) d (omega arith)))
     (both (IsPrintable b) (All IsPrintable bytes) (is_printable b) (all_printable bytes)) where
       joined : IsPrintable b → All IsPrintable bytes → All IsPrintable (b ∷ bytes)
@@ -65,7 +61,7 @@ all_printable (b ∷ bytes) =
 
 is_space : (o : Option ℕ) → Decided (o ≡ Some 0x20)
 is_space None = inr (λ e. cc)
-is_space (Some b) = along (b ≡ 0x20) (Some b ≡ Some 0x20) (λ e. ap (λ (x : ℕ). Some x) e) (λ e. cc) (same_number b 0x20)
+is_space (Some b) = decide_as (b ≡ 0x20) (Some b ≡ Some 0x20) (λ e. ap (λ (x : ℕ). Some x) e) (λ e. cc) (same_number b 0x20)
 
 is_name : (word : List ℕ) → Decided (IsNameText word)
 is_name word =
@@ -73,7 +69,7 @@ is_name word =
     let B : Type 0 = slice_get word 0 ≢ Some 0x20 in
     let E : Type 0 = slice_get word (n - 1) ≢ Some 0x20 in
     let A : Type 0 = All IsPrintable word in
-    along ((1 ≤ n) × ((n ≤ 44) × (A × (B × E)))) (IsNameText word)
+    decide_as ((1 ≤ n) × ((n ≤ 44) × (A × (B × E)))) (IsNameText word)
     (λ h. record { some = h.0; fits = h.1.0; printable = h.1.1.0; begins = h.1.1.1.0; ends = h.1.1.1.1 })
     (λ h. (h.some, (h.fits, (h.printable, (h.begins, h.ends)))))
     (both (1 ≤ n) ((n ≤ 44) × (A × (B × E))) (at_most 1 n)
@@ -87,7 +83,7 @@ is_date y mo d h mi s =
     let M : Type 0 = (1 ≤ mo) × (mo ≤ 12) in
     let D : Type 0 = (1 ≤ d) × (d ≤ 31) in
     let T : Type 0 = (h ≤ 23) × ((mi ≤ 59) × (s ≤ 59)) in
-    along (W × (M × (D × T))) (IsDate y mo d h mi s)
+    decide_as (W × (M × (D × T))) (IsDate y mo d h mi s)
     (λ f. record {
       first_year = f.0.0;
       last_year = f.0.1;
@@ -116,7 +112,7 @@ is_date_word word date =
     let s : ℕ = pair_value word 17 in
     let F : Type 0 = word ≡ date_form y mo d h mi s in
     let N : Type 0 = date ≡ date_word y mo d h mi s in
-    along (IsDate y mo d h mi s × (F × N)) (IsDateWord word date)
+    decide_as (IsDate y mo d h mi s × (F × N)) (IsDateWord word date)
     (λ f. record { year = y; month = mo; day = d; hour = h; minute = mi; second = s; a_date = f.0; written = f.1.0; stamped = f.1.1 })
     (λ w.
     let f = fields_of word date w in
@@ -133,7 +129,7 @@ is_date_word word date =
 pub spelled : (word : List ℕ) (part : Part) → Decided (SpellsPart word part)
 spelled word (Word text) = same_bytes word text
 spelled word (Number least greatest n) =
-    along (IsNumber word n × ((least ≤ n) × (n ≤ greatest))) (IsNumber word n × (least ≤ n) × (n ≤ greatest))
+    decide_as (IsNumber word n × ((least ≤ n) × (n ≤ greatest))) (IsNumber word n × (least ≤ n) × (n ≤ greatest))
     (λ h. (h.0, h.1.0, h.1.1)) (λ h. (h.0, (h.1, h.2)))
     (both (IsNumber word n) ((least ≤ n) × (n ≤ greatest)) (is_number word n) (both (least ≤ n) (n ≤ greatest) (at_most least n) (at_most n greatest)))
 spelled word (Name name) = both (IsNameText word) (name ≡ filled word) (is_name word) (same_bytes name (filled word))

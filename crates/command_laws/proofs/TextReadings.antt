@@ -2,8 +2,8 @@
 use Rattle.std.proofs.Common.{◌≡◌, ℕ, ◌+◌, List, ◌∷◌, ◌++◌, ◌≢◌, zero, suc, arith, ◌⊎◌, inl, inr, [], ap, sym, ◌∙◌, append_assoc, length, get_or, refl, ◌≤◌, subst, take, drop, codes, ◌<◌}
 use Rattle.std.proofs.lemmas.List.{length-append, get_or_at, take-append-drop, append_cancel_left, length-take-le}
 use Rattle.command_laws.proofs.TextCommands.{number_value, IsNumber-value}
-use Rattle.command_laws.proofs.TextDeciding.{same_number, along, both, at_most, spelled, has_form, same_bytes}
-use Rattle.cartridge_laws.proofs.Search.{Decided}
+use Rattle.command_laws.proofs.TextDeciding.{same_number, both, at_most, spelled, has_form, same_bytes}
+use Rattle.cartridge_laws.proofs.Search.{Decided, decide_as}
 use Rattle.command_laws.proofs.TextInputs.{AreItems, items, pulses}
 use Rattle.command_laws.proofs.TextLined.{one_before}
 use Rattle.command_laws.specs.TextInput.{EachReading}
@@ -58,7 +58,7 @@ pulse_begins input = elim (cut input) [ inl c ↦ found c | inr none ↦ inr (λ
   found : Cut input → Decided (HasItem IsPulse input)
   found c =
       let n : ℕ = number_value c.before in
-      along ((length c.before ≤ 127) × IsTrain c.before n) (HasItem IsPulse input)
+      decide_as ((length c.before ≤ 127) × IsTrain c.before n) (HasItem IsPulse input)
       (λ h. (n, (c.before ++ 0x0A ∷ [], (c.rest, (c.parts ∙ sym (append_assoc c.before (0x0A ∷ []) c.rest), record { before = c.before; short = h.0; one_line = c.one_line; whole = refl; has = h.1 })))))
       (λ h.
       let l = h.1.1.1.1 in
@@ -89,7 +89,7 @@ item_begins input = elim (cut input) [
       let l : Line = lines.guess (words_of c.before) in
       let n : ℕ = promised l in
       let E : Type 0 = l ≢ line.End in
-      along ((length c.before ≤ 127) × (IsLine c.before l × (E × (n ≤ length c.rest)))) (HasItem IsItem input)
+      decide_as ((length c.before ≤ 127) × (IsLine c.before l × (E × (n ≤ length c.rest)))) (HasItem IsItem input)
       (λ h. (
         record { line = l; bytes = take n c.rest },
         (
@@ -134,7 +134,7 @@ item_begins input = elim (cut input) [
 
 stops : (input : List ℕ) → Decided (HasStop input)
 stops input =
-    along (take 4 input ≡ codes "end\n") (HasStop input)
+    decide_as (take 4 input ≡ codes "end\n") (HasStop input)
     (λ e. (drop 4 input, sym (take-append-drop 4 input) ∙ ap (λ t. t ++ drop 4 input) e))
     (λ h. ap (take 4) h.1)
     (same_bytes (take 4 input) (codes "end\n"))

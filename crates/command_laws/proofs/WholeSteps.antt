@@ -6,7 +6,7 @@ use Rattle.std.proofs.lemmas.Option.{unwrap_or-slice_get}
 use Rattle.std.proofs.lemmas.List.{length-map, length-replicate}
 use Rattle.std.proofs.lemmas.List.Elements.{All-append, All-drop, All-from_get_or, All-map, All-replicate, All-take, All-weaker}
 use Rattle.std.specs.List.{range_with_len}
-use Rattle.cartridge_laws.proofs.AppendWhole.{sector_writes_are_cartridge, block_sector, writes_more}
+use Rattle.cartridge_laws.proofs.AppendWhole.{sector_writes_are_cartridge, block_sector, writes_more, writes_whole}
 use Rattle.cartridge_laws.proofs.FormatWriting.{some_and}
 use Rattle.cartridge_laws.proofs.MountSettles.{settling_settles}
 use Rattle.cartridge_laws.proofs.MountWhole.{settled_is_cartridge, stopped_is_cartridge, block_sectors}
@@ -23,7 +23,7 @@ use Rattle.cartridge_spec.specs.Settling.{changed_by, settling_steps, writes_of}
 use Rattle.cartridge_spec.specs.Table.{Entry, slot_bytes}
 use Rattle.cartridge_laws.specs.Slots.{slot_sector, with_slot}
 use Rattle.command_laws.proofs.CommandClean.{Leaves, both_leave, leaves_done}
-use Rattle.command_laws.proofs.InputActLaws.{input_is_of_sectors, writes_whole}
+use Rattle.command_laws.proofs.InputActLaws.{input_is_of_sectors}
 use Rattle.command_laws.proofs.MountedListed.{entry_area, slot_free}
 use Rattle.command_laws.specs.MountedListed.{IsListed}
 use Rattle.command_spec.specs.Append.{Fits, Kept, Taking, TooLong, TooShort, append_acts, entry_acts, has_promised_room, input_acts, input_writes, kept_over, room_in, taking}

@@ -30,6 +30,6 @@ abbrev pub silently : Entry → List ℕ
 silently entry = []
 
 -- the answer, with room for so many bytes
-abbrev pub append_status : (have : ℕ) → (input : List ℕ) → Status
-append_status have input =
+abbrev pub status_by_room : (have : ℕ) → (input : List ℕ) → Status
+status_by_room have input =
     if nat_le 1 have && nat_le (length input) have then status.Done else status.Full (min (length input) (have + 1)) have

@@ -3,7 +3,7 @@ use Rattle.std.specs.Prelude.{All, ◌<◌, length, ◌≤◌, true, None, ◌�
 use Rattle.cartridge_laws.specs.ChangeSteps.{HasNoRenew}
 use Rattle.cartridge_spec.specs.Formatting.{IsFirstDefectInFront, HasCleanCopies, HasNoHeader}
 use Rattle.cartridge_spec.specs.Header.{Header}
-use Rattle.cartridge_spec.specs.HeaderCopies.{CopyDoesNotRead, IsUnformatted}
+use Rattle.cartridge_spec.specs.HeaderCopies.{IsUnformatted}
 use Rattle.cartridge_spec.specs.Shape.{IsArea}
 use Rattle.cartridge_spec.specs.Mounting.{Mounted, Mounts}
 use Rattle.cartridge_spec.specs.Table.{Entry}
@@ -15,6 +15,7 @@ use Rattle.qic_base.specs.Acts.{steps_of}
 use Rattle.qic_base.specs.Cartridge.{Cartridge}
 use Rattle.qic_base.specs.CartridgeTerms.{IsCartridge}
 use Rattle.qic_base.specs.Step.{Torn}
+use Rattle.cartridge_laws.specs.HeaderTerms.{NeitherReads}
 use Rattle.command_spec.specs.declared.status.Status.TheVariants as status
 
 -- What it prints hangs together: before its first act nothing is printed, and nothing is a front of its text; so is all of it, a
@@ -38,10 +39,6 @@ abbrev pub LeavesEach : (command : Command) (c : Cartridge) (P : Cartridge → T
 LeavesEach command c P =
     (input : List ℕ) (outcome : CommandOutcome) (left : Option Cartridge) → command.yields (Some c) input outcome →
     Torn (steps_of outcome.acts) (Some c) left → IsSomeAnd left P
-
--- no header copy of it can be read
-abbrev pub NeitherReads : Cartridge → Type 0
-NeitherReads c = CopyDoesNotRead c 0 × CopyDoesNotRead c 1
 
 pub record CommandLaws (command : Command) : Type 0 where
   -- its words give it its values

@@ -13,11 +13,10 @@ use Rattle.command_laws.specs.ScrubFound.{FindAtOnce, finds_at_once, without_all
 use Rattle.command_laws.specs.ScrubLaws.{AreAllLive}
 use Rattle.command_laws.specs.ScrubMended.{IsScrubbed}
 use Rattle.command_laws.specs.SilentSectors.{DiffersSilently}
-use Rattle.command_laws.specs.ScrubTerms.{IsFirstCopyRight}
 use Rattle.command_laws.specs.CommandFields.{Yields}
 use Rattle.command_laws.specs.ScrubPlain.{Scrubs}
 use Rattle.command_spec.specs.Outcome.{CommandOutcome}
-use Rattle.command_spec.specs.Scrub.{Looked, looked_at, Finding, FindInTurn, MayBeFound, ScrubsAs, finding_acts, ScrubsBy}
+use Rattle.command_spec.specs.Scrub.{Looked, looked_at, Finding, FindInTurn, MayBeFound, IsWrong, ScrubsAs, finding_acts, ScrubsBy, whole_segment}
 use Rattle.command_spec.specs.declared.depth.Depth.{Depth}
 use Rattle.command_spec.specs.declared.depth.Depth.TheVariants.{Shallow, Deep}
 use Rattle.qic_base.specs.Acts.{Act, steps_of}
@@ -102,7 +101,11 @@ DoneFormIsSettled =
     IsSoundList last entries → ScrubsAs depth c words entries acts → IsSettledFor c area →
     IsSettledFor (changed_by (steps_of acts) c) area
 
--- no sector of the first header copy of such a cartridge is wrong, so `scrub deep` also keeps what it is mounted as
+-- no sector of the first header copy is wrong
+abbrev pub IsFirstCopyRight : Cartridge → Type 0
+IsFirstCopyRight c = (sector : ℕ) (sectors : List (List ℕ)) → ¬ (IsWrong c (whole_segment 0) sector sectors)
+
+-- that of a cartridge that stands for a plain one is right, so `scrub deep` also keeps what it is mounted as
 abbrev pub FirstCopyIsRight : Type 0
 FirstCopyIsRight = (c : Cartridge) (plain : Plain) → Stands c plain → IsFirstCopyRight c
 

@@ -10,16 +10,17 @@ use Rattle.cartridge_spec.specs.Volumes.{Plain, entries_of, worn, WearSpares}
 use Rattle.command_laws.specs.ActStops.{IsLeftBy}
 use Rattle.command_laws.specs.MountedKept.{IsAppendable, IsKept, settle_and_append}
 use Rattle.command_laws.specs.MadeTerms.{Makes}
-use Rattle.command_spec.specs.OneLoss.{ComesBackAsOneOf, SomeComeBack, with_items, with_made}
+use Rattle.command_spec.specs.OneLoss.{ComesBackAsOneOf, SomeComeBack}
 use Rattle.command_spec.specs.Script.{ScriptDoes}
 use Rattle.command_spec.specs.Outcome.{CommandOutcome}
-use Rattle.command_spec.specs.ScriptLists.{CameFurther, GoesNoFurther, printed_by, FirstSpare, ItemsSpare, ItemsSpareTable}
+use Rattle.command_spec.specs.ScriptLists.{CameFurther, GoesNoFurther, printed_by, FirstSpare, ItemsSpare, ItemsSpareTable, with_items}
 use Rattle.command_spec.specs.Scrub.{ScrubsAs}
 use Rattle.qic_base.specs.Acts.{Act, steps_of, next_steps, text_of}
 use Rattle.qic_base.specs.Cartridge.{Cartridge}
 use Rattle.qic_base.specs.Step.{Torn}
 use Rattle.command_spec.specs.declared.status.Status.{Status}
 use Rattle.command_spec.specs.declared.depth.Depth.TheVariants.{Shallow}
+use Rattle.command_spec.specs.Make.{with_made}
 use Rattle.command_spec.specs.declared.status.Status.TheVariants as status
 
 -- all 32 sectors of its table's segment hold their parts of the table

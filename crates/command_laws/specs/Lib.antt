@@ -28,7 +28,6 @@ pub mod ReadableLaws
 pub mod RestoreLaws
 pub mod RestoreTerms
 pub mod RunTerms
-pub mod ScriptAnswers
 pub mod ScriptItems
 pub mod ScriptLaws
 pub mod ScriptListing

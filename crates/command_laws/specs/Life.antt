@@ -1,7 +1,7 @@
 -- A life of a cartridge: runs, each answered or stopped anywhere, and sectors that are lost between them; and the volumes that
 -- stand behind each of these (this project's own).
-use Rattle.std.specs.Prelude.{◌≡◌, ◌≢◌, ◌⊎◌, ◌≤◌, ◌<◌, ℕ, Bool, true, false, All, IfSome, List, [], ◌∷◌, Option, Some, None, length, suc, take}
-use Rattle.cartridge_spec.specs.Appending.{with_all, with_bytes}
+use Rattle.std.specs.Prelude.{◌≡◌, ◌≢◌, ◌⊎◌, ◌≤◌, ◌<◌, ℕ, Bool, true, false, All, IfSome, List, [], ◌∷◌, Option, Some, None, length, suc}
+use Rattle.cartridge_spec.specs.Appending.{with_bytes}
 use Rattle.cartridge_spec.specs.Formatting.{HasCleanCopies, HasNoHeader, IsFreshFor, fresh_plain}
 use Rattle.cartridge_spec.specs.HeaderCopies.{CopyDoesNotRead}
 use Rattle.cartridge_spec.specs.TableSegment.{IsTableLive}
@@ -12,10 +12,10 @@ use Rattle.command_spec.specs.Input.{Item}
 use Rattle.command_spec.specs.Several.{IsHeard}
 use Rattle.command_spec.specs.Machine.{HasValues}
 use Rattle.command_laws.specs.CommandFields.{Yields}
-use Rattle.command_spec.specs.Make.{made_contents}
+use Rattle.command_spec.specs.Make.{with_made}
 use Rattle.command_spec.specs.Outcome.{CommandOutcome, HasPlace, output_of}
 use Rattle.command_spec.specs.Script.{Did, ScriptDoes}
-use Rattle.command_spec.specs.ScriptLists.{CameFurther, FirstSpare, GoesNoFurther, ItemsSpare, all_added, printed_by}
+use Rattle.command_spec.specs.ScriptLists.{CameFurther, FirstSpare, GoesNoFurther, ItemsSpare, printed_by, with_items}
 use Rattle.command_spec.specs.declared.status.Status.{Status}
 use Rattle.command_spec.specs.declared.words.Words.{Words}
 use Rattle.qic_base.specs.Acts.{Act, steps_of}
@@ -191,11 +191,11 @@ WasDone (Answered answer printed) = answer ≡ status.Done
 WasDone (Stopped printed) = ⊥
 
 -- the first ones of the generated volumes; all of them at Done, and once anything was printed
-pub record SomeMade (seed count : ℕ) (plain : Plain) (ended : Ended) (after : Option Plain) : Type 0 where
+pub record VolumesMade (seed count : ℕ) (plain : Plain) (ended : Ended) (after : Option Plain) : Type 0 where
   pub made : ℕ
   pub within : made ≤ count
   pub all : WasDone ended ⊎ HasPrinted ended → made ≡ count
-  pub is : after ≡ Some (with_all plain (made_contents seed 1 made))
+  pub is : after ≡ Some (with_made plain seed made)
 
 -- the input of a script was carried out, up to its end or to the line at fault
 abbrev pub WasHeard : Ended → Type 0
@@ -217,18 +217,18 @@ pub record SomeLines (c : Cartridge) (input : List ℕ) (plain : Plain) (ended :
   pub count : ℕ
   pub within : count ≤ length does.items
   pub answered : AnsweredAmong ended does.items does.dids count
-  pub is : after ≡ Some (with_all plain (all_added (entries_of plain) (take count does.items) (take count does.dids)))
+  pub is : after ≡ Some (with_items plain does.items does.dids count)
 
 -- the lines were carried out; or the cartridge was refused, before the first of them
-abbrev pub Scripted : Cartridge → (input : List ℕ) → Plain → Ended → (after : Option Plain) → Type 0
-Scripted c input plain ended after =
+abbrev pub LinesOrRefusal : Cartridge → (input : List ℕ) → Plain → Ended → (after : Option Plain) → Type 0
+LinesOrRefusal c input plain ended after =
     SomeLines c input plain ended after ⊎ (¬ (WasHeard ended) × ¬ (HasPrinted ended) × (after ≡ Some plain))
 
 -- What a command adds to a list on a cartridge; the others keep it.
 abbrev pub Adds : Words → Cartridge → (input : List ℕ) → Plain → Ended → (after : Option Plain) → Type 0
 Adds (commands.Append name date) c input plain ended after = Appended plain (with_bytes plain name date input) ended after
-Adds (commands.Make seed count) c input plain ended after = SomeMade seed count plain ended after
-Adds commands.Script c input plain ended after = Scripted c input plain ended after
+Adds (commands.Make seed count) c input plain ended after = VolumesMade seed count plain ended after
+Adds commands.Script c input plain ended after = LinesOrRefusal c input plain ended after
 Adds command c input plain ended after = after ≡ Some plain
 
 -- over no cartridge, an unformatted one, or one with a list

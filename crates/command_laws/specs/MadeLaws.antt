@@ -1,6 +1,5 @@
 -- What a run of `make` comes to, and what a stop in it leaves, as facts.
 use Rattle.std.specs.Prelude.{◌≡◌, ℕ, List, ◌≤◌, ◌∷◌, ◌++◌, Option, Some, ◌⊎◌, [], IsSomeAnd, ◌≢◌}
-use Rattle.cartridge_spec.specs.Appending.{with_all}
 use Rattle.cartridge_spec.specs.Header.{Header}
 use Rattle.cartridge_spec.specs.Mounting.{Lists}
 use Rattle.cartridge_spec.specs.Settling.{changed_by}
@@ -9,7 +8,7 @@ use Rattle.cartridge_spec.specs.Volumes.{Plain, Stands, entries_of}
 use Rattle.command_laws.specs.MountedKept.{IsKept, IsOpen}
 use Rattle.command_laws.specs.MountedListed.{IsListed}
 use Rattle.command_laws.specs.MadeTerms.{AppendedFrom, Makes, after_items, HaveRoom}
-use Rattle.command_spec.specs.Make.{LoseFewBehind, made_contents, MakeStep, StepDoes, Runs, made_list}
+use Rattle.command_spec.specs.Make.{LoseFewBehind, MakeStep, StepDoes, Runs, made_list, with_made}
 use Rattle.qic_base.specs.Acts.{Act, steps_of, text_of, next_steps}
 use Rattle.qic_base.specs.Cartridge.{Cartridge}
 use Rattle.qic_base.specs.Step.{Torn}
@@ -54,7 +53,7 @@ StopsAreInSteps =
 pub record StandsWithMade (seed count : ℕ) (plain : Plain) (left : Option Cartridge) : Type 0 where
   pub appended : ℕ
   pub within : appended ≤ count
-  pub stands : IsSomeAnd left (λ d. Stands d (with_all plain (made_contents seed 1 appended)))
+  pub stands : IsSomeAnd left (λ d. Stands d (with_made plain seed appended))
 
 -- a stop among the steps of a run leaves the made volumes of some front of its steps; it may come behind the last
 abbrev pub StoppedMakeStands : Type 0
@@ -68,7 +67,7 @@ abbrev pub DoneMakeStands : Type 0
 DoneMakeStands =
     (seed count : ℕ) (c : Cartridge) (plain : Plain) (acts : List Act) → count ≤ 200 → IsOpen c plain →
     Makes seed count c plain.words (entries_of plain) acts status.Done →
-    Stands (changed_by (steps_of acts) c) (with_all plain (made_contents seed 1 count))
+    Stands (changed_by (steps_of acts) c) (with_made plain seed count)
 
 -- .. and however it was answered, as many of them as were appended by the answer
 abbrev pub AnsweredMakeStands : Type 0
@@ -76,7 +75,7 @@ AnsweredMakeStands =
     (seed count : ℕ) (c : Cartridge) (plain : Plain) (acts : List Act) (answer : Status) → count ≤ 200 → IsOpen c plain →
     Makes seed count c plain.words (entries_of plain) acts answer →
     (n : ℕ) × (n ≤ count) × AppendedFrom seed 1 count plain.words (entries_of plain) answer n
-    × Stands (changed_by (steps_of acts) c) (with_all plain (made_contents seed 1 n))
+    × Stands (changed_by (steps_of acts) c) (with_made plain seed n)
 
 -- .. and where each of these takes a write, so they do where something was printed before a stop, which may come inside the steps
 -- of the next act
@@ -85,7 +84,7 @@ MadeAreAnswered =
     (seed count : ℕ) (c : Cartridge) (plain : Plain) (acts front rest : List Act) (answer : Status) (left : Option Cartridge) →
     count ≤ 200 → IsKept c plain → Makes seed count c plain.words (entries_of plain) acts answer → front ++ rest ≡ acts →
     text_of front ≢ [] → Torn (next_steps rest) (Some (changed_by (steps_of front) c)) left →
-    IsSomeAnd left (λ d. Stands d (with_all plain (made_contents seed 1 count)))
+    IsSomeAnd left (λ d. Stands d (with_made plain seed count))
 
 -- then all steps are carried out, also where sectors of the table's segment take no write
 abbrev pub MadeWhereThereIsRoom : Type 0

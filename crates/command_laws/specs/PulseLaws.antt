@@ -10,12 +10,12 @@ use Rattle.qic_base.specs.Step.{SetReferenced, effect, Torn}
 use Rattle.qic_base.specs.declared.tape.TapeInfo.{TapeInfo}
 
 -- each input has an outcome, over each cartridge and none
-abbrev pub EachOutcome : Type 0
-EachOutcome = (known : Option TapeInfo) (input : List ℕ) → (outcome : PulseRun) × PulsesOutcome known input outcome
+abbrev pub PulsesHaveAnOutcome : Type 0
+PulsesHaveAnOutcome = (known : Option TapeInfo) (input : List ℕ) → (outcome : PulseRun) × PulsesOutcome known input outcome
 
 -- it has one
-abbrev pub OneOutcome : Type 0
-OneOutcome =
+abbrev pub PulsesHaveOneOutcome : Type 0
+PulsesHaveOneOutcome =
     (known : Option TapeInfo) (input : List ℕ) (a b : PulseRun) →
     PulsesOutcome known input a → PulsesOutcome known input b → a ≡ b
 

@@ -3,12 +3,14 @@ use Rattle.std.specs.Prelude.{ℕ, List, [], ◌∷◌, Bool, codes, if◌then�
 use Rattle.std.specs.Option.{option_map}
 use Rattle.command_spec.specs.Input.{Ending, AtEnd, AtStop, AtFault, IsPulses}
 use Rattle.command_spec.specs.Outcome.{CommandOutcome}
-use Rattle.command_spec.specs.Pulses.{pulsed_row, pulses_taken, train_acts, train_changes}
+use Rattle.command_spec.specs.Pulses.{pulses_taken, train_acts}
 use Rattle.command_spec.specs.declared.status.Status.{Status}
 use Rattle.drive_spec.specs.Record.{Record, power_on}
 use Rattle.qic_base.specs.Acts.{Act}
 use Rattle.qic_base.specs.Cartridge.{Cartridge}
 use Rattle.qic_base.specs.declared.tape.TapeInfo.{TapeInfo}
+use Rattle.drive_spec.specs.Row.{pulsed_row}
+use Rattle.drive_spec.specs.Steps.{train_changes}
 use Rattle.command_spec.specs.declared.status.Status.TheVariants as status
 
 -- the drive after several trains, each with its gap

@@ -13,7 +13,7 @@ use Rattle.command_spec.specs.OneLoss.{ComesBackAsOneOf, LeftComesBack}
 use Rattle.command_spec.specs.Promises.{Promises}
 use Rattle.command_spec.specs.ScriptLists.{ItemsSpareTable}
 use Rattle.command_spec.specs.Several.{FirstLinesSpare, Scripted}
-use Rattle.command_spec.specs.Volumes.{AreBytes}
+use Rattle.command_spec.specs.Volumes.{TellsBytes}
 use Rattle.qic_base.specs.Source.{IsInput}
 use Rattle.command_spec.specs.declared.words.Words.{Words}
 use Rattle.command_spec.specs.declared.status.Status.{Status}
@@ -43,7 +43,7 @@ LeftCanBeRead =
 abbrev pub WordsKeepReadable : (told : Option (List ℕ)) → (words : List (List ℕ)) → Cartridge → Plain → Type 0
 WordsKeepReadable told words c plain =
     ((command : Words) → Spells words command → (command_of command).keeps_list c)
-    ⊎ ((name : List ℕ) × (date : ℕ) × Spells words (commands.Append name date) × AreBytes told)
+    ⊎ ((name : List ℕ) × (date : ℕ) × Spells words (commands.Append name date) × TellsBytes told)
     ⊎ ((seed : ℕ) × (count : ℕ) × Spells words (commands.Make seed count))
     ⊎ ((input : List ℕ) → IsInput told input → IfNone told (All (λ b. b < 256) input) →
     (script : Scripted input words c plain) × FirstLinesSpare script (length script.does.items)

@@ -1,12 +1,9 @@
 -- A run: its answer over what is told, and what it leaves (this project's own).
 use Rattle.std.specs.Prelude.{ℕ, List, ◌≡◌, ◌≢◌, ◌⊎◌}
-use Rattle.cartridge_spec.specs.Formatting.{HasNoHeader}
-use Rattle.cartridge_spec.specs.HeaderCopies.{IsUnformatted}
 use Rattle.command_spec.specs.Headline.{Stepped}
 use Rattle.command_spec.specs.Machine.{OverTold, CommandEnds}
 use Rattle.command_spec.specs.declared.status.Status.{Status}
 use Rattle.qic_base.specs.Acts.{Outside}
-use Rattle.qic_base.specs.Cartridge.{Cartridge}
 use Rattle.command_spec.specs.declared.words.Words.{Words}
 use Rattle.qic_base.specs.Alone.{around, no_source}
 use Rattle.command_spec.specs.declared.status.Status.TheVariants as status
@@ -22,10 +19,6 @@ Answers t s k words old new answer =
 -- the command was refused, or its input failed
 abbrev pub WasNotDone : Status → Type 0
 WasNotDone answer = (answer ≢ status.Done) × (answer ≢ status.SinkFault) × (answer ≢ status.TapeFault)
-
--- both header copies are bare, and so the cartridge is unformatted
-abbrev pub IsBare : Cartridge → Type 0
-IsBare c = HasNoHeader c × IsUnformatted c
 
 -- how it ended, whatever the source is
 abbrev pub EndsBlind : {T K : Type 0} (t : tapes.Meaning T) (k : sinks.Meaning K) (command : Words) (old new : T) (sink printed : K) → Status → Type 0

@@ -9,14 +9,14 @@ use Rattle.qic_base.specs.Cartridge.{Cartridge}
 use Rattle.qic_base.specs.Step.{Torn}
 
 -- an input has at most one outcome over a cartridge with this map and these volumes
-abbrev pub OneOutcome : Type 0
-OneOutcome =
+abbrev pub ScriptHasOneOutcome : Type 0
+ScriptHasOneOutcome =
     (c : Cartridge) (words : List ℕ) (entries : List Entry) (input : List ℕ) (a b : CommandOutcome) →
     ScriptDoes c words entries input a → ScriptDoes c words entries input b → a ≡ b
 
 -- .. and it has one, any list of numbers as the input, where a store knows the cartridge's volume table
-abbrev pub EachOutcome : Type 0
-EachOutcome =
+abbrev pub ScriptHasAnOutcome : Type 0
+ScriptHasAnOutcome =
     (c : Cartridge) (words : List ℕ) (entries : List Entry) (input : List ℕ) → IsListed c words entries →
     (outcome : CommandOutcome) × ScriptDoes c words entries input outcome
 

@@ -10,7 +10,7 @@ use Rattle.command_spec.specs.Input.{Item, Ending, IsScript}
 use Rattle.command_spec.specs.Script.{Did, ItemsDo, entries_behind, cartridge_behind, ScriptDoes}
 use Rattle.command_laws.specs.ScriptTerms.{ItemDoes, FaultDoes, LineSpares}
 use Rattle.command_spec.specs.Outcome.{CommandOutcome}
-use Rattle.command_spec.specs.ScriptLists.{CameFurther, FirstSpare, GoesNoFurther, ItemsSpare, StandsAnswered, item_added, all_added}
+use Rattle.command_spec.specs.ScriptLists.{CameFurther, FirstSpare, GoesNoFurther, ItemsSpare, StandsAnswered, item_added, plain_behind}
 use Rattle.command_spec.specs.declared.line.Line.{Line}
 use Rattle.qic_base.specs.Acts.{steps_of, Act, text_of, next_steps}
 use Rattle.qic_base.specs.Cartridge.{Cartridge}
@@ -36,12 +36,9 @@ ItemsHaveBytes =
 
 -- ---- items
 
--- the plain cartridge behind an item, and behind several
+-- the plain cartridge behind an item
 abbrev pub plain_after : Plain → Item → Did → Plain
 plain_after plain item did = with_all plain (item_added (entries_of plain) item did)
-
-abbrev pub plain_behind : Plain → List Item → List Did → Plain
-plain_behind plain items dids = with_all plain (all_added (entries_of plain) items dids)
 
 -- all items done, the cartridge stands for the plain one behind them, with the same list and the same map, also where sectors of
 -- the table's segment take no write; where each of these takes one, it still does

@@ -1,8 +1,8 @@
--- The acts and the counts of a scrub, by what its segments say or what is found of them (this project's own).
+-- The segments that a scrub looks at, and its acts and counts, by what these say or what is found of them (this project's own).
 use Rattle.std.specs.Prelude.{ℕ, List, [], ◌∷◌, ◌++◌, map}
 use Rattle.cartridge_spec.specs.Says.{Saying}
 use Rattle.command_laws.specs.ScrubPlain.{looking_acts}
-use Rattle.command_spec.specs.Scrub.{Counts, Looked, counted, counts_line, line_in, steps_in, whole_segment, Finding, HasFound, IsWrong, finding_acts, line_for, sayings_of, steps_for}
+use Rattle.command_spec.specs.Scrub.{Counts, Looked, counted, counts_line, line_in, steps_in, Finding, HasFound, finding_acts, line_for, sayings_of, steps_for}
 use Rattle.command_spec.specs.declared.depth.Depth.{Depth}
 use Rattle.qic_base.specs.Acts.{Act}
 use Rattle.qic_base.specs.Cartridge.{Cartridge}
@@ -36,10 +36,6 @@ scrub_acts c looked sayings = looking_acts c looked sayings ++ last_act (counts_
 
 abbrev pub acts_for : Cartridge → List Looked → List Finding → List Act
 acts_for c looked findings = finding_acts c looked findings ++ last_act (counts_for c looked findings) ∷ []
-
--- no sector of the first header copy is wrong
-abbrev pub IsFirstCopyRight : Cartridge → Type 0
-IsFirstCopyRight c = (sector : ℕ) (sectors : List (List ℕ)) → ¬ (IsWrong c (whole_segment 0) sector sectors)
 
 -- segments by the words of the map
 abbrev pub looked_segments : (words segments : List ℕ) → List Looked

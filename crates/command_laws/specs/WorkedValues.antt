@@ -10,7 +10,7 @@ use Rattle.cartridge_spec.specs.Table.{Entry}
 use Rattle.cartridge_spec.specs.Volumes.{carrying}
 use Rattle.command_spec.specs.Append.{append_acts, taking, TooLong, TooShort, kept_over}
 use Rattle.command_laws.specs.MadeTerms.{made_byte}
-use Rattle.command_laws.specs.AppendTerms.{bytes_taken, append_status}
+use Rattle.command_laws.specs.AppendTerms.{bytes_taken, status_by_room}
 use Rattle.command_laws.specs.Inputs.{words_of}
 use Rattle.command_spec.specs.Command.{IsNumber}
 use Rattle.command_spec.specs.Make.{made_length, sum_line, made_name, wearing_in, WearSector}
@@ -27,6 +27,7 @@ use Rattle.qic_base.specs.Acts.{text_of}
 use Rattle.qic_base.specs.Field.{filled}
 use Rattle.qic_base.specs.declared.tape.TapeInfo.{TapeInfo}
 use Rattle.command_spec.specs.Machine.{Spells}
+use Rattle.command_laws.specs.WorkedCopies.{whole_map}
 use Rattle.command_spec.specs.declared.line.Line.TheVariants as line
 use Rattle.command_spec.specs.declared.refusal.Refusal.TheVariants as why
 use Rattle.command_spec.specs.declared.status.Status.TheVariants as status
@@ -182,7 +183,7 @@ PromisedTakesNone = bytes_taken (Some 2405377) (TooLong 2405377 2405376) ≡ 0
 
 -- four bytes for a room of three are full, of which a byte more than the room is asked for
 abbrev pub FourForThree : Type 0
-FourForThree = append_status 3 (codes "abcd") ≡ status.Full 4 3
+FourForThree = status_by_room 3 (codes "abcd") ≡ status.Full 4 3
 
 -- nine bytes where ten are promised end early
 abbrev pub FewerThanPromised : Type 0
@@ -190,13 +191,9 @@ FewerThanPromised = taking 2405376 (Some 10) (codes "123456789") ≡ TooShort 10
 
 -- ---- a script: an append of 3 bytes, a list, a restore and `end`, on an empty cartridge of 3 segments per track
 
--- the map of a cartridge of 3 segments per track without a bad sector
-abbrev pub script_words : List ℕ
-script_words = replicate 84 0
-
 -- the entry of the appended volume
 abbrev pub script_entry : Entry
-script_entry = entry_behind script_words [] (filled (codes "a")) 0 (codes "abc")
+script_entry = entry_behind whole_map [] (filled (codes "a")) 0 (codes "abc")
 
 -- its lines
 abbrev pub ScriptIsRead : Type 0
@@ -207,17 +204,17 @@ ScriptIsRead = IsScript (codes "append a 3\nabclist\nrestore 1\nend\n")
 -- the reply to the append
 abbrev pub AppendReplies : Type 0
 AppendReplies = (c : Cartridge) (table : List (List ℕ)) →
-    text_of (append_acts (kept_over c script_words [] table) (filled (codes "a")) 0 (Some 3) (reply_behind 0) (codes "abc"))
+    text_of (append_acts (kept_over c whole_map [] table) (filled (codes "a")) 0 (Some 3) (reply_behind 0) (codes "abc"))
     ≡ codes "appended 1 3 3 3\n"
 
 -- the reply to the list
 abbrev pub ListReplies : Type 0
-ListReplies = list_text script_words (script_entry ∷ []) ≡ codes "1 3 3 3 1970-01-01T00:00:00 a\nvolumes 1\n"
+ListReplies = list_text whole_map (script_entry ∷ []) ≡ codes "1 3 3 3 1970-01-01T00:00:00 a\nvolumes 1\n"
 
 -- the reply to the restore, with the bytes in front of it
 abbrev pub RestoreReplies : Type 0
-RestoreReplies = text_of (given_as script_words (script_entry ∷ []) 1 script_entry
-    (framed (pieces script_words script_entry) (record { steps = []; text = codes "abc" } ∷ [])) Restored).acts
+RestoreReplies = text_of (given_as whole_map (script_entry ∷ []) 1 script_entry
+    (framed (pieces whole_map script_entry) (record { steps = []; text = codes "abc" } ∷ [])) Restored).acts
     ≡ codes "part 3\nabcrestored 1 3\n"
 
 -- a refusal for want of room

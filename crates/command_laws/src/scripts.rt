@@ -1,18 +1,18 @@
 //! Laws of the plain machine of `script`. Each is the contract of a function that does nothing.
 
-ghost use Rattle.command_laws.specs.ScriptLaws.{OneOutcome, EachOutcome, StopsInOne};
+ghost use Rattle.command_laws.specs.ScriptLaws.{ScriptHasOneOutcome, ScriptHasAnOutcome, StopsInOne};
 ghost use Rattle.command_laws.specs.ScriptStanding.{ItemsHaveBytes, ItemsStand, StoppedItemStands, FaultStands, DoneScriptStands, StoppedScriptStands, AnsweredBetween, AnsweredBehind};
 ghost use Rattle.command_laws.specs.ScriptListing.{ListedBetween, ListedBehind, ListedDone, ListedNone};
 
 /// An input has at most one outcome over a mounted cartridge.
 pub fn an_input_has_one_outcome()
-    ensures { OneOutcome }
+    ensures { ScriptHasOneOutcome }
 {}
 
 /// An input has an outcome over a mounted cartridge, any list of numbers as the input, and whatever its sectors hold
 /// behind the table.
 pub fn an_input_has_an_outcome()
-    ensures { EachOutcome }
+    ensures { ScriptHasAnOutcome }
 {}
 
 /// A stop in the steps of all items is a stop in one of them, with those before it done; or in an append behind them

@@ -1,15 +1,15 @@
 //! Laws of the plain machine of `pulses`. Each is the contract of a function that does nothing.
 
-ghost use Rattle.command_laws.specs.PulseLaws.{EachOutcome, OneOutcome, TrainsAreLines, FaultsAreBehind, FrontsDoFronts, StopsLeave};
+ghost use Rattle.command_laws.specs.PulseLaws.{PulsesHaveAnOutcome, PulsesHaveOneOutcome, TrainsAreLines, FaultsAreBehind, FrontsDoFronts, StopsLeave};
 
 /// Each input has an outcome.
 pub fn each_input_has_an_outcome()
-    ensures { EachOutcome }
+    ensures { PulsesHaveAnOutcome }
 {}
 
 /// What the drive knows of its cartridge and an input have one outcome.
 pub fn an_input_has_one_outcome()
-    ensures { OneOutcome }
+    ensures { PulsesHaveOneOutcome }
 {}
 
 /// An input begins with the lines of its trains, of which there are at most 65,536.

@@ -103,7 +103,7 @@ behind_copy from e to acts = record to {
 }
 
 -- the volume table of the target has lost more than three sectors
-pub record IsTableLost (to : Side) (acts : List Act) (answer : CopyStatus) : Type 0 where
+pub record IsTargetLost (to : Side) (acts : List Act) (answer : CopyStatus) : Type 0 where
   pub lost : ℕ
   pub says : TableSays (table_cells to.cartridge) (ByCode (LostSectors lost))
   pub does : acts ≡ []
@@ -149,7 +149,7 @@ pub record IsGiven (from : Side) (e : Entry) (to : Side) (table : List (List ℕ
 -- A volume of the source is appended to the target, as an append does it that is promised the volume's length.
 abbrev pub CopiesVolume : (from : Side) → Entry → (to : Side) → List Act → CopyStatus → Type 0
 CopiesVolume from e to acts answer =
-    IsTableLost to acts answer
+    IsTargetLost to acts answer
     ⊎ ((table : List (List ℕ)) × TableIs to.cartridge table × (IsFull from e to table acts answer ⊎ IsGiven from e to table acts answer))
 
 -- ---- volumes one after the other

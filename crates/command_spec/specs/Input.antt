@@ -1,9 +1,10 @@
 -- The inputs of `script` and of `pulses`: items, and what ends them (this project's own).
-use Rattle.std.specs.Prelude.{◌≡◌, ◌≢◌, ℕ, ◌+◌, ◌≤◌, List, [], ◌∷◌, ◌++◌, length, All, ◌==◌, codes}
+use Rattle.std.specs.Prelude.{◌≡◌, ◌≢◌, ℕ, ◌+◌, ◌≤◌, List, [], ◌∷◌, ◌++◌, length, ◌==◌, codes}
 use Rattle.std.specs.List.{slice_split}
 use Rattle.command_spec.specs.Command.{Part, Word, Name, dated, AnyNumber, HasForm, SpellsPart, Number}
 use Rattle.command_spec.specs.declared.line.Line.{Line}
 use Rattle.command_spec.specs.declared.status.Status.{Status}
+use Rattle.qic_base.specs.LineBytes.{NoNewline}
 use Rattle.command_spec.specs.declared.line.Line.TheVariants as line
 use Rattle.command_spec.specs.declared.status.Status.TheVariants as status
 
@@ -13,7 +14,7 @@ use Rattle.command_spec.specs.declared.status.Status.TheVariants as status
 pub record IsLined (P : List ℕ → Type 0) (text : List ℕ) : Type 0 where
   pub before : List ℕ
   pub short : length before ≤ 127
-  pub one_line : All (λ b. b ≢ 0x0A) before
+  pub one_line : NoNewline before
   pub whole : text ≡ before ++ 0x0A ∷ []
   pub has : P before
 

@@ -2,7 +2,7 @@
 -- print, how many were appended by its answer, and the command (this project's own).
 use Rattle.std.specs.Prelude.{flat_map, fold, ℕ, ◌+◌, ◌*◌, ◌%◌, List, map, ◌++◌, codes, decimal, [], ◌∷◌, take, ◌==◌, if◌then◌else◌, length, drop, Some, ◌≡◌, true, slice_get, IsSomeAnd, ◌^◌, sum, ◌⊎◌, false, ◌≢◌, ◌<◌, ◌≤◌, All, nat_lt}
 use Rattle.std.specs.List.{range_with_len}
-use Rattle.cartridge_spec.specs.Appending.{room, entry_behind, Content}
+use Rattle.cartridge_spec.specs.Appending.{room, entry_behind, Content, with_all}
 use Rattle.cartridge_spec.specs.Header.{Header}
 use Rattle.cartridge_spec.specs.TableSegment.{TableIs, table_cells}
 use Rattle.cartridge_spec.specs.Mounting.{settled}
@@ -187,6 +187,10 @@ pub record Making (seed count : ℕ) (c : Cartridge) (header : Header) (words : 
 abbrev pub made_contents : (seed volume count : ℕ) → List Content
 made_contents seed volume count =
     map (λ v. record { name = made_name v; date = 0; bytes = made_bytes seed v }) (range_with_len volume count)
+
+-- the plain cartridge with the first ones of these
+abbrev pub with_made : Plain → (seed n : ℕ) → Plain
+with_made plain seed n = with_all plain (made_contents seed 1 n)
 
 -- ---- how many were appended
 

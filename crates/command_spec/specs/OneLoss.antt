@@ -5,19 +5,17 @@ use Rattle.cartridge_spec.specs.Appending.{with_all}
 use Rattle.cartridge_spec.specs.TableSegment.{IsTableLive, LosesOneAlone}
 use Rattle.cartridge_spec.specs.Mounting.{settled, ComesBackAs}
 use Rattle.cartridge_spec.specs.Settling.{settling_steps}
-use Rattle.cartridge_spec.specs.Volumes.{Plain, Stands, entries_of}
+use Rattle.cartridge_spec.specs.Volumes.{Plain, Stands}
 use Rattle.command_spec.specs.Headline.{EachLeft, ToldNow}
-use Rattle.command_spec.specs.Input.{Item}
 use Rattle.command_spec.specs.Several.{IsHeard, Scripted, FirstLinesSpare, OverInput}
 use Rattle.command_spec.specs.Machine.{Spells}
-use Rattle.command_spec.specs.Make.{made_contents}
-use Rattle.command_spec.specs.Script.{Did}
-use Rattle.command_spec.specs.ScriptLists.{CameFurther, GoesNoFurther, all_added, printed_by, ItemsSpare, ItemsSpareTable}
-use Rattle.command_spec.specs.Volumes.{AreBytes, IsCarriedOut}
+use Rattle.command_spec.specs.ScriptLists.{CameFurther, GoesNoFurther, printed_by, ItemsSpare, ItemsSpareTable, with_items}
+use Rattle.command_spec.specs.Volumes.{TellsBytes, IsCarriedOut}
 use Rattle.qic_base.specs.Source.{IsInput}
 use Rattle.command_spec.specs.declared.status.Status.{Status}
 use Rattle.qic_base.specs.Cartridge.{Cartridge}
 use Rattle.qic_base.specs.Step.{Torn}
+use Rattle.command_spec.specs.Make.{with_made}
 use Rattle.command_spec.specs.declared.words.Words.TheVariants as commands
 use Rattle.qic_base.specs.Sink as sinks
 use Rattle.qic_base.specs.Tape as tapes
@@ -49,21 +47,13 @@ LeftComesBack c standing least most left =
 abbrev pub with_one : Plain → (name : List ℕ) (date : ℕ) (input : List ℕ) (n : ℕ) → Plain
 with_one plain name date input n = with_all plain (take n (record { name = name; date = date; bytes = input } ∷ []))
 
--- with the first ones of the volumes of a generated run
-abbrev pub with_made : Plain → (seed n : ℕ) → Plain
-with_made plain seed n = with_all plain (made_contents seed 1 n)
-
--- with the appends of the first items of a script
-abbrev pub with_items : Plain → List Item → List Did → (n : ℕ) → Plain
-with_items plain items dids n = with_all plain (all_added (entries_of plain) (take n items) (take n dids))
-
 -- ---- what is left
 
 -- What words that append leave of a cartridge that stands for a plain one, each sector of whose table's segment takes a
 -- write. Of a script the cartridge is not protected, and the first lines spare the header, and wear no sector of the
 -- table's segment; or the stop came further.
 pub record AppendingLeaves (told : Option (List ℕ)) (words : List (List ℕ)) (c : Cartridge) (plain : Plain) (left : Option Cartridge) : Type 0 where
-  pub append : (name : List ℕ) (date : ℕ) → Spells words (commands.Append name date) → AreBytes told →
+  pub append : (name : List ℕ) (date : ℕ) → Spells words (commands.Append name date) → TellsBytes told →
       (input : List ℕ) × IsInput told input × LeftComesBack c (with_one plain name date input) 0 1 left
   pub make : (seed count : ℕ) → Spells words (commands.Make seed count) → LeftComesBack c (with_made plain seed) 0 count left
   pub script : OverInput told (λ input. (script : Scripted input words c plain) → c.info.protected ≡ false →
@@ -81,7 +71,7 @@ StoppedComesBack told words held left =
 pub record AppendingLeft {T K : Type 0} (t : tapes.Meaning T) (k : sinks.Meaning K) (told : Option (List ℕ)) (words : List (List ℕ)) (c : Cartridge) (plain : Plain) (new : T) (before behind : K) (answer : Status) : Type 0 where
   pub text : List ℕ
   pub took : k.took before text behind
-  pub append : (name : List ℕ) (date : ℕ) → Spells words (commands.Append name date) → AreBytes told → IsCarriedOut answer →
+  pub append : (name : List ℕ) (date : ℕ) → Spells words (commands.Append name date) → TellsBytes told → IsCarriedOut answer →
       (input : List ℕ) × IsInput told input × ToldNow t new (SomeComeBack (with_one plain name date input) 1 1)
   pub make : (seed count : ℕ) → Spells words (commands.Make seed count) → (text ≢ []) ⊎ IsCarriedOut answer →
       ToldNow t new (SomeComeBack (with_made plain seed) count count)

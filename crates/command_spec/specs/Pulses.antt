@@ -4,23 +4,14 @@ use Rattle.std.specs.Option.{option_map}
 use Rattle.command_spec.specs.Input.{Ending, AtEnd, AtStop, AtFault, IsPulses, input_status}
 use Rattle.command_spec.specs.Outcome.{CommandOutcome}
 use Rattle.drive_spec.specs.Record.{Record, power_on}
-use Rattle.drive_spec.specs.Row.{after_gap}
-use Rattle.drive_spec.specs.Steps.{gap_steps}
+use Rattle.drive_spec.specs.Row.{pulsed_row}
+use Rattle.drive_spec.specs.Steps.{train_changes}
 use Rattle.qic_base.specs.Acts.{Act, text_of}
 use Rattle.qic_base.specs.Cartridge.{Cartridge}
-use Rattle.qic_base.specs.Step.{Step}
 use Rattle.qic_base.specs.declared.tape.TapeInfo.{TapeInfo}
 use Rattle.command_spec.specs.Command.{Command, plain_command, none_of_them, Word}
 
 -- ---- trains
-
--- the drive after so many pulses and a gap
-unfoldable pub pulsed_row : Record → (train : ℕ) → Record
-pulsed_row r train = after_gap (record r { train = train })
-
--- what they do to the cartridge
-unfoldable pub train_changes : Record → (train : ℕ) → List Step
-train_changes r train = gap_steps (record r { train = train })
 
 -- What trains do, one after the other: to the cartridge, which is referenced where a train 16 was accepted; and then the
 -- level of the track-0 line that each leaves is printed.

@@ -31,6 +31,13 @@ abbrev pub all_added : List Entry → List Item → List Did → List Content
 all_added entries (item ∷ items) (did ∷ dids) = item_added entries item did ++ all_added did.entries items dids
 all_added entries items dids = []
 
+-- the plain cartridge behind several, and behind the first ones of them
+abbrev pub plain_behind : Plain → List Item → List Did → Plain
+plain_behind plain items dids = with_all plain (all_added (entries_of plain) items dids)
+
+abbrev pub with_items : Plain → List Item → List Did → (n : ℕ) → Plain
+with_items plain items dids n = plain_behind plain (take n items) (take n dids)
+
 -- ---- what is asked of the items
 
 -- each sector that a line wears spares the header and the table, on the cartridge as it then stands
@@ -74,7 +81,7 @@ pub record CameFurther (c : Cartridge) (items : List Item) (dids : List Did) (la
 pub record StandsAnswered (plain : Plain) (items : List Item) (dids : List Did) (printed : ℕ) (left : Option Cartridge) : Type 0 where
   pub count : ℕ
   pub within : count ≤ length items
-  pub stands : IsSomeAnd left (λ d. Stands d (with_all plain (all_added (entries_of plain) (take count items) (take count dids))))
+  pub stands : IsSomeAnd left (λ d. Stands d (with_items plain items dids count))
   pub answered : (n : ℕ) → n ≤ length items → printed_by dids n ≤ printed → n ≤ count
   pub most : (n : ℕ) → suc n ≤ count → printed_by dids n ≤ printed
 

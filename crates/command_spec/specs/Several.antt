@@ -1,6 +1,6 @@
 -- Runs that add volumes: what a cartridge is mounted with when one is over, and what one of several items leaves of the
 -- plain cartridge (this project's own).
-use Rattle.std.specs.Prelude.{◌≡◌, ℕ, List, IsSomeAnd, [], ◌∷◌, ◌++◌, Option, ◌≢◌, ◌⊎◌, ◌≤◌, length, false, Some, ◌<◌, All, IfNone, take}
+use Rattle.std.specs.Prelude.{◌≡◌, ℕ, List, IsSomeAnd, [], ◌∷◌, ◌++◌, Option, ◌≢◌, ◌⊎◌, ◌≤◌, length, false, Some, ◌<◌, All, IfNone}
 use Rattle.cartridge_spec.specs.Header.{Header}
 use Rattle.cartridge_spec.specs.Mounting.{Lists, settled}
 use Rattle.cartridge_spec.specs.TableSegment.{IsTableLive}
@@ -8,15 +8,15 @@ use Rattle.cartridge_spec.specs.Table.{Entry}
 use Rattle.command_spec.specs.Headline.{ToldNow}
 use Rattle.command_spec.specs.Input.{Item}
 use Rattle.command_spec.specs.Machine.{Spells, is_fault}
-use Rattle.command_spec.specs.Make.{AppendedBy, made_list, made_contents}
+use Rattle.command_spec.specs.Make.{AppendedBy, made_list, with_made}
 use Rattle.command_spec.specs.Outcome.{CommandOutcome}
 use Rattle.command_spec.specs.Script.{Did, entries_behind, ScriptDoes}
-use Rattle.command_spec.specs.ScriptLists.{ItemsWearBehind, ListsAnswered, ListsBroken, CameFurther, FirstSpare, GoesNoFurther, ItemsSpare, StandsAnswered, all_added}
+use Rattle.command_spec.specs.ScriptLists.{ItemsWearBehind, ListsAnswered, ListsBroken, CameFurther, FirstSpare, GoesNoFurther, ItemsSpare, StandsAnswered, with_items, plain_behind}
 use Rattle.command_spec.specs.Volumes.{IsCarriedOut}
 use Rattle.qic_base.specs.Source.{IsInput}
 use Rattle.command_spec.specs.declared.status.Status.{Status}
 use Rattle.qic_base.specs.Cartridge.{Cartridge}
-use Rattle.cartridge_spec.specs.Appending.{entry_behind, with_all}
+use Rattle.cartridge_spec.specs.Appending.{entry_behind}
 use Rattle.cartridge_spec.specs.Volumes.{Plain, Stands, entries_of}
 use Rattle.qic_base.specs.Tape as tapes
 use Rattle.qic_base.specs.Sink as sinks
@@ -77,7 +77,7 @@ pub record Generated (words : List (List ℕ)) (seed count : ℕ) (c : Cartridge
 abbrev pub SomeMade : (words : List (List ℕ)) → (held left : Option Cartridge) → Type 0
 SomeMade words held left =
     (seed count : ℕ) (c : Cartridge) (plain : Plain) → held ≡ Some c → Generated words seed count c plain → IsTableLive c →
-    (n : ℕ) × (n ≤ count) × IsSomeAnd left (λ d. Stands d (with_all plain (made_contents seed 1 n)))
+    (n : ℕ) × (n ≤ count) × IsSomeAnd left (λ d. Stands d (with_made plain seed n))
 
 -- When it is over this was printed; and where no fault of the outside ended it, as many of the volumes are there as were appended by
 -- its answer, all of them once it was carried out. Where each sector of the table's segment takes a write, all are there, too, where
@@ -86,9 +86,9 @@ pub record AllMade {T K : Type 0} (t : tapes.Meaning T) (k : sinks.Meaning K) (n
   pub text : List ℕ
   pub took : k.took before text behind
   pub answered : is_fault answer ≡ false → (n : ℕ) × AppendedBy seed count plain.words (entries_of plain) answer n
-      × ToldNow t new (λ left. IsSomeAnd left (λ d. Stands d (with_all plain (made_contents seed 1 n))))
+      × ToldNow t new (λ left. IsSomeAnd left (λ d. Stands d (with_made plain seed n)))
   pub all : IsTableLive c → (text ≢ []) ⊎ (answer ≡ status.SinkFault) →
-      ToldNow t new (λ left. IsSomeAnd left (λ d. Stands d (with_all plain (made_contents seed 1 count))))
+      ToldNow t new (λ left. IsSomeAnd left (λ d. Stands d (with_made plain seed count)))
 
 -- ---- a script
 
@@ -117,8 +117,7 @@ LinesLeave input words held left =
     (c : Cartridge) (plain : Plain) → held ≡ Some c → (script : Scripted input words c plain) → IsTableLive c →
     (count : ℕ) → FirstLinesSpare script count →
     CameFurther (settled plain.table_area c) script.does.items script.does.dids script.does.last count left
-    ⊎ ((n : ℕ) × (n ≤ count)
-    × IsSomeAnd left (λ d. Stands d (with_all plain (all_added (entries_of plain) (take n script.does.items) (take n script.does.dids)))))
+    ⊎ ((n : ℕ) × (n ≤ count) × IsSomeAnd left (λ d. Stands d (with_items plain script.does.items script.does.dids n)))
 
 -- When it is over, whatever it answered, this was printed. Where each sector of the table's segment takes a write, and the lines that
 -- it went no further than spare header and table, all lines whose reply was written whole are among these, and at most one more; and
@@ -129,5 +128,4 @@ pub record AllAnswered {T K : Type 0} (t : tapes.Meaning T) (k : sinks.Meaning K
   pub answered : IsTableLive c → (count : ℕ) → GoesNoFurther script.does.items script.does.dids count (length text) →
       FirstLinesSpare script count → ToldNow t new (StandsAnswered plain script.does.items script.does.dids (length text))
   pub all : IsHeard answer → ItemsSpare (settled plain.table_area c) plain script.does.items script.does.dids →
-      ToldNow t new (λ left. IsSomeAnd left (λ d.
-      Stands d (with_all plain (all_added (entries_of plain) script.does.items script.does.dids))))
+      ToldNow t new (λ left. IsSomeAnd left (λ d. Stands d (plain_behind plain script.does.items script.does.dids)))

@@ -61,15 +61,15 @@ pub record StandsAppended (told : Option (List ℕ)) (name : List ℕ) (date : �
   pub stands : Stands d (with_bytes plain name date input)
 
 -- an input that is told is one of bytes
-abbrev pub AreBytes : (told : Option (List ℕ)) → Type 0
-AreBytes told = IfSome told (λ bytes. All (λ b. b < 256) bytes)
+abbrev pub TellsBytes : (told : Option (List ℕ)) → Type 0
+TellsBytes told = IfSome told (λ bytes. All (λ b. b < 256) bytes)
 
 -- What words of appending leave of a cartridge that stood for a plain one, each sector of whose table's segment takes a
 -- write: it stands for that, or for that with the volume of the input.
 abbrev pub AppendedOrNot : (told : Option (List ℕ)) → (words : List (List ℕ)) → (held left : Option Cartridge) → Type 0
 AppendedOrNot told words held left =
     (name : List ℕ) (date : ℕ) (c : Cartridge) (plain : Plain) → Spells words (commands.Append name date) → held ≡ Some c →
-    AreBytes told → Stands c plain → IsTableLive c → IsSomeAnd left (λ d. Stands d plain ⊎ StandsAppended told name date c plain d)
+    TellsBytes told → Stands c plain → IsTableLive c → IsSomeAnd left (λ d. Stands d plain ⊎ StandsAppended told name date c plain d)
 
 -- ---- restoring
 
@@ -102,7 +102,7 @@ pub record IsChanged {T : Type 0} (t : tapes.Meaning T) (told : Option (List ℕ
       Spells words (commands.Format label date) → t.told old ≡ Some (Some c) →
       ToldNow t new (λ left. IsSomeAnd left (λ d. HasNoHeader d × IsUnformatted d))
   pub appended : (name : List ℕ) (date : ℕ) (c : Cartridge) (plain : Plain) → IsCarriedOut answer → Spells words (commands.Append name date) →
-      t.told old ≡ Some (Some c) → AreBytes told → Stands c plain →
+      t.told old ≡ Some (Some c) → TellsBytes told → Stands c plain →
       ToldNow t new (λ left. IsSomeAnd left (StandsAppended told name date c plain))
   pub unchanged : (name : List ℕ) (date : ℕ) (c : Cartridge) (plain : Plain) → answer ≢ status.Done → answer ≢ status.SinkFault →
       answer ≢ status.TapeFault → Spells words (commands.Append name date) → t.told old ≡ Some (Some c) → Stands c plain →

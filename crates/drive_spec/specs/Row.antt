@@ -82,3 +82,7 @@ after_tick r train =
 -- a gap
 abbrev pub after_gap : Record → Record
 after_gap r = after_tick (record r { deck = ticked r.deck }) r.train
+
+-- the drive after so many pulses and a gap
+unfoldable pub pulsed_row : Record → (train : ℕ) → Record
+pulsed_row r train = after_gap (record r { train = train })

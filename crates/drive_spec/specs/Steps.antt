@@ -1,5 +1,5 @@
 -- What a gap does to the cartridge, after a train: one command alone does anything (this project's profile of QIC-117).
-use Rattle.std.specs.Prelude.{Bool, true, false, List, [], ◌∷◌, Option, Some, None, is_none, if◌then◌else◌}
+use Rattle.std.specs.Prelude.{ℕ, Bool, true, false, List, [], ◌∷◌, Option, Some, None, is_none, if◌then◌else◌}
 use Rattle.qic_base.specs.Step.{Step, SetReferenced}
 use Rattle.qic117_commands.specs.Commands.{command_at}
 use Rattle.qic117_commands.specs.Refusals.{first_refusal}
@@ -30,3 +30,7 @@ command_steps d (Some command) = if is_none (first_refusal (view_of d) command) 
 -- what a gap does to the cartridge
 abbrev pub gap_steps : Record → List Step
 gap_steps r = if is_idle r.under_way then command_steps (ticked r.deck) (command_at r.train) else []
+
+-- what so many pulses and a gap do to it
+unfoldable pub train_changes : Record → (train : ℕ) → List Step
+train_changes r train = gap_steps (record r { train = train })

@@ -321,7 +321,7 @@ seen_still Stopped e = refl
 seen_still (Streaming next) e = refl
 seen_still (Seeking left) e = cc
 
-seen_stop : (m : Motion) → is_stopped m ≡ true → seen_motion m ≡ seen_as.Stopped
+pub seen_stop : (m : Motion) → is_stopped m ≡ true → seen_motion m ≡ seen_as.Stopped
 seen_stop Stopped e = refl
 seen_stop (Streaming next) e = cc
 seen_stop (Seeking left) e = cc

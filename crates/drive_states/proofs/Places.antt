@@ -123,7 +123,7 @@ IsIn-run_on p d here streams = record {
     by_test true = refl
     by_test false = refl
 
-streams_to : (m : Motion) (index : ℕ) → StreamsTo m index → is_streaming m ≡ true
+pub streams_to : (m : Motion) (index : ℕ) → StreamsTo m index → is_streaming m ≡ true
 streams_to Stopped index under = absurd under
 streams_to (Streaming next) index under = refl
 streams_to (Seeking left) index under = absurd under

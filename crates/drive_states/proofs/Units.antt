@@ -1,5 +1,5 @@
 -- What the calls of a unit keep true of it.
-use Rattle.std.proofs.Common.{◌≡◌, ℕ, Bool, true, false, [], ◌∷◌, Option, Some, None, IfSome, IfOk, Result, Ok, Err, OnOk, OnErr, refl, sym, subst, arith}
+use Rattle.std.proofs.Common.{◌≡◌, ℕ, ap, ◌∙◌, Bool, true, false, [], ◌∷◌, Option, Some, None, IfSome, IfOk, Result, Ok, Err, OnOk, OnErr, refl, sym, subst, arith}
 use Rattle.qic_base.specs.declared.tape.TapeFailed.{TapeFailed}
 use Rattle.qic_base.specs.declared.tape.TapeInfo.{TapeInfo}
 use Rattle.qic_base.specs.Cartridge.{Cartridge, IsPlace, view_at}
@@ -16,7 +16,8 @@ use Rattle.drive_spec.specs.declared.deck.Motion.TheVariants.{Stopped}
 use Rattle.drive_spec.specs.declared.under_way.UnderWay.TheVariants.{Nothing}
 use Rattle.drive_spec.specs.Deck.{is_streaming}
 use Rattle.drive_spec.specs.Record.{Record}
-use Rattle.drive_spec.specs.Row.{after_gap, moved_on}
+use Rattle.drive_spec.specs.Row.{after_gap, moved_on, pulsed_row}
+use Rattle.drive_spec.specs.Steps.{gap_steps, train_changes}
 use Rattle.drive_states.specs.declared.fault.FdcFault.{FdcFault}
 use Rattle.drive_states.specs.declared.fault.FdcFault.TheVariants.{NoAddress}
 use Rattle.drive_states.specs.declared.fault.HandFault.{HandFault}
@@ -140,3 +141,14 @@ formats_if_ok d result unreached ok = by_tests (is_format d.mode) (is_streaming 
     by_tests true true mode streams = record { mode = mode; streams = streams }
     by_tests false b mode streams = let none : ¬ (IsFormatting d) = λ formats. let yes = formats.mode in cc in let e = (unreached none).0 in cc
     by_tests true false mode streams = let none : ¬ (IsFormatting d) = λ formats. let yes = formats.streams in cc in let e = (unreached none).0 in cc
+
+-- ---- a train
+
+-- so many pulses were sent, and a gap
+pub sent : (start counted : Record) (n train : ℕ) → counted ≡ record start { train = n } → n ≡ train → after_gap counted ≡ pulsed_row start train
+unfolding pulsed_row
+sent start counted n train same all = ap after_gap same ∙ ap (λ (k : ℕ). after_gap (record start { train = k })) all
+
+pub sent_steps : (start counted : Record) (n train : ℕ) → counted ≡ record start { train = n } → n ≡ train → gap_steps counted ≡ train_changes start train
+unfolding train_changes
+sent_steps start counted n train same all = ap gap_steps same ∙ ap (λ (k : ℕ). gap_steps (record start { train = k })) all

@@ -6,9 +6,10 @@ use Rattle.gf256_qic.specs.Code.{inverse}
 use Rattle.gf256_qic.proofs.Sums.{equal_from_sum, sum_byte}
 use Rattle.gf256_qic.proofs.Products.{product_byte, product_comm, product_assoc, product_one_right}
 use Rattle.gf256_qic.proofs.Powers.{product_inverse, inverse_byte, inverse_unique}
-use Rattle.gf256_qic.proofs.Values.{AllBytes, no_bytes, more_bytes}
+use Rattle.gf256_qic.proofs.Values.{no_bytes, more_bytes}
 use Rattle.erasure_solve.specs.Correction.{scale, correction}
 use Rattle.erasure_solve.proofs.Ring.{Poly, var, sum, times, same_value}
+use Rattle.qic_base.specs.Disk.{AreBytes}
 
 -- the powers of three places, and their inverses
 pub record Powers (x y z x' y' z' : ℕ) : Type 0 where
@@ -32,7 +33,7 @@ pub record AddUp (x y z x' y' z' a b c s t u : ℕ) : Type 0 where
   pub at_generator : bit_xor (product a x) (bit_xor (product b y) (product c z)) ≡ u
 
 six_bytes : (a b c d e f : ℕ) → a < 256 → b < 256 → c < 256 → d < 256 → e < 256 → f < 256 →
-    AllBytes (a ∷ b ∷ c ∷ d ∷ e ∷ f ∷ [])
+    AreBytes (a ∷ b ∷ c ∷ d ∷ e ∷ f ∷ [])
 six_bytes a b c d e f ha hb hc hd he hf =
     more_bytes a (b ∷ c ∷ d ∷ e ∷ f ∷ []) ha (more_bytes b (c ∷ d ∷ e ∷ f ∷ []) hb
     (more_bytes c (d ∷ e ∷ f ∷ []) hc (more_bytes d (e ∷ f ∷ []) hd
@@ -147,7 +148,7 @@ only_correction x y z x' y' z' a b c s t u p ha hb hc adds =
 -- ---- the corrections fit
 
 nine_bytes : (a b c d e f g h i : ℕ) → a < 256 → b < 256 → c < 256 → d < 256 → e < 256 → f < 256 →
-    g < 256 → h < 256 → i < 256 → AllBytes (a ∷ b ∷ c ∷ d ∷ e ∷ f ∷ g ∷ h ∷ i ∷ [])
+    g < 256 → h < 256 → i < 256 → AreBytes (a ∷ b ∷ c ∷ d ∷ e ∷ f ∷ g ∷ h ∷ i ∷ [])
 nine_bytes a b c d e f g h i ha hb hc hd he hf hg hh hi =
     more_bytes a (b ∷ c ∷ d ∷ e ∷ f ∷ g ∷ h ∷ i ∷ []) ha (more_bytes b (c ∷ d ∷ e ∷ f ∷ g ∷ h ∷ i ∷ []) hb
     (more_bytes c (d ∷ e ∷ f ∷ g ∷ h ∷ i ∷ []) hc (six_bytes d e f g h i hd he hf hg hh hi)))
@@ -242,7 +243,7 @@ record Cleared (x y z s t u : ℕ) : Type 0 where
       (product (bit_xor x y) (product (product z z) (mixed x y s t u))))
       ≡ product u (product (bit_xor x y) (product (bit_xor x z) (bit_xor y z)))
 
-cleared_sums : (x y z s t u : ℕ) → AllBytes (x ∷ y ∷ z ∷ s ∷ t ∷ u ∷ []) → Cleared x y z s t u
+cleared_sums : (x y z s t u : ℕ) → AreBytes (x ∷ y ∷ z ∷ s ∷ t ∷ u ∷ []) → Cleared x y z s t u
 cleared_sums x y z s t u all = record {
   at_inverse = same_value (x ∷ y ∷ z ∷ s ∷ t ∷ u ∷ [])
       (cleared (mix v1 v2) (mix v0 v2) (mix v0 v1)) (times_sums v3) all refl;
@@ -263,7 +264,7 @@ parts_of : (a x x' g m : ℕ) → x < 256 → x' < 256 → g < 256 → m < 256 �
     a ≡ product (product x g) m → Parts a x x' g m
 parts_of a x x' g m hx hx' hg hm ix e =
     let gm : product g m < 256 = product_byte g m hg hm in
-    let all : AllBytes (x ∷ x' ∷ g ∷ m ∷ 0 ∷ 0 ∷ []) =
+    let all : AreBytes (x ∷ x' ∷ g ∷ m ∷ 0 ∷ 0 ∷ []) =
     six_bytes x x' g m 0 0 hx hx' hg hm (omega arith) (omega arith) in
     record {
       at_inverse =

@@ -15,16 +15,18 @@ use Rattle.gf256_qic.specs.Code.{AgreesOutside, IsSolvable, lost_below}
 use Rattle.gf256_qic.proofs.Sums.{sum_byte, sum_cancel, equal_from_sum}
 use Rattle.gf256_qic.proofs.Products.{product_byte, product_assoc, product_zero_left, product_one_right}
 use Rattle.gf256_qic.proofs.Powers.{power_byte}
-use Rattle.gf256_qic.proofs.Values.{AllBytes, value_at-byte, value_at-set}
+use Rattle.gf256_qic.proofs.Values.{value_at-byte, value_at-set}
 use Rattle.gf256_qic.proofs.Distance.{power_apart, power_inverse, power_of_one}
 use Rattle.gf256_qic.proofs.Agreement.{length-column, get_or-column, any_default, columns_agree, one_block}
 use Rattle.gf256_qic.proofs.Parities.{bytes_of_column, block_count}
-use Rattle.erasure_solve.specs.Lost.{is_lost, lost_count}
+use Rattle.erasure_solve.specs.Lost.{lost_count}
 use Rattle.erasure_solve.specs.Rows.{AreValues, AddsRow, weighed_sum, weighed_byte, weighed_row}
 use Rattle.erasure_solve.specs.Correction.{scale, correction, correction_factors, Corrections, IsCorrection, AreDegrees, Found, FitsDegree, Agree, Applied, AllApplied}
 use Rattle.erasure_solve.specs.declared.values.Values.{Values}
 use Rattle.erasure_solve.proofs.Algebra.{Powers, AddUp, scale_byte, only_correction, corrections_fit, correction_byte, correction_from}
 use Rattle.erasure_solve.proofs.Places.{lost_below-count}
+use Rattle.qic_base.specs.Disk.{AreBytes}
+use Rattle.qic_base.specs.CartridgeTerms.{is_lost}
 
 -- ---- the corrections from the values
 
@@ -44,7 +46,7 @@ is_correction values ss d e f factors all are same = record {
       let y : ℕ = power 2 e in
       let z : ℕ = power 2 f in
       let cs : List ℕ = column j ss in
-      let bytes : AllBytes cs = bytes_of_column j ss h all in
+      let bytes : AreBytes cs = bytes_of_column j ss h all in
       let s : ℕ = value_at 0xC3 cs in
       let t : ℕ = value_at 1 cs in
       let u : ℕ = value_at 2 cs in
@@ -231,7 +233,7 @@ pub third_from_others : (ss : List (List ℕ)) (d e f j : ℕ) → ThreeDegrees 
     bit_xor (bit_xor (Made d e f) (Made e d f)) (value_at 1 (column j ss)) ≡ Made f d e
 third_from_others ss d e f j places all h =
     let cs : List ℕ = column j ss in
-    let bytes : AllBytes cs = bytes_of_column j ss h all in
+    let bytes : AreBytes cs = bytes_of_column j ss h all in
     let s : ℕ = value_at 0xC3 cs in
     let t : ℕ = value_at 1 cs in
     let u : ℕ = value_at 2 cs in
@@ -267,7 +269,7 @@ made_block mask old new corrections least most found agree applied =
     let s : ℕ → ℕ = λ j. value_at 0xC3 (column j old) in
     let t : ℕ → ℕ = λ j. value_at 1 (column j old) in
     let u : ℕ → ℕ = λ j. value_at 2 (column j old) in
-    let bytes : (j : ℕ) → j < 1024 → AllBytes (column j old) = λ j h. bytes_of_column j old h found.sectors_fit in
+    let bytes : (j : ℕ) → j < 1024 → AreBytes (column j old) = λ j h. bytes_of_column j old h found.sectors_fit in
     let hs : (j : ℕ) → j < 1024 → s j < 256 = λ j h. value_at-byte 0xC3 (column j old) low (bytes j h) in
     let ht : (j : ℕ) → j < 1024 → t j < 256 = λ j h. value_at-byte 1 (column j old) (omega arith) (bytes j h) in
     let hu : (j : ℕ) → j < 1024 → u j < 256 = λ j h. value_at-byte 2 (column j old) two (bytes j h) in
@@ -364,12 +366,12 @@ record Step (degree : ℕ) (ds cs : List ℕ) : Type 0 where
   byte_fits : byte < 256
   none : length cs ≤ degree → byte ≡ 0
   size : length next ≡ length cs
-  bytes : AllBytes next
+  bytes : AreBytes next
   value : (p : ℕ) → value_at p next ≡ bit_xor (product byte (power p degree)) (value_at p cs)
   here : (i : ℕ) → degree + i + 1 ≡ length cs → get_or next i 0 ≡ get_or ds i 0
   kept : (i : ℕ) → get_or cs i 0 ≡ get_or ds i 0 → get_or next i 0 ≡ get_or ds i 0
 
-step : (degree : ℕ) (ds cs : List ℕ) → length ds ≡ length cs → AllBytes ds → AllBytes cs → Step degree ds cs
+step : (degree : ℕ) (ds cs : List ℕ) → length ds ≡ length cs → AreBytes ds → AreBytes cs → Step degree ds cs
 step degree ds cs same hd hc =
     elim (cases_lt degree (length cs)) [
       | inl low ↦
@@ -496,7 +498,7 @@ bytes_of_steps mask d e f cs ds word degrees agrees one then last =
     by_step i (suc (suc zero)) hk at one then last s1 s2 = last.here i (at ∙ sym s1 ∙ sym s2)
     by_step i (suc (suc (suc k))) hk at one then last s1 s2 = absurd (omega arith)
 
-three_bytes : (mask d e f : ℕ) (cs ds : List ℕ) → AllBytes cs → IsCodeword ds →
+three_bytes : (mask d e f : ℕ) (cs ds : List ℕ) → AreBytes cs → IsCodeword ds →
     AreDegrees mask (length cs) (d ∷ e ∷ f ∷ []) → AgreesOutside (is_lost mask) cs ds →
     ThreeBytes d e f (length cs) (value_at 0xC3 cs) (value_at 1 cs) (value_at 2 cs)
 three_bytes mask d e f cs ds bytes word degrees agrees =

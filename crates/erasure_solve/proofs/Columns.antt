@@ -10,7 +10,7 @@ use Rattle.qic_base.specs.Cartridge.{IsSector}
 use Rattle.gf256_qic.proofs.Sums.{sum_byte}
 use Rattle.gf256_qic.proofs.Products.{product_byte, product_assoc, product_sum_left, product_zero_left, product_one_right}
 use Rattle.gf256_qic.proofs.Powers.{power_none, power_one, power_more, power_byte}
-use Rattle.gf256_qic.proofs.Values.{AllBytes, no_bytes, more_bytes, value_at-byte, value_at-none, value_at-first, value_at-append}
+use Rattle.gf256_qic.proofs.Values.{no_bytes, more_bytes, value_at-byte, value_at-none, value_at-first, value_at-append}
 use Rattle.gf256_qic.proofs.Parities.{bytes_of_column, column-append}
 use Rattle.gf256_qic.proofs.Distance.{power_inverse}
 use Rattle.gf256_qic.proofs.Agreement.{length-column}
@@ -18,6 +18,7 @@ use Rattle.erasure_solve.specs.Rows.{AreValues, IsStrip, AddsToStrip, PutsPart, 
 use Rattle.erasure_solve.specs.declared.values.Strip.{Strip}
 use Rattle.erasure_solve.specs.declared.values.Values.{Values}
 use Rattle.erasure_solve.proofs.Ring.{var, sum, times, same_value}
+use Rattle.qic_base.specs.Disk.{AreBytes}
 
 column-none : (j : ℕ) → column j [] ≡ []
 unfolding column
@@ -28,7 +29,7 @@ unfolding column
 column-one j s = refl
 
 -- a column's value, one byte further
-value_at-push : (p : ℕ) (cs : List ℕ) (c : ℕ) → p < 256 → AllBytes cs → c < 256 →
+value_at-push : (p : ℕ) (cs : List ℕ) (c : ℕ) → p < 256 → AreBytes cs → c < 256 →
     value_at p (cs ++ c ∷ []) ≡ bit_xor (product (value_at p cs) p) c
 value_at-push p cs c h all hc =
     let last : value_at p (c ∷ []) ≡ c =
@@ -43,7 +44,7 @@ pub sector_from : (s : List ℕ) → length s ≡ 1024 → ((i : ℕ) → get_or
 sector_from s size fits = record { size = size; each = All-from_get_or (λ b. b < 256) s 0 (λ i h. fits i) }
 
 -- the value at 1, one byte further
-value_at-push-one : (cs : List ℕ) (c : ℕ) → AllBytes cs → c < 256 →
+value_at-push-one : (cs : List ℕ) (c : ℕ) → AreBytes cs → c < 256 →
     value_at 1 (cs ++ c ∷ []) ≡ bit_xor (value_at 1 cs) c
 value_at-push-one cs c all hc =
     value_at-push 1 cs c (omega arith) all hc
@@ -56,7 +57,7 @@ column-first : (j : ℕ) (ss : List (List ℕ)) (s : List ℕ) → column j (s �
 unfolding column
 column-first j ss s = refl
 
-five_bytes : (a b c d e : ℕ) → a < 256 → b < 256 → c < 256 → d < 256 → e < 256 → AllBytes (a ∷ b ∷ c ∷ d ∷ e ∷ [])
+five_bytes : (a b c d e : ℕ) → a < 256 → b < 256 → c < 256 → d < 256 → e < 256 → AreBytes (a ∷ b ∷ c ∷ d ∷ e ∷ [])
 five_bytes a b c d e ha hb hc hd he =
     more_bytes a (b ∷ c ∷ d ∷ e ∷ []) ha (more_bytes b (c ∷ d ∷ e ∷ []) hb
     (more_bytes c (d ∷ e ∷ []) hc (more_bytes d (e ∷ []) hd (more_bytes e [] he no_bytes))))

@@ -2,11 +2,11 @@
 use Rattle.std.proofs.Common.{◌≡◌, ◌≢◌, ℕ, zero, suc, ◌+◌, ◌-◌, ◌/◌, ◌%◌, ◌^◌, ◌<◌, ◌≤◌, refl, sym, ◌∙◌, ap, subst, arith, inl, inr, true, cond, List, [], ◌∷◌, length, get_or, set, get_or-set_same, get_or-set_other, add-zero, add-one, Bool}
 use Rattle.std.proofs.Math.ListN.{length-append, length-set}
 use Rattle.std.proofs.lemmas.Bool.{cases_eq, cases_lt, eqb-true, eq-eqb, ne_eqb}
-use Rattle.qic_base.specs.CartridgeTerms.{IsLost}
+use Rattle.qic_base.specs.CartridgeTerms.{IsLost, is_lost}
 use Rattle.qic_base.specs.Cartridge.{lost_places}
 use Rattle.qic_base.proofs.LostSetLaws.{lost_places-lost, lost_places-kept}
 use Rattle.gf256_qic.specs.Code.{lost_below}
-use Rattle.erasure_solve.specs.Lost.{is_lost, lost_count}
+use Rattle.erasure_solve.specs.Lost.{lost_count}
 use Rattle.erasure_solve.specs.Correction.{AreDegrees}
 
 -- the lost places below a place are found, and their degrees written down
@@ -21,7 +21,7 @@ pub record Gathered (mask count place found : ℕ) (degrees : List ℕ) : Type 0
   pub all : (p : ℕ) → p < place → is_lost mask p ≡ true →
       (k : ℕ) × (k < found) × (get_or degrees k 0 + p + 1 ≡ count)
 
-lost_from : (mask p : ℕ) → is_lost mask p ≡ true → IsLost mask p
+pub lost_from : (mask p : ℕ) → is_lost mask p ≡ true → IsLost mask p
 lost_from mask p h = eqb-true (mask / 2 ^ p % 2) 1 h
 
 pub is_lost_from : (mask p : ℕ) → IsLost mask p → is_lost mask p ≡ true

@@ -12,7 +12,7 @@ use Rattle.gf256_qic.specs.Code.{AgreesOutside, IsSolvable}
 use Rattle.gf256_qic.proofs.Products.{product_zero_right, product_one_left}
 use Rattle.gf256_qic.proofs.Values.{value_at-byte}
 use Rattle.gf256_qic.proofs.Parities.{bytes_of_column}
-use Rattle.erasure_solve.specs.Lost.{is_lost, lost_count}
+use Rattle.erasure_solve.specs.Lost.{lost_count}
 use Rattle.erasure_solve.specs.Rows.{IsZero, AreValues, AreZero, Corrects, weighed_sum, weighed_byte, weighed_row}
 use Rattle.erasure_solve.specs.Correction.{correction, correction_factors, Corrections, AreDegrees, Found, Agree, Applied, AllApplied}
 use Rattle.erasure_solve.specs.Plan.{planned_count, planned_lost, corrections_of, IsPlan, IsFull}
@@ -20,6 +20,7 @@ use Rattle.erasure_solve.specs.declared.coefficients.Coefficients.{Coefficients}
 use Rattle.erasure_solve.specs.declared.values.Values.{Values}
 use Rattle.erasure_solve.specs.declared.plan.Plan.{Plan}
 use Rattle.erasure_solve.proofs.Blocks.{ThreeDegrees, three_degrees, third_from_others, any_default_of, get_or-weighed_row, is_correction, made_block, must_agree, none_lost}
+use Rattle.qic_base.specs.CartridgeTerms.{is_lost}
 
 found_by :
     (plan : Plan) (values : Values) (ss : List (List ℕ)) → IsPlan plan → length ss ≡ planned_count plan →

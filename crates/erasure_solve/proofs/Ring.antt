@@ -7,7 +7,8 @@ use Rattle.std.proofs.lemmas.Bool.{cases_Bool, eqb-true, and_parts, false≢true
 use Rattle.cartridge_spec.specs.Code.{product}
 use Rattle.gf256_qic.proofs.Sums.{equal_from_sum, sum_cancel}
 use Rattle.gf256_qic.proofs.Products.{product_byte, product_comm, product_assoc, product_sum_left, product_sum_right, product_zero_left, product_zero_right, product_one_left, product_one_right}
-use Rattle.gf256_qic.proofs.Values.{AllBytes, first_byte, other_bytes}
+use Rattle.gf256_qic.proofs.Values.{first_byte, other_bytes}
+use Rattle.qic_base.specs.Disk.{AreBytes}
 
 -- a polynomial in numbered variables
 pub data Poly : Type 0 where
@@ -69,12 +70,12 @@ expanded (times p q) = all_times (expanded p) (expanded q)
 
 -- ---- expanding keeps the value
 
-var_byte : (env : List ℕ) (i : ℕ) → AllBytes env → get_or env i 0 < 256
+var_byte : (env : List ℕ) (i : ℕ) → AreBytes env → get_or env i 0 < 256
 var_byte [] i all = omega arith
 var_byte (x ∷ env) zero all = first_byte x env all
 var_byte (x ∷ env) (suc i) all = var_byte env i (other_bytes x env all)
 
-term_byte : (env m : List ℕ) → AllBytes env → term env m < 256
+term_byte : (env m : List ℕ) → AreBytes env → term env m < 256
 unfolding term
 term_byte env [] all = omega arith
 term_byte env (i ∷ m) all = product_byte (get_or env i 0) (term env m) (var_byte env i all) (term_byte env m all)
@@ -84,7 +85,7 @@ swapped : (a b t : ℕ) → a < 256 → b < 256 → t < 256 → product a (produ
 swapped a b t ha hb ht =
     sym (product_assoc a b t ha hb ht) ∙ ap (λ v. product v t) (product_comm a b ha hb) ∙ product_assoc b a t hb ha ht
 
-term-insert : (env : List ℕ) (i : ℕ) (m : List ℕ) → AllBytes env →
+term-insert : (env : List ℕ) (i : ℕ) (m : List ℕ) → AreBytes env →
     term env (insert i m) ≡ product (get_or env i 0) (term env m)
 unfolding term
 term-insert env i [] all = refl
@@ -97,7 +98,7 @@ term-insert env i (j ∷ m) all =
           ∙ swapped (get_or env j 0) (get_or env i 0) (term env m) (var_byte env j all) (var_byte env i all) (term_byte env m all)
     ]
 
-term-joined : (env l m : List ℕ) → AllBytes env → term env (joined l m) ≡ product (term env l) (term env m)
+term-joined : (env l m : List ℕ) → AreBytes env → term env (joined l m) ≡ product (term env l) (term env m)
 unfolding term
 term-joined env [] m all = sym (product_one_left (term env m) (term_byte env m all))
 term-joined env (i ∷ l) m all =
@@ -142,7 +143,7 @@ total-plus env (m ∷ ms) ls =
     ∙ ap (bit_xor (term env m)) (total-plus env ms ls)
     ∙ sym (xor_assoc (term env m) (total env ms) (total env ls))
 
-total-term_times : (env m : List ℕ) (ls : List (List ℕ)) → AllBytes env →
+total-term_times : (env m : List ℕ) (ls : List (List ℕ)) → AreBytes env →
     total env (term_times m ls) ≡ product (term env m) (total env ls)
 unfolding total
 total-term_times env m [] all = sym (product_zero_right (term env m))
@@ -152,7 +153,7 @@ total-term_times env m (l ∷ ls) all =
     ∙ ap (bit_xor (product (term env m) (term env l))) (total-term_times env m ls all)
     ∙ sym (product_sum_right (term env m) (term env l) (total env ls))
 
-total-all_times : (env : List ℕ) (ms ls : List (List ℕ)) → AllBytes env →
+total-all_times : (env : List ℕ) (ms ls : List (List ℕ)) → AreBytes env →
     total env (all_times ms ls) ≡ product (total env ms) (total env ls)
 unfolding total
 total-all_times env [] ls all = sym (product_zero_left (total env ls))
@@ -162,7 +163,7 @@ total-all_times env (m ∷ ms) ls all =
     ∙ ap (bit_xor (product (term env m) (total env ls))) (total-all_times env ms ls all)
     ∙ sym (product_sum_left (term env m) (total env ms) (total env ls))
 
-total-expanded : (env : List ℕ) (p : Poly) → AllBytes env → total env (expanded p) ≡ value env p
+total-expanded : (env : List ℕ) (p : Poly) → AreBytes env → total env (expanded p) ≡ value env p
 unfolding total term
 total-expanded env (var i) all =
     xor_zero_r (product (get_or env i 0) 1) ∙ product_one_right (get_or env i 0) (var_byte env i all)
@@ -176,7 +177,7 @@ total-expanded env (times p q) all =
     ∙ ap (product (value env p)) (total-expanded env q all)
 
 -- polynomials have the same value where the terms of their sum fall out
-pub same_value : (env : List ℕ) (p q : Poly) → AllBytes env → plus (expanded p) (expanded q) ≡ [] → value env p ≡ value env q
+pub same_value : (env : List ℕ) (p q : Poly) → AreBytes env → plus (expanded p) (expanded q) ≡ [] → value env p ≡ value env q
 unfolding total
 same_value env p q all gone =
     equal_from_sum (value env p) (value env q) (

@@ -4,8 +4,8 @@ use Rattle.std.specs.Prelude.{◌≡◌, ◌≢◌, ℕ, ◌+◌, ◌-◌, ◌<�
 use Rattle.cartridge_spec.specs.Code.{product, power, value_at, column}
 use Rattle.gf256_qic.specs.Code.{inverse}
 use Rattle.qic_base.specs.Cartridge.{IsSector}
-use Rattle.erasure_solve.specs.Lost.{is_lost}
 use Rattle.erasure_solve.specs.Rows.{IsZero, AddsRow}
+use Rattle.qic_base.specs.CartridgeTerms.{is_lost}
 
 -- x / ((x + y) * (x + z))
 unfoldable pub scale : ℕ → ℕ → ℕ → ℕ

@@ -2,7 +2,8 @@
 use Rattle.std.specs.Prelude.{◌≡◌, ℕ, ◌≤◌, List}
 use Rattle.cartridge_spec.specs.Code.{IsCodeBlock}
 use Rattle.gf256_qic.specs.Code.{AgreesOutside}
-use Rattle.erasure_solve.specs.Lost.{is_lost, lost_count}
+use Rattle.erasure_solve.specs.Lost.{lost_count}
+use Rattle.qic_base.specs.CartridgeTerms.{is_lost}
 
 -- at most one code block agrees with sectors of which at most three are lost (QIC-80-MC)
 abbrev pub OneSolution : Type 0

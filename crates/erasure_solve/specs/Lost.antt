@@ -1,12 +1,8 @@
 -- The places of a segment that are lost, and what can be said of the sectors there.
-use Rattle.std.specs.Prelude.{◌≡◌, ℕ, ◌/◌, ◌%◌, ◌^◌, ◌==◌, Bool, List, length}
+use Rattle.std.specs.Prelude.{◌≡◌, ℕ, Bool, List, length}
 use Rattle.qic_base.specs.Cartridge.{lost_places}
 use Rattle.cartridge_spec.specs.Code.{IsCodeBlock}
 use Rattle.gf256_qic.specs.Code.{AgreesOutside}
-
--- whether the mask names the place (this project's profile)
-abbrev pub is_lost : ℕ → ℕ → Bool
-is_lost mask place = mask / 2 ^ place % 2 == 1
 
 -- how many places the mask names (this project's profile)
 abbrev pub lost_count : ℕ → ℕ

@@ -4,7 +4,8 @@
 ghost use Rattle.std.specs.Prelude.{◌≡◌, ℕ, ◌<◌, ◌≤◌, ◌↔◌, length, IsTrue, IsOk, OnOk, OnErr};
 ghost use Rattle.cartridge_spec.specs.Code.{IsCodeBlock};
 ghost use Rattle.gf256_qic.specs.Code.{AgreesOutside, IsSolvable};
-ghost use Rattle.erasure_solve.specs.Lost.{is_lost, lost_count, IsOnlyBlock};
+ghost use Rattle.qic_base.specs.CartridgeTerms.{is_lost};
+ghost use Rattle.erasure_solve.specs.Lost.{lost_count, IsOnlyBlock};
 
 pub use plan::Plan;
 use qic_base::{LostSet, Sector};

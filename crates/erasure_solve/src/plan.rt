@@ -3,7 +3,8 @@
 ghost use Rattle.std.specs.Prelude.{◌≡◌, ◌≢◌, ℕ, ◌<◌, ◌≤◌, ◌↔◌, length, IsTrue, IsOk, IfOk};
 ghost use Rattle.cartridge_spec.specs.Code.{IsCodeBlock};
 ghost use Rattle.gf256_qic.specs.Code.{AgreesOutside, IsSolvable};
-ghost use Rattle.erasure_solve.specs.Lost.{is_lost, lost_count, IsOnlyBlock};
+ghost use Rattle.qic_base.specs.CartridgeTerms.{is_lost};
+ghost use Rattle.erasure_solve.specs.Lost.{lost_count, IsOnlyBlock};
 ghost use Rattle.erasure_solve.specs.Correction.{AreDegrees, Agree};
 ghost use Rattle.erasure_solve.specs.Plan.{planned_count, planned_lost, corrections_of, IsPlan, IsPlanFor, IsFull};
 

@@ -215,7 +215,7 @@ copied_more s m first now next old mid new mask segment lost len more sectors be
 
 -- ---- the end of the dump
 
-dump_ended : (o p : Option (List ℕ)) (text : List ℕ) → o ≡ option_map (λ rest. text ++ rest) p → IfSome p (λ bytes. bytes ≡ []) → IfSome o (λ bytes. text ≡ bytes)
+dump_ended : (o p : Option (List ℕ)) (text : List ℕ) → o ≡ option_map (λ rest. text ++ rest) p → IfSome p (λ bytes. bytes ≡ []) → IsInput o text
 dump_ended None p text gave ended = tt
 dump_ended (Some b) None text gave ended = cc
 dump_ended (Some b) (Some rest) text gave ended =
@@ -225,7 +225,7 @@ dump_ended (Some b) (Some rest) text gave ended =
 IsInput-ended : {S : Type 0} (s : sources.Meaning S) (first now : S) (text : List ℕ) → Gave s first now text → HasEnded s now → IsInput (s.left first) text
 IsInput-ended s first now text gave ended = dump_ended (s.left first) (s.left now) text gave ended
 
-dump_rest : (o p : Option (List ℕ)) (text rest : List ℕ) → o ≡ option_map (λ r. text ++ r) p → IfSome p (λ bytes. rest ≡ bytes) → IfSome o (λ bytes. text ++ rest ≡ bytes)
+dump_rest : (o p : Option (List ℕ)) (text rest : List ℕ) → o ≡ option_map (λ r. text ++ r) p → IsInput p rest → IsInput o (text ++ rest)
 dump_rest None p text rest gave told = tt
 dump_rest (Some b) None text rest gave told = cc
 dump_rest (Some b) (Some r) text rest gave told =

@@ -17,7 +17,7 @@ use Rattle.cart_image.specs.declared.layout.Head.{Head}
 use Rattle.cart_image.specs.declared.layout.Kind.TheVariants.{Cells}
 use Rattle.cart_image.specs.declared.layout.Layout.{Layout}
 use Rattle.cart_image.specs.declared.layout.Part.TheVariants.{GateByte, FormedByte, DefectByte, Data}
-use Rattle.cart_image.specs.Image.{read_len, layout_by, head_by, head_of, view_in, views_in, sector_bytes, cartridge_of}
+use Rattle.cart_image.specs.Image.{view_by, read_len, layout_by, head_by, head_of, view_in, views_in, sector_bytes, cartridge_of}
 use Rattle.cart_image.specs.Layout.{image_len, place, sectors}
 use Rattle.cart_image.specs.Whole.{cartridge_of-read, length-views}
 use Rattle.flat_dump.specs.Cells.{cell_bytes, joined, imported_head, lost_cell}
@@ -27,7 +27,6 @@ use Rattle.flat_dump.proofs.Bytes.{length-zero_sector}
 use Rattle.flat_dump.proofs.Celling.{cell_shows}
 use Rattle.cart_image.proofs.Bytes.{view_in-is}
 use Rattle.cart_image.proofs.Changes.{get_or-views}
-use Rattle.flat_dump.proofs.Running.{view_by-is}
 
 -- ---- cells, one behind the other
 
@@ -80,6 +79,9 @@ laid_more file views cells more laid size each = record {
       (subst (λ (v : SectorView). IsCell (get_or cells (q - length views) []) v) (sym (get_or-append_right views more (length views) q Blank refl past)) (each (q - length views) (omega arith))))
       (cases_lt q (length views));
 }
+
+view_by-is : (d d2 f f2 g g2 : ℕ) (b b2 : List ℕ) → d ≡ d2 → f ≡ f2 → g ≡ g2 → b ≡ b2 → view_by d f g b ≡ view_by d2 f2 g2 b2
+view_by-is d d2 f f2 g g2 b b2 p q r s = rw (p, q, r, s) refl
 
 pub length-laid : (file : List ℕ) (views : List SectorView) → IsLaid file views → length file ≡ 64 + 1027 * length views
 length-laid file views laid =

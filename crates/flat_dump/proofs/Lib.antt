@@ -10,7 +10,6 @@ pub mod Laying
 pub mod Maps
 pub mod Masked
 pub mod Passing
-pub mod Running
 pub mod Seeing
 pub mod Standing
 pub mod Stops

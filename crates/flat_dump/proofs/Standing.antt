@@ -4,15 +4,13 @@ use Rattle.std.proofs.lemmas.List.Elements.{All-weaker}
 use Rattle.std.proofs.lemmas.Option.{slice_get-map}
 use Rattle.std.specs.Prelude.{unwrap_or, slice_get}
 use Rattle.std.specs.Option.{option_map}
-use Rattle.cartridge_laws.proofs.ChangeStanding.{CellsAlike, written_less, zero_less, in_force}
-use Rattle.cartridge_laws.proofs.ChangeViews.{ReadsNoMore, ReadsAlike, held_before, same_count}
+use Rattle.cartridge_laws.proofs.ChangeStanding.{CellsAlike, written_less, in_force, copies_less, volume_less}
+use Rattle.cartridge_laws.proofs.ChangeViews.{ReadsAlike, held_before, same_count}
 use Rattle.cartridge_laws.proofs.Segments.{count_of_cells}
 use Rattle.cartridge_spec.specs.TableSegment.{table_cells}
 use Rattle.cartridge_spec.specs.Says.{cells_of, whole_mask, Written, ReadsAll}
-use Rattle.cartridge_spec.specs.Shape.{is_unreadable, mask_at, usable_places}
-use Rattle.cartridge_laws.specs.VolumeParts.{PartStands}
-use Rattle.cartridge_laws.specs.HeaderTerms.{CopiesAre}
-use Rattle.cartridge_spec.specs.Volumes.{Volume, VolumeStands, parts_of, carrying_segments, Plain, Stands}
+use Rattle.cartridge_spec.specs.Shape.{is_unreadable, usable_places}
+use Rattle.cartridge_spec.specs.Volumes.{VolumeStands, Plain, Stands}
 use Rattle.qic_base.specs.Cartridge.{Cartridge, view_at}
 use Rattle.qic_base.specs.CartridgeTerms.{place_of}
 use Rattle.qic_base.specs.declared.tape.SectorView.{SectorView}
@@ -67,18 +65,6 @@ cells_alike c d s alike = record {
   no_less = λ i bytes at. held_before d c s whole_mask i bytes alike.no_less at;
 }
 
-copies_alike : (c d : Cartridge) (area : List (List ℕ)) → ReadsNoMore c d → CopiesAre c area → CopiesAre d area
-copies_alike c d area less (inl written) = inl (written_less c d 0 whole_mask area less written)
-copies_alike c d area less (inr other) = inr (zero_less c d 0 whole_mask less other.0, written_less c d 1 whole_mask area less other.1)
-
-volume_alike : (c d : Cartridge) (words : List ℕ) (volume : Volume) → ReadsNoMore c d → VolumeStands c words volume → VolumeStands d words volume
-volume_alike c d words volume less stood = record {
-  parts = All-weaker (PartStands c words) (PartStands d words)
-      (λ part stands. written_less c d part.segment (mask_at words part.segment) part.sectors less stands)
-      (parts_of words (carrying_segments words volume.entry) volume.area) stood.parts;
-  size = stood.size;
-}
-
 table_alike : (c d : Cartridge) (area : List (List ℕ)) → ReadsAlike c d → Written (table_cells c) area ⊎ ReadsAll (table_cells c) area → Written (table_cells d) area ⊎ ReadsAll (table_cells d) area
 table_alike c d area alike (inl written) = inl (written_less c d 2 whole_mask area alike.no_more written)
 table_alike c d area alike (inr reads) = inr (record {
@@ -97,11 +83,11 @@ brought_stands c plain stood =
         in_force = in_force c d plain.header_area (cells_alike c d 0 alike) (cells_alike c d 1 alike) stood.header.in_force;
       };
       sound_header = stood.sound_header;
-      copies = copies_alike c d plain.header_area alike.no_more stood.copies;
+      copies = copies_less c d plain.header_area alike.no_more stood.copies;
       sound_table = stood.sound_table;
       shown = stood.shown;
       volumes = All-weaker (VolumeStands c plain.words) (VolumeStands d plain.words)
-          (λ volume stands. volume_alike c d plain.words volume alike.no_more stands) plain.volumes stood.volumes;
+          (λ volume stands. volume_less c d plain.words volume alike.no_more stands) plain.volumes stood.volumes;
       table = table_alike c d plain.table_area alike stood.table;
     }
 

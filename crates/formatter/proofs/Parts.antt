@@ -6,7 +6,8 @@ use Rattle.qic_base.specs.Step.{Step, FormatSegment}
 use Rattle.qic_base.specs.Tape.{Meaning, Done, Broke}
 use Rattle.qic_base.specs.TapeCalls.{Does}
 use Rattle.qic_base.proofs.Steps.{Done-Done, Done-Broke, Broke-front}
-use Rattle.formatter.specs.Steps.{formats_from, track_formats}
+use Rattle.formatter.specs.Steps.{track_formats}
+use Rattle.cartridge_laws.specs.FormatMarks.{formats_from}
 
 formats_more : (first n : ℕ) → formats_from first (n + 1) ≡ formats_from first n ++ FormatSegment (first + n) ∷ []
 formats_more first n = map-range_with_len_more (λ (s : ℕ). FormatSegment s) first n (first + n) (omega arith)

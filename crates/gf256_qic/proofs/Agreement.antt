@@ -11,8 +11,9 @@ use Rattle.cartridge_spec.specs.Code.{value_at, added, column, IsCodeword, IsCod
 use Rattle.qic_base.specs.Cartridge.{IsSector}
 use Rattle.gf256_qic.specs.Code.{distance, AgreesOutside, lost_below}
 use Rattle.gf256_qic.proofs.Sums.{equal_from_sum}
-use Rattle.gf256_qic.proofs.Values.{AllBytes, value_at-added, length-added, bytes_of_added}
+use Rattle.gf256_qic.proofs.Values.{value_at-added, length-added, bytes_of_added}
 use Rattle.gf256_qic.proofs.Distance.{AtRoots, weight, none_of_three}
+use Rattle.qic_base.specs.Disk.{AreBytes}
 
 abbrev one_unless : Bool → ℕ
 one_unless t = cond t 0 1
@@ -65,7 +66,7 @@ same_from_distance (x ∷ xs) (y ∷ ys) h none =
     ]
 
 -- columns with the same values at the roots that differ at no more than three places are equal
-pub near_columns : (xs ys : List ℕ) → AllBytes xs → AllBytes ys → length xs ≡ length ys → length xs ≤ 32 →
+pub near_columns : (xs ys : List ℕ) → AreBytes xs → AreBytes ys → length xs ≡ length ys → length xs ≤ 32 →
     distance xs ys ≤ 3 → AtRoots (λ p. value_at p xs ≡ value_at p ys) → xs ≡ ys
 near_columns xs ys hx hy h most near same =
     let few : weight (added xs ys) ≡ distance xs ys = weight-added xs ys h in

@@ -11,7 +11,8 @@ use Rattle.gf256_qic.proofs.Tables.{all_below, all_below_at}
 use Rattle.gf256_qic.proofs.Sums.{swap4, equal_from_sum, sum_byte}
 use Rattle.gf256_qic.proofs.Products.{product_byte, product_comm, product_assoc, product_sum_left, product_sum_right, product_zero_left, product_zero_right, product_one_left, product_one_right}
 use Rattle.gf256_qic.proofs.Powers.{power_none, power_more, power_byte, product_inverse, inverse_byte}
-use Rattle.gf256_qic.proofs.Values.{AllBytes, first_byte, other_bytes, value_at-none, value_at-first}
+use Rattle.gf256_qic.proofs.Values.{first_byte, other_bytes, value_at-none, value_at-first}
+use Rattle.qic_base.specs.Disk.{AreBytes}
 
 -- ---- the field has no divisors of 0
 
@@ -268,7 +269,7 @@ value_of_none p (suc e ∷ es) none = absurd (cc)
 
 -- one more term than two is not enough
 not_one_more :
-    (a b m l : ℕ) (es : List ℕ) → a < 256 → b < 256 → AllBytes es → a ≢ 0 →
+    (a b m l : ℕ) (es : List ℕ) → a < 256 → b < 256 → AreBytes es → a ≢ 0 →
     length es ≤ l → l < m → m < 32 → weight es ≤ 1 →
     AtRoots (λ p. bit_xor (term a m p) (bit_xor (term b l p) (value_at p es)) ≡ 0) → ⊥
 unfolding weight
@@ -312,7 +313,7 @@ not_one_more a b m l (suc e ∷ es) ha hb he other short lm hm few sums =
     }))
 
 not_two_more :
-    (a m : ℕ) (es : List ℕ) → a < 256 → AllBytes es → a ≢ 0 →
+    (a m : ℕ) (es : List ℕ) → a < 256 → AreBytes es → a ≢ 0 →
     length es ≤ m → m < 32 → weight es ≤ 2 →
     AtRoots (λ p. bit_xor (term a m p) (value_at p es) ≡ 0) → ⊥
 unfolding weight
@@ -353,7 +354,7 @@ not_two_more a m (suc e ∷ es) ha he other short hm few sums =
 
 -- a column of at most three bytes other than 0 whose value is 0 at each root has none
 pub none_of_three :
-    (es : List ℕ) → AllBytes es → length es ≤ 32 → weight es ≤ 3 →
+    (es : List ℕ) → AreBytes es → length es ≤ 32 → weight es ≤ 3 →
     AtRoots (λ p. value_at p es ≡ 0) → weight es ≡ 0
 unfolding weight
 none_of_three [] he short few sums = refl

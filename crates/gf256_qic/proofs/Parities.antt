@@ -9,20 +9,21 @@ use Rattle.cartridge_spec.specs.Code.{shifted_copies, remainder, product, power,
 use Rattle.gf256_qic.specs.Code.{through, parity_sector, data_sum, scaled, distance}
 use Rattle.qic_base.specs.Cartridge.{IsSector}
 use Rattle.gf256_qic.proofs.Products.{product_one_right, product_zero_right}
-use Rattle.gf256_qic.proofs.Values.{AllBytes, no_bytes, more_bytes, value_at-append, value_at-added, value_at-scaled, length-added, bytes_of_added, bytes_of_scaled, value_at-zeros, data_sum-value, data_sum-byte}
+use Rattle.gf256_qic.proofs.Values.{no_bytes, more_bytes, value_at-append, value_at-added, value_at-scaled, length-added, bytes_of_added, bytes_of_scaled, value_at-zeros, data_sum-value, data_sum-byte}
 use Rattle.gf256_qic.proofs.Agreement.{distance-le, near_columns, length-column, same_from_columns}
 use Rattle.gf256_qic.proofs.Distance.{AtRoots}
 use Rattle.gf256_qic.proofs.Sums.{equal_from_sum}
+use Rattle.qic_base.specs.Disk.{AreBytes}
 
 -- the three polynomials are 1 at their own root and 0 at the others, by computation
 record Basis (p q r : ℕ) : Type 0 where
   size : length (lagrange p q r) ≡ 3
-  bytes : AllBytes (lagrange p q r)
+  bytes : AreBytes (lagrange p q r)
   at_own : value_at p (lagrange p q r) ≡ 1
   at_second : value_at q (lagrange p q r) ≡ 0
   at_third : value_at r (lagrange p q r) ≡ 0
 
-three_bytes : (a b c : ℕ) → a < 256 → b < 256 → c < 256 → AllBytes (a ∷ b ∷ c ∷ [])
+three_bytes : (a b c : ℕ) → a < 256 → b < 256 → c < 256 → AreBytes (a ∷ b ∷ c ∷ [])
 three_bytes a b c ha hb hc =
     more_bytes a (b ∷ c ∷ []) ha (more_bytes b (c ∷ []) hb (more_bytes c [] hc no_bytes))
 
@@ -78,7 +79,7 @@ length-through a b c =
     length-added (scaled a (lagrange 0xC3 1 2)) (added (scaled b (lagrange 1 0xC3 2)) (scaled c (lagrange 2 0xC3 1)))
     (one ∙ sym inner) ∙ one
 
-bytes_of_through : (a b c : ℕ) → a < 256 → b < 256 → c < 256 → AllBytes (through a b c)
+bytes_of_through : (a b c : ℕ) → a < 256 → b < 256 → c < 256 → AreBytes (through a b c)
 unfolding through
 bytes_of_through a b c ha hb hc =
     bytes_of_added (scaled a (lagrange 0xC3 1 2)) (added (scaled b (lagrange 1 0xC3 2)) (scaled c (lagrange 2 0xC3 1)))
@@ -149,19 +150,19 @@ length-parity ds =
     ∙ length-through (data_sum 0xC3 ds) (data_sum 1 ds) (data_sum 2 ds)
 
 -- the data's three sums are bytes
-sums_are_bytes : (ds : List ℕ) → AllBytes ds →
+sums_are_bytes : (ds : List ℕ) → AreBytes ds →
     (data_sum 0xC3 ds < 256) × (data_sum 1 ds < 256) × (data_sum 2 ds < 256)
 sums_are_bytes ds all =
     (data_sum-byte 0xC3 ds (omega arith) all, data_sum-byte 1 ds (omega arith) all, data_sum-byte 2 ds (omega arith) all)
 
-pub bytes_of_parity : (ds : List ℕ) → AllBytes ds → AllBytes (parity ds)
+pub bytes_of_parity : (ds : List ℕ) → AreBytes ds → AreBytes (parity ds)
 bytes_of_parity ds all =
     let sums = sums_are_bytes ds all in
-    subst AllBytes (sym (parity_through ds))
+    subst AreBytes (sym (parity_through ds))
     (bytes_of_through (data_sum 0xC3 ds) (data_sum 1 ds) (data_sum 2 ds) sums.0 sums.1 sums.2)
 
 -- the parity's value at each root is the data's sum there
-pub value_at-parity : (ds : List ℕ) → AllBytes ds → AtRoots (λ p. value_at p (parity ds) ≡ data_sum p ds)
+pub value_at-parity : (ds : List ℕ) → AreBytes ds → AtRoots (λ p. value_at p (parity ds) ≡ data_sum p ds)
 value_at-parity ds all =
     let sums = sums_are_bytes ds all in
     record {
@@ -177,14 +178,14 @@ value_at-parity ds all =
     }
 
 -- a column's value is the sum of its data and the value of its last three bytes
-value_at-data : (p : ℕ) (ds ps : List ℕ) → p < 256 → AllBytes ds → length ps ≡ 3 →
+value_at-data : (p : ℕ) (ds ps : List ℕ) → p < 256 → AreBytes ds → length ps ≡ 3 →
     value_at p (ds ++ ps) ≡ bit_xor (data_sum p ds) (value_at p ps)
 value_at-data p ds ps h all three =
     value_at-append p ds ps h all
     ∙ ap (λ n. bit_xor (product (value_at p ds) (power p n)) (value_at p ps)) three
     ∙ ap (λ v. bit_xor v (value_at p ps)) (sym (data_sum-value p ds h all))
 
-pub parity_codeword : (ds : List ℕ) → 1 ≤ length ds → length ds ≤ 29 → AllBytes ds → IsCodeword (ds ++ parity ds)
+pub parity_codeword : (ds : List ℕ) → 1 ≤ length ds → length ds ≤ 29 → AreBytes ds → IsCodeword (ds ++ parity ds)
 parity_codeword ds least most all =
     let three : length (parity ds) ≡ 3 = length-parity ds in
     let long : length (ds ++ parity ds) ≡ length ds + length (parity ds) = length-append ds (parity ds) in
@@ -211,7 +212,7 @@ all_right P (x ∷ xs) ys all = all_right P xs ys (All-tail P x (xs ++ ys) all)
 
 pub parity_only : (ds ps : List ℕ) → length ps ≡ 3 → IsCodeword (ds ++ ps) → ps ≡ parity ds
 parity_only ds ps three word =
-    let all : AllBytes ds = all_left (λ c. c < 256) ds ps word.bytes in
+    let all : AreBytes ds = all_left (λ c. c < 256) ds ps word.bytes in
     let values : AtRoots (λ p. value_at p (parity ds) ≡ data_sum p ds) = value_at-parity ds all in
     let same : (p : ℕ) → p < 256 → value_at p (ds ++ ps) ≡ 0 → value_at p (parity ds) ≡ data_sum p ds →
     value_at p ps ≡ value_at p (parity ds) =
@@ -233,7 +234,7 @@ pub column-append : (j : ℕ) (ss ts : List (List ℕ)) → column j (ss ++ ts) 
 unfolding column
 column-append j ss ts = map-append (λ s. slice_index s j) ss ts
 
-pub bytes_of_column : (j : ℕ) (ss : List (List ℕ)) → j < 1024 → All IsSector ss → AllBytes (column j ss)
+pub bytes_of_column : (j : ℕ) (ss : List (List ℕ)) → j < 1024 → All IsSector ss → AreBytes (column j ss)
 unfolding column
 bytes_of_column j [] h all = no_bytes
 bytes_of_column j (s ∷ ss) h all =

@@ -1,5 +1,5 @@
 -- A column's value at a byte, as the column grows, is added to another or scaled.
-use Rattle.std.proofs.Common.{◌≡◌, ℕ, zero, suc, ◌+◌, ◌<◌, refl, sym, ◌∙◌, ap, subst, arith, bit_xor, List, [], ◌∷◌, ◌++◌, length, All, get_or, set}
+use Rattle.std.proofs.Common.{◌≡◌, ℕ, zero, suc, ◌+◌, ◌<◌, refl, sym, ◌∙◌, ap, subst, arith, bit_xor, List, [], ◌∷◌, ◌++◌, length, get_or, set}
 use Rattle.std.specs.Int.Bits.{xor_assoc, xor_zero_l, xor_zero_r}
 use Rattle.std.proofs.Math.ListN.{length-append, length-set}
 use Rattle.std.proofs.lemmas.Nat.{xor_comm}
@@ -10,20 +10,18 @@ use Rattle.gf256_qic.specs.Code.{data_sum, scaled}
 use Rattle.gf256_qic.proofs.Sums.{swap4, sum_byte, sum_cancel}
 use Rattle.gf256_qic.proofs.Products.{product_comm, product_byte, product_assoc, product_sum_left, product_sum_right, product_zero_left, product_zero_right, product_one_right}
 use Rattle.gf256_qic.proofs.Powers.{power_none, power_one, power_byte, power_sum}
+use Rattle.qic_base.specs.Disk.{AreBytes}
 
-abbrev pub AllBytes : List ℕ → Type 0
-AllBytes cs = All (λ c. c < 256) cs
-
-pub no_bytes : AllBytes []
+pub no_bytes : AreBytes []
 no_bytes = All-nil (λ c. c < 256)
 
-pub more_bytes : (c : ℕ) (cs : List ℕ) → c < 256 → AllBytes cs → AllBytes (c ∷ cs)
+pub more_bytes : (c : ℕ) (cs : List ℕ) → c < 256 → AreBytes cs → AreBytes (c ∷ cs)
 more_bytes c cs h all = All-cons (λ b. b < 256) c cs h all
 
-pub first_byte : (c : ℕ) (cs : List ℕ) → AllBytes (c ∷ cs) → c < 256
+pub first_byte : (c : ℕ) (cs : List ℕ) → AreBytes (c ∷ cs) → c < 256
 first_byte c cs all = All-head (λ b. b < 256) c cs all
 
-pub other_bytes : (c : ℕ) (cs : List ℕ) → AllBytes (c ∷ cs) → AllBytes cs
+pub other_bytes : (c : ℕ) (cs : List ℕ) → AreBytes (c ∷ cs) → AreBytes cs
 other_bytes c cs all = All-tail (λ b. b < 256) c cs all
 
 pub value_at-none : (p : ℕ) → value_at p [] ≡ 0
@@ -35,7 +33,7 @@ pub value_at-first : (p c : ℕ) (cs : List ℕ) →
 unfolding value_at
 value_at-first p c cs = refl
 
-pub value_at-byte : (p : ℕ) (cs : List ℕ) → p < 256 → AllBytes cs → value_at p cs < 256
+pub value_at-byte : (p : ℕ) (cs : List ℕ) → p < 256 → AreBytes cs → value_at p cs < 256
 unfolding value_at
 value_at-byte p [] h all = omega arith
 value_at-byte p (c ∷ cs) h all =
@@ -43,7 +41,7 @@ value_at-byte p (c ∷ cs) h all =
     (product_byte c (power p (length cs)) (first_byte c cs all) (power_byte p (length cs) h))
     (value_at-byte p cs h (other_bytes c cs all))
 
-pub value_at-append : (p : ℕ) (xs ys : List ℕ) → p < 256 → AllBytes xs →
+pub value_at-append : (p : ℕ) (xs ys : List ℕ) → p < 256 → AreBytes xs →
     value_at p (xs ++ ys) ≡ bit_xor (product (value_at p xs) (power p (length ys))) (value_at p ys)
 unfolding value_at
 value_at-append p [] ys h all =
@@ -81,7 +79,7 @@ value_at-added p (x ∷ xs) (y ∷ ys) h =
     ∙ swap4 (product x px) (product y px) (value_at p xs) (value_at p ys)
     ∙ ap (λ k. bit_xor (bit_xor (product x px) (value_at p xs)) (bit_xor (product y (power p k)) (value_at p ys))) same
 
-pub bytes_of_added : (xs ys : List ℕ) → AllBytes xs → AllBytes ys → AllBytes (added xs ys)
+pub bytes_of_added : (xs ys : List ℕ) → AreBytes xs → AreBytes ys → AreBytes (added xs ys)
 unfolding added
 bytes_of_added [] ys bx by = no_bytes
 bytes_of_added (x ∷ xs) [] bx by = no_bytes
@@ -91,7 +89,7 @@ bytes_of_added (x ∷ xs) (y ∷ ys) bx by =
     (bytes_of_added xs ys (other_bytes x xs bx) (other_bytes y ys by))
 
 -- a column times a byte
-pub value_at-scaled : (p a : ℕ) (xs : List ℕ) → p < 256 → a < 256 → AllBytes xs →
+pub value_at-scaled : (p a : ℕ) (xs : List ℕ) → p < 256 → a < 256 → AreBytes xs →
     value_at p (scaled a xs) ≡ product a (value_at p xs)
 unfolding value_at
 value_at-scaled p a [] hp ha all = sym (product_zero_right a)
@@ -106,7 +104,7 @@ value_at-scaled p a (x ∷ xs) hp ha all =
     length-scaled b [] = refl
     length-scaled b (z ∷ zs) = ap suc (length-scaled b zs)
 
-pub bytes_of_scaled : (a : ℕ) (xs : List ℕ) → a < 256 → AllBytes xs → AllBytes (scaled a xs)
+pub bytes_of_scaled : (a : ℕ) (xs : List ℕ) → a < 256 → AreBytes xs → AreBytes (scaled a xs)
 bytes_of_scaled a [] ha all = no_bytes
 bytes_of_scaled a (x ∷ xs) ha all =
     more_bytes (product a x) (scaled a xs)
@@ -124,7 +122,7 @@ value_at-zeros p (d ∷ ds) =
     ∙ ap (bit_xor (product d (power p (length ds + 3)))) (value_at-zeros p ds)
 
 -- the sum S(p) of the data is the value of the data, three places higher
-pub data_sum-value : (p : ℕ) (ds : List ℕ) → p < 256 → AllBytes ds →
+pub data_sum-value : (p : ℕ) (ds : List ℕ) → p < 256 → AreBytes ds →
     data_sum p ds ≡ product (value_at p ds) (power p 3)
 unfolding data_sum value_at
 data_sum-value p [] h all = sym (product_zero_left (power p 3))
@@ -136,7 +134,7 @@ data_sum-value p (d ∷ ds) h all =
     ∙ ap (bit_xor (product (product d (power p n)) (power p 3))) (data_sum-value p ds h (other_bytes d ds all))
     ∙ sym (product_sum_left (product d (power p n)) (value_at p ds) (power p 3))
 
-pub data_sum-byte : (p : ℕ) (ds : List ℕ) → p < 256 → AllBytes ds → data_sum p ds < 256
+pub data_sum-byte : (p : ℕ) (ds : List ℕ) → p < 256 → AreBytes ds → data_sum p ds < 256
 data_sum-byte p ds h all =
     let P : ℕ → Type 0 = λ v. v < 256 in
     subst P (sym (data_sum-value p ds h all))
@@ -168,7 +166,7 @@ value_at-set p (x ∷ xs) (suc i) k v h =
     ∙ xor_assoc change here (value_at p xs)
 
 -- the data's sum, one byte further
-pub data_sum-push : (p : ℕ) (ds : List ℕ) (d : ℕ) → p < 256 → AllBytes ds → d < 256 →
+pub data_sum-push : (p : ℕ) (ds : List ℕ) (d : ℕ) → p < 256 → AreBytes ds → d < 256 →
     data_sum p (ds ++ d ∷ []) ≡ bit_xor (product (data_sum p ds) p) (product d (power p 3))
 data_sum-push p ds d h all hd =
     let v : ℕ = value_at p ds in

@@ -11,11 +11,13 @@ use Rattle.command_spec.specs.Input.{IsPulse}
 use Rattle.command_laws.specs.Inputs.{IsTrain}
 use Rattle.qic_base.specs.SourceCalls.{Gave}
 use Rattle.tape_script.proofs.Lined.{IsLined-one_newline}
-use Rattle.command_spec.specs.Pulses.{pulsed_row, train_changes, train_line}
+use Rattle.command_spec.specs.Pulses.{train_line}
 use Rattle.command_laws.specs.PulseRuns.{train_act, level_line}
 use Rattle.tape_script.specs.Reading.{GaveNoEnd}
 use Rattle.hand_commands.specs.PulseLines.{Heard}
 use Rattle.command_laws.proofs.PulseTrains.{pulse_line, pulse_short}
+use Rattle.drive_spec.specs.Row.{pulsed_row}
+use Rattle.drive_spec.specs.Steps.{train_changes}
 use Rattle.qic_base.specs.Sink as sinks
 use Rattle.qic_base.specs.SinkCalls as sink_calls
 use Rattle.qic_base.specs.Source as sources

@@ -16,7 +16,7 @@ use Rattle.qic_base.proofs.Giving.{Gave-Gave, Gave-end, Gave-nothing}
 use Rattle.command_laws.proofs.TextReadings.{each_pulses}
 use Rattle.tape_script.proofs.Rests.{any_rest, ended_rest, stop_rest, whole_told, left_behind}
 use Rattle.hand_commands.specs.declared.pulses.fault.PulseFault.{PulseFault}
-use Rattle.command_spec.specs.Pulses.{pulsed_row, train_acts, train_line, train_lines, pulses_taken}
+use Rattle.command_spec.specs.Pulses.{train_acts, train_line, train_lines, pulses_taken}
 use Rattle.command_laws.specs.PulseRuns.{train_act, after_trains, Answer, AllSent, ScriptFault, pulses_answer, outcome_of}
 use Rattle.hand_commands.specs.PulseRuns.{Leaves, Ended, CutOff}
 use Rattle.tape_script.specs.Reading.{GaveNoEnd}
@@ -24,7 +24,8 @@ use Rattle.hand_commands.specs.PulseLines.{Heard, HasNoTrain, Hears, HearsEnd}
 use Rattle.hand_commands.proofs.Hearing.{rests, source_cut, steps_cut}
 use Rattle.hand_commands.proofs.Inputs.{ArePulses, ArePulses-push, read_behind, comes_first, fault_rest}
 use Rattle.command_laws.proofs.PulseMachineLaws.{fronts_do_fronts}
-use Rattle.command_laws.proofs.PulseTrains.{after_trains-append, train_acts-append, train_lines-append, pulse_short, after_train-counted}
+use Rattle.command_laws.proofs.PulseTrains.{after_trains-append, train_acts-append, train_lines-append, pulse_short, pulsed_row-counted}
+use Rattle.drive_spec.specs.Row.{pulsed_row}
 use Rattle.qic_base.specs.Sink as sinks
 use Rattle.qic_base.specs.Source as sources
 use Rattle.qic_base.specs.Tape as tapes
@@ -133,7 +134,7 @@ module _ {T S K : Type 0} {t : tapes.Meaning T} {s : sources.Meaning S} {k : sin
               let p = ap length (train_lines-push far.trains heard.train) in omega arith);
           short = (let e = far.short in let m = heard.came.0 in let l = pulse_short (train_line heard.train) heard.train heard.pulse in omega arith);
           drive = drive ∙ sym (after_trains-append (power_on far.known) far.trains (heard.train ∷ []));
-          no_pulse = ap (λ (x : Record). x.train) drive ∙ after_train-counted before heard.train;
+          no_pulse = ap (λ (x : Record). x.train) drive ∙ pulsed_row-counted before heard.train;
           went = subst (Went t s k start new) (sym (train_acts-append (power_on far.known) far.trains (heard.train ∷ [])))
               (went_both t s k both start now new (train_acts (power_on far.known) far.trains) (train_act before heard.train ∷ []) far.went
               (subst (λ (x : Record). Went t s k now new (train_act x heard.train ∷ [])) far.drive heard.came.2));

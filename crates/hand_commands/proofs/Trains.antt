@@ -22,6 +22,7 @@ use Rattle.command_spec.specs.declared.status.Status.TheVariants as status
 use Rattle.command_spec.specs.Outcome.{CommandOutcome}
 use Rattle.command_spec.specs.Pulses.{SentOutcome, AreLevels}
 use Rattle.command_spec.specs.Machine.{InputLeft, fault_of, may_come_from, NamesFault, IsOfBytes, IsCutOff, CommandEnds}
+use Rattle.qic_base.specs.Source.{IsInput}
 
 -- ---- the fault of an input
 
@@ -56,12 +57,12 @@ names_fault known input came answer plain is =
 -- ---- over what is told
 
 over_known : (told : Option (Option Cartridge)) (left : Option (List ℕ)) (known : Option TapeInfo) (input : List ℕ) (P : Option Cartridge → List ℕ → Type 0) →
-    IfSome told (λ held. known ≡ info_of held) → IfSome left (λ bytes. input ≡ bytes) → ((held : Option Cartridge) → known ≡ info_of held → P held input) →
-    IfSome told (λ held. (input : List ℕ) × IfSome left (λ bytes. input ≡ bytes) × P held input)
+    IfSome told (λ held. known ≡ info_of held) → IsInput left input → ((held : Option Cartridge) → known ≡ info_of held → P held input) →
+    IfSome told (λ held. (input : List ℕ) × IsInput left input × P held input)
 over_known None left known input P cartridge bytes follows = tt
 over_known (Some held) left known input P cartridge bytes follows = (input, bytes, follows held cartridge)
 
-pub told_input : (left : Option (List ℕ)) (input : List ℕ) (P : List ℕ → Type 0) → IfSome left (λ bytes. input ≡ bytes) → P input → IfSome left P
+pub told_input : (left : Option (List ℕ)) (input : List ℕ) (P : List ℕ → Type 0) → IsInput left input → P input → IfSome left P
 told_input None input P told is = tt
 told_input (Some bytes) input P told is = subst P told is
 

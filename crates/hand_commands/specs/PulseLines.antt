@@ -7,8 +7,9 @@ use Rattle.command_spec.specs.Input.{IsPulse}
 use Rattle.qic_base.specs.SourceCalls.{Gave}
 use Rattle.tape_script.specs.Reading.{BeginsWithNo, GaveEnd, GaveNoEnd}
 use Rattle.hand_commands.specs.declared.pulses.fault.PulseFault.{PulseFault}
-use Rattle.command_spec.specs.Pulses.{pulsed_row, train_line}
+use Rattle.command_spec.specs.Pulses.{train_line}
 use Rattle.command_laws.specs.PulseRuns.{train_act}
+use Rattle.drive_spec.specs.Row.{pulsed_row}
 use Rattle.qic_base.specs.Sink as sinks
 use Rattle.qic_base.specs.Source as sources
 use Rattle.qic_base.specs.Tape as tapes

@@ -17,13 +17,12 @@ use Rattle.cartridge_laws.specs.Slots.{slot_sector}
 use Rattle.command_laws.proofs.CommandAdded.{status_by, replied_text, status_fits}
 use Rattle.command_laws.proofs.ScriptActs.{input_texts}
 use Rattle.command_laws.proofs.CommandEndings.{nothing_front}
-use Rattle.command_laws.proofs.CommandEnds.{is_some-map}
 use Rattle.command_laws.proofs.CommandOpened.{quiet}
 use Rattle.command_laws.proofs.CommandTable.{plain_is_function}
 use Rattle.command_laws.proofs.CommandTold.{input_of, input_told, input_bytes}
 use Rattle.command_laws.proofs.StoreTaking.{both_true}
 use Rattle.command_spec.specs.Append.{Kept, Taking, Fits, TooLong, TooShort, entry_acts, taking, room_in, input_writes, append_acts, appended, AppendOutcome, kept_over}
-use Rattle.command_laws.specs.AppendTerms.{entry_for, silently, append_status, bytes_taken}
+use Rattle.command_laws.specs.AppendTerms.{entry_for, silently, status_by_room, bytes_taken}
 use Rattle.command_laws.specs.Outcomes.{Appends}
 use Rattle.command_laws.specs.CommandFields.{CommandPrints, FrontPrints}
 use Rattle.command_spec.specs.Lines.{reply_behind, appended_line}
@@ -33,22 +32,23 @@ use Rattle.command_spec.specs.declared.status.Status.{Status}
 use Rattle.drive_spec.specs.Terms.{is_protected}
 use Rattle.drive_states.specs.Unit.{UnitView}
 use Rattle.qic_base.proofs.Joins.{steps_of-append, text_of-append, broke_behind}
-use Rattle.qic_base.proofs.Steps.{Done-nothing, Done-Done, Done-Broke, effects-append}
+use Rattle.qic_base.proofs.Steps.{Done-nothing, Done-Done, Done-Broke, effects-append, is_some-option_map}
 use Rattle.qic_base.proofs.Writing.{TakesBoth}
 use Rattle.qic_base.specs.Acts.{steps_of, Act, text_of, next_steps, Failing, TapeFails, SourceFails, SinkFails, Went, Cut, TapeCut, SourceCut, SinkCut}
 use Rattle.qic_base.specs.Alone.{no_sink, reading}
 use Rattle.qic_base.specs.Cartridge.{Cartridge}
 use Rattle.qic_base.specs.Step.{Step as TapeStep, effects, Torn}
 use Rattle.qic_base.specs.declared.sink.SinkFailed.{SinkFailed}
+use Rattle.volume_store.proofs.Ending.{none_left}
 use Rattle.volume_store.proofs.Opened.{IsKnown, outside, went_behind, settled_told, opened_known, known_before, found_locked, never_both, unlocked}
-use Rattle.volume_store.specs.Opening.{IsOpened, HasOpened}
+use Rattle.volume_store.specs.Opening.{HasOpened}
 use Rattle.volume_store.specs.Appending.{kept_by, AppendRan, HasAppended, TableRefused, AppendCut, AppendEnds}
-use Rattle.volume_store.specs.Mounting.{StoreView}
+use Rattle.volume_store.specs.Mounting.{StoreView, IsOpened}
 use Rattle.volume_store.specs.declared.appended.Appended.{Appended}
 use Rattle.cartridge_front.proofs.Copies.{tells_two}
 use Rattle.cartridge_front.specs.declared.fault.StoreFault.{StoreFault}
 use Rattle.hand_commands.proofs.Endings.{told_map, told_both}
-use Rattle.host_commands.proofs.Mounted.{BeginsSettling, locked_is, unlocked_refused_is, writable_begins, table_lost, input_unread}
+use Rattle.host_commands.proofs.Mounted.{BeginsSettling, locked_is, unlocked_refused_is, writable_begins, table_lost, input_unread, no_outcome}
 use Rattle.host_commands.specs.Opening.{is_opening, IsUnlocked, WritableEnds}
 use Rattle.host_commands.specs.Statuses.{store_status}
 use Rattle.hand_commands.specs.Outcome.{first_steps}
@@ -65,10 +65,6 @@ use Rattle.cartridge_spec.specs.Mounting as mounting
 use Rattle.cartridge_front.specs.declared.fault.StoreFault.TheVariants as fault
 
 -- ---- the input
-
-none_taken : (told : Option (List ℕ)) → told ≡ option_map (drop 0) told
-none_taken None = refl
-none_taken (Some bytes) = refl
 
 -- an answer that names no fault of the input
 names_none : (name : List ℕ) (date : ℕ) (answer : Status) (told : Option (List ℕ)) → may_come_from answer (words.Append name date) ≡ true → ((line place : ℕ) → answer ≢ status.ScriptFault line place) →
@@ -108,7 +104,7 @@ silent_text kept name date reply input need have took =
     ap (λ (acts : List Act). quiet kept.settling ∷ (input_writes kept.words kept.entries None input ++ acts)) (ap (λ (became : Taking). entry_acts kept name date reply became) took)
     ∙ ap (λ (acts : List Act). quiet kept.settling ∷ acts) (append-nil (input_writes kept.words kept.entries None input))
 
-status_full : (have : ℕ) (input : List ℕ) (need most : ℕ) → taking have None input ≡ TooLong need most → append_status have input ≡ status.Full need most
+status_full : (have : ℕ) (input : List ℕ) (need most : ℕ) → taking have None input ≡ TooLong need most → status_by_room have input ≡ status.Full need most
 status_full have input need most took = (status_by (nat_le 1 have && nat_le (length input) have) have input (taking have None input) refl).1 need most took
 
 -- what is taken: all that has room, and else one byte more than has
@@ -171,13 +167,10 @@ found_by_append name date (status.Lost segment lost) sound = table_lost segment 
 found_by_append name date status.TableMismatch sound = refl
 found_by_append name date why sound = cc
 
-no_script : (why : Status) → is_opening why ≡ true → (line place : ℕ) → why ≢ status.ScriptFault line place
+pub no_script : (why : Status) → is_opening why ≡ true → (line place : ℕ) → why ≢ status.ScriptFault line place
 no_script why sound line place is = let no = ap is_opening is in cc
 
-not_done : (why : Status) → is_opening why ≡ true → why ≢ status.Done
-not_done why sound is = let no = ap is_opening is in cc
-
-left_by_opening : (why : Status) (taken : ℕ) (before after : Option (List ℕ)) → ((line place : ℕ) → why ≢ status.ScriptFault line place) → after ≡ option_map (drop taken) before → InputLeft why taken before after
+pub left_by_opening : (why : Status) (taken : ℕ) (before after : Option (List ℕ)) → ((line place : ℕ) → why ≢ status.ScriptFault line place) → after ≡ option_map (drop taken) before → InputLeft why taken before after
 left_by_opening (status.ScriptFault line place) taken before after none left = absurd (none line place refl)
 left_by_opening why taken before after none left = left
 
@@ -191,7 +184,7 @@ with_acts acts taken answer = record { acts = acts; taken = taken; status = answ
 -- what an append does that goes by this
 abbrev going_by : Act → Kept → (name : List ℕ) (date : ℕ) (input : List ℕ) → CommandOutcome
 going_by first kept name date input =
-    with_acts (first ∷ append_acts kept name date None (reply_behind (length kept.entries)) input) (bytes_taken None (taking (room_in kept) None input)) (append_status (room_in kept) input)
+    with_acts (first ∷ append_acts kept name date None (reply_behind (length kept.entries)) input) (bytes_taken None (taking (room_in kept) None input)) (status_by_room (room_in kept) input)
 
 module _ {T S K : Type 0} (t : tapes.Meaning T) (s : sources.Meaning S) (k : sinks.Meaning K) (name : List ℕ) (date : ℕ) (a : T) (i : S) (x : K) where
   -- refused with some acts that print nothing
@@ -222,11 +215,11 @@ module _ {T S K : Type 0} (t : tapes.Meaning T) (s : sources.Meaning S) (k : sin
   -- the opening was refused, or cut off
   pub append_unopened : (b : UnitView T) (why : Status) → ((z : K) → k.took z [] z) → WritableEnds t a b (Err why) → CommandEnds t s k (words.Append name date) (outside a i x) (outside b.tape i x) why
   append_unopened b why nothing (inl locked) =
-      rw locked.answered (turned b.tape i status.Protected [] 0 nothing refl (λ line place is. cc) (λ is. cc) refl (none_taken (s.left i))
+      rw locked.answered (turned b.tape i status.Protected [] 0 nothing refl (λ line place is. cc) (λ is. cc) refl (none_left (s.left i))
       (whatever (refused status.Protected) (told_map (t.told a) _ _ locked.told (λ held is input. locked_is (Appends name date input) held is)))
       (record { did = locked.did; wrote = record { took = nothing x; later = omega arith }; source_later = omega arith }))
   append_unopened b why nothing (inr (inl (free, refusal))) =
-      turned b.tape i why [] 0 nothing (found_by_append name date why refusal.sound) (no_script why refusal.sound) (not_done why refusal.sound) refl (none_taken (s.left i))
+      turned b.tape i why [] 0 nothing (found_by_append name date why refusal.sound) (no_script why refusal.sound) (no_outcome why refusal.sound) refl (none_left (s.left i))
       (whatever (refused why) (told_map (t.told a) _ _ (told_both (t.told a) _ _ free refusal.told) (λ held is input. unlocked_refused_is (Appends name date input) why held is.0 is.1)))
       (record { did = refusal.did; wrote = record { took = nothing x; later = omega arith }; source_later = omega arith })
   append_unopened b why nothing (inr (inr (is, cut))) =
@@ -237,7 +230,7 @@ module _ {T S K : Type 0} (t : tapes.Meaning T) (s : sources.Meaning S) (k : sin
     -- a protected one is none that is told
     pub append_locked : ((z : K) → k.took z [] z) → TakesBoth k → IsUnlocked t a → is_protected b.drive.deck ≡ true → CommandEnds t s k (words.Append name date) (outside a i x) (outside b.tape i x) status.Protected
     append_locked nothing both free locked =
-        turned b.tape i status.Protected (quiet opening.steps ∷ []) 0 nothing refl (λ line place is. cc) (λ is. cc) refl (none_taken (s.left i))
+        turned b.tape i status.Protected (quiet opening.steps ∷ []) 0 nothing refl (λ line place is. cc) (λ is. cc) refl (none_left (s.left i))
         (whatever (refused_behind opening.steps status.Protected)
         (told_map (t.told a) _ _ (told_both (t.told a) _ _ free (found_locked t a b store opening locked)) (λ held is. absurd (never_both held is.0 is.1))))
         (went_behind t s k both nothing a b.tape i x (outside b.tape i x) opening.steps [] opening.did
@@ -261,7 +254,7 @@ module _ {T S K : Type 0} (t : tapes.Meaning T) (s : sources.Meaning S) (k : sin
     taken_so c table words entries input =
         ap (λ (taken : ℕ). with_acts
         (quiet (settling_steps table c) ∷ append_acts (kept_over (settled table c) words entries table) name date None (reply_behind (length entries)) input)
-        taken (append_status (room words entries) input))
+        taken (status_by_room (room words entries) input))
         (taken_is (room words entries) input)
 
     -- it is the machine's over what is told
@@ -303,7 +296,7 @@ module _ {T S K : Type 0} (t : tapes.Meaning T) (s : sources.Meaning S) (k : sin
           wrote = subst (sinks.Wrote k x x) (sym (input_texts kept None ran.input)) (record { took = nothing x; later = omega arith });
           source_later = ran.went.source_later;
         }) in
-        let answer : append_status (room_in kept) ran.input ≡ status.Full need have = status_full (room_in kept) ran.input need have ran.took in
+        let answer : status_by_room (room_in kept) ran.input ≡ status.Full need have = status_full (room_in kept) ran.input need have ran.took in
         let taken : bytes_taken None (taking (room_in kept) None ran.input) ≡ need = ap (bytes_taken None) ran.took in
         turned c j (status.Full need have) (quiet opening.steps ∷ acts) need nothing (full_numbers (room_in kept) ran.input need have ran.took) (λ line place is. cc) (λ is. cc)
         (ap (λ (xs : List Act). text_of xs) plain ∙ input_texts kept None ran.input) ran.left
@@ -313,7 +306,7 @@ module _ {T S K : Type 0} (t : tapes.Meaning T) (s : sources.Meaning S) (k : sin
           (
             o.2.0,
             subst (λ (w : CommandOutcome). AppendOutcome name date held o.0 w)
-                (ap (λ (n : ℕ). with_acts (quiet opening.steps ∷ acts) n (append_status (room_in kept) ran.input)) taken
+                (ap (λ (n : ℕ). with_acts (quiet opening.steps ∷ acts) n (status_by_room (room_in kept) ran.input)) taken
                 ∙ ap (λ (why : Status). with_acts (quiet opening.steps ∷ acts) need why) answer) o.2.1,
           ),
         )))
@@ -433,7 +426,7 @@ module _ {T S K : Type 0} (t : tapes.Meaning T) (s : sources.Meaning S) (k : sin
               front = ([], subst (CommandPrints (words.Append name date)) (sym (append-nil (text_of acts))) prints_line);
               silent = λ still other. absurd (other refl);
               reads = λ same. absurd (cc);
-              source_tells = ap is_some ran.left ∙ is_some-map (drop (length has.bytes)) (s.left i);
+              source_tells = ap is_some ran.left ∙ is_some-option_map (drop (length has.bytes)) (s.left i);
             },
           )
 

@@ -24,7 +24,7 @@ use Rattle.command_laws.specs.Outcomes.{cleared, formatted}
 use Rattle.command_spec.specs.Single.{FormatOutcome}
 use Rattle.host_commands.specs.Format.{format_status}
 use Rattle.host_commands.proofs.Mounted.{BeginsSteps}
-use Rattle.host_commands.specs.Opening.{StartFails}
+use Rattle.host_commands.specs.Opening.{StartRefuses}
 use Rattle.hand_commands.specs.Writing.{printed_status}
 use Rattle.command_laws.specs.RunTerms.{EndsBlind}
 use Rattle.hand_commands.proofs.Endings.{IsBlind, printed, turned_down, turned_behind, cut_off, cut_off_first}
@@ -123,7 +123,7 @@ no_cartridge label date (Some (Some c)) none = absurd (cc)
 
 -- there was no start
 pub format_unstarted : {T K : Type 0} (t : tapes.Meaning T) (k : sinks.Meaning K) (label : List ℕ) (date : ℕ) (a b : T) (x : K) (why : Status) → ((z : K) → k.took z [] z) →
-    StartFails t a b why → EndsBlind t k (Format label date) a b x x why
+    StartRefuses t a b why → EndsBlind t k (Format label date) a b x x why
 format_unstarted t k label date a b x why nothing (inl (is, (did, none))) =
     rw is (turned_down t k (Format label date) is_blind a b x status.NoCartridge nothing refl (λ same. cc) (no_cartridge label date (t.told a) none) did)
 format_unstarted t k label date a b x why nothing (inr (is, broke)) =

@@ -11,7 +11,7 @@ use Rattle.cartridge_laws.proofs.MountOnce.{mounts_is_function}
 use Rattle.command_laws.proofs.StoreTaking.{both_true}
 use Rattle.std.proofs.lemmas.Bool.{lt-ltb, eqb-true, eq-eqb, le-leb, and_parts}
 use Rattle.std.specs.Prelude.{◌==◌, nat_lt, if◌then◌else◌}
-use Rattle.volume_store.specs.Mounting.{StoreView, IsSettling, IsCutOff}
+use Rattle.volume_store.specs.Mounting.{StoreView, IsSettling, SettlingBreaks, IsOpened}
 use Rattle.drive_states.specs.Unit.{UnitView}
 use Rattle.cartridge_spec.specs.Settling.{settling_steps, settling_places, block_writes}
 use Rattle.cartridge_spec.specs.Says.{with_parity}
@@ -23,7 +23,7 @@ use Rattle.command_spec.specs.Outcome.{CommandOutcome, refused, acted, Going, Op
 use Rattle.command_laws.specs.Outcomes.{Printing, telling, listing}
 use Rattle.volume_store.proofs.Refusals.{foreign_is_refused}
 use Rattle.volume_store.proofs.Opened.{opening_cut, outside}
-use Rattle.volume_store.specs.Opening.{IsOpened, HasOpened, IsTurnedDown, OpenFails, StartFails as FailsToStart}
+use Rattle.volume_store.specs.Opening.{HasOpened, IsTurnedDown, OpenFails, StartFails}
 use Rattle.volume_store.specs.declared.opening.OpenFault.{OpenFault}
 use Rattle.command_laws.specs.CommandFields.{CommandPrints, Yields}
 use Rattle.command_laws.specs.RunTerms.{EndsBlind}
@@ -36,7 +36,7 @@ use Rattle.volume_store.proofs.Started.{Present, Knows}
 use Rattle.cartridge_front.specs.declared.fault.StoreFault.{StoreFault}
 use Rattle.cartridge_front.specs.Learning.{MountRefuses}
 use Rattle.hand_commands.specs.Outcome.{first_steps}
-use Rattle.host_commands.specs.Opening.{IsRefusal, RefusesOpening, is_opening, StartFails, OpeningRefused, OpeningEnds, IsUnlocked, WritableEnds}
+use Rattle.host_commands.specs.Opening.{IsRefusal, RefusesOpening, is_opening, StartRefuses, OpeningRefused, OpeningEnds, IsUnlocked, WritableEnds}
 use Rattle.host_commands.specs.Statuses.{store_status, open_status}
 use Rattle.hand_commands.specs.Writing.{printed_status}
 use Rattle.hand_commands.proofs.Endings.{IsBlind, printed, turned_down, cut_off, told_map}
@@ -139,7 +139,7 @@ never_short t a b open_fault.NoCartridge fails promised read is = cc
 never_short t a b (open_fault.Refused (fault.Short p r)) fails promised read is = let kind = fails.kind in absurd (cc)
 never_short t a b (open_fault.Refused f) fails promised read is = cc
 
-pub start_failed : {T : Type 0} (t : tapes.Meaning T) (a b : T) (why : OpenFault) → FailsToStart t a b why → StartFails t a b (open_status why)
+pub start_failed : {T : Type 0} (t : tapes.Meaning T) (a b : T) (why : OpenFault) → StartFails t a b why → StartRefuses t a b (open_status why)
 start_failed t a b open_fault.NoCartridge fails = inl (refl, fails)
 start_failed t a b (open_fault.Refused fault.Tape) fails = inr (refl, fails)
 start_failed t a b (open_fault.Refused f) fails = absurd fails
@@ -178,7 +178,7 @@ absent_unlocked None none = tt
 absent_unlocked (Some None) none = tt
 absent_unlocked (Some (Some c)) none = absurd (cc)
 
-pub writable_unstarted : {T : Type 0} (t : tapes.Meaning T) (a : T) (b : UnitView T) (why : Status) → StartFails t a b.tape why → WritableEnds t a b (Err why)
+pub writable_unstarted : {T : Type 0} (t : tapes.Meaning T) (a : T) (b : UnitView T) (why : Status) → StartRefuses t a b.tape why → WritableEnds t a b (Err why)
 writable_unstarted t a b why (inl (is, (did, none))) =
     inr (inl (absent_unlocked (t.told a) none, record { did = did; sound = ap is_opening is; told = rw is (absent_told (t.told a) none) }))
 writable_unstarted t a b why (inr (is, broke)) = inr (inr (is, cut_first t a b.tape broke))
@@ -279,7 +279,7 @@ info_printed t k a b x y store r mounted printed =
 -- ---- commands that read an input
 
 -- the opening was cut off before anything of the input was taken
-pub input_unread : {T S K : Type 0} (t : tapes.Meaning T) (s : sources.Meaning S) (k : sinks.Meaning K) (command : Words) (a b : T) (i : S) (x : K) (cut : IsCutOff t a b) → ((z : K) → k.took z [] z) →
+pub input_unread : {T S K : Type 0} (t : tapes.Meaning T) (s : sources.Meaning S) (k : sinks.Meaning K) (command : Words) (a b : T) (i : S) (x : K) (cut : SettlingBreaks t a b) → ((z : K) → k.took z [] z) →
     IfSome (t.told a) (λ held. (outcome : CommandOutcome) → Yields command held (input_of (s.left i)) outcome → BeginsSteps cut.steps outcome) →
     CommandEnds t s k command (outside a i x) (outside b i x) status.TapeFault
 input_unread t s k command a b i x cut nothing front = inr (

@@ -1,5 +1,5 @@
 -- How the restoring of a volume ends.
-use Rattle.std.proofs.Common.{◌≡◌, ◌≢◌, ℕ, Bool, false, List, [], ◌∷◌, length, true, Some, None, Ok, Err, refl, sym, ap, ◌∙◌, subst, inl, inr, arith}
+use Rattle.std.proofs.Common.{◌≡◌, ◌≢◌, ℕ, false, List, [], ◌∷◌, length, true, Some, None, Ok, Err, refl, sym, ap, ◌∙◌, subst, inl, inr, arith}
 use Rattle.command_laws.proofs.RestoreBehind.{piece_behind}
 use Rattle.cartridge_laws.specs.Table.{IsSoundList}
 use Rattle.std.specs.Prelude.{◌==◌, ◌&&◌, nat_lt, zero, suc, ◌||◌, nat_le, ◌≤◌}
@@ -21,11 +21,11 @@ use Rattle.cartridge_spec.specs.Table.{Entry}
 use Rattle.drive_states.specs.Unit.{UnitView}
 use Rattle.cartridge_laws.proofs.MountOnce.{mounts_is_function}
 use Rattle.volume_output.specs.Output.{GaveVolume, VolumeCut}
-use Rattle.volume_store.specs.Mounting.{StoreView}
+use Rattle.volume_store.specs.Mounting.{StoreView, IsOpened}
 use Rattle.volume_store.specs.Restoring.{RestoreEnds}
 use Rattle.command_spec.specs.declared.status.Status.{Status}
 use Rattle.command_spec.specs.Outcome.{Opened, CommandOutcome, refused_behind}
-use Rattle.volume_store.specs.Opening.{IsOpened, HasOpened}
+use Rattle.volume_store.specs.Opening.{HasOpened}
 use Rattle.command_spec.specs.Commands.{command_of}
 use Rattle.command_spec.specs.Machine.{IsCutOff, fault_of, may_come_from}
 use Rattle.command_laws.proofs.CommandOpened.{quiet}
@@ -36,6 +36,7 @@ use Rattle.host_commands.specs.Statuses.{store_status}
 use Rattle.hand_commands.specs.Outcome.{first_steps}
 use Rattle.hand_commands.proofs.Endings.{none_taken, turned_behind, told_map}
 use Rattle.host_commands.proofs.Mounted.{Follows, BeginsSettling, opened_is, refuses, table_lost}
+use Rattle.cartridge_laws.proofs.OneLossAppend.{or_second}
 use Rattle.qic_base.specs.Sink as sinks
 use Rattle.qic_base.specs.Tape as tapes
 use Rattle.cartridge_spec.specs.Mounting as mounting
@@ -48,10 +49,6 @@ gives_first : (number : ℕ) → BeginsSettling (Gives number)
 gives_first number c header ws table entries outcome (inl none) = ap (λ (o : CommandOutcome). first_steps o) none.1
 gives_first number c header ws table entries outcome (inr found) = ap (λ (o : CommandOutcome). first_steps o) found.is
 
-right_of : (a b : Bool) → b ≡ true → (a || b) ≡ true
-right_of true b is = refl
-right_of false b is = is
-
 -- there is no volume of the number
 none_sound : (entries : List Entry) (number : ℕ) → volume_at entries number ≡ None → (command_of (words.Restore number)).is_no_volume number (length entries) ≡ true
 none_sound entries zero none = refl
@@ -60,7 +57,7 @@ none_sound entries (suc n) none =
       | inl there ↦ absurd (none-some there.0 (sym none ∙ there.2))
       | inr past ↦
           both_true (suc n == suc n) (suc n == 0 || nat_lt (length entries) (suc n)) (eq-eqb (suc n) (suc n) refl)
-          (right_of (suc n == 0) (nat_lt (length entries) (suc n)) (lt-ltb (length entries) (suc n) (omega (arith, past.0))))
+          (or_second (suc n == 0) (nat_lt (length entries) (suc n)) (lt-ltb (length entries) (suc n) (omega (arith, past.0))))
     ]
 
 found_by_restore : (number : ℕ) (why : Status) → is_opening why ≡ true → may_come_from why (words.Restore number) ≡ true

@@ -22,11 +22,11 @@ use Rattle.segment_mending.specs.Mending.{HasScrubbed, ScrubCut, reported}
 use Rattle.segment_mending.specs.declared.report.ScrubReport.{ScrubReport}
 use Rattle.command_spec.specs.declared.words.Words.{Words}
 use Rattle.std.specs.Prelude.{◌↔◌, ◌==◌}
-use Rattle.volume_store.specs.Mounting.{StoreView}
+use Rattle.volume_store.specs.Mounting.{StoreView, IsOpened}
 use Rattle.volume_store.specs.Scrubbing.{MendEnds}
 use Rattle.command_spec.specs.declared.status.Status.{Status}
 use Rattle.command_spec.specs.Outcome.{CommandOutcome, Opened, WritableOutcome}
-use Rattle.volume_store.specs.Opening.{IsOpened, HasOpened}
+use Rattle.volume_store.specs.Opening.{HasOpened}
 use Rattle.command_spec.specs.Machine.{IsCutOff, fault_of, may_come_from}
 use Rattle.volume_store.proofs.Opened.{IsKnown, went_behind, cut_behind, settled_told, opened_known, known_before, found_locked, never_both, unlocked}
 use Rattle.command_laws.proofs.CommandOpened.{quiet}

@@ -9,7 +9,7 @@ use Rattle.qic_base.specs.Cartridge.{Cartridge}
 use Rattle.qic_base.specs.Tape.{Meaning, Done, Broke}
 use Rattle.qic_base.specs.TapeCalls.{Tells}
 use Rattle.volume_store.specs.Opening.{HasStarted, HasOpened, IsAbsent}
-use Rattle.volume_store.specs.Mounting.{StoreView, IsCutOff}
+use Rattle.volume_store.specs.Mounting.{StoreView, SettlingBreaks}
 use Rattle.cartridge_spec.specs.Header.{HeaderFault}
 use Rattle.cartridge_spec.specs.Mounting as mounting
 use Rattle.command_spec.specs.declared.status.Status.TheVariants as status
@@ -44,15 +44,15 @@ is_opening status.TableMismatch = true
 is_opening answer = false
 
 -- there is no cartridge, or a fault of the tape broke the insertion off
-abbrev pub StartFails : {T : Type 0} (m : Meaning T) (old new : T) → Status → Type 0
-StartFails m old new why =
+abbrev pub StartRefuses : {T : Type 0} (m : Meaning T) (old new : T) → Status → Type 0
+StartRefuses m old new why =
     ((why ≡ status.NoCartridge) × IsAbsent m old new)
     ⊎ ((why ≡ status.TapeFault) × Broke m old new [])
 
 -- how the start of a host on what a drive holds ended
-abbrev pub StartEnds : {T : Type 0} (m : Meaning T) (old new : UnitView T) → Result Host Status → Type 0
-StartEnds m old new (Ok host) = HasStarted m old new host
-StartEnds m old new (Err why) = StartFails m old.tape new.tape why
+abbrev pub StartAnswers : {T : Type 0} (m : Meaning T) (old new : UnitView T) → Result Host Status → Type 0
+StartAnswers m old new (Ok host) = HasStarted m old new host
+StartAnswers m old new (Err why) = StartRefuses m old.tape new.tape why
 
 -- It was refused, before anything was written.
 pub record OpeningRefused {T : Type 0} (m : Meaning T) (old new : T) (why : Status) : Type 0 where
@@ -62,7 +62,7 @@ pub record OpeningRefused {T : Type 0} (m : Meaning T) (old new : T) (why : Stat
 
 -- a fault of the tape broke it off
 abbrev pub OpeningCut : {T : Type 0} (m : Meaning T) (old new : T) → Status → Type 0
-OpeningCut m old new why = (why ≡ status.TapeFault) × IsCutOff m old new
+OpeningCut m old new why = (why ≡ status.TapeFault) × SettlingBreaks m old new
 
 -- how the opening of what a drive holds ended
 abbrev pub OpeningEnds : {T : Type 0} (m : Meaning T) (old : T) (new : UnitView T) → Result StoreView Status → Type 0

@@ -3,7 +3,7 @@
 ghost use Rattle.std.specs.Prelude.{◌≡◌, ◌≢◌, ℕ};
 ghost use Rattle.volume_store.specs.declared.opening.OpenFault.TheVariants.{Refused};
 ghost use Rattle.cartridge_front.specs.declared.fault.StoreFault.TheVariants.{Short};
-ghost use Rattle.host_commands.specs.Opening.{OpeningEnds, StartEnds, WritableEnds};
+ghost use Rattle.host_commands.specs.Opening.{OpeningEnds, StartAnswers, WritableEnds};
 ghost use Rattle.host_commands.specs.Statuses.{open_status as status_of_opening, store_status as status_of};
 
 use command_spec::Status;
@@ -14,7 +14,7 @@ use volume_store::{OpenFault, Room, Store, StoreFault};
 
 /// Puts the cartridge in and starts a host on it.
 pub fn start<T: Tape>(unit: &mut Unit<T>) -> Result<Host, Status>
-    ensures { StartEnds T.means unit.old unit.new result }
+    ensures { StartAnswers T.means unit.old unit.new result }
 {
     match volume_store::start(unit) {
         Ok(host) => Ok(host),

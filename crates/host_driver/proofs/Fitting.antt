@@ -14,15 +14,15 @@ use Rattle.drive_spec.specs.Deck.{segments_per_track}
 use Rattle.drive_spec.specs.Record.{Record}
 use Rattle.drive_spec.specs.Terms.{longer}
 use Rattle.drive_spec.specs.Parameters.{parameter_code, parameter_values}
-use Rattle.drive_spec.specs.Row.{given_more, heard, latched}
+use Rattle.drive_spec.specs.Row.{given_more, heard, latched, pulsed_row}
 use Rattle.drive_states.specs.Unreferenced.{unreferenced, without_reference}
 use Rattle.drive_states.specs.Unit.{UnitView, IsSoundUnit}
 use Rattle.host_driver.specs.declared.host.Host.{Host}
 use Rattle.host_driver.specs.Fits.{Fits, parameter_of}
 use Rattle.host_driver.specs.Followed.{followed}
-use Rattle.host_driver.specs.Train.{TakesTrain, after_train}
-use Rattle.host_driver.proofs.Follows.{remembered, followed-remembered, after_train-heard, counted, latches, some_number}
-use Rattle.host_driver.proofs.Kept.{KeepsCartridge, KeepsCartridge-unreferenced, after_train-kept}
+use Rattle.host_driver.specs.Train.{TakesTrain}
+use Rattle.host_driver.proofs.Follows.{remembered, followed-remembered, pulsed_row-heard, counted, latches, some_number}
+use Rattle.host_driver.proofs.Kept.{KeepsCartridge, KeepsCartridge-unreferenced, pulsed_row-kept}
 
 -- the host is what it remembers of the unit that it fits
 is_remembered : {T : Type 0} {m : Meaning T} {h : Host} {u : UnitView T} → Fits m h u → h ≡ remembered h.geometry u.drive
@@ -58,9 +58,9 @@ fits_kept {h = h} {u = u} {v = v} next f k no_error no_pulse segments is sound =
 }
 
 pub fits_after : {T : Type 0} {m : Meaning T} {h : Host} {u v : UnitView T} (pulses : ℕ) → Fits m h u → TakesTrain u.drive pulses →
-    v.drive ≡ after_train u.drive pulses → IsSoundUnit m v → Fits m (followed h pulses) v
+    v.drive ≡ pulsed_row u.drive pulses → IsSoundUnit m v → Fits m (followed h pulses) v
 fits_after {m = m} {h = h} {u = u} {v = v} pulses f taken is sound =
-    let k = after_train-kept u.drive pulses taken.no_reset in
+    let k = pulsed_row-kept u.drive pulses taken.no_reset in
     let same : followed h pulses ≡ remembered h.geometry v.drive =
     ap (λ (x : Host). followed x pulses) (is_remembered f) ∙ followed-remembered h.geometry u.drive pulses taken.no_reset taken.no_error
     ∙ ap (remembered h.geometry) (sym is) in
@@ -80,19 +80,19 @@ segments-unreferenced d = by_cartridge d.cartridge refl
 
 -- where the reference bursts failed, the host forgets the mark as the drive does
 pub fits_without : {T : Type 0} {m : Meaning T} {h : Host} {u v : UnitView T} (pulses : ℕ) → Fits m h u → TakesTrain u.drive pulses →
-    v.drive ≡ without_reference (after_train u.drive pulses) → IsSoundUnit m v →
+    v.drive ≡ without_reference (pulsed_row u.drive pulses) → IsSoundUnit m v →
     Fits m (record (followed h pulses) { deck = unreferenced (followed h pulses).deck }) v
 fits_without {m = m} {h = h} {u = u} {v = v} pulses f taken is sound =
-    let k = after_train-kept u.drive pulses taken.no_reset in
-    let same : followed h pulses ≡ remembered h.geometry (after_train u.drive pulses) =
+    let k = pulsed_row-kept u.drive pulses taken.no_reset in
+    let same : followed h pulses ≡ remembered h.geometry (pulsed_row u.drive pulses) =
     ap (λ (x : Host). followed x pulses) (is_remembered f) ∙ followed-remembered h.geometry u.drive pulses taken.no_reset taken.no_error in
-    let kept : KeepsCartridge u.drive.deck (after_train u.drive pulses).deck = record { length = k.deck.length; protected = k.deck.protected; known = k.deck.known; formats = k.deck.formats } in
+    let kept : KeepsCartridge u.drive.deck (pulsed_row u.drive pulses).deck = record { length = k.deck.length; protected = k.deck.protected; known = k.deck.known; formats = k.deck.formats } in
     fits_kept {m = m} {h = h} {u = u} {v = v} (record (followed h pulses) { deck = unreferenced (followed h pulses).deck }) f
-    (subst (λ (r : Record). KeepsCartridge u.drive.deck r.deck) (sym is) (KeepsCartridge-unreferenced u.drive.deck (after_train u.drive pulses).deck kept))
+    (subst (λ (r : Record). KeepsCartridge u.drive.deck r.deck) (sym is) (KeepsCartridge-unreferenced u.drive.deck (pulsed_row u.drive pulses).deck kept))
     (ap (λ (r : Record). r.deck.error) is ∙ taken.no_error)
     (ap (λ (r : Record). r.train) is ∙ k.train)
     (subst (λ (r : Record). is_format r.deck.mode ≡ true → r.deck.format_segments ≡ segments_per_track r.deck) (sym is)
-    (λ formats. taken.generates formats ∙ sym (segments-unreferenced (after_train u.drive pulses).deck)))
+    (λ formats. taken.generates formats ∙ sym (segments-unreferenced (pulsed_row u.drive pulses).deck)))
     (ap (λ (x : Host). record x { deck = unreferenced x.deck }) same ∙ ap (remembered h.geometry) (sym is))
     sound
 
@@ -105,11 +105,11 @@ by_ok (Ok x) P e h = h
 by_ok (Err x) P e h = cc
 
 -- the value of a parameter that the drive takes
-taken_value : (r : Record) (a : Parameter) (pulses : ℕ) → r.under_way ≡ Awaited a → pulses ≢ 1 → (after_train r pulses).deck.error ≡ 0 → 1 ≤ pulses →
+taken_value : (r : Record) (a : Parameter) (pulses : ℕ) → r.under_way ≡ Awaited a → pulses ≢ 1 → (pulsed_row r pulses).deck.error ≡ 0 → 1 ≤ pulses →
     (2 ≤ pulses) × (pulses - 2 < parameter_values a.command)
 taken_value r a pulses awaits other none some =
     let more : 1 < pulses = omega arith in
-    let heard_as = after_train-heard r pulses more in
+    let heard_as = pulsed_row-heard r pulses more in
     let error : (heard (counted r) pulses r.under_way).deck.error ≡ 0 = ap (λ (x : Record). x.deck.error) (sym heard_as) ∙ none in
     let error_of : (heard (counted r) pulses (Awaited a)).deck.error ≡ 0 = subst (λ (w : UnderWay). (heard (counted r) pulses w).deck.error ≡ 0) awaits error in
     (omega arith, by_value (nat_lt (pulses - 2) (parameter_values a.command)) refl error_of)

@@ -17,12 +17,11 @@ use Rattle.drive_spec.specs.Deck.{is_streaming}
 use Rattle.drive_spec.specs.Effects.{accepted, ticked, ends_early}
 use Rattle.drive_spec.specs.Record.{Record}
 use Rattle.drive_spec.specs.Parameters.{parameter_trains, parameter_values, parameter_code}
-use Rattle.drive_spec.specs.Row.{heard, by_command, by_refusal, given_more, latched, showing}
+use Rattle.drive_spec.specs.Row.{heard, by_command, by_refusal, given_more, latched, showing, pulsed_row}
 use Rattle.host_driver.specs.declared.host.Host.{Host}
 use Rattle.host_driver.specs.Fits.{parameter_of}
 use Rattle.host_driver.specs.Followed.{followed, after_command, after_value, after_pulses}
 use Rattle.host_driver.specs.Place.{idled_deck}
-use Rattle.host_driver.specs.Train.{after_train}
 
 -- what a host remembers of a drive
 abbrev pub remembered : (segments : ℕ) → Record → Host
@@ -47,17 +46,17 @@ some_number c =
     omega arith
 
 -- a train of more than one pulse is heard
-pub after_train-heard : (r : Record) (pulses : ℕ) → 1 < pulses → after_train r pulses ≡ heard (counted r) pulses r.under_way
-unfolding after_train
-after_train-heard r pulses more =
+pub pulsed_row-heard : (r : Record) (pulses : ℕ) → 1 < pulses → pulsed_row r pulses ≡ heard (counted r) pulses r.under_way
+unfolding pulsed_row
+pulsed_row-heard r pulses more =
     let some : (pulses == 0) ≡ false = grind (arith, nat_tests) in
     let other : (pulses == 1) ≡ false = grind (arith, nat_tests) in
     rw (some, other) refl
 
 -- an empty one is idled away
-pub after_train-idled : (r : Record) → after_train r 0 ≡ idled (record r { deck = ticked r.deck; train = 0 })
-unfolding after_train
-after_train-idled r = refl
+pub pulsed_row-idled : (r : Record) → pulsed_row r 0 ≡ idled (record r { deck = ticked r.deck; train = 0 })
+unfolding pulsed_row
+pulsed_row-idled r = refl
 
 -- the host awaits the parameters that the drive does
 parameter_of-begun : (c : Command) (d : Deck) →
@@ -130,18 +129,18 @@ idled-remembered segments b true e none = rw e (by_end (ends_early b.deck) refl 
 idled-remembered segments b false e none = rw e refl
 
 -- the host follows each train that the drive takes
-pub followed-remembered : (segments : ℕ) (r : Record) (pulses : ℕ) → pulses ≢ 1 → (after_train r pulses).deck.error ≡ 0 →
-    followed (remembered segments r) pulses ≡ remembered segments (after_train r pulses)
+pub followed-remembered : (segments : ℕ) (r : Record) (pulses : ℕ) → pulses ≢ 1 → (pulsed_row r pulses).deck.error ≡ 0 →
+    followed (remembered segments r) pulses ≡ remembered segments (pulsed_row r pulses)
 followed-remembered segments r pulses other none = by_count (pulses == 0) refl
   where
-    by_count : (t : Bool) → (pulses == 0) ≡ t → followed (remembered segments r) pulses ≡ remembered segments (after_train r pulses)
+    by_count : (t : Bool) → (pulses == 0) ≡ t → followed (remembered segments r) pulses ≡ remembered segments (pulsed_row r pulses)
     by_count true e =
         let zero : pulses ≡ 0 = grind (arith, nat_tests) in
         rw e (idled-remembered segments (record r { deck = ticked r.deck; train = 0 }) (is_streaming (ticked r.deck).motion) refl
-        (ap (λ (x : Record). x.deck.error) (sym (ap (after_train r) zero ∙ after_train-idled r)) ∙ none)
-        ∙ ap (remembered segments) (sym (ap (after_train r) zero ∙ after_train-idled r)))
+        (ap (λ (x : Record). x.deck.error) (sym (ap (pulsed_row r) zero ∙ pulsed_row-idled r)) ∙ none)
+        ∙ ap (remembered segments) (sym (ap (pulsed_row r) zero ∙ pulsed_row-idled r)))
     by_count false e =
         let more : 1 < pulses = grind (arith, nat_tests) in
-        let heard_as = after_train-heard r pulses more in
+        let heard_as = pulsed_row-heard r pulses more in
         rw e (heard-remembered segments (counted r) pulses r.under_way more (ap (λ (x : Record). x.deck.error) (sym heard_as) ∙ none)
         ∙ ap (remembered segments) (sym heard_as))

@@ -19,10 +19,9 @@ use Rattle.drive_spec.specs.Terms.{refusal_of, is_protected, referenced_as, idle
 use Rattle.drive_spec.specs.Effects.{accepted, given, ticked}
 use Rattle.drive_spec.specs.Record.{Record}
 use Rattle.drive_spec.specs.Parameters.{parameter_trains, parameter_values, parameter_code}
-use Rattle.drive_spec.specs.Row.{heard, by_command, by_refusal, given_more, latched, showing}
+use Rattle.drive_spec.specs.Row.{heard, by_command, by_refusal, given_more, latched, showing, pulsed_row}
 use Rattle.drive_states.specs.Unreferenced.{unreferenced}
-use Rattle.host_driver.specs.Train.{after_train}
-use Rattle.host_driver.proofs.Follows.{counted, after_train-heard, after_train-idled}
+use Rattle.host_driver.proofs.Follows.{counted, pulsed_row-heard, pulsed_row-idled}
 use Rattle.host_driver.proofs.Refusals.{format_writable}
 
 -- the cartridge's length
@@ -128,17 +127,17 @@ idled-kept b true e = rw e record { deck = record { length = refl; protected = r
 idled-kept b false e = rw e record { deck = KeepsCartridge-same b.deck; train = refl }
 
 -- no train but a reset does
-pub after_train-kept : (r : Record) (pulses : ℕ) → (pulses ≡ 1 → ⊥) → KeptRecord (record r { train = 0 }) (after_train r pulses)
-after_train-kept r pulses other = by_count (pulses == 0) refl
+pub pulsed_row-kept : (r : Record) (pulses : ℕ) → (pulses ≡ 1 → ⊥) → KeptRecord (record r { train = 0 }) (pulsed_row r pulses)
+pulsed_row-kept r pulses other = by_count (pulses == 0) refl
   where
-    by_count : (t : Bool) → (pulses == 0) ≡ t → KeptRecord (record r { train = 0 }) (after_train r pulses)
+    by_count : (t : Bool) → (pulses == 0) ≡ t → KeptRecord (record r { train = 0 }) (pulsed_row r pulses)
     by_count true e =
         let zero : pulses ≡ 0 = grind (arith, nat_tests) in
         let k = idled-kept (record r { deck = ticked r.deck; train = 0 }) (is_streaming (ticked r.deck).motion) refl in
-        subst (λ (x : Record). KeptRecord (record r { train = 0 }) x) (sym (ap (after_train r) zero ∙ after_train-idled r))
+        subst (λ (x : Record). KeptRecord (record r { train = 0 }) x) (sym (ap (pulsed_row r) zero ∙ pulsed_row-idled r))
         record { deck = record { length = k.deck.length; protected = k.deck.protected; known = k.deck.known; formats = k.deck.formats }; train = k.train }
     by_count false e =
         let more : 1 < pulses = grind (arith, nat_tests) in
         let k = heard-kept (counted r) pulses r.under_way in
-        subst (λ (x : Record). KeptRecord (record r { train = 0 }) x) (sym (after_train-heard r pulses more))
+        subst (λ (x : Record). KeptRecord (record r { train = 0 }) x) (sym (pulsed_row-heard r pulses more))
         record { deck = record { length = k.deck.length; protected = k.deck.protected; known = k.deck.known; formats = k.deck.formats }; train = k.train }

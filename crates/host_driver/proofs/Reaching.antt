@@ -1,5 +1,5 @@
 -- The sectors that the host asks for are under the head.
-use Rattle.std.proofs.Common.{◌≡◌, ℕ, ◌*◌, ◌<◌, Bool, true, refl, sym, subst, Some, None, Option, IsSomeAnd, arith}
+use Rattle.std.proofs.Common.{◌≡◌, ℕ, ◌*◌, ◌<◌, Bool, true, sym, subst, Some, None, Option, IsSomeAnd, arith}
 use Rattle.std.proofs.lemmas.Nat.{mul-add-lt}
 use Rattle.std.specs.Option.{option_map_or}
 use Rattle.qic_base.specs.declared.tape.TapeInfo.{TapeInfo}
@@ -7,23 +7,17 @@ use Rattle.qic117_commands.specs.declared.view.Mode.{Mode}
 use Rattle.tape_geometry.specs.Geometry.{HasAddress}
 use Rattle.tape_geometry.specs.declared.geometry.FloppyAddr.{FloppyAddr}
 use Rattle.drive_spec.specs.declared.deck.Deck.{Deck}
-use Rattle.drive_spec.specs.declared.deck.Motion.{Motion}
-use Rattle.drive_spec.specs.declared.deck.Motion.TheVariants.{Stopped, Streaming, Seeking}
 use Rattle.drive_spec.specs.Deck.{limit, segments_per_track, is_streaming}
-use Rattle.drive_states.specs.Reach.{IsUnder, StreamsTo, Reaches, segment_of}
+use Rattle.drive_states.specs.Reach.{IsUnder, Reaches, segment_of}
 use Rattle.drive_states.specs.Sound.{IsSound}
 use Rattle.drive_states.proofs.Bounds.{before_limit, limit_within}
+use Rattle.drive_states.proofs.Places.{streams_to}
 
 pub length_is : (n : ℕ) (c : Option TapeInfo) → IsSomeAnd c (λ info. info.segments_per_track ≡ n) → option_map_or (λ (i : TapeInfo). i.segments_per_track) c 0 ≡ n
 length_is n None h = absurd h
 length_is n (Some info) h = h
 
-streams : (m : Motion) (index : ℕ) → StreamsTo m index → is_streaming m ≡ true
-streams Stopped index h = absurd h
-streams (Streaming next) index h = refl
-streams (Seeking left) index h = absurd h
-
--- the tape that streams is in a segment of the cartridge
+-- the tape that streams_to is in a segment of the cartridge
 segment_on_tape : (d : Deck) → IsSound d → is_streaming d.motion ≡ true → segment_of d < 28 * segments_per_track d
 segment_on_tape d s running =
     let before = before_limit d.motion (limit d) d.offset running s.motion in
@@ -33,7 +27,7 @@ segment_on_tape d s running =
 
 pub under_on_tape : (d : Deck) (segment index : ℕ) → IsSound d → IsUnder d segment index → segment < 28 * segments_per_track d
 under_on_tape d segment index s under =
-    subst (λ (n : ℕ). n < 28 * segments_per_track d) (sym under.here) (segment_on_tape d s (streams d.motion index under.streams))
+    subst (λ (n : ℕ). n < 28 * segments_per_track d) (sym under.here) (segment_on_tape d s (streams_to d.motion index under.streams))
 
 pub reaches : (has_call : Mode → Bool) (d : Deck) (n segment index : ℕ) (addr : FloppyAddr) → IsSomeAnd d.cartridge (λ info. info.segments_per_track ≡ n) →
     has_call d.mode ≡ true → IsUnder d segment index → HasAddress n segment index addr → Reaches has_call d addr segment index

@@ -29,9 +29,11 @@ use Rattle.host_driver.specs.declared.report.Report.TheVariants.{Status, Error, 
 use Rattle.host_driver.specs.Commands.{is_plain}
 use Rattle.host_driver.specs.Fits.{GeneratesAll}
 use Rattle.host_driver.specs.Reports.{command_of, width_of, reported_word, after_report}
-use Rattle.host_driver.specs.Train.{after_train, train_steps, TakesTrain, waited}
+use Rattle.host_driver.specs.Train.{TakesTrain, waited}
 use Rattle.host_driver.proofs.Sending.{steps-plain}
 use Rattle.host_driver.proofs.Motions.{waited-one, ticked-waited, waited-still, ticked-still}
+use Rattle.drive_spec.specs.Row.{pulsed_row}
+use Rattle.drive_spec.specs.Steps.{train_changes}
 
 -- levels left to show are under way
 abbrev pub left : List Bool → UnderWay
@@ -55,9 +57,9 @@ begun_levels width word = by_digits (digits width word)
     by_digits (d ∷ ds) = refl
 
 acknowledged : (kind : Kind) (r : Record) → r.under_way ≡ Nothing → refusal_of (ticked r.deck) (command_of kind) ≡ None →
-    after_train r (number_of (command_of kind))
+    pulsed_row r (number_of (command_of kind))
     ≡ record r { deck = accepted (command_of kind) (ticked r.deck); train = 0; line = true; under_way = Report (levels_of (width_of kind) (reported_word kind r)) }
-unfolding after_train command_at commands
+unfolding pulsed_row command_at commands
 acknowledged Status r idle taken = rw (idle, taken) refl
 acknowledged Error r idle taken = rw (idle, taken) refl
 acknowledged Configuration r idle taken = rw (idle, taken) refl
@@ -68,7 +70,7 @@ acknowledged FormatSegments r idle taken = rw (idle, taken) refl
 
 -- a report that no row refuses is under way, and acknowledged
 pub reporting-none : (kind : Kind) (r : Record) → r.train ≡ 0 → r.under_way ≡ Nothing → refusal_of (ticked r.deck) (command_of kind) ≡ None →
-    after_train r (number_of (command_of kind)) ≡ reporting kind r 0
+    pulsed_row r (number_of (command_of kind)) ≡ reporting kind r 0
 reporting-none kind r no_pulse idle taken =
     acknowledged kind r idle taken
     ∙ ap (λ (d : Deck). record r { deck = accepted (command_of kind) d; train = 0; line = true; under_way = Report (levels_of (width_of kind) (reported_word kind r)) }) (waited-one r.deck)
@@ -76,11 +78,11 @@ reporting-none kind r no_pulse idle taken =
     ∙ ap (λ (n : ℕ). record r { deck = accepted (command_of kind) (waited 1 r.deck); train = n; line = true; under_way = left (levels_of (width_of kind) (reported_word kind r)) }) (sym no_pulse)
 
 -- a report under way shows its next level
-after_train-next : (r : Record) (level : Bool) (more : List Bool) → r.under_way ≡ left (level ∷ more) →
-    after_train r (number_of ReportNextBit) ≡ record r { deck = ticked r.deck; train = 0; line = level; under_way = left more }
-unfolding after_train
-after_train-next r level [] under_way = rw under_way refl
-after_train-next r level (next ∷ rest) under_way = rw under_way refl
+pulsed_row-next : (r : Record) (level : Bool) (more : List Bool) → r.under_way ≡ left (level ∷ more) →
+    pulsed_row r (number_of ReportNextBit) ≡ record r { deck = ticked r.deck; train = 0; line = level; under_way = left more }
+unfolding pulsed_row
+pulsed_row-next r level [] under_way = rw under_way refl
+pulsed_row-next r level (next ∷ rest) under_way = rw under_way refl
 
 -- the wait goes on behind the command
 ticked-accepted : (kind : Kind) (gaps : ℕ) (d : Deck) → ticked (accepted (command_of kind) (waited gaps d)) ≡ accepted (command_of kind) (waited (gaps + 1) d)
@@ -104,11 +106,11 @@ pub next-level : (width word k : ℕ) → get_or (report_of width word) (k + 1) 
 next-level width word k = rw add-one refl
 
 pub reporting-next : (kind : Kind) (r : Record) (shown : ℕ) → r.train ≡ 0 → shown < width_of kind + 1 →
-    after_train (reporting kind r shown) (number_of ReportNextBit) ≡ reporting kind r (shown + 1)
+    pulsed_row (reporting kind r shown) (number_of ReportNextBit) ≡ reporting kind r (shown + 1)
 reporting-next kind r shown no_pulse more =
     let levels : List Bool = levels_of (width_of kind) (reported_word kind r) in
     let some : shown < length levels = omega (arith, length-levels_of (width_of kind) (reported_word kind r)) in
-    after_train-next (reporting kind r shown) (get_or levels shown false) (drop (shown + 1) levels) (ap left (next_shown levels shown some))
+    pulsed_row-next (reporting kind r shown) (get_or levels shown false) (drop (shown + 1) levels) (ap left (next_shown levels shown some))
     ∙ ap (λ (d : Deck). record r { deck = d; train = 0; line = get_or levels shown false; under_way = left (drop (shown + 1) levels) }) (ticked-accepted kind (shown + 1) r.deck)
     ∙ ap (λ (level : Bool). record r { deck = accepted (command_of kind) (waited (shown + 1 + 1) r.deck); train = 0; line = level; under_way = left (drop (shown + 1) levels) }) (sym (next-level (width_of kind) (reported_word kind r) shown))
     ∙ ap (λ (n : ℕ). record (reporting kind r (shown + 1)) { train = n }) (sym no_pulse)
@@ -169,7 +171,7 @@ not_reset Vendor e = cc
 not_reset TapeStatus e = cc
 not_reset FormatSegments e = cc
 
-takes : (before after : Record) (pulses : ℕ) → pulses ≢ 1 → after_train before pulses ≡ after → after.deck.error ≡ 0 → GeneratesAll after.deck → TakesTrain before pulses
+takes : (before after : Record) (pulses : ℕ) → pulses ≢ 1 → pulsed_row before pulses ≡ after → after.deck.error ≡ 0 → GeneratesAll after.deck → TakesTrain before pulses
 takes before after pulses other is no_error g = record {
   no_reset = other;
   no_error = ap (λ (r : Record). r.deck.error) is ∙ no_error;
@@ -197,11 +199,11 @@ plain Vendor = refl
 plain TapeStatus = refl
 plain FormatSegments = refl
 
-pub reads-command : (kind : Kind) (r : Record) → train_steps r (number_of (command_of kind)) ≡ []
+pub reads-command : (kind : Kind) (r : Record) → train_changes r (number_of (command_of kind)) ≡ []
 reads-command kind r = steps-plain (command_of kind) r (plain kind)
 
-pub reads-next : (r : Record) → train_steps r (number_of ReportNextBit) ≡ []
-unfolding train_steps
+pub reads-next : (r : Record) → train_changes r (number_of ReportNextBit) ≡ []
+unfolding train_changes
 reads-next r = gap_steps-none (record r { train = number_of ReportNextBit }) (λ e. cc)
 
 bit_where-le : (bit : ℕ) (b : Bool) → bit_where bit b ≤ bit

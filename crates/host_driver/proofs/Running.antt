@@ -12,10 +12,12 @@ use Rattle.drive_states.specs.Typed.{is_seeking}
 use Rattle.drive_states.proofs.Marks.{gap_steps-none}
 use Rattle.host_driver.specs.Fits.{GeneratesAll}
 use Rattle.host_driver.specs.Place.{KeepsMode, RunsOn, idled_deck}
-use Rattle.host_driver.specs.Train.{TakesTrain, after_train, train_steps}
-use Rattle.host_driver.proofs.Follows.{after_train-idled}
+use Rattle.host_driver.specs.Train.{TakesTrain}
+use Rattle.host_driver.proofs.Follows.{pulsed_row-idled}
 use Rattle.host_driver.proofs.Motions.{ticked-still}
 use Rattle.host_driver.proofs.Taking.{limit_of}
+use Rattle.drive_spec.specs.Row.{pulsed_row}
+use Rattle.drive_spec.specs.Steps.{train_changes}
 
 -- as many segments are generated as the track has
 not_early : (d : Deck) → GeneratesAll d → ends_early d ≡ false
@@ -43,12 +45,12 @@ runs_on d g =
 -- an empty gap
 pub record Idles (r : Record) : Type 0 where
   pub takes : TakesTrain r 0
-  pub steps : train_steps r 0 ≡ []
-  pub deck : (after_train r 0).deck ≡ idled_deck r.deck
-  pub under_way : (after_train r 0).under_way ≡ r.under_way
+  pub steps : train_changes r 0 ≡ []
+  pub deck : (pulsed_row r 0).deck ≡ idled_deck r.deck
+  pub under_way : (pulsed_row r 0).under_way ≡ r.under_way
 
-steps-none : (r : Record) → train_steps r 0 ≡ []
-unfolding train_steps
+steps-none : (r : Record) → train_changes r 0 ≡ []
+unfolding train_changes
 steps-none r = gap_steps-none (record r { train = 0 }) (λ e. cc)
 
 pub idle_keeps : (d : Deck) → KeepsMode d (idled_deck d)
@@ -87,8 +89,8 @@ generates-idled d false e g = rw e g.segments
 
 pub idles : (r : Record) → is_seeking r.deck.motion ≡ false → r.deck.error ≡ 0 → GeneratesAll r.deck → Idles r
 idles r still none g =
-    let is : after_train r 0 ≡ after_idle r =
-    after_train-idled r ∙ ap (λ (d : Deck). idled (record r { deck = d; train = 0 })) (ticked-still r.deck still)
+    let is : pulsed_row r 0 ≡ after_idle r =
+    pulsed_row-idled r ∙ ap (λ (d : Deck). idled (record r { deck = d; train = 0 })) (ticked-still r.deck still)
     ∙ idled-generates (record r { train = 0 }) (is_streaming r.deck.motion) refl g in
     record {
       takes = record {

@@ -22,14 +22,15 @@ use Rattle.drive_spec.specs.Deck.{is_stopped, limit, segments_per_track}
 use Rattle.drive_spec.specs.Effects.{accepted, given, ticked}
 use Rattle.drive_spec.specs.Record.{Record}
 use Rattle.drive_spec.specs.Parameters.{parameter_code, parameter_values, parameter_trains}
-use Rattle.drive_spec.specs.Row.{heard, by_command, by_refusal, given_more, latched}
+use Rattle.drive_spec.specs.Row.{heard, by_command, by_refusal, given_more, latched, pulsed_row}
 use Rattle.drive_states.specs.Typed.{is_seeking}
 use Rattle.drive_states.proofs.Marks.{gap_steps-none}
 use Rattle.host_driver.specs.Commands.{is_plain, TakesValue}
 use Rattle.host_driver.specs.Fits.{GeneratesAll, parameter_of}
-use Rattle.host_driver.specs.Train.{TakesTrain, after_train, train_steps}
-use Rattle.host_driver.proofs.Follows.{after_train-heard, counted}
+use Rattle.host_driver.specs.Train.{TakesTrain}
+use Rattle.host_driver.proofs.Follows.{pulsed_row-heard, counted}
 use Rattle.host_driver.proofs.Motions.{ticked-still}
+use Rattle.drive_spec.specs.Steps.{train_changes}
 
 not_reference : (c : Command) → is_plain c ≡ true → number_of c ≢ number_of WriteReference
 not_reference c plain e =
@@ -38,8 +39,8 @@ not_reference c plain e =
     false≢true (sym other ∙ plain)
 
 -- a plain command does nothing to the cartridge
-pub steps-plain : (c : Command) (r : Record) → is_plain c ≡ true → train_steps r (number_of c) ≡ []
-unfolding train_steps
+pub steps-plain : (c : Command) (r : Record) → is_plain c ≡ true → train_changes r (number_of c) ≡ []
+unfolding train_changes
 steps-plain c r plain = gap_steps-none (record r { train = number_of c }) (not_reference c plain)
 
 plain_number : (c : Command) → is_plain c ≡ true → 1 < number_of c
@@ -51,16 +52,16 @@ counted-still r still = ap (λ (d : Deck). record r { deck = d; line = false; tr
 
 -- a command that no row refuses
 commanded_by : (c : Command) (r : Record) → 1 < number_of c → is_seeking r.deck.motion ≡ false → r.under_way ≡ Nothing → refusal_of r.deck c ≡ None →
-    after_train r (number_of c) ≡ obeying (record r { line = false; train = 0 }) c
+    pulsed_row r (number_of c) ≡ obeying (record r { line = false; train = 0 }) c
 commanded_by c r more still idle taken =
-    after_train-heard r (number_of c) more
+    pulsed_row-heard r (number_of c) more
     ∙ ap (λ (u : UnderWay). heard (counted r) (number_of c) u) idle
     ∙ ap (by_command (counted r) (number_of c)) (command_at-number_of c)
     ∙ ap (λ (b : Record). by_refusal b c (refusal_of b.deck c)) (counted-still r still)
     ∙ ap (by_refusal (record r { line = false; train = 0 }) c) taken
 
 pub commanded : (c : Command) (r : Record) → is_plain c ≡ true → is_seeking r.deck.motion ≡ false → r.under_way ≡ Nothing → refusal_of r.deck c ≡ None →
-    after_train r (number_of c) ≡ obeying (record r { line = false; train = 0 }) c
+    pulsed_row r (number_of c) ≡ obeying (record r { line = false; train = 0 }) c
 commanded c r plain = commanded_by c r (plain_number c plain)
 
 streaming-error : (d : Deck) (b : Bool) → (if b then record d { motion = Streaming 0; at_load_point = false } else d).error ≡ d.error
@@ -88,7 +89,7 @@ accepted-segments EnterPrimary d plain g formats = cc
 accepted-segments WriteReference d plain g formats = cc
 accepted-segments c d plain g formats = g.segments formats
 
-takes_as : (before after : Record) (pulses : ℕ) → pulses ≢ 1 → after_train before pulses ≡ after → after.deck.error ≡ 0 →
+takes_as : (before after : Record) (pulses : ℕ) → pulses ≢ 1 → pulsed_row before pulses ≡ after → after.deck.error ≡ 0 →
     (is_format after.deck.mode ≡ true → after.deck.format_segments ≡ segments_per_track after.deck) → TakesTrain before pulses
 takes_as before after pulses other is no_error segments = record {
   no_reset = other;
@@ -105,11 +106,11 @@ takes-plain c r plain still idle taken none g =
 
 -- a value of the parameter that is awaited
 given_value : (r : Record) (a : Parameter) (value : ℕ) → is_seeking r.deck.motion ≡ false → r.under_way ≡ Awaited a → value < parameter_values a.command →
-    after_train r (2 + value) ≡ given_more (record r { line = false; train = 0 }) (longer a value)
+    pulsed_row r (2 + value) ≡ given_more (record r { line = false; train = 0 }) (longer a value)
 given_value r a value still awaits small =
     let same : 2 + value - 2 ≡ value = omega arith in
     let takes : nat_lt value (parameter_values a.command) ≡ true = grind (arith, nat_tests) in
-    after_train-heard r (2 + value) (omega arith)
+    pulsed_row-heard r (2 + value) (omega arith)
     ∙ ap (λ (u : UnderWay). heard (counted r) (2 + value) u) awaits
     ∙ ap (λ (n : ℕ). if nat_lt n (parameter_values a.command) then given_more (counted r) (longer a n) else latched (counted r) (parameter_code a.command) (number_of a.command)) same
     ∙ ap (λ (b : Bool). if b then given_more (counted r) (longer a value) else latched (counted r) (parameter_code a.command) (number_of a.command)) takes
@@ -142,15 +143,15 @@ given_more-segments : (r : Record) (a : Parameter) (whole : Bool) → a.command 
 given_more-segments r a true moves g = given-segments a.command a.value r.deck moves g
 given_more-segments r a false moves g = g.segments
 
-steps-awaited : (r : Record) (a : Parameter) (pulses : ℕ) → r.under_way ≡ Awaited a → train_steps r pulses ≡ []
-unfolding train_steps
+steps-awaited : (r : Record) (a : Parameter) (pulses : ℕ) → r.under_way ≡ Awaited a → train_changes r pulses ≡ []
+unfolding train_changes
 steps-awaited r a pulses awaits = rw awaits refl
 
 -- what the drive awaits, and takes
 pub record Gives (r : Record) (value : ℕ) : Type 0 where
   pub takes : TakesTrain r (2 + value)
-  pub steps : train_steps r (2 + value) ≡ []
-  pub given : IfSome (parameter_of r.under_way) (λ a. after_train r (2 + value) ≡ given_more (record r { line = false; train = 0 }) (longer a value))
+  pub steps : train_changes r (2 + value) ≡ []
+  pub given : IfSome (parameter_of r.under_way) (λ a. pulsed_row r (2 + value) ≡ given_more (record r { line = false; train = 0 }) (longer a value))
 
 pub gives : (r : Record) (value : ℕ) → is_seeking r.deck.motion ≡ false → r.deck.error ≡ 0 → GeneratesAll r.deck →
     IsSomeAnd (parameter_of r.under_way) (λ a. TakesValue a value) → Gives r value
@@ -166,11 +167,11 @@ gives r value still none g awaited = by_under_way r.under_way refl awaited
               (given_more-error (record r { line = false; train = 0 }) (longer a value) ((longer a value).taken == parameter_trains a.command) ∙ none)
               (given_more-segments (record r { line = false; train = 0 }) (longer a value) ((longer a value).taken == parameter_trains a.command) h.moves g);
           steps = steps-awaited r a (2 + value) e;
-          given = subst (λ (u : UnderWay). IfSome (parameter_of u) (λ b. after_train r (2 + value) ≡ given_more (record r { line = false; train = 0 }) (longer b value))) (sym e) is;
+          given = subst (λ (u : UnderWay). IfSome (parameter_of u) (λ b. pulsed_row r (2 + value) ≡ given_more (record r { line = false; train = 0 }) (longer b value))) (sym e) is;
         }
 
-pub given_as : (r s : Record) (value : ℕ) → s ≡ after_train r (2 + value) → (o : Option Parameter) →
-    IfSome o (λ a. after_train r (2 + value) ≡ given_more (record r { line = false; train = 0 }) (longer a value)) →
+pub given_as : (r s : Record) (value : ℕ) → s ≡ pulsed_row r (2 + value) → (o : Option Parameter) →
+    IfSome o (λ a. pulsed_row r (2 + value) ≡ given_more (record r { line = false; train = 0 }) (longer a value)) →
     IfSome o (λ a. s ≡ given_more (record r { line = false; train = 0 }) (longer a value))
 given_as r s value is None h = tt
 given_as r s value is (Some a) h = is ∙ h
@@ -182,11 +183,11 @@ length-referenced on (Some info) = refl
 -- the reference bursts are written
 pub record References (r : Record) : Type 0 where
   pub takes : TakesTrain r (number_of WriteReference)
-  pub steps : train_steps r (number_of WriteReference) ≡ SetReferenced ∷ []
-  pub after : after_train r (number_of WriteReference) ≡ obeying (record r { line = false; train = 0 }) WriteReference
+  pub steps : train_changes r (number_of WriteReference) ≡ SetReferenced ∷ []
+  pub after : pulsed_row r (number_of WriteReference) ≡ obeying (record r { line = false; train = 0 }) WriteReference
 
-steps-reference : (r : Record) → is_seeking r.deck.motion ≡ false → r.under_way ≡ Nothing → refusal_of r.deck WriteReference ≡ None → train_steps r (number_of WriteReference) ≡ SetReferenced ∷ []
-unfolding train_steps
+steps-reference : (r : Record) → is_seeking r.deck.motion ≡ false → r.under_way ≡ Nothing → refusal_of r.deck WriteReference ≡ None → train_changes r (number_of WriteReference) ≡ SetReferenced ∷ []
+unfolding train_changes
 steps-reference r still idle taken =
     let ticks : refusal_of (ticked r.deck) WriteReference ≡ None = ap (λ (d : Deck). refusal_of d WriteReference) (ticked-still r.deck still) ∙ taken in
     let named = command_at-number_of WriteReference in

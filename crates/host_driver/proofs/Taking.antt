@@ -12,7 +12,7 @@ use Rattle.drive_spec.specs.declared.deck.Motion.TheVariants.{Stopped, Streaming
 use Rattle.drive_spec.specs.declared.under_way.UnderWay.{UnderWay}
 use Rattle.drive_spec.specs.declared.under_way.UnderWay.TheVariants.{Nothing, Awaited}
 use Rattle.drive_spec.specs.Terms.{refusal_of, is_protected, is_referenced, sought, skipped, longer, begun}
-use Rattle.drive_spec.specs.Deck.{view_of, seen_motion, is_stopped, limit, segments_per_track}
+use Rattle.drive_spec.specs.Deck.{view_of, is_stopped, limit, segments_per_track}
 use Rattle.drive_spec.specs.Effects.{accepted}
 use Rattle.drive_spec.specs.Record.{Record}
 use Rattle.drive_spec.specs.Row.{given_more}
@@ -25,15 +25,11 @@ use Rattle.host_driver.specs.Commands.{is_plain, TakesValue, entry_of}
 use Rattle.host_driver.specs.Fits.{Fits, GeneratesAll, parameter_of, segments_of}
 use Rattle.host_driver.specs.Place.{StandsAt}
 use Rattle.host_driver.proofs.Refusals.{seek_taken, skip_forward_taken, skip_reverse_taken, forward_taken, format_taken, verify_taken}
+use Rattle.drive_states.proofs.Bounds.{seen_stop}
 
 pub there : (c : Option TapeInfo) (P : TapeInfo → Type 0) → IsSomeAnd c P → is_some c ≡ true
 there None P h = absurd h
 there (Some info) P h = refl
-
-stops : (m : Motion) → is_stopped m ≡ true → seen_motion m ≡ seen_as.Stopped
-stops Stopped e = refl
-stops (Streaming next) e = cc
-stops (Seeking left) e = cc
 
 -- a tape that stands and is known
 pub record StandsKnown (d : Deck) : Type 0 where
@@ -43,24 +39,24 @@ pub record StandsKnown (d : Deck) : Type 0 where
 
 module _ (d : Deck) (ready : StandsKnown d) where
   pub primary_of : refusal_of d EnterPrimary ≡ None
-  primary_of = primary_taken (view_of d) ready.present (stops d.motion ready.stopped)
+  primary_of = primary_taken (view_of d) ready.present (seen_stop d.motion ready.stopped)
 
   pub seek_of : is_referenced d ≡ true → refusal_of d SeekTrack ≡ None
-  seek_of referenced = seek_taken (view_of d) ready.present (stops d.motion ready.stopped) ready.known referenced
+  seek_of referenced = seek_taken (view_of d) ready.present (seen_stop d.motion ready.stopped) ready.known referenced
 
   pub skip_of : (forward : Bool) → is_referenced d ≡ true → is_format d.mode ≡ false →
       refusal_of d (skip_command forward) ≡ None
-  skip_of true referenced other = skip_forward_taken (view_of d) ready.present (stops d.motion ready.stopped) other ready.known referenced
-  skip_of false referenced other = skip_reverse_taken (view_of d) ready.present (stops d.motion ready.stopped) other ready.known referenced
+  skip_of true referenced other = skip_forward_taken (view_of d) ready.present (seen_stop d.motion ready.stopped) other ready.known referenced
+  skip_of false referenced other = skip_reverse_taken (view_of d) ready.present (seen_stop d.motion ready.stopped) other ready.known referenced
 
   pub forward_of : is_referenced d ≡ true → (is_format d.mode ≡ true → d.offset ≡ 0) → refusal_of d LogicalForward ≡ None
-  forward_of referenced first = forward_taken (view_of d) ready.present (stops d.motion ready.stopped) ready.known referenced first
+  forward_of referenced first = forward_taken (view_of d) ready.present (seen_stop d.motion ready.stopped) ready.known referenced first
 
   pub format_of : d.mode ≡ Primary → is_protected d ≡ false → refusal_of d EnterFormat ≡ None
-  format_of primary writable = format_taken (view_of d) ready.present (stops d.motion ready.stopped) primary writable ready.known
+  format_of primary writable = format_taken (view_of d) ready.present (seen_stop d.motion ready.stopped) primary writable ready.known
 
   pub verify_of : is_verify d.mode ≡ false → is_referenced d ≡ true → refusal_of d EnterVerify ≡ None
-  verify_of other referenced = verify_taken (view_of d) ready.present (stops d.motion ready.stopped) other ready.known referenced
+  verify_of other referenced = verify_taken (view_of d) ready.present (seen_stop d.motion ready.stopped) other ready.known referenced
 
 -- streaming ends at the end of the track, in each mode
 pub limit_of : (d : Deck) → GeneratesAll d → limit d ≡ segments_per_track d

@@ -1,16 +1,8 @@
 -- What trains do to the drive.
-use Rattle.std.proofs.Common.{◌≡◌, ℕ, List, [], ◌∷◌, refl, ap, ◌∙◌, Result, Ok, Err, IsOk, OnErr}
+use Rattle.std.proofs.Common.{◌≡◌, List, [], ◌∷◌, refl, ap, ◌∙◌, Result, Ok, Err, IsOk, OnErr}
 use Rattle.qic_base.specs.Step.{Step}
 use Rattle.drive_spec.specs.Record.{Record}
-use Rattle.drive_spec.specs.Row.{after_gap}
-use Rattle.drive_spec.specs.Steps.{gap_steps}
 use Rattle.drive_states.specs.Unit.{UnitView}
-use Rattle.host_driver.specs.Train.{after_train, train_steps}
-
--- the pulses were sent, and the gap
-pub sent : (start counted : Record) (n pulses : ℕ) → counted ≡ record start { train = n } → n ≡ pulses → after_gap counted ≡ after_train start pulses
-unfolding after_train
-sent start counted n pulses same all = ap after_gap same ∙ ap (λ (k : ℕ). after_gap (record start { train = k })) all
 
 pub OnErr-second : {T E : Type 0} (r : Result T E) (P Q : Type 0) → OnErr r (P × Q) → OnErr r Q
 OnErr-second (Ok x) P Q h = tt
@@ -20,10 +12,6 @@ OnErr-second (Err e) P Q h = h.1
 pub same_tape : {T : Type 0} (old new : UnitView T) (d : Record) → new.drive ≡ d → new.tape ≡ old.tape → new ≡ record old { drive = d }
 same_tape {T = T} old new d drive tape =
     ap (λ (r : Record). record new { drive = r }) drive ∙ ap (λ (t : T). record new { drive = d; tape = t }) tape
-
-pub sent_steps : (start counted : Record) (n pulses : ℕ) → counted ≡ record start { train = n } → n ≡ pulses → gap_steps counted ≡ train_steps start pulses
-unfolding train_steps
-sent_steps start counted n pulses same all = ap gap_steps same ∙ ap (λ (k : ℕ). gap_steps (record start { train = k })) all
 
 -- a gap that does nothing to the cartridge doesn't fail
 pub IsOk-reads : {E : Type 0} (r : Result (Unit {0}) E) (steps : List Step) (s : Step) (P : Type 0) → steps ≡ [] → OnErr r ((steps ≡ s ∷ []) × P) → IsOk r

@@ -1,6 +1,5 @@
--- A train of pulses with the gap behind it, and the trains that a host sends (this project's own).
-use Rattle.std.specs.Prelude.{◌≡◌, ◌≢◌, ℕ, ◌-◌, true, List, if◌then◌else◌, nat_le}
-use Rattle.qic_base.specs.Step.{Step}
+-- The trains that a host sends (this project's own).
+use Rattle.std.specs.Prelude.{◌≡◌, ◌≢◌, ℕ, ◌-◌, true, if◌then◌else◌, nat_le}
 use Rattle.qic117_commands.specs.Commands.{number_of}
 use Rattle.qic117_commands.specs.Views.{is_format}
 use Rattle.qic117_commands.specs.declared.command.Command.TheVariants.{Reset}
@@ -9,24 +8,15 @@ use Rattle.drive_spec.specs.declared.deck.Motion.{Motion}
 use Rattle.drive_spec.specs.declared.deck.Motion.TheVariants.{Stopped, Streaming, Seeking}
 use Rattle.drive_spec.specs.Deck.{segments_per_track}
 use Rattle.drive_spec.specs.Record.{Record}
-use Rattle.drive_spec.specs.Row.{after_gap}
-use Rattle.drive_spec.specs.Steps.{gap_steps}
-
--- the drive after a train of so many pulses and a gap
-unfoldable pub after_train : Record → (pulses : ℕ) → Record
-after_train r pulses = after_gap (record r { train = pulses })
-
--- what they do to the cartridge
-unfoldable pub train_steps : Record → (pulses : ℕ) → List Step
-train_steps r pulses = gap_steps (record r { train = pulses })
+use Rattle.drive_spec.specs.Row.{pulsed_row}
 
 -- A train that a host may send: it isn't a reset, the drive latches no error for it, and in Format mode as many segments
 -- are to be generated then as the tape has.
 pub record TakesTrain (r : Record) (pulses : ℕ) : Type 0 where
   pub no_reset : pulses ≢ number_of Reset
-  pub no_error : (after_train r pulses).deck.error ≡ 0
-  pub generates : is_format (after_train r pulses).deck.mode ≡ true →
-      (after_train r pulses).deck.format_segments ≡ segments_per_track (after_train r pulses).deck
+  pub no_error : (pulsed_row r pulses).deck.error ≡ 0
+  pub generates : is_format (pulsed_row r pulses).deck.mode ≡ true →
+      (pulsed_row r pulses).deck.format_segments ≡ segments_per_track (pulsed_row r pulses).deck
 
 -- a motion so many gaps later, of which none is empty
 abbrev pub moved_for : (gaps : ℕ) → Motion → Motion

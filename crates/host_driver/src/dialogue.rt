@@ -8,7 +8,9 @@ ghost use Rattle.drive_spec.specs.declared.under_way.UnderWay.TheVariants.{Nothi
 ghost use Rattle.drive_states.specs.Unit.{IsSoundUnit};
 ghost use Rattle.host_driver.specs.Fits.{GeneratesAll};
 ghost use Rattle.host_driver.specs.Reports.{command_of, reported_word, after_report};
-ghost use Rattle.host_driver.specs.Train.{TakesTrain, after_train, train_steps};
+ghost use Rattle.drive_spec.specs.Row.{pulsed_row};
+ghost use Rattle.drive_spec.specs.Steps.{train_changes};
+ghost use Rattle.host_driver.specs.Train.{TakesTrain};
 ghost use Rattle.drive_states.specs.Unreferenced.{without_reference};
 
 use crate::report::Report;
@@ -17,17 +19,17 @@ use qic_base::{Tape, TapeFailed};
 use qic117_commands::{Collector, Command};
 
 /// Sends a train of pulses, and a gap. Each train of the host is ended here.
-#[tactic(auto, unfolding(crate::specs::Train::after_train, crate::specs::Train::train_steps))]
+#[tactic(auto, unfolding(drive_spec::specs::Row::pulsed_row, drive_spec::specs::Steps::train_changes))]
 pub fn send_train<T: Tape>(unit: &mut Unit<T>, pulses: u8) -> Result<(), TapeFailed>
     requires no_pulse { unit.old.drive.train ≡ 0 }
     requires taken { TakesTrain unit.old.drive pulses }
-    ensures row { OnOk result (unit.new.drive ≡ after_train unit.old.drive pulses) }
+    ensures row { OnOk result (unit.new.drive ≡ pulsed_row unit.old.drive pulses) }
     ensures failed { OnErr result
-        (unit.new.drive ≡ without_reference (after_train unit.old.drive pulses)) }
+        (unit.new.drive ≡ without_reference (pulsed_row unit.old.drive pulses)) }
     ensures did { Does T.means unit.old.tape unit.new.tape
-        (train_steps unit.old.drive pulses) result }
-    ensures ok { train_steps unit.old.drive pulses ≡ [] → IsOk result }
-    ensures untouched { train_steps unit.old.drive pulses ≡ [] →
+        (train_changes unit.old.drive pulses) result }
+    ensures ok { train_changes unit.old.drive pulses ≡ [] → IsOk result }
+    ensures untouched { train_changes unit.old.drive pulses ≡ [] →
         unit.new.tape ≡ unit.old.tape }
     ensures size { T.means.size unit.new.tape ≡ T.means.size unit.old.tape }
     ensures sound { IsSoundUnit T.means unit.new }
@@ -43,8 +45,8 @@ pub fn send_train<T: Tape>(unit: &mut Unit<T>, pulses: u8) -> Result<(), TapeFai
 fn sample<T: Tape>(unit: &mut Unit<T>, pulses: u8) -> bool
     requires no_pulse { unit.old.drive.train ≡ 0 }
     requires taken { TakesTrain unit.old.drive pulses }
-    requires reads { train_steps unit.old.drive pulses ≡ [] }
-    ensures row { unit.new ≡ record unit.old { drive = after_train unit.old.drive pulses } }
+    requires reads { train_changes unit.old.drive pulses ≡ [] }
+    ensures row { unit.new ≡ record unit.old { drive = pulsed_row unit.old.drive pulses } }
     ensures level { result ≡ unit.new.drive.line }
     ensures sound { IsSoundUnit T.means unit.new }
 {

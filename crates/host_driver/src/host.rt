@@ -6,7 +6,9 @@ ghost use Rattle.drive_spec.specs.Terms.{is_protected, is_referenced};
 ghost use Rattle.host_driver.specs.Calls.{IsReady};
 ghost use Rattle.host_driver.specs.Fits.{Fits, AgreesWithTape, segments_of, deck_of};
 ghost use Rattle.host_driver.specs.Starts.{Starts, KnowsTold, KnowsSize, started_host};
-ghost use Rattle.host_driver.specs.Train.{TakesTrain, after_train, train_steps};
+ghost use Rattle.drive_spec.specs.Row.{pulsed_row};
+ghost use Rattle.drive_spec.specs.Steps.{train_changes};
+ghost use Rattle.host_driver.specs.Train.{TakesTrain};
 ghost use Rattle.drive_states.specs.Unreferenced.{without_reference};
 
 use crate::dialogue::{read_report, send_train};
@@ -109,14 +111,14 @@ impl Host {
     pub fn send<T: Tape>(&mut self, unit: &mut Unit<T>, pulses: u8) -> Result<(), HostFault>
         requires fits { Fits T.means self.old unit.old }
         requires taken { TakesTrain unit.old.drive pulses }
-        ensures row { OnOk result (unit.new.drive ≡ after_train unit.old.drive pulses) }
+        ensures row { OnOk result (unit.new.drive ≡ pulsed_row unit.old.drive pulses) }
         ensures failed { OnErr result
-            (unit.new.drive ≡ without_reference (after_train unit.old.drive pulses)) }
+            (unit.new.drive ≡ without_reference (pulsed_row unit.old.drive pulses)) }
         ensures did { Does T.means unit.old.tape unit.new.tape
-            (train_steps unit.old.drive pulses) result }
+            (train_changes unit.old.drive pulses) result }
         ensures fault { IsOkUnless result HostFault.Tape }
-        ensures ok { train_steps unit.old.drive pulses ≡ [] → IsOk result }
-        ensures untouched { train_steps unit.old.drive pulses ≡ [] →
+        ensures ok { train_changes unit.old.drive pulses ≡ [] → IsOk result }
+        ensures untouched { train_changes unit.old.drive pulses ≡ [] →
             unit.new.tape ≡ unit.old.tape }
         ensures size { T.means.size unit.new.tape ≡ T.means.size unit.old.tape }
         ensures fits { Fits T.means self.new unit.new }
@@ -134,8 +136,8 @@ impl Host {
     pub(crate) fn tell<T: Tape>(&mut self, unit: &mut Unit<T>, pulses: u8)
         requires fits { Fits T.means self.old unit.old }
         requires taken { TakesTrain unit.old.drive pulses }
-        requires reads { train_steps unit.old.drive pulses ≡ [] }
-        ensures row { unit.new.drive ≡ after_train unit.old.drive pulses }
+        requires reads { train_changes unit.old.drive pulses ≡ [] }
+        ensures row { unit.new.drive ≡ pulsed_row unit.old.drive pulses }
         ensures tape { unit.new.tape ≡ unit.old.tape }
         ensures fits { Fits T.means self.new unit.new }
     {

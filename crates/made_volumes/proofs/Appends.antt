@@ -18,19 +18,20 @@ use Rattle.command_spec.specs.Make.{made_length, made_bytes, AppendMade, made_na
 use Rattle.tape_script.specs.Generator.{made_means}
 use Rattle.volume_store.specs.declared.appended.Appended.{Appended}
 use Rattle.command_spec.specs.Append.{Taking, Fits, TooLong, TooShort, taking, has_promised_room, append_acts}
-use Rattle.command_laws.specs.MadeTerms.{made_entry, made_acts, MayAppend}
+use Rattle.command_laws.specs.MadeTerms.{made_entry, made_acts, MayAnswerAppend}
 use Rattle.command_laws.specs.AppendTerms.{entry_for, silently}
 use Rattle.volume_store.specs.Appending.{kept_by, AppendRan, AppendCut, TableRefused, AppendEnds, CutUnread, FaultsUnread}
 use Rattle.volume_store.specs.Mounting.{StoreView, StoreFits}
 use Rattle.made_volumes.specs.declared.fault.MakeFault.{MakeFault}
 use Rattle.made_volumes.specs.Faults.{is_of_step, fault_of}
 use Rattle.made_volumes.specs.Runs.{HasRun, RunCut, RunEnds}
-use Rattle.command_laws.proofs.MadeMachineLaws.{run_of, done_of, never_lost}
+use Rattle.command_laws.proofs.MadeMachineLaws.{run_of, done_of}
 use Rattle.command_laws.proofs.MadeMadeBytes.{length-made_bytes}
 use Rattle.command_laws.proofs.MadeMayLaws.{may_of, may_append}
 use Rattle.command_spec.specs.declared.status.Status.{Status}
 use Rattle.cartridge_front.specs.declared.fault.StoreFault.{StoreFault}
 use Rattle.cartridge_front.proofs.Copies.{IsLearnt, told_learnt, tells_two}
+use Rattle.cartridge_laws.proofs.MountOnce.{not_lost}
 use Rattle.qic_base.specs.Tape as tapes
 use Rattle.qic_base.specs.TapeCalls as tape_calls
 use Rattle.cartridge_front.specs.declared.fault.StoreFault.TheVariants as store
@@ -129,7 +130,7 @@ module _ {T : Type 0} (t : tapes.Meaning T) (seed volume : ℕ) (before : StoreV
   around_went acts went = record { did = went.did; wrote = went.wrote; source_later = omega arith }
 
   -- the acts went up to this answer
-  went_so : (acts : List Act) (answer : Status) → Acts acts → MayAppend seed words entries volume answer →
+  went_so : (acts : List Act) (answer : Status) → Acts acts → MayAnswerAppend seed words entries volume answer →
       tape_calls.Tells t a (λ c. StepDoes seed c words entries (AppendMade volume) acts answer) →
       HasRun t no_sink seed words entries (AppendMade volume ∷ []) (around a tt) (around b tt) answer
   went_so acts answer went may told = record {
@@ -149,7 +150,7 @@ module _ {T : Type 0} (t : tapes.Meaning T) (seed volume : ℕ) (before : StoreV
 
   ran_so : (became : Taking) (answer : Status) → is_protected u.drive.deck ≡ false →
       AppendRan t made_means (reading a bytes) (reading b rest) before (made_name volume) 0 promise became →
-      made_answer seed words entries volume ≡ answer → MayAppend seed words entries volume answer →
+      made_answer seed words entries volume ≡ answer → MayAnswerAppend seed words entries volume answer →
       HasRun t no_sink seed words entries (AppendMade volume ∷ []) (around a tt) (around b tt) answer
   ran_so became answer free ran answered may =
       let acts : List Act = append_acts (kept_by before ran.table ran.settling) (made_name volume) 0 promise silently ran.input in
@@ -172,7 +173,7 @@ module _ {T : Type 0} (t : tapes.Meaning T) (seed volume : ℕ) (before : StoreV
   became_is became ran = ap (λ (xs : List ℕ). taking have promise xs) (sym ran.is_told) ∙ ran.took
 
   refused_so : (Says : Cartridge → Type 0) (answer : Status) → is_protected u.drive.deck ≡ false →
-      TableRefused t made_means (reading a bytes) (reading b rest) Says → MayAppend seed words entries volume answer →
+      TableRefused t made_means (reading a bytes) (reading b rest) Says → MayAnswerAppend seed words entries volume answer →
       ((c : Cartridge) (acts : List Act) → acts ≡ [] → Says c → IsTableLost c acts answer) →
       HasRun t no_sink seed words entries (AppendMade volume ∷ []) (around a tt) (around b tt) answer
   refused_so Says answer free refused may means =
@@ -224,7 +225,7 @@ module _ {T : Type 0} (t : tapes.Meaning T) (seed volume : ℕ) (before : StoreV
           (around_cut (append_acts (kept_by before appended.table (settling_steps appended.table c)) (made_name volume) 0 promise silently cut.input) (known appended.table appended.reads silently))
       by_does c (mark, known) none acts answer (inr (free', inr lost)) =
           subst (λ (zs : List Act). Cut t no_source no_sink (around a tt) (around b tt) zs TapeFails) (sym lost.2)
-          (around_cut [] (none (λ table reads. never_lost c table lost.0 reads lost.1)))
+          (around_cut [] (none (λ table reads. not_lost c table lost.0 reads lost.1)))
 
   -- ---- by the answer
 

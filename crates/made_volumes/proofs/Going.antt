@@ -17,7 +17,8 @@ use Rattle.made_volumes.specs.Runs.{HasRun, RunEnds}
 use Rattle.made_volumes.proofs.Joining.{run_none, ends_behind, ends_longer, ends_quietly}
 use Rattle.made_volumes.proofs.Loops.{appending_next, appending_whole, made_next, after_summing, ends_after, two_below, two_next, two_full, wearing_next, wearing_part, wearing_in_part, volumes_next, volumes_whole, summing_next, summing_whole}
 use Rattle.command_laws.proofs.MadeLoops.{length-made, after_wearing, after_wearing_in, after_wearing_volumes}
-use Rattle.segment_mending.proofs.Looked.{carries, carrying_below, below_none, segments_part, one_more, one_carries, none_carries}
+use Rattle.segment_mending.proofs.Looked.{carrying_below, below_none, segments_part, one_more, one_carries, none_carries}
+use Rattle.cartridge_laws.proofs.AppendSegments.{carries}
 use Rattle.qic_base.specs.Sink as sinks
 use Rattle.qic_base.specs.Tape as tapes
 use Rattle.command_spec.specs.declared.status.Status.TheVariants as status

@@ -84,7 +84,7 @@ fn written(tape: &mut MemTape) -> Written
 }
 
 /// What the last sectors of a cartridge are, one after another, and the answers to what is done to them.
-type Kept = (
+type LastSectors = (
     Written,
     Result<bool, TapeFailed>,
     Result<(), TapeFailed>,
@@ -94,7 +94,7 @@ type Kept = (
     Found,
 );
 
-fn keep(tape: &mut MemTape) -> Result<Kept, TapeFailed> {
+fn keep(tape: &mut MemTape) -> Result<LastSectors, TapeFailed> {
     tape.renew(3)?;
     Ok((
         written(tape),

@@ -2,8 +2,8 @@
 use Rattle.std.proofs.Common.{◌≡◌, inl, inr, ℕ, zero, suc, ◌+◌, ◌≤◌, ◌<◌, List, [], ◌∷◌, ◌++◌, length, Option, Some, None, IfSome, refl, sym, ap, ◌∙◌, subst, arith, append_assoc, append-nil}
 use Rattle.std.specs.Option.{option_map}
 use Rattle.std.proofs.lemmas.List.{length-append}
-use Rattle.command_laws.proofs.TextDeciding.{along, both, at_most, same_bytes}
-use Rattle.cartridge_laws.proofs.Search.{Decided}
+use Rattle.command_laws.proofs.TextDeciding.{both, at_most, same_bytes}
+use Rattle.cartridge_laws.proofs.Search.{Decided, decide_as}
 use Rattle.command_laws.proofs.TextLined.{one_before}
 use Rattle.command_laws.proofs.TextReadings.{Cut, cut, no_line_without}
 use Rattle.tape_script.proofs.Rests.{Rest}
@@ -16,7 +16,7 @@ use Rattle.pulse_dialogue.proofs.Lines.{line_no_newline, lined, guess, guess_is,
 
 is_line : (text : List ℕ) (line : Line) → Decided (IsLine text line)
 is_line text line =
-    along ((text ≡ line_text line) × (time_of line ≤ greatest_time)) (IsLine text line)
+    decide_as ((text ≡ line_text line) × (time_of line ≤ greatest_time)) (IsLine text line)
     (λ h. record { spelled = h.0; nine = h.1 }) (λ h. (h.spelled, h.nine))
     (both (text ≡ line_text line) (time_of line ≤ greatest_time) (same_bytes text (line_text line)) (at_most (time_of line) greatest_time))
 
@@ -30,7 +30,7 @@ line_begins last input = elim (cut input) [
   found : Cut input → Decided (HasLine last input)
   found c =
       let l : Line = guess c.before in
-      along (IsLine c.before l × (last ≤ time_of l)) (HasLine last input)
+      decide_as (IsLine c.before l × (last ≤ time_of l)) (HasLine last input)
       (λ h. (
         l,
         (

@@ -28,7 +28,7 @@ option_map-effects-none : (told : Option (Option Cartridge)) → option_map (eff
 option_map-effects-none None = refl
 option_map-effects-none (Some held) = refl
 
-is_some-option_map : {A B : Type 0} (f : A → B) (o : Option A) → is_some (option_map f o) ≡ is_some o
+pub is_some-option_map : {A B : Type 0} (f : A → B) (o : Option A) → is_some (option_map f o) ≡ is_some o
 is_some-option_map f None = refl
 is_some-option_map f (Some x) = refl
 

@@ -45,8 +45,12 @@ view_at c segment sector = unwrap_or (slice_get c.views (32 * segment + sector))
 abbrev pub with_view : Cartridge → ℕ → ℕ → SectorView → Cartridge
 with_view c segment sector view = record c { views = slice_set c.views (32 * segment + sector) view }
 
--- a new cartridge, of version 2: no sector was ever formatted, and no mark stands
+-- the version of a new cartridge
+abbrev pub new_version : ℕ
+new_version = 2
+
+-- a new cartridge, of this version: no sector was ever formatted, and no mark stands
 abbrev pub new_cartridge : ℕ → Cartridge
 new_cartridge n =
     let info : TapeInfo = record { segments_per_track = n; protected = false; referenced = false } in
-    record { info = info; version = 2; views = replicate (896 * n) Blank }
+    record { info = info; version = new_version; views = replicate (896 * n) Blank }

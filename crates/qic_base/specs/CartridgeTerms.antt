@@ -1,6 +1,6 @@
 -- Words of cartridges that contracts and proofs cite, and that no clause of `run` reaches: a cartridge that is whole, a place of its
 -- views, a changed segment, and a place in a set.
-use Rattle.std.specs.Prelude.{◌≡◌, ℕ, ◌+◌, ◌*◌, ◌/◌, ◌%◌, ◌^◌, ◌≤◌, ◌++◌, length, take, drop, map, All, Option}
+use Rattle.std.specs.Prelude.{◌≡◌, ◌==◌, Bool, List, ℕ, ◌+◌, ◌*◌, ◌/◌, ◌%◌, ◌^◌, ◌≤◌, ◌++◌, length, take, drop, map, All, Option}
 use Rattle.qic_base.specs.declared.tape.SectorView.{SectorView}
 use Rattle.qic_base.specs.declared.tape.SectorView.TheVariants.{Blank, Defect, Lost, Holds}
 use Rattle.qic_base.specs.Cartridge.{Cartridge, IsSector, IsLength}
@@ -25,21 +25,18 @@ pub record IsCartridge (c : Cartridge) : Type 0 where
   pub sectors : length c.views ≡ 896 * c.info.segments_per_track
   pub views : All IsView c.views
 
--- the version of a new cartridge
-abbrev pub new_version : ℕ
-new_version = 2
-
 -- where the view of a sector stands
 abbrev pub place_of : ℕ → ℕ → ℕ
 place_of segment sector = 32 * segment + sector
 
--- the cartridge with the 32 views of one segment changed
+-- views, with the 32 of one segment changed
+abbrev pub changed_views : List SectorView → ℕ → (SectorView → SectorView) → List SectorView
+changed_views views segment change =
+    take (32 * segment) views ++ map change (take 32 (drop (32 * segment) views)) ++ drop (32 * (segment + 1)) views
+
+-- the cartridge with those of one segment changed
 abbrev pub with_segment : Cartridge → ℕ → (SectorView → SectorView) → Cartridge
-with_segment c segment change = record c {
-  views = take (32 * segment) c.views
-      ++ map change (take 32 (drop (32 * segment) c.views))
-      ++ drop (32 * (segment + 1)) c.views;
-}
+with_segment c segment change = record c { views = changed_views c.views segment change }
 
 -- A segment's formatting was stopped.
 abbrev pub HalfFormatted : ℕ → Option Cartridge → Option Cartridge → Type 0
@@ -48,3 +45,7 @@ HalfFormatted segment held left = Halfway (FormatSegment segment) held left
 -- the place is in the set: its bit of the mask is 1
 abbrev pub IsLost : ℕ → ℕ → Type 0
 IsLost mask place = mask / 2 ^ place % 2 ≡ 1
+
+-- whether it is
+abbrev pub is_lost : ℕ → ℕ → Bool
+is_lost mask place = mask / 2 ^ place % 2 == 1

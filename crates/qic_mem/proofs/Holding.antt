@@ -8,8 +8,8 @@ use Rattle.std.proofs.lemmas.Option.{unwrap_or-slice_get}
 use Rattle.qic_base.specs.declared.tape.SectorView.{SectorView}
 use Rattle.qic_base.specs.declared.tape.SectorView.TheVariants.{Blank}
 use Rattle.qic_base.specs.declared.tape.TapeInfo.{TapeInfo}
-use Rattle.qic_base.specs.Cartridge.{Cartridge, IsPlace}
-use Rattle.qic_base.specs.CartridgeTerms.{place_of, with_segment, new_version}
+use Rattle.qic_base.specs.Cartridge.{Cartridge, IsPlace, new_version}
+use Rattle.qic_base.specs.CartridgeTerms.{place_of, with_segment}
 use Rattle.qic_base.specs.Step.{WriteSector, FormatSegment, Wear, Spoil, effect, written_view, formatted_view, worn_view, spoiled_view}
 use Rattle.qic_mem.specs.Held.{held, size_told, FitsRoom}
 use Rattle.qic_mem.specs.Sectors.{view_in, changed_at, changed_from}

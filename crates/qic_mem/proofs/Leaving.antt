@@ -6,7 +6,7 @@ use Rattle.std.proofs.lemmas.Option.{unwrap_or-slice_get}
 use Rattle.qic_base.specs.declared.tape.SectorView.{SectorView}
 use Rattle.qic_base.specs.declared.tape.SectorView.TheVariants.{Blank, Defect, Lost, Holds}
 use Rattle.qic_base.specs.Cartridge.{Cartridge, IsPlace, view_at}
-use Rattle.qic_base.specs.CartridgeTerms.{with_segment, HalfFormatted}
+use Rattle.qic_base.specs.CartridgeTerms.{with_segment, HalfFormatted, changed_views}
 use Rattle.qic_base.specs.Step.{Step, WriteSector, FormatSegment, SetReferenced, SetProtected, Renew, Wear, Spoil, Upgrade, worn_view, Torn, ClosingView, SegmentBecame}
 use Rattle.qic_base.specs.TapeCalls.{IsToldRight}
 use Rattle.qic_mem.specs.declared.tape.outcome.Outcome.{Outcome}
@@ -23,9 +23,6 @@ closing-worn Lost = refl
 closing-worn (Holds bytes) = inr refl
 
 -- ---- the views of a cartridge with 32 of them changed
-
-abbrev changed_views : List SectorView → ℕ → (SectorView → SectorView) → List SectorView
-changed_views views segment change = take (32 * segment) views ++ map change (take 32 (drop (32 * segment) views)) ++ drop (32 * (segment + 1)) views
 
 length-changed : (views : List SectorView) (segment : ℕ) (change : SectorView → SectorView) → 32 * (segment + 1) ≤ length views → length (changed_views views segment change) ≡ length views
 length-changed views segment change within = simp (length-append, length-map, length-take, length-drop) (omega arith)

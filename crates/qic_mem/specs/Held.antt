@@ -5,8 +5,8 @@ use Rattle.std.proofs.Common.{arith, length-take}
 use Rattle.std.proofs.lemmas.List.Elements.{All-take}
 use Rattle.qic_base.specs.declared.tape.SectorView.{SectorView}
 use Rattle.qic_base.specs.declared.tape.TapeInfo.{TapeInfo}
-use Rattle.qic_base.specs.Cartridge.{Cartridge, IsLength}
-use Rattle.qic_base.specs.CartridgeTerms.{IsCartridge, IsView, new_version}
+use Rattle.qic_base.specs.Cartridge.{Cartridge, IsLength, new_version}
+use Rattle.qic_base.specs.CartridgeTerms.{IsCartridge, IsView}
 use Rattle.qic_base.specs.TapeCalls.{IsToldRight}
 
 -- the cartridge with these marks: its version is that of a new one, and its views are the first of the list

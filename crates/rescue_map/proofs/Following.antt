@@ -2,7 +2,7 @@
 use Rattle.std.proofs.Common.{◌≡◌, ℕ, ◌+◌, ◌-◌, ◌*◌, ◌^◌, ◌<◌, ◌≤◌, Bool, true, false, List, [], ◌∷◌, ◌++◌, length, take, drop, Option, Some, None, IfSome, Result, Ok, Err, ◌||◌, nat_lt, nat_le, refl, sym, ap, ◌∙◌, arith, append_assoc, append-nil}
 use Rattle.std.specs.Option.{option_map}
 use Rattle.std.proofs.lemmas.Bool.{le-ltb, lt-ltb, lt-leb, le-leb}
-use Rattle.qic_base.specs.Source.{Meaning}
+use Rattle.qic_base.specs.Source.{Meaning, IsInput}
 use Rattle.rescue_map.specs.declared.ahead.Ahead.{Ahead}
 use Rattle.rescue_map.specs.declared.form.Block.{Block}
 use Rattle.rescue_map.specs.declared.form.Expected.{Expected}
@@ -79,7 +79,7 @@ text_of : (o p : Option (List ℕ)) (given : List ℕ) → WereGiven o p given �
 text_of o None given gave = record { rest = []; told = rw gave tt }
 text_of o (Some rest) given gave = record { rest = rest; told = rw gave refl }
 
-text_ended : (o p : Option (List ℕ)) (given : List ℕ) → WereGiven o p given → NoneLeft p → IfSome o (λ bytes. given ≡ bytes)
+text_ended : (o p : Option (List ℕ)) (given : List ℕ) → WereGiven o p given → NoneLeft p → IsInput o given
 text_ended o None given gave ended = rw gave tt
 text_ended o (Some rest) given gave ended = rw (gave, ended) (sym (append-nil given))
 

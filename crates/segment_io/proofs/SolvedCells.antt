@@ -10,7 +10,7 @@ use Rattle.qic_base.specs.declared.tape.SectorView.{SectorView}
 use Rattle.qic_base.specs.declared.tape.SectorView.TheVariants.{Blank, Defect, Lost, Holds}
 use Rattle.cartridge_spec.specs.Code.{IsCodeBlock}
 use Rattle.gf256_qic.specs.Code.{AgreesOutside, IsSolvable, lost_below}
-use Rattle.erasure_solve.specs.Lost.{is_lost, lost_count}
+use Rattle.erasure_solve.specs.Lost.{lost_count}
 use Rattle.erasure_solve.proofs.Places.{is_lost_from, lost_below-places, one_if}
 use Rattle.cartridge_spec.specs.Says.{Agrees, unreadable_count, Says, Data, LostSectors, Mismatch}
 use Rattle.cartridge_laws.specs.Segment.{data_of}
@@ -20,6 +20,7 @@ use Rattle.segment_io.specs.declared.fault.SegFault.{SegFault}
 use Rattle.segment_io.specs.declared.fault.SegFault.TheVariants as fault
 use Rattle.segment_io.specs.Reading.{HasSolved}
 use Rattle.segment_io.proofs.GatheredCells.{lost_within}
+use Rattle.qic_base.specs.CartridgeTerms.{is_lost}
 
 pub slice_get-take : {A : Type 0} (n : ℕ) (xs : List A) (i : ℕ) → i < n → slice_get (take n xs) i ≡ slice_get xs i
 slice_get-take zero xs i h = absurd (omega arith)
@@ -30,7 +31,7 @@ slice_get-take (suc n) (x ∷ xs) (suc i) h = slice_get-take n xs i (omega arith
 -- ---- which places are lost
 
 -- the test of the cells finds the unreadable ones
-unreadable_from_test : (cells : List SectorView) (i : ℕ) → unreadable_at cells i ≡ true → IsUnreadableAt cells i
+pub unreadable_from_test : (cells : List SectorView) (i : ℕ) → unreadable_at cells i ≡ true → IsUnreadableAt cells i
 unfolding unreadable_at
 unreadable_from_test [] i h = absurd (cc)
 unreadable_from_test (cell ∷ cells) zero h = h

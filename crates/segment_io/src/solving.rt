@@ -3,7 +3,8 @@
 ghost use Rattle.std.specs.Prelude.{◌≡◌, ◌≢◌, ◌≤◌, ◌<◌, ◌↔◌, ℕ, List, length, take, IsOk, OnOk, OnErr};
 ghost use Rattle.cartridge_spec.specs.Code.{IsCodeBlock};
 ghost use Rattle.gf256_qic.specs.Code.{AgreesOutside, IsSolvable};
-ghost use Rattle.erasure_solve.specs.Lost.{is_lost, lost_count};
+ghost use Rattle.qic_base.specs.CartridgeTerms.{is_lost};
+ghost use Rattle.erasure_solve.specs.Lost.{lost_count};
 ghost use Rattle.qic_base.specs.declared.tape.SectorView.{SectorView};
 ghost use Rattle.cartridge_laws.specs.Shape.{Carries};
 ghost use Rattle.cartridge_spec.specs.Shape.{usable_count};

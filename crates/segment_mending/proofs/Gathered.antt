@@ -8,7 +8,6 @@ use Rattle.cartridge_laws.specs.Segment.{IsUnreadable}
 use Rattle.cartridge_spec.specs.Says.{unreadable_count}
 use Rattle.cartridge_spec.specs.Shape.{usable_count}
 use Rattle.erasure_solve.proofs.Places.{is_lost_from}
-use Rattle.erasure_solve.specs.Lost.{is_lost}
 use Rattle.qic_base.specs.declared.tape.SectorView.{SectorView}
 use Rattle.qic_base.specs.declared.tape.SectorView.TheVariants.{Blank, Defect, Lost, Holds}
 use Rattle.segment_io.specs.Gathered.{Gathered}
@@ -22,6 +21,7 @@ use Rattle.silent_locate.specs.declared.Located.TheVariants.{Agrees, Wrong}
 use Rattle.silent_locate.specs.declared.LocateFault.{LocateFault}
 use Rattle.silent_locate.specs.declared.LocateFault.TheVariants.{TooMany, Mismatch}
 use Rattle.segment_io.proofs.SolvedCells.{slice_get-take}
+use Rattle.qic_base.specs.CartridgeTerms.{is_lost}
 
 -- ---- one cell
 

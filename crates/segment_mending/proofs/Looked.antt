@@ -1,5 +1,5 @@
 -- The segments that are looked at, up to one of them.
-use Rattle.std.proofs.Common.{◌≡◌, ℕ, zero, suc, ◌+◌, ◌-◌, ◌<◌, ◌≤◌, Bool, true, false, cond, List, [], ◌∷◌, ◌++◌, length, take, drop, filter, slice_get, Some, refl, sym, ap, ◌∙◌, subst, arith, append_assoc, append-nil, nat_le}
+use Rattle.std.proofs.Common.{◌≡◌, ℕ, zero, suc, ◌+◌, ◌-◌, ◌<◌, ◌≤◌, Bool, true, false, cond, List, [], ◌∷◌, ◌++◌, length, take, drop, filter, slice_get, Some, refl, sym, ap, ◌∙◌, subst, arith, append_assoc, append-nil}
 use Rattle.std.specs.List.{range_with_len}
 use Rattle.std.proofs.lemmas.Bool.{le-leb, lt-leb}
 use Rattle.std.proofs.lemmas.List.{take_more, take-append-drop}
@@ -12,6 +12,7 @@ use Rattle.cartridge_laws.specs.Table.{LieBehind}
 use Rattle.cartridge_spec.specs.Volumes.{carrying, carrying_segments}
 use Rattle.command_spec.specs.Scrub.{Looked, looked_volumes}
 use Rattle.command_laws.specs.ScrubTerms.{looked_segments}
+use Rattle.cartridge_laws.proofs.AppendSegments.{carries}
 
 -- ---- the segments of a volume
 
@@ -25,10 +26,6 @@ range_part a (suc m) n =
     let here : a + 1 + m ≡ a + suc m = omega arith in
     ap (range_with_len a) first ∙ ap (λ (xs : List ℕ). a ∷ xs) (range_part (a + 1) m n)
     ∙ ap (λ (b : ℕ). a ∷ (range_with_len (a + 1) m ++ range_with_len b n)) here
-
--- whether a segment carries data by the map
-abbrev pub carries : List ℕ → ℕ → Bool
-carries words segment = nat_le 4 (usable_count (mask_at words segment))
 
 -- the carrying segments from one on, below another
 abbrev pub carrying_below : List ℕ → (start segment : ℕ) → List ℕ

@@ -5,11 +5,12 @@ use Rattle.std.proofs.lemmas.List.{get_or-set_same, get_or-set_other, length-rep
 use Rattle.std.proofs.lemmas.List.Elements.{All-nil, All-cons, All-get_or, All-from_get_or}
 use Rattle.cartridge_spec.specs.Code.{product, parity, parity_sectors, column}
 use Rattle.qic_base.specs.Cartridge.{IsSector}
-use Rattle.gf256_qic.proofs.Values.{AllBytes, first_byte, other_bytes}
+use Rattle.gf256_qic.proofs.Values.{first_byte, other_bytes}
 use Rattle.gf256_qic.proofs.Agreement.{same_from_columns}
 use Rattle.gf256_qic.proofs.Parities.{bytes_of_column, column-append, bytes_of_parity, column-parity_sectors, length-parity_sectors, parity_sectors-are_sectors}
 use Rattle.segment_parity.specs.Register.{AreParity, HasColumns}
 use Rattle.segment_parity.proofs.Rows.{shifted, parity_more, column-one, column-none, parity_none, zeros_are_zero}
+use Rattle.qic_base.specs.Disk.{AreBytes}
 
 -- three bytes of a column
 abbrev pub three : List ℕ → List ℕ → List ℕ → ℕ → List ℕ
@@ -162,12 +163,12 @@ rows_of_columns :
 rows_of_columns a b c ss la lb lc all columns =
     let each : (j : ℕ) → j < 1024 → three a b c j ≡ parity (column j ss) =
     λ j h. columns j h ∙ ap (λ (x : ℕ). parity (column x ss)) (omega arith) in
-    let bytes : (j : ℕ) → j < 1024 → AllBytes (three a b c j) =
-    λ j h. subst AllBytes (sym (each j h)) (bytes_of_parity (column j ss) (bytes_of_column j ss h all)) in
+    let bytes : (j : ℕ) → j < 1024 → AreBytes (three a b c j) =
+    λ j h. subst AreBytes (sym (each j h)) (bytes_of_parity (column j ss) (bytes_of_column j ss h all)) in
     let row : (xs : List ℕ) → length xs ≡ 1024 → ((j : ℕ) → j < 1024 → get_or xs j 0 < 256) → IsSector xs =
     λ xs size fits. record { size = size; each = All-from_get_or (λ b. b < 256) xs 0 (λ j h. fits j (omega arith)) } in
     let ra : IsSector a = row a la (λ j h. first_byte (get_or a j 0) (get_or b j 0 ∷ get_or c j 0 ∷ []) (bytes j h)) in
-    let others : (j : ℕ) → j < 1024 → AllBytes (get_or b j 0 ∷ get_or c j 0 ∷ []) =
+    let others : (j : ℕ) → j < 1024 → AreBytes (get_or b j 0 ∷ get_or c j 0 ∷ []) =
     λ j h. other_bytes (get_or a j 0) (get_or b j 0 ∷ get_or c j 0 ∷ []) (bytes j h) in
     let rb : IsSector b = row b lb (λ j h. first_byte (get_or b j 0) (get_or c j 0 ∷ []) (others j h)) in
     let rc : IsSector c =

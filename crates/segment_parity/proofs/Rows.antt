@@ -7,16 +7,17 @@ use Rattle.std.proofs.lemmas.List.{same_lists, length-replicate}
 use Rattle.std.proofs.Math.ListN.{length-append}
 use Rattle.cartridge_spec.specs.Code.{shifted_copies, remainder, product, power, value_at, added, lagrange, parity, parity_sectors, column, IsCodeBlock}
 use Rattle.gf256_qic.specs.Code.{parity_sector, data_sum, scaled, distance}
-use Rattle.qic_base.specs.Cartridge.{IsSector}
+use Rattle.qic_base.specs.Cartridge.{IsSector, zero_sector}
 use Rattle.gf256_qic.proofs.Sums.{sum_byte}
 use Rattle.gf256_qic.proofs.Products.{product_byte, product_comm, product_assoc, product_sum_left, product_sum_right, product_zero_left, product_one_right}
 use Rattle.gf256_qic.proofs.Powers.{power_more, power_one, power_byte}
-use Rattle.gf256_qic.proofs.Values.{AllBytes, no_bytes, more_bytes, first_byte, other_bytes, value_at-none, value_at-first, value_at-append, value_at-added, value_at-scaled, data_sum-push}
+use Rattle.gf256_qic.proofs.Values.{no_bytes, more_bytes, first_byte, other_bytes, value_at-none, value_at-first, value_at-append, value_at-added, value_at-scaled, data_sum-push}
 use Rattle.gf256_qic.proofs.Distance.{AtRoots}
 use Rattle.gf256_qic.proofs.Agreement.{near_columns, distance-le, any_default, same_from_columns}
 use Rattle.gf256_qic.proofs.Parities.{bytes_of_column, column-append, length-parity, bytes_of_parity, value_at-parity, column-parity_sectors, length-parity_sectors, parity_sectors-are_sectors, length-parity_sector, get_or-parity_sector, parity_block, parity_block_only}
 use Rattle.segment_parity.specs.declared.Parity.{Parity}
 use Rattle.segment_parity.specs.Register.{pushed, Holds, at, feedback, Shifted}
+use Rattle.qic_base.specs.Disk.{AreBytes}
 
 -- ---- products with 0xC0
 
@@ -36,7 +37,7 @@ generator_at_roots : AtRoots (λ p. value_at p lower ≡ power p 3)
 unfolding value_at product shifted_copies remainder power
 generator_at_roots = record { at_inverse = refl; at_one = refl; at_generator = refl }
 
-bytes_of_lower : AllBytes lower
+bytes_of_lower : AreBytes lower
 bytes_of_lower =
     more_bytes 0xC0 (0xC0 ∷ 1 ∷ []) (omega arith) (more_bytes 0xC0 (1 ∷ []) (omega arith) (more_bytes 1 [] (omega arith) no_bytes))
 
@@ -51,7 +52,7 @@ shifted-sum m l f h =
     (xor_zero_l (product f 1) ∙ product_one_right f h)
 
 -- a column's value with a byte of 0 behind it
-value_at-zero : (p : ℕ) (cs : List ℕ) → p < 256 → AllBytes cs → value_at p (cs ++ 0 ∷ []) ≡ product (value_at p cs) p
+value_at-zero : (p : ℕ) (cs : List ℕ) → p < 256 → AreBytes cs → value_at p (cs ++ 0 ∷ []) ≡ product (value_at p cs) p
 value_at-zero p cs h all =
     let last : value_at p (0 ∷ []) ≡ 0 =
     value_at-first p 0 [] ∙ ap (λ x. bit_xor x (value_at p [])) (product_zero_left (power p 0))
@@ -64,14 +65,14 @@ value_at-zero p cs h all =
 value_at-shifted : (p m l f : ℕ) → p < 256 → m < 256 → l < 256 → f < 256 → value_at p lower ≡ power p 3 →
     value_at p (shifted m l f) ≡ bit_xor (product (value_at p (m ∷ l ∷ [])) p) (product f (power p 3))
 value_at-shifted p m l f hp hm hl hf root =
-    let both : AllBytes (m ∷ l ∷ []) = more_bytes m (l ∷ []) hm (more_bytes l [] hl no_bytes) in
+    let both : AreBytes (m ∷ l ∷ []) = more_bytes m (l ∷ []) hm (more_bytes l [] hl no_bytes) in
     ap (value_at p) (sym (shifted-sum m l f hf))
     ∙ value_at-added p (m ∷ l ∷ 0 ∷ []) (scaled f lower) refl
     ∙ ap (λ v. bit_xor v (value_at p (scaled f lower))) (value_at-zero p (m ∷ l ∷ []) hp both)
     ∙ ap (bit_xor (product (value_at p (m ∷ l ∷ [])) p))
     (value_at-scaled p f lower hp hf bytes_of_lower ∙ ap (product f) root)
 
-data_sum-more : (p : ℕ) (ds : List ℕ) (d h m l : ℕ) → p < 256 → AllBytes ds → d < 256 → h < 256 →
+data_sum-more : (p : ℕ) (ds : List ℕ) (d h m l : ℕ) → p < 256 → AreBytes ds → d < 256 → h < 256 →
     value_at p (h ∷ m ∷ l ∷ []) ≡ data_sum p ds →
     data_sum p (ds ++ d ∷ []) ≡ bit_xor (product (value_at p (m ∷ l ∷ [])) p) (product (bit_xor h d) (power p 3))
 data_sum-more p ds d h m l hp all hd hh value =
@@ -89,18 +90,18 @@ data_sum-more p ds d h m l hp all hd hh value =
     ∙ ap (bit_xor (product v p)) (sym (product_sum_left h d p3))
 
 -- the parity of data with one more byte
-pub parity_more : (ds : List ℕ) (d h m l : ℕ) → AllBytes ds → d < 256 → h ∷ m ∷ l ∷ [] ≡ parity ds →
+pub parity_more : (ds : List ℕ) (d h m l : ℕ) → AreBytes ds → d < 256 → h ∷ m ∷ l ∷ [] ≡ parity ds →
     shifted m l (bit_xor h d) ≡ parity (ds ++ d ∷ [])
 parity_more ds d h m l all hd same =
     let f : ℕ = bit_xor h d in
-    let bytes : AllBytes (h ∷ m ∷ l ∷ []) = subst AllBytes (sym same) (bytes_of_parity ds all) in
-    let tail : AllBytes (m ∷ l ∷ []) = other_bytes h (m ∷ l ∷ []) bytes in
+    let bytes : AreBytes (h ∷ m ∷ l ∷ []) = subst AreBytes (sym same) (bytes_of_parity ds all) in
+    let tail : AreBytes (m ∷ l ∷ []) = other_bytes h (m ∷ l ∷ []) bytes in
     let hh : h < 256 = first_byte h (m ∷ l ∷ []) bytes in
     let hm : m < 256 = first_byte m (l ∷ []) tail in
     let hl : l < 256 = first_byte l [] (other_bytes m (l ∷ []) tail) in
     let hf : f < 256 = sum_byte h d hh hd in
     let hw : product f 0xC0 < 256 = product_byte f 0xC0 hf (omega arith) in
-    let more : AllBytes (ds ++ d ∷ []) = All-push (λ c. c < 256) ds d all hd in
+    let more : AreBytes (ds ++ d ∷ []) = All-push (λ c. c < 256) ds d all hd in
     let before : AtRoots (λ p. value_at p (parity ds) ≡ data_sum p ds) = value_at-parity ds all in
     let after : AtRoots (λ p. value_at p (parity (ds ++ d ∷ [])) ≡ data_sum p (ds ++ d ∷ [])) =
     value_at-parity (ds ++ d ∷ []) more in
@@ -194,15 +195,13 @@ zeros_are_zero zero j = refl
 zeros_are_zero (suc n) zero = refl
 zeros_are_zero (suc n) (suc j) = zeros_are_zero n j
 
-abbrev zeros : List ℕ
-zeros = replicate 1024 0
-
-zeros_are_parity : (k : ℕ) → k < 3 → zeros ≡ parity_sector [] k
+zeros_are_parity : (k : ℕ) → k < 3 → zero_sector ≡ parity_sector [] k
+unfolding zero_sector
 zeros_are_parity k h =
-    let size : length zeros ≡ 1024 = length-replicate {A = ℕ} 1024 0 in
+    let size : length zero_sector ≡ 1024 = length-replicate {A = ℕ} 1024 0 in
     let size' : length (parity_sector [] k) ≡ 1024 = length-parity_sector [] k in
-    same_lists zeros (parity_sector [] k) (size ∙ sym size') (λ j d lt.
-    any_default zeros j d lt
+    same_lists zero_sector (parity_sector [] k) (size ∙ sym size') (λ j d lt.
+    any_default zero_sector j d lt
     ∙ zeros_are_zero 1024 j
     ∙ sym (
     any_default (parity_sector [] k) j d (omega arith)
@@ -217,11 +216,11 @@ zeros_are_parity k h =
     zero_of_three (suc (suc zero)) lt = refl
     zero_of_three (suc (suc (suc i))) lt = absurd (omega arith)
 
-pub zeros_are_register : zeros ∷ zeros ∷ zeros ∷ [] ≡ parity_sectors []
-unfolding parity_sectors parity_sector
+pub zeros_are_register : replicate 1024 0 ∷ replicate 1024 0 ∷ replicate 1024 0 ∷ [] ≡ parity_sectors []
+unfolding zero_sector parity_sectors parity_sector
 zeros_are_register =
-    ap (λ (r : List ℕ). r ∷ zeros ∷ zeros ∷ []) (zeros_are_parity 0 (omega arith))
-    ∙ ap (λ (r : List ℕ). parity_sector [] 0 ∷ r ∷ zeros ∷ []) (zeros_are_parity 1 (omega arith))
+    ap (λ (r : List ℕ). r ∷ zero_sector ∷ zero_sector ∷ []) (zeros_are_parity 0 (omega arith))
+    ∙ ap (λ (r : List ℕ). parity_sector [] 0 ∷ r ∷ zero_sector ∷ []) (zeros_are_parity 1 (omega arith))
     ∙ ap (λ (r : List ℕ). parity_sector [] 0 ∷ parity_sector [] 1 ∷ r ∷ []) (zeros_are_parity 2 (omega arith))
 
 pub register_block :

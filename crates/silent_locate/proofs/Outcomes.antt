@@ -3,7 +3,7 @@ use Rattle.std.proofs.Common.{◌≡◌, ℕ, ◌<◌, ◌≤◌, ◌↔◌, ref
 use Rattle.qic_base.specs.declared.tape.SectorView.{SectorView}
 use Rattle.cartridge_spec.specs.Code.{IsCodeBlock}
 use Rattle.gf256_qic.specs.Code.{AgreesOutside, IsSolvable}
-use Rattle.erasure_solve.specs.Lost.{is_lost, lost_count}
+use Rattle.erasure_solve.specs.Lost.{lost_count}
 use Rattle.silent_locate.specs.declared.Located.{Located}
 use Rattle.silent_locate.specs.declared.Located.TheVariants as located
 use Rattle.silent_locate.specs.declared.LocateFault.{LocateFault}
@@ -13,6 +13,7 @@ use Rattle.silent_locate.specs.Deep.{IsAllRight, IsWrongAt, Deep, HasNoReading, 
 use Rattle.silent_locate.specs.Tries.{lost_or}
 use Rattle.silent_locate.proofs.Readings.{one_deep_reading}
 use Rattle.silent_locate.proofs.Sectors.{IsAmong, cells_among, count_among, all_right, wrong_at, no_reading}
+use Rattle.qic_base.specs.CartridgeTerms.{is_lost}
 
 abbrev pub Answer : Type 0
 Answer = Result Located LocateFault

@@ -3,14 +3,14 @@ use Rattle.std.proofs.Common.{◌≡◌, ℕ, zero, suc, ◌+◌, ◌-◌, ◌/�
 use Rattle.std.specs.Option.{option_map}
 use Rattle.std.proofs.lemmas.Bool.{cases_eq, ne_eqb, eqb-false, or_parts, or_from}
 use Rattle.std.proofs.lemmas.Option.{slice_get_within, slice_get-get_or}
-use Rattle.qic_base.specs.CartridgeTerms.{IsLost}
+use Rattle.qic_base.specs.CartridgeTerms.{IsLost, is_lost}
 use Rattle.qic_base.specs.Cartridge.{lost_places}
 use Rattle.qic_base.proofs.LostSetLaws.{lost_places-above}
 use Rattle.qic_base.specs.declared.tape.SectorView.{SectorView}
 use Rattle.qic_base.specs.declared.tape.SectorView.TheVariants.{Holds}
 use Rattle.cartridge_spec.specs.Code.{IsCodeBlock}
 use Rattle.gf256_qic.specs.Code.{AgreesOutside, IsSolvable, lost_below}
-use Rattle.erasure_solve.specs.Lost.{is_lost, lost_count}
+use Rattle.erasure_solve.specs.Lost.{lost_count}
 use Rattle.erasure_solve.proofs.Places.{is_lost_from, lost_below-places}
 use Rattle.cartridge_spec.specs.Says.{unreadable_count, Agrees}
 use Rattle.silent_locate.specs.Deep.{AgreesBut, IsAllRight, IsWrongAt, HasNoReading, cell_of, cells_from, cells_without}

@@ -1,9 +1,9 @@
 -- Sets of lost places by their tests: with fewer places, and with one more.
 use Rattle.std.proofs.Common.{◌≡◌, ◌≢◌, ℕ, ◌+◌, ◌/◌, ◌%◌, ◌^◌, ◌≤◌, ◌↔◌, sym, ◌∙◌, subst, arith, inl, inr, nat_eq}
 use Rattle.std.proofs.lemmas.Bool.{cases_eq, eq-eqb, ne_eqb, or_right}
-use Rattle.qic_base.specs.CartridgeTerms.{IsLost}
+use Rattle.qic_base.specs.CartridgeTerms.{IsLost, is_lost}
 use Rattle.gf256_qic.specs.Code.{lost_below}
-use Rattle.erasure_solve.specs.Lost.{is_lost, lost_count}
+use Rattle.erasure_solve.specs.Lost.{lost_count}
 use Rattle.erasure_solve.proofs.Places.{is_lost_from, lost_below-places}
 use Rattle.silent_locate.specs.Tries.{lost_or}
 use Rattle.silent_locate.proofs.Cells.{or_place, or_place-other, lost_below-same, lost_below-or}

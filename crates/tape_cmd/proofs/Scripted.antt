@@ -1,6 +1,5 @@
 -- How a script ends.
-use Rattle.std.proofs.Common.{◌≡◌, ◌≢◌, ℕ, true, List, [], ◌∷◌, ◌++◌, drop, Option, Some, None, IfSome, Result, Ok, Err, refl, sym, ap, ◌∙◌, subst, inl, inr, arith}
-use Rattle.std.specs.Option.{option_map}
+use Rattle.std.proofs.Common.{◌≡◌, ◌≢◌, ℕ, true, List, [], ◌∷◌, ◌++◌, Option, Some, None, IfSome, Result, Ok, Err, refl, sym, ap, ◌∙◌, subst, inl, inr, arith}
 use Rattle.std.specs.Prelude.{is_some, ◌==◌}
 use Rattle.std.proofs.lemmas.Bool.{eq-eqb}
 use Rattle.qic_base.specs.Cartridge.{Cartridge}
@@ -13,14 +12,14 @@ use Rattle.cartridge_laws.proofs.MountOnce.{mounts_is_function}
 use Rattle.command_spec.specs.Input.{Item, IsItem, Ending, AtEnd, AtStop, AtFault, IsScript}
 use Rattle.volume_script.specs.declared.fault.ScriptFault.{ScriptFault}
 use Rattle.command_spec.specs.Script.{end_line, ScriptDoes, Scripting}
-use Rattle.command_laws.specs.ScriptAnswers.{Answer, AllDone, FaultIn, script_answer, script_status}
-use Rattle.volume_store.specs.Mounting.{StoreView}
+use Rattle.volume_script.specs.Answers.{Answer, AllDone, FaultIn, script_answer, script_status}
+use Rattle.volume_store.specs.Mounting.{StoreView, IsOpened}
 use Rattle.command_spec.specs.declared.status.Status.{Status}
 use Rattle.command_spec.specs.Outcome.{Opened, CommandOutcome, refused}
-use Rattle.volume_store.specs.Opening.{IsOpened, HasOpened}
+use Rattle.volume_store.specs.Opening.{HasOpened}
 use Rattle.command_spec.specs.Machine.{CommandEnds, InputLeft, IsCutOff, NamesFault, fault_of, may_come_from}
 use Rattle.tape_cmd.proofs.Printing.{Prints}
-use Rattle.tape_cmd.specs.Script.{run_status}
+use Rattle.tape_cmd.specs.Script.{scripted_status}
 use Rattle.volume_store.proofs.Opened.{outside, went_behind, cut_behind, settled_told}
 use Rattle.command_laws.proofs.CommandOpened.{quiet}
 use Rattle.command_laws.proofs.CommandTold.{input_of, input_told, input_bytes}
@@ -36,6 +35,8 @@ use Rattle.cartridge_spec.specs.Mounting as mounting
 use Rattle.command_spec.specs.declared.words.Words.TheVariants as words
 use Rattle.command_laws.proofs.TextFaults.{fault_line}
 use Rattle.hand_commands.proofs.Trains.{told_input}
+use Rattle.volume_store.proofs.Ending.{none_left}
+use Rattle.host_commands.proofs.Added.{no_script, left_by_opening}
 use Rattle.command_laws.proofs.TextInputs as inputs
 use Rattle.volume_script.specs.declared.fault.ScriptFault.TheVariants as fault
 use Rattle.volume_script.specs.Runs as runs
@@ -81,9 +82,6 @@ found_by_script (status.Lost segment lost) sound = table_lost segment lost (segm
 found_by_script status.TableMismatch sound = refl
 found_by_script why sound = cc
 
-no_fault : (why : Status) → is_opening why ≡ true → (line place : ℕ) → why ≢ status.ScriptFault line place
-no_fault why sound line place is = let no = ap is_opening is in cc
-
 scripting_first : (input : List ℕ) → BeginsSettling (Scripting input)
 scripting_first input c header ws table entries outcome found = ap (λ (o : CommandOutcome). first_steps o) found.is
 
@@ -95,14 +93,6 @@ none_said (status.Foreign field value) sound = ((λ is. absurd (cc)), (λ other.
 none_said (status.Lost segment lost) sound = ((λ is. absurd (cc)), (λ other. refl))
 none_said status.TableMismatch sound = ((λ is. absurd (cc)), (λ other. tt))
 none_said why sound = absurd (cc)
-
-left_as : (why : Status) (taken : ℕ) (before after : Option (List ℕ)) → ((line place : ℕ) → why ≢ status.ScriptFault line place) → after ≡ option_map (drop taken) before → InputLeft why taken before after
-left_as (status.ScriptFault line place) taken before after none left = absurd (none line place refl)
-left_as why taken before after none left = left
-
-all_left : (told : Option (List ℕ)) → told ≡ option_map (drop 0) told
-all_left None = refl
-all_left (Some bytes) = refl
 
 -- a front of a script's text is anything
 said : (text : List ℕ) → (rest : List ℕ) × ((replies : List ℕ) × (text ++ rest ≡ replies ++ end_line))
@@ -117,12 +107,12 @@ module _ {T S K : Type 0} (t : tapes.Meaning T) (s : sources.Meaning S) (k : sin
     told = told_map (t.told a) _ _ turned.told
         (λ held is. (input_of (s.left i), input_told (s.left i), ((λ is. input_bytes (s.left i)), refused_is (Scripting (input_of (s.left i))) why held is)));
     went = record { did = turned.did; wrote = record { took = nothing x; later = omega arith }; source_later = omega arith };
-    left = left_as why 0 (s.left i) (s.left i) (no_fault why turned.sound) (all_left (s.left i));
+    left = left_by_opening why 0 (s.left i) (s.left i) (no_script why turned.sound) (none_left (s.left i));
     sound = found_by_script why turned.sound;
     none_taken = λ blind. refl;
     prints = none_said why turned.sound;
     silent = λ still other. refl;
-    fault = names_none why (s.left i) (no_fault why turned.sound) (no_outcome why turned.sound);
+    fault = names_none why (s.left i) (no_script why turned.sound) (no_outcome why turned.sound);
   })
   script_unopened b why nothing (inr (is, cut)) =
       rw is (input_unread t s k words.Script a b.tape i x cut nothing
@@ -230,7 +220,7 @@ module _ {T S K : Type 0} (t : tapes.Meaning T) (s : sources.Meaning S) (k : sin
 
     -- by the answer of the call
     pub script_ended : (result : Result (Unit {0}) ScriptFault) → is_some (s.left j) ≡ is_some (s.left i) → runs.ScriptEnds t s k store (outside b.tape i x) (outside c j y) result →
-        CommandEnds t s k words.Script (outside a i x) (outside c j y) (run_status result)
+        CommandEnds t s k words.Script (outside a i x) (outside c j y) (scripted_status result)
     script_ended (Ok done) tells run = ended AllDone run
     script_ended (Err (fault.Input line place)) tells run = ended (FaultIn line place) run
     script_ended (Err fault.TableMismatch) tells run = mismatched run

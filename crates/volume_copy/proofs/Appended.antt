@@ -28,6 +28,7 @@ use Rattle.volume_store.specs.Appending.{AppendEnds, AppendRan, kept_by}
 use Rattle.volume_store.specs.Mounting.{StoreView}
 use Rattle.volume_store.specs.declared.appended.Appended.{Appended}
 use Rattle.cartridge_front.specs.declared.fault.StoreFault.{StoreFault}
+use Rattle.qic_base.specs.Source.{IsInput}
 use Rattle.qic_base.specs.Tape as tapes
 use Rattle.qic_base.specs.TapeCalls as tape_calls
 use Rattle.cartridge_front.specs.declared.fault.StoreFault.TheVariants as fault
@@ -94,7 +95,7 @@ module _ {A B : Type 0} (a : tapes.Meaning A) (b : tapes.Meaning B) (number : �
     pub table : List (List ℕ)
     pub reads : TableIs d table
     pub input : List ℕ
-    pub is_told : IfSome ((source_means a).left made) (λ bytes. input ≡ bytes)
+    pub is_told : IsInput ((source_means a).left made) input
     pub took : taking (room_in (kept table)) (Some size) input ≡ became
     pub did : (reply : Entry → List ℕ) → tapes.Done b to.unit.tape new.unit.tape (steps_of (all_acts table reply input))
     pub left : (source_means a).left one.source ≡ option_map (drop (bytes_taken (Some size) became)) ((source_means a).left made)

@@ -1,7 +1,6 @@
 -- The bytes that are given of pieces, piece by piece.
-use Rattle.std.proofs.Common.{◌≡◌, ℕ, zero, suc, ◌+◌, ◌<◌, ◌≤◌, List, [], ◌∷◌, ◌++◌, length, take, drop, Some, None, slice_get, refl, ap, ◌∙◌, arith}
+use Rattle.std.proofs.Common.{◌≡◌, ℕ, zero, suc, ◌+◌, ◌<◌, ◌≤◌, List, [], ◌∷◌, ◌++◌, length, take, drop, None, slice_get, refl, arith}
 use Rattle.std.proofs.lemmas.List.{length-take, length-take-le, length-drop}
-use Rattle.std.proofs.lemmas.Option.{same_Some}
 use Rattle.cartridge_spec.specs.Volumes.{bytes_in}
 use Rattle.cartridge_spec.specs.Says.{Says, Data}
 use Rattle.command_laws.proofs.RestoreGiven.{given_always, given_is_function}
@@ -12,13 +11,6 @@ use Rattle.volume_copy.specs.Given.{given_bytes}
 use Rattle.volume_copy.specs.Source.{IsHeld, unread_in}
 
 -- ---- lists
-
-pub drop_at : {A : Type 0} (xs : List A) (i : ℕ) (x : A) → slice_get xs i ≡ Some x → drop i xs ≡ x ∷ drop (i + 1) xs
-drop_at [] i x at = absurd (cc)
-drop_at (y ∷ ys) zero x at = ap (λ z. z ∷ ys) (same_Some y x at)
-drop_at (y ∷ ys) (suc i) x at =
-    let same : suc (i + 1) ≡ suc i + 1 = omega arith in
-    drop_at ys i x at ∙ ap (λ n. x ∷ drop n (y ∷ ys)) same
 
 pub drop_past : {A : Type 0} (xs : List A) (i : ℕ) → slice_get xs i ≡ None → drop i xs ≡ []
 drop_past [] zero at = refl

@@ -1,6 +1,5 @@
 -- What a copy's answer says of one cartridge, where that one is told, and what is left of the source.
 use Rattle.std.proofs.Common.{◌≡◌, ◌⊎◌, ℕ, zero, suc, ◌<◌, ◌≤◌, Bool, true, false, List, [], length, Contains, Option, Some, None, IsSomeAnd, Ok, Err, refl, ap, sym, subst, ◌∙◌, arith, inl, inr}
-use Rattle.std.specs.Option.{option_map}
 use Rattle.std.specs.Prelude.{is_some}
 use Rattle.std.proofs.lemmas.Bool.{ltb-true}
 use Rattle.cartridge_laws.proofs.FormatWriting.{some_and}
@@ -11,7 +10,7 @@ use Rattle.cartridge_spec.specs.Mounting.{Mounting, Mounts, settled}
 use Rattle.cartridge_spec.specs.Settling.{changed_by, settling_steps}
 use Rattle.cartridge_spec.specs.Table.{Entry}
 use Rattle.cartridge_spec.specs.Volumes.{Stands, volume_length}
-use Rattle.command_laws.proofs.CommandEnds.{LeftBy, each_left, over_at, told_whole}
+use Rattle.command_laws.proofs.CommandEnds.{LeftBy, each_left, over_at, told_whole, after_steps}
 use Rattle.command_laws.proofs.CopyOutcomes.{IsTarget}
 use Rattle.command_laws.proofs.MountedListed.{mounted_listed}
 use Rattle.cartridge_laws.proofs.MountSettled.{settled_keeps_table}
@@ -30,7 +29,7 @@ use Rattle.qic_base.specs.Acts.{Act, steps_of}
 use Rattle.qic_base.specs.Alone.{reading}
 use Rattle.qic_base.specs.CartridgeTerms.{IsCartridge}
 use Rattle.qic_base.specs.Cartridge.{Cartridge}
-use Rattle.qic_base.specs.Step.{Step as TapeStep, effects, Torn}
+use Rattle.qic_base.specs.Step.{Step as TapeStep, Torn}
 use Rattle.qic_base.specs.declared.tape.TapeInfo.{TapeInfo}
 use Rattle.volume_store.specs.Opening.{HasOpened, OpenFails}
 use Rattle.volume_store.specs.declared.opening.OpenFault.{OpenFault}
@@ -82,9 +81,6 @@ takes_more : {T : Type 0} (m : tapes.Meaning T) (held : Option Cartridge) (unit 
     o.cartridge.info.protected ≡ false → P store.entries → TakesMore held P
 takes_more m held unit store steps P o free is =
     subst (λ (h : Option Cartridge). TakesMore h P) (sym o.is) (free, (store.header, (store.words, (o.at.table, (store.entries, o.at.mounts, is)))))
-
-told_steps : {T : Type 0} (t : tapes.Meaning T) (x y : T) (steps : List TapeStep) (held : Option Cartridge) → tapes.Done t x y steps → t.told x ≡ Some held → t.told y ≡ Some (effects steps held)
-told_steps t x y steps held did told = did.told ∙ ap (option_map (effects steps)) told
 
 broke_torn : {T : Type 0} (t : tapes.Meaning T) (x y : T) (steps : List TapeStep) (held : Option Cartridge) → tapes.Broke t x y steps → t.told x ≡ Some held → IsSomeAnd (t.told y) (λ left. Torn steps held left)
 broke_torn t x y steps held broke told = by_told (t.told y) (broke.tells ∙ ap is_some told) (λ left is. broke.torn held left told is)
@@ -269,7 +265,7 @@ module _ {A B K : Type 0} (a : tapes.Meaning A) (b : tapes.Meaning B) (k : sinks
 
     left_done : (steps : List TapeStep) → tapes.Done a old.from.tape new.from.tape steps → IsSomeAnd (a.told new.from.tape) (λ left. Torn steps held left)
     left_done steps did =
-        subst (λ (o : Option (Option Cartridge)). IsSomeAnd o (λ left. Torn steps held left)) (sym (told_steps a old.from.tape new.from.tape steps held did told)) (Torn-all steps held)
+        subst (λ (o : Option (Option Cartridge)). IsSomeAnd o (λ left. Torn steps held left)) (sym (after_steps a old.from.tape new.from.tape steps held did told)) (Torn-all steps held)
 
     -- once it was opened
     left_opened : (unit : UnitView A) (store : StoreView) → (opened : HasOpened a old.from.tape unit store) → tapes.Done a unit.tape new.from.tape [] → LeftBy a old.from.tape new.from.tape held (FromLeaves held)

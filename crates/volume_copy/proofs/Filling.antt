@@ -20,9 +20,10 @@ use Rattle.volume_output.specs.Part.{ReadsPiece}
 use Rattle.volume_store.specs.Mounting.{StoreView, StoreFits, KeepsStore}
 use Rattle.volume_store.specs.Restoring.{ReadsPart}
 use Rattle.cartridge_front.specs.declared.fault.StoreFault.{StoreFault}
-use Rattle.volume_copy.proofs.Bytes.{drop_at, drop_past, given_none, given_next}
+use Rattle.volume_copy.proofs.Bytes.{drop_past, given_none, given_next}
 use Rattle.volume_copy.specs.Given.{given_bytes}
 use Rattle.volume_copy.specs.Source.{SourceView, IsHeld, IsSoundSource, KeepsVolume, FirstRead, IsOfPart, IsRefusal, Reads, bytes_left, first_refusal, left_where, pieces_at, pieces_of_number, source_means, source_pieces}
+use Rattle.volume_copy.proofs.Lists.{from_index}
 use Rattle.cartridge_front.specs.declared.fault.StoreFault.TheVariants as fault
 
 -- the tape was only read
@@ -229,7 +230,7 @@ module _ {T : Type 0} (m : Meaning T) (s : SourceView T) (store : StoreView) (un
             ap (λ (n : ℕ). take n (bytes_in store.part) ++ given_bytes c store.words (drop (s.done + 1) (pieces_of_number store s.number))) piece_reads.counted
             ∙ ap (λ (bytes : List ℕ). take piece.count (bytes_in store.part) ++ bytes) (given_same c (s.done + 1))
             ∙ sym (given_next c s.store.words piece rest store.part says)
-            ∙ ap (given_bytes c s.store.words) (sym (drop_at (source_pieces s) s.done piece is_next))
+            ∙ ap (given_bytes c s.store.words) (sym (from_index (source_pieces s) s.done piece is_next))
             ∙ ap (λ (bytes : List ℕ). bytes ++ given_bytes c s.store.words (drop s.done (source_pieces s))) (sym all))
 
       -- ---- it was refused

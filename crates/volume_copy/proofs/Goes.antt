@@ -6,13 +6,12 @@ use Rattle.std.proofs.lemmas.Bool.{and_from, and_cases, leb-false, lt-ltb}
 use Rattle.cartridge_spec.specs.Appending.{room}
 use Rattle.cartridge_spec.specs.Table.{Entry}
 use Rattle.cartridge_spec.specs.Volumes.{volume_length}
-use Rattle.command_laws.proofs.CommandEnds.{is_some-map}
 use Rattle.command_spec.specs.Append.{Fits, Taking, TooLong, TooShort, has_promised_room, taking}
 use Rattle.command_spec.specs.Copied.{copied_lines}
 use Rattle.command_spec.specs.Copying.{copied_line}
 use Rattle.command_spec.specs.CopyPromises.{HasKind, StopsGoOn, is_before_copies}
 use Rattle.command_spec.specs.declared.copy_status.CopyStatus.{CopyStatus}
-use Rattle.qic_base.proofs.Steps.{Done-Done, Done-nothing}
+use Rattle.qic_base.proofs.Steps.{Done-Done, Done-nothing, is_some-option_map}
 use Rattle.qic_base.proofs.Writing.{TakesBoth}
 use Rattle.qic_base.specs.Alone.{reading}
 use Rattle.qic_base.specs.Cartridge.{Cartridge}
@@ -42,7 +41,7 @@ stops_go_on t a b steps stops = record { telling = stops.telling; clock = stops.
 pub goes_done : {T : Type 0} (m : tapes.Meaning T) (a b : T) (steps : List TapeStep) → tapes.Done m a b steps → GoesOn m a b
 goes_done m a b steps did = record {
   later = did.later;
-  tells = ap is_some did.told ∙ is_some-map (effects steps) (m.told a);
+  tells = ap is_some did.told ∙ is_some-option_map (effects steps) (m.told a);
   stops = stops_go_on m a b steps did.stops;
 }
 

@@ -1,5 +1,5 @@
 -- Two lists of volumes, compared from an index on.
-use Rattle.std.proofs.Common.{◌≡◌, ℕ, zero, suc, arith, ◌+◌, ◌<◌, ◌≤◌, true, false, List, [], ◌∷◌, drop, length, Some, refl, ap, ◌∙◌, add-one, slice_get}
+use Rattle.std.proofs.Common.{◌≡◌, ℕ, suc, ◌+◌, ◌<◌, ◌≤◌, true, false, List, ◌∷◌, drop, length, Some, refl, ap, ◌∙◌, add-one, slice_get}
 use Rattle.std.proofs.Math.ListN.{drop_of_length-le}
 use Rattle.std.proofs.Math.Seq.{drop-cons}
 use Rattle.std.proofs.lemmas.Option.{get_or_from_slice_get, slice_get_within}
@@ -24,9 +24,3 @@ differs_at words es words' es' i n e e' at at' unlike = rw (from_index es i e at
 pub alike_at : (words : List ℕ) (es : List Entry) (words' : List ℕ) (es' : List Entry) (i n : ℕ) (e e' : Entry) → slice_get es i ≡ Some e → slice_get es' i ≡ Some e' →
     is_alike words e words' e' ≡ true → difference words (drop i es) words' (drop i es') n ≡ difference words (drop (i + 1) es) words' (drop (i + 1) es') (n + 1)
 alike_at words es words' es' i n e e' at at' like = rw (from_index es i e at, from_index es' i e' at', like) refl
-
--- a list has an entry at each index below its length
-pub entry_at : (es : List Entry) (i : ℕ) → i < length es → (e : Entry) × (slice_get es i ≡ Some e)
-entry_at [] i there = absurd (omega arith)
-entry_at (e ∷ es) zero there = (e, refl)
-entry_at (e ∷ es) (suc i) there = entry_at es i (omega arith)

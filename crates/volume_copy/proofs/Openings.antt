@@ -21,10 +21,10 @@ use Rattle.qic_base.specs.Acts.{Act, next_steps}
 use Rattle.qic_base.specs.Cartridge.{Cartridge}
 use Rattle.qic_base.specs.Step.{Step as TapeStep, effects}
 use Rattle.volume_store.proofs.Opened.{IsKnown, known_before, opened_known}
-use Rattle.volume_store.specs.Opening.{HasOpened, IsOpened}
+use Rattle.volume_store.specs.Opening.{HasOpened}
 use Rattle.volume_copy.specs.Faults.{copy_fault}
 use Rattle.cartridge_front.specs.Learning.{MountRefuses}
-use Rattle.volume_store.specs.Mounting.{IsSettling, StoreView}
+use Rattle.volume_store.specs.Mounting.{IsSettling, StoreView, IsOpened}
 use Rattle.cartridge_front.specs.declared.fault.StoreFault.{StoreFault}
 use Rattle.cartridge_spec.specs.Mounting as mounting
 use Rattle.command_spec.specs.declared.copy_fault.CopyFault.TheVariants as copy

@@ -1,5 +1,5 @@
 -- A copy of one volume, where both tapes tell their cartridges: what the plain machine does with it.
-use Rattle.std.proofs.Common.{◌≡◌, ◌≢◌, ◌⊎◌, ℕ, ◌+◌, ◌≤◌, ◌<◌, Bool, true, false, List, [], ◌∷◌, ◌++◌, length, drop, Option, Some, None, IfSome, Result, Ok, Err, refl, ap, sym, subst, ◌∙◌, arith, inl, inr, append-nil, append_assoc}
+use Rattle.std.proofs.Common.{◌≡◌, ◌≢◌, ◌⊎◌, ℕ, ◌+◌, ◌≤◌, ◌<◌, Bool, true, false, List, [], ◌∷◌, ◌++◌, length, drop, Option, Some, None, Result, Ok, Err, refl, ap, sym, subst, ◌∙◌, arith, inl, inr, append-nil, append_assoc}
 use Rattle.std.specs.Option.{option_map}
 use Rattle.std.proofs.lemmas.Bool.{cases_Bool, ltb-false, ltb-true}
 use Rattle.std.proofs.lemmas.List.{length-take-le}
@@ -34,6 +34,7 @@ use Rattle.volume_copy.specs.Source.{IsOfPart, IsRefusal, SourceView, new_source
 use Rattle.volume_store.specs.Appending.{AppendCut, AppendEnds, CutBeforeEntry, CutUnread, FaultsUnread, HasGivenAll, ListsLast, MayAsk, acts_before_entry, kept_by}
 use Rattle.volume_store.specs.declared.appended.Appended.{Appended}
 use Rattle.cartridge_front.specs.declared.fault.StoreFault.{StoreFault}
+use Rattle.qic_base.specs.Source.{IsInput}
 use Rattle.command_spec.specs.declared.copy_fault.CopyFault.TheVariants as copy
 use Rattle.command_spec.specs.declared.copy_status.CopyStatus.TheVariants as status
 use Rattle.qic_base.specs.Tape as tapes
@@ -132,7 +133,7 @@ module _ {A B : Type 0} (a : tapes.Meaning A) (b : tapes.Meaning B) (number : �
   reply = copied_behind (length to.store.entries)
 
   -- an input that is told is the volume's bytes
-  input_is : (input : List ℕ) → IfSome ((source_means a).left made) (λ bs. input ≡ bs) → input ≡ given_so
+  input_is : (input : List ℕ) → IsInput ((source_means a).left made) input → input ≡ given_so
   input_is input told =
       over_at ((source_means a).left made) (λ bs. input ≡ bs) given_so told (left_before a b number from after to new result one c from_told)
 

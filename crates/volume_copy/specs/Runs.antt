@@ -136,10 +136,6 @@ pub record MissingEnds {A B K : Type 0} (a : tapes.Meaning A) (b : tapes.Meaning
 
 -- ---- both cartridges
 
--- the first volume of the target that differs
-abbrev pub first_difference : (from to : StoreView) → Option ℕ
-first_difference from to = difference from.words from.entries to.words to.entries 1
-
 -- whether the volumes at this index of both lists are alike
 abbrev pub ArePaired : (from to : StoreView) → (index : ℕ) → Bool → Type 0
 ArePaired from to index alike =
@@ -149,7 +145,7 @@ ArePaired from to index alike =
 abbrev pub IsUnlike : (from to : StoreView) → CopyStatus → Type 0
 IsUnlike from to answer =
     ((is_protected (deck_of to.host) ≡ true) × (answer ≡ status.To copy.Protected))
-    ⊎ ((is_protected (deck_of to.host) ≡ false) × ((number : ℕ) × (first_difference from to ≡ Some number) × (answer ≡ status.Differs number)))
+    ⊎ ((is_protected (deck_of to.host) ≡ false) × ((number : ℕ) × (difference from.words from.entries to.words to.entries 1 ≡ Some number) × (answer ≡ status.Differs number)))
 
 -- one of them can't be opened, the target once the source was, or they aren't copied
 abbrev pub BothRefused : {A B : Type 0} (a : tapes.Meaning A) (b : tapes.Meaning B) (from : A) (from' : UnitView A) (to to' : UnitView B) → CopyStatus → Type 0
@@ -163,7 +159,7 @@ pub record AreOpened {A B : Type 0} (a : tapes.Meaning A) (b : tapes.Meaning B) 
   pub opened_source : HasOpened a from from' source
   pub opened_target : HasOpened b to to' target
   pub free : is_protected (deck_of target.host) ≡ false
-  pub like : first_difference source target ≡ None
+  pub like : difference source.words source.entries target.words target.entries 1 ≡ None
 
 -- ---- the whole
 

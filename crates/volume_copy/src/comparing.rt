@@ -1,7 +1,8 @@
 //! The lists of two cartridges, compared.
 
 ghost use Rattle.std.specs.Prelude.{◌≡◌, ◌<◌, length};
-ghost use Rattle.volume_copy.specs.Runs.{ArePaired, first_difference};
+ghost use Rattle.command_spec.specs.Copying.{difference};
+ghost use Rattle.volume_copy.specs.Runs.{ArePaired};
 
 use volume_store::Store;
 
@@ -19,7 +20,8 @@ fn are_alike(from: &Store, to: &Store, index: u32) -> bool
 
 /// The number, from 1, of the first volume of the target that the source has not, or has otherwise.
 pub fn first_difference(from: &Store, to: &Store) -> Option<u32>
-    ensures { result ≡ first_difference from.now to.now }
+    ensures { result ≡
+        difference from.now.words from.now.entries to.now.words to.now.entries 1 }
 {
     for index in 0..to.count() {
         if index >= from.count() || !are_alike(from, to, index) {

@@ -49,11 +49,11 @@ act_front words s bytes more carry full =
 
 -- ---- what is decided by a test
 
-chosen : {A : Type 0} (b : Bool) (x y : A) → b ≡ true → cond b x y ≡ x
+pub chosen : {A : Type 0} (b : Bool) (x y : A) → b ≡ true → cond b x y ≡ x
 chosen true x y is = refl
 chosen false x y is = absurd (cc)
 
-refused : {A : Type 0} (b : Bool) (x y : A) → b ≡ false → cond b x y ≡ y
+pub refused : {A : Type 0} (b : Bool) (x y : A) → b ≡ false → cond b x y ≡ y
 refused true x y is = absurd (cc)
 refused false x y is = refl
 

@@ -108,12 +108,6 @@ module _ (words front rest bytes : List ℕ) (most : ℕ) (carry : Carry words f
 
 -- ---- and the next one, with the bytes that came for it
 
--- as many of them and those behind as are wanted are those that came, and others only where they fill the segment
-behind_them : (came behind : List ℕ) (left : ℕ) → length came ≤ left → take left (came ++ behind) ≡ came ++ take (left - length came) behind
-behind_them came behind left few =
-    let all : left ≡ length came + (left - length came) = omega arith in
-    ap (λ (k : ℕ). take k (came ++ behind)) all ∙ take-append-add came behind (left - length came)
-
 none_behind : (came behind : List ℕ) (left : ℕ) → length came ≤ left → (length came < left → behind ≡ []) → take (left - length came) behind ≡ []
 none_behind came behind left few ended =
     elim (cases_lt (length came) left) [
@@ -125,7 +119,7 @@ next_act : (words : List ℕ) (s : ℕ) (came behind : List ℕ) (left : ℕ) �
     (length came < capacity (mask_at words s) → length came < left → behind ≡ []) →
     segment_act words s (take left (came ++ behind)) ≡ segment_act words s came
 next_act words s came behind left here fits few ended =
-    ap (λ (xs : List ℕ). segment_act words s xs) (behind_them came behind left few)
+    ap (λ (xs : List ℕ). segment_act words s xs) (wanted came behind left few)
     ∙ elim (cases_lt (length came) (capacity (mask_at words s))) as (λ v. segment_act words s (came ++ take (left - length came) behind) ≡ segment_act words s came) [
       | inl less ↦
           ap (λ (xs : List ℕ). segment_act words s xs)

@@ -1,7 +1,7 @@
 -- How one segment's part joins those behind it.
 use Rattle.std.proofs.Common.{◌≡◌, Bool, true, false, List, [], ◌∷◌, refl, ◌++◌, ap, ℕ, length, arith, Result, Ok, Err, sym, ◌∙◌, subst}
 use Rattle.command_laws.proofs.OutputJoining.{EndsAt-more}
-use Rattle.command_laws.proofs.RestoreEndings.{restores_is_function}
+use Rattle.command_laws.proofs.RestoreEndings.{read_goes_on, one_act}
 use Rattle.command_laws.specs.OutputText.{printed, AreOf}
 use Rattle.command_spec.specs.Restore.{Piece, Restored, IsRead, GivingEnd, PieceEnds, LostIn, MismatchIn, Restores}
 use Rattle.command_laws.specs.RestoreTerms.{EndsAt}
@@ -37,18 +37,6 @@ printed_steps true piece act none = ap (λ (steps : List Step). steps ++ []) non
 printed_steps false piece act none = ap (λ (steps : List Step). steps ++ []) none
 
 -- ---- what a piece restores
-
--- a piece that is read has one act, and ends nothing
-one_act : (c : Cartridge) (words : List ℕ) (piece : Piece) (x y : Act) → IsRead c words piece x → IsRead c words piece y → x ≡ y
-one_act c words piece x y read other =
-    let same : x ∷ [] ≡ y ∷ [] =
-    (restores_is_function c words (piece ∷ []) (x ∷ []) (y ∷ []) Restored Restored (read, (refl, refl)) (other, (refl, refl))).0 in cc
-
-goes_on : (c : Cartridge) (words : List ℕ) (piece : Piece) (act : Act) (ending : GivingEnd) → IsRead c words piece act → PieceEnds c words piece ending → ⊥
-goes_on c words piece act ending read ends =
-    let same : act ∷ [] ≡ [] =
-    (restores_is_function c words (piece ∷ []) (act ∷ []) [] Restored ending (read, (refl, refl)) ends).0 in
-    let count = ap (λ (acts : List Act). length acts) same in absurd (omega arith)
 
 -- ---- the part of one segment, and those behind it
 
@@ -119,7 +107,7 @@ module _ {T K : Type 0} (t : tapes.Meaning T) (k : sinks.Meaning K) (words : Lis
           ((acts : List Act) (ending : GivingEnd) → Restores c words needed acts ending → Cut t no_source k b new (printed lined needed acts) failing) →
           (acts : List Act) (ending : GivingEnd) → Restores c words (piece ∷ needed) acts ending →
           Cut t no_source k a new (printed lined (piece ∷ needed) acts) failing
-      cut_acts failing c read rest [] ending restores = absurd (goes_on c words piece one.act ending read restores)
+      cut_acts failing c read rest [] ending restores = absurd (read_goes_on c words piece one.act ending read restores)
       cut_acts failing c read rest (act ∷ acts) ending restores =
           let same : one.act ≡ act = one_act c words piece one.act act read restores.0 in
           subst (λ (x : Act). Cut t no_source k a new (printed lined (piece ∷ needed) (x ∷ acts)) failing) same

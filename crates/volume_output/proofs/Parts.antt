@@ -16,7 +16,8 @@ use Rattle.command_spec.specs.Restore.{Piece, piece_cells}
 use Rattle.segment_io.specs.Reading.{HasSolved}
 use Rattle.volume_output.specs.Part.{ReadsPiece}
 use Rattle.volume_output.specs.Piece.{piece_of}
-use Rattle.volume_output.proofs.Walking.{left_from, left_behind, left_skipped, left_given}
+use Rattle.volume_output.proofs.Walking.{left_behind, left_skipped, left_given}
+use Rattle.command_laws.specs.OutputLaws.{pieces_between}
 use Rattle.qic_base.specs.Tape as tapes
 use Rattle.qic_base.specs.TapeCalls as tape_calls
 
@@ -25,14 +26,14 @@ use Rattle.qic_base.specs.TapeCalls as tape_calls
 -- the piece that is looked for is the one with this number among those that are left
 abbrev pub IsAmongLeft : (words : List ℕ) (start end bytes number segment left before : ℕ) → Type 0
 IsAmongLeft words start end bytes number segment left before =
-    slice_get (left_from words start end bytes) number ≡ slice_get (left_from words segment end left) before
+    slice_get (pieces_between words start end bytes) number ≡ slice_get (pieces_between words segment end left) before
 
 past_first : (piece : Piece) (rest : List Piece) (before : ℕ) → 0 < before → slice_get (piece ∷ rest) before ≡ slice_get rest (before - 1)
 past_first piece rest zero some = absurd (omega arith)
 past_first piece rest (suc n) some = let same : n ≡ suc n - 1 = omega arith in ap (slice_get rest) same
 
 module _ (words : List ℕ) (start end bytes number segment left before : ℕ) (among : IsAmongLeft words start end bytes number segment left before) where
-  pub none_left : end < segment → slice_get (left_from words start end bytes) number ≡ None
+  pub none_left : end < segment → slice_get (pieces_between words start end bytes) number ≡ None
   none_left past = among ∙ ap (λ (ps : List Piece). slice_get ps before) (left_behind words segment end left past)
 
   pub segment_skipped : segment ≤ end → min left (capacity (mask_at words segment)) ≡ 0 →
@@ -40,15 +41,15 @@ module _ (words : List ℕ) (start end bytes number segment left before : ℕ) (
   segment_skipped within none = among ∙ ap (λ (ps : List Piece). slice_get ps before) (left_skipped words segment end within left none)
 
   module _ (within : segment ≤ end) (count : ℕ) (is : count ≡ min left (capacity (mask_at words segment))) (some : 0 < count) where
-    pub piece_here : before ≡ 0 → slice_get (left_from words start end bytes) number ≡ Some (piece_of segment count)
+    pub piece_here : before ≡ 0 → slice_get (pieces_between words start end bytes) number ≡ Some (piece_of segment count)
     piece_here first =
         among ∙ ap (λ (ps : List Piece). slice_get ps before) (left_given words segment end within left count is some)
-        ∙ ap (slice_get (piece_of segment count ∷ left_from words (segment + 1) end (left - count))) first
+        ∙ ap (slice_get (piece_of segment count ∷ pieces_between words (segment + 1) end (left - count))) first
 
     pub piece_behind : 0 < before → IsAmongLeft words start end bytes number (segment + 1) (left - count) (before - 1)
     piece_behind more =
         among ∙ ap (λ (ps : List Piece). slice_get ps before) (left_given words segment end within left count is some)
-        ∙ past_first (piece_of segment count) (left_from words (segment + 1) end (left - count)) before more
+        ∙ past_first (piece_of segment count) (pieces_between words (segment + 1) end (left - count)) before more
 
 -- ---- a segment that holds some bytes
 

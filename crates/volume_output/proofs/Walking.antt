@@ -15,6 +15,7 @@ use Rattle.volume_output.specs.declared.fault.OutputFault.{OutputFault}
 use Rattle.volume_output.specs.Output.{GaveVolume, OutputEnds}
 use Rattle.volume_output.specs.Piece.{piece_of}
 use Rattle.volume_output.proofs.Joining.{gave_none, ends_behind, ends_there}
+use Rattle.command_laws.specs.OutputLaws.{pieces_between}
 
 -- ---- how many bytes a segment gives
 
@@ -22,9 +23,6 @@ pub count_is : (left count held : ℕ) (answered cap : ℕ) → count ≡ min le
 count_is left count held answered cap least same is = least ∙ ap (min left) (same ∙ is)
 
 -- ---- what is left from a segment on
-
-abbrev pub left_from : (words : List ℕ) → (segment end left : ℕ) → List Piece
-left_from words segment end left = pieces_of words (carrying words segment end) left
 
 module _ (words : List ℕ) where
   nothing_left : (segments : List ℕ) → pieces_of words segments 0 ≡ []
@@ -66,7 +64,7 @@ module _ (words : List ℕ) where
 
       -- a segment that holds none of the bytes
       pub left_skipped : (left : ℕ) → min left (capacity (mask_at words segment)) ≡ 0 →
-          left_from words segment end left ≡ left_from words (segment + 1) end left
+          pieces_between words segment end left ≡ pieces_between words (segment + 1) end left
       left_skipped left none =
           elim (cases_Bool (carries words segment)) [
             | inl passes ↦
@@ -83,7 +81,7 @@ module _ (words : List ℕ) where
 
       -- one that holds some of them
       pub left_given : (left count : ℕ) → count ≡ min left (capacity (mask_at words segment)) → 0 < count →
-          left_from words segment end left ≡ piece_of segment count ∷ left_from words (segment + 1) end (left - count)
+          pieces_between words segment end left ≡ piece_of segment count ∷ pieces_between words (segment + 1) end (left - count)
       left_given left count is some =
           elim (cases_Bool (carries words segment)) [
             | inl passes ↦

@@ -3,7 +3,6 @@ use Rattle.std.proofs.Common.{◌≡◌, ◌≢◌, ℕ, ◌+◌, ◌≤◌, tru
 use Rattle.std.specs.Option.{option_map}
 use Rattle.std.specs.Prelude.{◌↔◌}
 use Rattle.std.proofs.lemmas.List.{length-append, length-take-le}
-use Rattle.std.proofs.Math.Seq.{take-append_seam}
 use Rattle.qic_base.specs.Cartridge.{Cartridge}
 use Rattle.qic_base.specs.declared.sink.SinkFailed.{SinkFailed}
 use Rattle.qic_base.specs.Step.{Step}
@@ -39,15 +38,19 @@ use Rattle.volume_script.specs.Items.{ItemDone, ItemShort, ItemCut, ItemEnds, Wo
 use Rattle.volume_script.specs.Limited.{limited_means}
 use Rattle.command_spec.specs.Script.{refusal_line, Did, LineDoes, Meeting, Finds, Meets, acts_on, line_refused, reply, taken_as}
 use Rattle.volume_script.specs.Promised.{RanPromised, Refuses, replied_so}
-use Rattle.command_laws.proofs.ScriptActs.{quietly, same_acts, same_taking, took_enough, took_too_long, took_short, full_acts, full_taking, short_acts, fits_acts, front_acts, front_and_last, replied_steps, replied_text, input_texts}
+use Rattle.command_laws.proofs.ScriptActs.{same_acts, same_taking, took_enough, took_too_long, took_short, full_acts, full_taking, short_acts, fits_acts, front_acts, front_and_last, replied_steps, replied_text, input_texts}
 use Rattle.command_laws.proofs.ScriptGiven.{gave_all, gave_few, Behind}
 use Rattle.command_laws.proofs.ScriptLifting.{out, TakesNone, read_went, read_cut, replied_went, replied_cut, rested}
 use Rattle.volume_script.proofs.Content.{BehindBytes, GivenAs, any_bytes, behind_bytes, content_both, given_as, limit_untold, taken_content}
-use Rattle.command_laws.proofs.InputActLaws.{AreBytes}
 use Rattle.volume_script.proofs.Quiet.{mark_told, unmarked}
-use Rattle.command_laws.proofs.ScriptPlain.{line_one, meets_one, not_lost}
+use Rattle.command_laws.proofs.ScriptPlain.{line_one, meets_one}
 use Rattle.cartridge_front.specs.declared.fault.StoreFault.{StoreFault}
 use Rattle.cartridge_front.proofs.Copies.{tells_two}
+use Rattle.cartridge_laws.proofs.MountOnce.{not_lost}
+use Rattle.volume_store.proofs.Taking.{front_of}
+use Rattle.qic_base.specs.Disk.{AreBytes}
+use Rattle.qic_base.specs.Source.{IsInput}
+use Rattle.command_laws.proofs.CommandOpened.{quiet}
 use Rattle.qic_base.specs.Sink as sinks
 use Rattle.qic_base.specs.SinkCalls as sink_calls
 use Rattle.qic_base.specs.Source as sources
@@ -59,16 +62,12 @@ use Rattle.volume_script.specs.declared.fault.ItemFault.TheVariants as fault
 use Rattle.command_spec.specs.declared.refusal.Refusal.TheVariants as why
 use Rattle.command_spec.specs.Script as script
 
-pub flip : (o : Option (List ℕ)) (all : List ℕ) → IfSome o (λ bytes. all ≡ bytes) → IfSome o (λ bytes. bytes ≡ all)
+pub flip : (o : Option (List ℕ)) (all : List ℕ) → IsInput o all → IfSome o (λ bytes. bytes ≡ all)
 flip None all told = tt
 flip (Some bytes) all told = sym told
 
--- a front of so many bytes
-first_of : (bytes rest : List ℕ) (n : ℕ) → length bytes ≡ n → take n (bytes ++ rest) ≡ bytes
-first_of bytes rest n long = ap (λ (m : ℕ). take m (bytes ++ rest)) (sym long) ∙ take-append_seam bytes rest
-
 same_first : (bytes rest other more : List ℕ) (n : ℕ) → bytes ++ rest ≡ other ++ more → length bytes ≡ n → length other ≡ n → other ≡ bytes
-same_first bytes rest other more n is long too = sym (first_of other more n too) ∙ ap (take n) (sym is) ∙ first_of bytes rest n long
+same_first bytes rest other more n is long too = sym (front_of other more n too) ∙ ap (take n) (sym is) ∙ front_of bytes rest n long
 
 -- what would be done with the first of some bytes is what was done with them
 would_be : (c : Cartridge) (words : List ℕ) (entries : List Entry) (asked : Line) (bytes rest : List ℕ) → length bytes ≡ promised_by asked → (did : Did) → LineDoes c words entries asked bytes did →
@@ -112,11 +111,11 @@ module _ {T S K : Type 0} (t : tapes.Meaning T) (s : sources.Meaning S) (k : sin
     was_given = subst (λ (p : S). Gave s p j ran.lends.gave.0) ran.starts (subst (λ (q : S). Gave s ran.before.source.now q ran.lends.gave.0) ran.stops ran.lends.gave.2)
 
     -- what the limited source tells
-    limit_told : (input : List ℕ) → IfSome (option_map (take ran.before.left) (s.left ran.before.source.now)) (λ bytes. input ≡ bytes) →
-        IfSome (option_map (take promised) (s.left i)) (λ bytes. input ≡ bytes)
+    limit_told : (input : List ℕ) → IsInput (option_map (take ran.before.left) (s.left ran.before.source.now)) input →
+        IsInput (option_map (take promised) (s.left i)) input
     limit_told input told =
-        subst (λ (p : S). IfSome (option_map (take promised) (s.left p)) (λ bytes. input ≡ bytes)) ran.starts
-        (subst (λ (n : ℕ). IfSome (option_map (take n) (s.left ran.before.source.now)) (λ bytes. input ≡ bytes)) ran.promises told)
+        subst (λ (p : S). IsInput (option_map (take promised) (s.left p)) input) ran.starts
+        (subst (λ (n : ℕ). IsInput (option_map (take n) (s.left ran.before.source.now)) input) ran.promises told)
 
     -- and of which bytes it is where it tells none
     limit_content : (bytes : List ℕ) → IfNone (option_map (take ran.before.left) (s.left ran.before.source.now)) (AreBytes bytes) → IfNone (s.left i) (AreBytes bytes)
@@ -347,7 +346,7 @@ module _ {T S K : Type 0} (t : tapes.Meaning T) (s : sources.Meaning S) (k : sin
         by_cases at c each lost off acts (inl (bytes, (more, (parts, long, (did, same, (Finds table, meets, is)))))) =
             let kept : Kept = kept_over c store.words store.entries table in
             let enough : promised ≤ length cut.input = at.enough (let l = ap length parts in let m = length-append bytes more in omega arith) in
-            let first : take promised cut.input ≡ bytes = sym at.front ∙ ap (take promised) parts ∙ first_of bytes more promised long in
+            let first : take promised cut.input ≡ bytes = sym at.front ∙ ap (take promised) parts ∙ front_of bytes more promised long in
             let whole : append_acts kept name date (Some promised) reply_of cut.input ≡ append_acts kept name date (Some promised) reply_of bytes =
             same_acts kept name date promised cut.input enough reply_of ∙ ap (λ (bs : List ℕ). append_acts kept name date (Some promised) reply_of bs) first in
             let own : Cut t s k (out a i x) (out b j x) (append_acts kept name date (Some promised) reply_of bytes) failing =
@@ -372,18 +371,18 @@ module _ {T S K : Type 0} (t : tapes.Meaning T) (s : sources.Meaning S) (k : sin
           × ((bytes : List ℕ) → script.append_did c store.words store.entries name promised date bytes meeting ≡ line_refused acts store.entries refusal)))
 
     pub refusing_full : (need have : ℕ) → tape_calls.Tells t a (λ c. c.info.protected ≡ false) →
-        (full : AppendRan t (limited_means s) (reading a ran.before) (reading b ran.behind) store name date (Some promised) (TooLong need have)) → Refusing (quietly full.settling ∷ []) (why.Full need have)
+        (full : AppendRan t (limited_means s) (reading a ran.before) (reading b ran.behind) store name date (Some promised) (TooLong need have)) → Refusing (quiet full.settling ∷ []) (why.Full need have)
     refusing_full need have free full =
         let kept : Kept = kept_by store full.table full.settling in
         let small = took_too_long (room_in kept) promised full.input need have full.took in
         record {
-          went = lift (quietly full.settling ∷ []) (subst (λ (zs : List Act). Went t (limited_means s) no_sink (reading a ran.before) (reading b ran.behind) zs) (full_acts kept name date promised small.0 silently full.input) full.went);
+          went = lift (quiet full.settling ∷ []) (subst (λ (zs : List Act). Went t (limited_means s) no_sink (reading a ran.before) (reading b ran.behind) zs) (full_acts kept name date promised small.0 silently full.input) full.went);
           told = Tells-map t a (Known store full.table full.settling) _
               (λ c known.
               let by : Kept = kept_over c store.words store.entries full.table in
               let settles : kept ≡ by = ap (λ (ss : List Step). kept_by store full.table ss) known.0.1 in
-              let alone : (bytes : List ℕ) → append_acts by name date (Some promised) reply_of bytes ≡ quietly full.settling ∷ [] =
-              λ bytes. full_acts by name date promised small.0 reply_of bytes ∙ ap (λ (ss : List Step). quietly ss ∷ []) (sym known.0.1) in (
+              let alone : (bytes : List ℕ) → append_acts by name date (Some promised) reply_of bytes ≡ quiet full.settling ∷ [] =
+              λ bytes. full_acts by name date promised small.0 reply_of bytes ∙ ap (λ (ss : List Step). quiet ss ∷ []) (sym known.0.1) in (
                 Finds full.table,
                 (known.1, known.0.0),
                 (
@@ -391,8 +390,8 @@ module _ {T S K : Type 0} (t : tapes.Meaning T) (s : sources.Meaning S) (k : sin
                   λ bytes.
                       ap (λ (became : Taking). taken_as by name date (append_acts by name date (Some promised) reply_of bytes) became) (full_taking by name date promised small.0 bytes)
                       ∙ ap (λ (acts : List Act). line_refused acts store.entries (why.Full promised (room_in by))) (alone bytes)
-                      ∙ ap (λ (n : ℕ). line_refused (quietly full.settling ∷ []) store.entries (why.Full n (room_in by))) (sym small.1)
-                      ∙ ap (λ (n : ℕ). line_refused (quietly full.settling ∷ []) store.entries (why.Full need n)) (sym small.2),
+                      ∙ ap (λ (n : ℕ). line_refused (quiet full.settling ∷ []) store.entries (why.Full n (room_in by))) (sym small.1)
+                      ∙ ap (λ (n : ℕ). line_refused (quiet full.settling ∷ []) store.entries (why.Full need n)) (sym small.2),
                 ),
               )) (known_so free full.table full.settling full.known);
         }
@@ -544,7 +543,7 @@ module _ {T S K : Type 0} (t : tapes.Meaning T) (s : sources.Meaning S) (k : sin
       ItemEnds t s k store after (out u.tape i x) (out b j2 y) (line.Append name promised date) r
   by_full need have is j2 y r refuses =
       let as_full = ran_as (Err (store_fault.Full need have)) is in
-      refused_ends t s k store after name promised date both none u.tape b i j x left (Err (store_fault.Full need have)) as_full (list_as (Err (store_fault.Full need have)) is) (quietly as_full.ends.settling ∷ []) (why.Full need have)
+      refused_ends t s k store after name promised date both none u.tape b i j x left (Err (store_fault.Full need have)) as_full (list_as (Err (store_fault.Full need have)) is) (quiet as_full.ends.settling ∷ []) (why.Full need have)
       (refusing_full t s k store after name promised date both none u.tape b i j x left (Err (store_fault.Full need have)) as_full need have (free (λ e. let no = sym is ∙ e in cc)) as_full.ends) j2 y r refuses
 
   pub by_lost : (segment lost : ℕ) → answer ≡ Err (store_fault.Lost segment lost) → (j2 : S) (y : K) (r : Result (Unit {0}) ItemFault) → Refuses s k j j2 x y left (why.Lost segment lost) r →

@@ -16,8 +16,9 @@ use Rattle.command_spec.specs.Input.{IsLineText, line_forms}
 use Rattle.command_spec.specs.Lines.{date_form, two_digits}
 use Rattle.command_spec.specs.declared.line.Line.{Line}
 use Rattle.qic_base.specs.Field.{IsNameText}
-use Rattle.volume_store.proofs.Taking.{content_always}
-use Rattle.command_laws.proofs.InputActLaws.{AreBytes}
+use Rattle.volume_input.proofs.Inputs.{untold_content}
+use Rattle.qic_base.specs.Disk.{AreBytes}
+use Rattle.qic_base.specs.Source.{IsInput}
 use Rattle.command_spec.specs.declared.line.Line.TheVariants as line
 
 -- ---- the words of a line
@@ -125,10 +126,10 @@ content_both None None xs ys gave content more = All-append (λ b. b < 256) xs y
 -- a line is, and what stands behind it
 pub content_behind : (before between : Option (List ℕ)) (text ys : List ℕ) (asked : Line) → IsLineText text asked → before ≡ option_map (λ rest. text ++ rest) between → IfNone between (AreBytes ys) →
     IfNone before (AreBytes (text ++ ys))
-content_behind before between text ys asked is gave more = content_both before between text ys gave (content_always before text (line_bytes text asked is)) more
+content_behind before between text ys asked is gave more = content_both before between text ys gave (untold_content before text (line_bytes text asked is)) more
 
 pub no_content : (told : Option (List ℕ)) → IfNone told (AreBytes [])
-no_content told = content_always told [] (All-nil (λ b. b < 256))
+no_content told = untold_content told [] (All-nil (λ b. b < 256))
 
 -- what is left, or none where it isn't told
 pub record AnyBytes (o : Option (List ℕ)) : Type 0 where
@@ -172,7 +173,7 @@ pub record BehindBytes (told : Option (List ℕ)) (n : ℕ) (input : List ℕ) :
   pub at : Behind told n input
   pub content : IfNone told (AreBytes at.rest)
 
-pub behind_bytes : (told : Option (List ℕ)) (n : ℕ) (input : List ℕ) → IfSome (option_map (take n) told) (λ bytes. input ≡ bytes) → IfNone told (AreBytes input) → BehindBytes told n input
+pub behind_bytes : (told : Option (List ℕ)) (n : ℕ) (input : List ℕ) → IsInput (option_map (take n) told) input → IfNone told (AreBytes input) → BehindBytes told n input
 behind_bytes None n input is content = record { at = record { rest = input; told = tt; front = refl; enough = λ e. e; few = λ e. refl }; content = content }
 behind_bytes (Some bytes) n input is content = record { at = behind (Some bytes) n input is; content = tt }
 

@@ -13,7 +13,7 @@ use Rattle.command_spec.specs.Script.{EndsEarly}
 use Rattle.command_spec.specs.declared.line.Line.{Line}
 use Rattle.tape_script.proofs.Rests.{Rest, stop_rest}
 use Rattle.volume_script.proofs.Content.{stop_bytes, zero_byte}
-use Rattle.command_laws.proofs.InputActLaws.{AreBytes}
+use Rattle.qic_base.specs.Disk.{AreBytes}
 use Rattle.command_spec.specs.declared.line.Line.TheVariants as line
 
 -- ---- the line `end`

@@ -25,18 +25,18 @@ use Rattle.volume_script.specs.Heard.{longest, HeardItem, HeardNone, HeardShort,
 use Rattle.command_laws.specs.ScriptItems.{EarlyDoes}
 use Rattle.command_spec.specs.Script.{end_line, Did, EndDoes, EndsEarly, ItemsDo, ScriptDoes, acts_of, cartridge_behind, entries_behind, place_behind, reply, items_taken}
 use Rattle.volume_script.specs.Runs.{Leaves, Ended, CutOff}
-use Rattle.command_laws.specs.ScriptAnswers.{Answer, AllDone, FaultIn, script_answer, script_status}
+use Rattle.volume_script.specs.Answers.{Answer, AllDone, FaultIn, script_answer, script_status}
 use Rattle.command_laws.specs.ScriptTerms.{FaultDoes, ItemDoes}
 use Rattle.command_spec.specs.Outcome.{CommandOutcome}
 use Rattle.volume_script.proofs.Appended.{flip}
 use Rattle.volume_script.proofs.Content.{any_bytes, content_both, ended_content, no_content}
-use Rattle.command_laws.proofs.InputActLaws.{AreBytes}
 use Rattle.volume_script.proofs.Hearing.{early_of}
 use Rattle.volume_script.proofs.Input.{no_line_fault, no_line_early, early_fault, none_content, none_rest, on_content, on_rest, stop_content}
 use Rattle.command_laws.proofs.ScriptLifting.{out, TakesNone, replied_went, replied_cut}
 use Rattle.command_laws.proofs.ScriptReading.{Reads, reads_more, read_end, place_is, split_reading, acts_of-append, entries_behind-append, cartridge_is, do_more, split_doing}
 use Rattle.cartridge_front.proofs.Copies.{tells_two}
 use Rattle.qic_base.specs.Source.{IsInput}
+use Rattle.qic_base.specs.Disk.{AreBytes}
 use Rattle.qic_base.specs.Sink as sinks
 use Rattle.qic_base.specs.SinkCalls as sink_calls
 use Rattle.qic_base.specs.Source as sources

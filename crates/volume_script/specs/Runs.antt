@@ -7,7 +7,7 @@ use Rattle.command_spec.specs.Machine.{LeftAtFault}
 use Rattle.volume_store.specs.Mounting.{StoreView}
 use Rattle.volume_script.specs.declared.fault.ScriptFault.{ScriptFault}
 use Rattle.command_spec.specs.Script.{end_line, ScriptDoes}
-use Rattle.command_laws.specs.ScriptAnswers.{Answer, AllDone, FaultIn, script_answer, script_status}
+use Rattle.volume_script.specs.Answers.{Answer, AllDone, FaultIn, script_answer, script_status}
 use Rattle.command_spec.specs.Outcome.{CommandOutcome}
 use Rattle.qic_base.specs.Source.{IsInput}
 use Rattle.qic_base.specs.Sink as sinks

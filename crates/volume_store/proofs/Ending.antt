@@ -1,5 +1,5 @@
 -- How an append ended, by what its stages did.
-use Rattle.std.proofs.Common.{ℕ, List, ◌++◌, ap, ◌∙◌, ◌≡◌, ◌-◌, Option, Some, None, IfSome, subst, inl, inr, length, sym, arith, drop, refl, Result, ◌<◌, false, [], ◌∷◌, Err, append-nil}
+use Rattle.std.proofs.Common.{ℕ, List, ◌++◌, ap, ◌∙◌, ◌≡◌, ◌-◌, Option, Some, None, IfSome, subst, length, sym, arith, drop, refl, Result, ◌<◌, false, [], ◌∷◌, Err, append-nil}
 use Rattle.std.specs.Option.{option_map}
 use Rattle.std.specs.Prelude.{is_some, slice_index}
 use Rattle.std.proofs.lemmas.List.{length-append}
@@ -10,16 +10,14 @@ use Rattle.cartridge_laws.proofs.FormatWriting.{effects-some}
 use Rattle.cartridge_laws.proofs.MountSettles.{settling_settles}
 use Rattle.cartridge_laws.proofs.MountWhole.{table_is_area}
 use Rattle.cartridge_laws.proofs.Sayings.{data_of-parity}
-use Rattle.cartridge_laws.proofs.TableSayings.{table_says_is_function}
 use Rattle.cartridge_laws.specs.AppendSettled.{IsSettledFor}
 use Rattle.cartridge_laws.specs.Table.{IsSoundList}
 use Rattle.cartridge_spec.specs.Appending.{taken_by}
 use Rattle.cartridge_spec.specs.TableSegment.{TableIs, table_cells}
 use Rattle.cartridge_laws.specs.TableCells.{HasList}
-use Rattle.cartridge_spec.specs.Says.{TableSays, AsRead, ByCode, LostSectors, Data, with_parity}
+use Rattle.cartridge_spec.specs.Says.{TableSays, ByCode, LostSectors, with_parity}
 use Rattle.cartridge_spec.specs.Settling.{changed_by, settling_steps}
 use Rattle.cartridge_spec.specs.Table.{Entry, Shows}
-use Rattle.command_laws.proofs.StoreAgain.{table_one}
 use Rattle.command_laws.proofs.StoreBehind.{input_behind, settled_behind}
 use Rattle.command_laws.proofs.StoreEnding.{took_fits, list_more}
 use Rattle.command_laws.proofs.StoreSettled.{table_sectors, table_size}
@@ -36,16 +34,17 @@ use Rattle.qic_base.specs.Cartridge.{Cartridge}
 use Rattle.qic_base.specs.Step.{Step, effects}
 use Rattle.qic_base.specs.TapeCalls.{Tells, IsToldRight}
 use Rattle.qic_base.specs.Tape.{Done, Broke}
-use Rattle.volume_input.proofs.Inputs.{left_of, whole_told}
+use Rattle.volume_input.proofs.Inputs.{left_of, whole_told, untold_content}
 use Rattle.volume_input.specs.declared.written.Written.{Written}
 use Rattle.cartridge_front.proofs.Copies.{tells_two}
-use Rattle.volume_store.proofs.Taking.{untold_content, content_always}
+use Rattle.volume_store.proofs.Taking.{given_content}
 use Rattle.cartridge_front.specs.Again.{IsSettledAgain, IsRefused, IsBrokenOff, IsAdded, IsOfReading, SettlesAgain, AddsEntry, entry_writes}
 use Rattle.volume_store.specs.Appending.{AppendEnds, kept_by, InputWent, InputWritten, InputBroke, InputIs, AppendRan, HasAppended, AppendCut, TableRefused}
 use Rattle.volume_store.specs.Mounting.{StoreView}
 use Rattle.volume_store.specs.declared.appended.Appended.{Appended}
 use Rattle.cartridge_front.specs.declared.fault.StoreFault.{StoreFault}
 use Rattle.volume_input.proofs.Running.{no_text}
+use Rattle.cartridge_laws.proofs.MountOnce.{one_table, not_lost}
 use Rattle.qic_base.specs.Tape as tapes
 use Rattle.qic_base.specs.Source as sources
 use Rattle.cartridge_front.specs.declared.fault.StoreFault.TheVariants as fault
@@ -70,13 +69,6 @@ right_tells m x right = by_told (m.told x) (m.size x) right
     by_told (Some None) n is = tt
     by_told (Some (Some c)) n is = is.0
 
--- a settled table is no lost one, and shows its list
-not_lost : (c : Cartridge) (area : List (List ℕ)) (lost : ℕ) → TableIs c area → TableSays (table_cells c) (ByCode (LostSectors lost)) → ⊥
-not_lost c area lost (inl reads) says =
-    let same : AsRead area ≡ ByCode (LostSectors lost) = table_says_is_function (table_cells c) (AsRead area) (ByCode (LostSectors lost)) reads says in absurd (cc)
-not_lost c area lost (inr solved) says =
-    let same : ByCode (Data area) ≡ ByCode (LostSectors lost) = table_says_is_function (table_cells c) (ByCode (Data area)) (ByCode (LostSectors lost)) solved says in absurd (cc)
-
 pub has_list : (c : Cartridge) (area : List (List ℕ)) (entries : List Entry) → IsCartridge c → IsSettledFor c area → Shows area entries → HasList c entries
 has_list c area entries whole known shown =
     let size : length area ≡ 29 = table_size c area known.table in
@@ -88,7 +80,7 @@ has_list c area entries whole known shown =
     }
 
 -- where nothing is taken all is left
-none_left : (left : Option (List ℕ)) → left ≡ option_map (drop 0) left
+pub none_left : (left : Option (List ℕ)) → left ≡ option_map (drop 0) left
 none_left None = refl
 none_left (Some bytes) = refl
 
@@ -152,7 +144,7 @@ module _ {T S : Type 0} (t : tapes.Meaning T) (s : sources.Meaning S) (store aft
   first_refused x0 x1 a sectors fault.Tape did kind lists = record {
     input = left_of (s.left a);
     is_told = whole_told (s.left a) (s.left a) [] (Gave-nothing s a a refl);
-    content = untold_content (s.left a) (s.left a) [] (Gave-nothing s a a refl) (content_always (s.left a) [] (All-nil (λ (b : ℕ). b < 256)));
+    content = given_content (s.left a) (s.left a) [] (Gave-nothing s a a refl) (untold_content (s.left a) [] (All-nil (λ (b : ℕ). b < 256)));
     told = Tells-map t x0 (λ c. (area : List (List ℕ)) → TableIs c area → (rest : List Step) × (did.steps ++ rest ≡ settling_steps area c))
         (λ c. (table : List (List ℕ)) → TableIs c table → (reply : Entry → List ℕ) →
         Cut t s no_sink (reading x0 a) (reading x1 a) (append_acts (kept_by store table (settling_steps table c)) name date promised reply (left_of (s.left a))) TapeFails)
@@ -220,7 +212,7 @@ module _ {T S : Type 0} (t : tapes.Meaning T) (s : sources.Meaning S) (store aft
           (λ c. (table : List (List ℕ)) → TableIs c table → (reply : Entry → List ℕ) →
           Cut t s no_sink (reading x0 a) (reading x2 b) (append_acts (kept_by store table (settling_steps table c)) name date promised reply broke.input) failing)
           (λ c known table is reply.
-          let same : again.steps ≡ settling_steps table c = known.1 ∙ ap (λ (d : List (List ℕ)). settling_steps d c) (table_one c area table known.0 is) in
+          let same : again.steps ≡ settling_steps table c = known.1 ∙ ap (λ (d : List (List ℕ)). settling_steps d c) (one_table c area table known.0 is) in
           subst (λ (ss : List Step). Cut t s no_sink (reading x0 a) (reading x2 b) (append_acts (kept_by store table ss) name date promised reply broke.input) failing) same
           (cut_before (entry_acts (kept_by store table again.steps) name date reply (taking (room_in (kept_by store table again.steps)) promised broke.input)))) again.told;
       acts = first_act ∷ input_writes kept.words kept.entries promised broke.input;
@@ -316,7 +308,7 @@ module _ {T S : Type 0} (t : tapes.Meaning T) (s : sources.Meaning S) (store aft
             Cut t s no_sink (reading x0 a) (reading x3 b) (append_acts (kept_by store table (settling_steps table c)) name date promised reply input) TapeFails)
             (λ c known more table is reply.
             let got = more area known.1.table in
-            let one : area ≡ table = table_one c area table known.0.0 is in
+            let one : area ≡ table = one_table c area table known.0.0 is in
             let same : again.steps ≡ settling_steps table c = known.0.1 ∙ ap (λ (d : List (List ℕ)). settling_steps d c) one in
             let writes : did.steps ++ got.0 ≡ entry_writes store.entries (entry_for kept name date wrote.bytes) table =
             got.1 ∙ ap (λ (e : Entry). entry_writes store.entries e area) entry_is ∙ ap (λ (d : List (List ℕ)). entry_writes store.entries (entry_for kept name date wrote.bytes) d) one in
@@ -370,7 +362,7 @@ module _ {T S : Type 0} (t : tapes.Meaning T) (s : sources.Meaning S) (store aft
             known = tells_two t x0 (λ c. (TableIs c area × (again.steps ≡ settling_steps area c)) × Now (λ d. IsSettledFor d area) c) (Now (λ d. TableIs d did.area))
                 (λ c. TableIs c did.area × (again.steps ≡ settling_steps did.area c))
                 (λ c known there.
-                let one : area ≡ did.area = table_one (changed_by (steps_of ins) (changed_by again.steps c)) area did.area known.1.table there in
+                let one : area ≡ did.area = one_table (changed_by (steps_of ins) (changed_by again.steps c)) area did.area known.1.table there in
                 subst (λ (d : List (List ℕ)). TableIs c d × (again.steps ≡ settling_steps d c)) one known.0)
                 (tells_two t x0 (λ c. TableIs c area × (again.steps ≡ settling_steps area c)) (Now (λ d. IsSettledFor d area)) (λ c. (TableIs c area × (again.steps ≡ settling_steps area c)) × Now (λ d. IsSettledFor d area) c)
                 (λ c known settled_now. (known, settled_now)) again.told at_settled)

@@ -1,5 +1,5 @@
 -- What is known of a store and its unit after an append.
-use Rattle.std.proofs.Common.{◌≡◌, ◌≢◌, ℕ, ◌-◌, ◌*◌, ◌/◌, ◌<◌, ◌≤◌, false, List, [], ◌∷◌, ◌++◌, length, Option, Some, None, IfSome, IsSomeAnd, Err, refl, sym, ap, ◌∙◌, subst, arith}
+use Rattle.std.proofs.Common.{◌≡◌, ◌≢◌, ℕ, ◌-◌, ◌*◌, ◌/◌, ◌<◌, ◌≤◌, false, List, [], ◌∷◌, ◌++◌, length, Option, Some, None, IfSome, Err, refl, sym, ap, ◌∙◌, subst, arith}
 use Rattle.std.specs.Option.{option_map}
 use Rattle.std.proofs.lemmas.List.{length-append}
 use Rattle.cartridge_laws.proofs.MountSettles.{settling_settles}
@@ -11,7 +11,6 @@ use Rattle.qic_base.specs.CartridgeTerms.{IsCartridge}
 use Rattle.qic_base.specs.Step.{Step, effects}
 use Rattle.qic_base.specs.Tape.{Meaning, Done}
 use Rattle.qic_base.specs.TapeCalls.{Tells}
-use Rattle.qic_base.specs.declared.tape.TapeInfo.{TapeInfo}
 use Rattle.qic_base.proofs.Steps.{Tells-map, Done-told}
 use Rattle.cartridge_spec.specs.Formatting.{IsLabel}
 use Rattle.cartridge_laws.proofs.FormatWriting.{effects-some}
@@ -31,32 +30,21 @@ use Rattle.cartridge_laws.proofs.AppendTable.{slot_differs}
 use Rattle.drive_states.specs.Unit.{UnitView}
 use Rattle.host_driver.specs.declared.host.Host.{Host}
 use Rattle.host_driver.specs.Calls.{Keeps}
-use Rattle.host_driver.specs.Fits.{Fits, AgreesWithTape, segments_of}
+use Rattle.host_driver.specs.Fits.{segments_of}
 use Rattle.cartridge_laws.proofs.MountWhole.{table_is_area}
 use Rattle.cartridge_front.specs.declared.fault.StoreFault.{StoreFault}
 use Rattle.cartridge_front.specs.Again.{IsSettledAgain, IsAdded, SettlesAgain, AddsEntry, entry_writes}
 use Rattle.command_spec.specs.Append.{input_writes}
 use Rattle.volume_store.specs.Appending.{InputIs}
 use Rattle.volume_store.specs.Mounting.{StoreView, StoreFits}
-use Rattle.command_laws.proofs.StoreAgain.{table_one}
 use Rattle.command_laws.proofs.StoreBehind.{input_behind, settled_behind, front_behind}
 use Rattle.cartridge_front.proofs.Copies.{tells_two}
 use Rattle.volume_store.proofs.Ending.{has_list}
 use Rattle.volume_store.proofs.Storing.{one_length, still_primary, still_referenced}
+use Rattle.cartridge_laws.proofs.MountOnce.{one_table}
 use Rattle.qic_base.specs.Source as sources
 use Rattle.qic_base.specs.Tape as tapes
 use Rattle.cartridge_front.specs.declared.fault.StoreFault.TheVariants as fault
-
--- the drive knows of a cartridge, so the tape doesn't tell that there is none
-pub not_empty : {T : Type 0} (m : Meaning T) (h : Host) (u : UnitView T) → Fits m h u → AgreesWithTape m u → m.told u.tape ≡ Some None → ⊥
-not_empty m h u fits agrees is = by_cases u.drive.deck.cartridge (m.told u.tape) fits.cartridge agrees is
-  where
-    by_cases : (cartridge : Option TapeInfo) (held : Option (Option Cartridge)) → IsSomeAnd cartridge (λ info. info.segments_per_track ≡ segments_of h) →
-        IfSome cartridge (λ info. IfSome held (λ there. IsSomeAnd there (λ c. c.info ≡ info))) → held ≡ Some None → ⊥
-    by_cases None held there known is = there
-    by_cases (Some info) None there known is = absurd (cc)
-    by_cases (Some info) (Some None) there known is = known
-    by_cases (Some info) (Some (Some c)) there known is = absurd (cc)
 
 forth : {T : Type 0} (m : Meaning T) (old new : T) (steps : List Step) (P : Cartridge → Type 0) → (m.told old ≡ Some None → ⊥) → m.told new ≡ option_map (effects steps) (m.told old) →
     Tells m old (λ c. P (changed_by steps c)) → Tells m new P
@@ -177,7 +165,7 @@ lists_added t x y entries e area did label flags sequence some known whole after
     forth t x y (entry_writes entries e did.area) (λ d. IsSettledFor d new) some did.done.told
     (tells_two t x (λ c. IsSettledFor c area × IsCartridge c) (λ c. TableIs c did.area) (λ c. IsSettledFor (changed_by (entry_writes entries e did.area) c) new)
     (λ c was there.
-    let one : area ≡ did.area = table_one c area did.area was.0.table there in
+    let one : area ≡ did.area = one_table c area did.area was.0.table there in
     let is_area : IsArea did.area = table_is_area c did.area was.1 there in
     table_settled c did.area new (slot_sector n) small (slot_differs did.area n (slot_bytes e) is_area)
     (slot_area did.area n (slot_bytes e) is_area within (length-slot_bytes e label.size) (slot_are_bytes e label.bytes flags sequence))

@@ -6,11 +6,11 @@ use Rattle.qic_base.specs.Cartridge.{Cartridge}
 use Rattle.qic_base.specs.Step.{Step as TapeStep}
 use Rattle.qic_base.specs.declared.tape.TapeInfo.{TapeInfo}
 use Rattle.volume_store.proofs.Started.{Knows, Present, told_known_beside, told_at_start, told_before}
-use Rattle.volume_store.specs.Opening.{IsOpened, IsTurnedDown, HasOpened, OpenFails, StartFails}
+use Rattle.volume_store.specs.Opening.{IsTurnedDown, HasOpened, OpenFails, StartFails}
 use Rattle.volume_store.specs.declared.opening.OpenFault.{OpenFault}
 use Rattle.cartridge_front.specs.Finding.{is_of_mounting, NamesCause}
 use Rattle.cartridge_front.specs.Learning.{MountRefuses}
-use Rattle.volume_store.specs.Mounting.{StoreView, StoreFits, IsSettling, IsCutOff, MountDoes}
+use Rattle.volume_store.specs.Mounting.{StoreView, StoreFits, IsSettling, SettlingBreaks, MountDoes, IsOpened}
 use Rattle.cartridge_front.specs.declared.fault.StoreFault.{StoreFault}
 use Rattle.qic_base.specs.Tape as tapes
 use Rattle.qic_base.specs.TapeCalls as tape_calls
@@ -28,7 +28,7 @@ is_refused info f None known refuses = cc
 is_refused info f (Some c) known refuses = refuses
 
 -- a fault before any step
-pub cut_first : {T : Type 0} (t : tapes.Meaning T) (a b : T) → tapes.Broke t a b [] → IsCutOff t a b
+pub cut_first : {T : Type 0} (t : tapes.Meaning T) (a b : T) → tapes.Broke t a b [] → SettlingBreaks t a b
 cut_first t a b broke = record { steps = []; broke = broke; front = nothing_begins (t.told a) }
   where
     nothing_begins : (told : Option (Option Cartridge)) → IfSome told (λ held. (◌≡◌ {A = List TapeStep} [] []) ⊎ IsSomeAnd held (λ c. IsSettling c []))

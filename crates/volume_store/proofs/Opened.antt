@@ -16,9 +16,9 @@ use Rattle.qic_base.specs.Acts.{Outside, Act, next_steps, Failing, TapeCut, Went
 use Rattle.qic_base.specs.Cartridge.{Cartridge}
 use Rattle.qic_base.specs.Step.{Step as TapeStep, effects}
 use Rattle.qic_base.specs.declared.tape.TapeInfo.{TapeInfo}
-use Rattle.volume_store.specs.Opening.{IsOpened, HasOpened}
+use Rattle.volume_store.specs.Opening.{HasOpened}
 use Rattle.cartridge_front.proofs.Copies.{IsLearnt, told_learnt}
-use Rattle.volume_store.specs.Mounting.{StoreView}
+use Rattle.volume_store.specs.Mounting.{StoreView, IsOpened}
 use Rattle.cartridge_front.specs.declared.fault.StoreFault.{StoreFault}
 use Rattle.qic_base.specs.Sink as sinks
 use Rattle.qic_base.specs.Source as sources

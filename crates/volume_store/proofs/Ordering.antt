@@ -4,7 +4,6 @@ use Rattle.std.specs.Option.{option_map}
 use Rattle.std.proofs.lemmas.List.Elements.{All-nil}
 use Rattle.cartridge_spec.specs.TableSegment.{TableIs}
 use Rattle.cartridge_spec.specs.Settling.{settling_steps}
-use Rattle.command_laws.proofs.StoreAgain.{table_one}
 use Rattle.command_spec.specs.Append.{Fits, input_writes}
 use Rattle.command_laws.specs.AppendTerms.{bytes_taken}
 use Rattle.qic_base.proofs.Giving.{Gave-nothing}
@@ -13,16 +12,17 @@ use Rattle.qic_base.proofs.Steps.{Tells-map, Broke-front}
 use Rattle.qic_base.specs.Acts.{Act, Cut, Failing, Outside, SourceFails, TapeFails}
 use Rattle.qic_base.specs.Alone.{no_sink, reading}
 use Rattle.qic_base.specs.Step.{Step}
-use Rattle.volume_input.proofs.Inputs.{left_of, whole_told}
+use Rattle.volume_input.proofs.Inputs.{left_of, whole_told, untold_content}
 use Rattle.volume_input.specs.declared.written.Written.{Written}
 use Rattle.volume_store.proofs.Ending.{act_went, broke_cut}
 use Rattle.volume_input.proofs.Running.{no_text}
-use Rattle.volume_store.proofs.Taking.{content_always, untold_content}
+use Rattle.volume_store.proofs.Taking.{given_content}
 use Rattle.cartridge_front.specs.Again.{IsOfReading, IsSettledAgain, SettlesAgain}
 use Rattle.volume_store.specs.Appending.{AskedFor, AsksInRoom, CutBeforeEntry, HasGivenAll, HasRoomFor, InOrder, InputBroke, InputIs, InputWritten, ListsLast, MayAsk, acts_before_entry, kept_by}
 use Rattle.volume_store.specs.Mounting.{StoreView}
 use Rattle.volume_store.specs.declared.appended.Appended.{Appended}
 use Rattle.cartridge_front.specs.declared.fault.StoreFault.{StoreFault}
+use Rattle.cartridge_laws.proofs.MountOnce.{one_table}
 use Rattle.qic_base.specs.Source as sources
 use Rattle.qic_base.specs.Tape as tapes
 use Rattle.cartridge_front.specs.declared.fault.StoreFault.TheVariants as fault
@@ -45,7 +45,7 @@ module _ {T S : Type 0} (t : tapes.Meaning T) (s : sources.Meaning S) (store : S
     broke_early did = record {
       input = left_of (s.left a);
       is_told = whole_told (s.left a) (s.left a) [] (Gave-nothing s a a refl);
-      content = untold_content (s.left a) (s.left a) [] (Gave-nothing s a a refl) (content_always (s.left a) [] (All-nil (λ (b : ℕ). b < 256)));
+      content = given_content (s.left a) (s.left a) [] (Gave-nothing s a a refl) (untold_content (s.left a) [] (All-nil (λ (b : ℕ). b < 256)));
       told = Tells-map t x0 (λ c. (area : List (List ℕ)) → TableIs c area → (rest : List Step) × (did.steps ++ rest ≡ settling_steps area c))
           (λ c. (table : List (List ℕ)) → TableIs c table →
           Cut t s no_sink (reading x0 a) (reading x1 a) (acts_before_entry (kept_by store table (settling_steps table c)) promised (left_of (s.left a))) TapeFails)
@@ -98,7 +98,7 @@ module _ {T S : Type 0} (t : tapes.Meaning T) (s : sources.Meaning S) (store : S
           (λ c. (table : List (List ℕ)) → TableIs c table →
           Cut t s no_sink (reading x0 a) (reading x2 b) (acts_before_entry (kept_by store table (settling_steps table c)) promised broke.input) failing)
           (λ c known table is.
-          let same : again.steps ≡ settling_steps table c = known.1 ∙ ap (λ (d : List (List ℕ)). settling_steps d c) (table_one c area table known.0 is) in
+          let same : again.steps ≡ settling_steps table c = known.1 ∙ ap (λ (d : List (List ℕ)). settling_steps d c) (one_table c area table known.0 is) in
           subst (λ (ss : List Step). Cut t s no_sink (reading x0 a) (reading x2 b) (acts_before_entry (kept_by store table ss) promised broke.input) failing) same
           (went_then_cut t s no_sink no_text (reading x0 a) (reading x1 a) (reading x2 b) (first_act ∷ []) (input_writes store.words store.entries promised broke.input) failing
           (act_went t s x0 x1 a again.steps again.done) broke.cut)) again.told;

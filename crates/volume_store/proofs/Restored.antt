@@ -24,6 +24,7 @@ use Rattle.volume_store.specs.Mounting.{StoreView, StoreFits, KeepsStore}
 use Rattle.volume_store.specs.Restoring.{RestoreEnds, fault_of_output}
 use Rattle.volume_store.proofs.Storing.{one_length, still_primary, still_referenced}
 use Rattle.command_laws.proofs.OutputActsOfPieces.{no_step}
+use Rattle.command_laws.proofs.MountedFronts.{no_first}
 use Rattle.qic_base.specs.Sink as sinks
 use Rattle.volume_output.specs.declared.fault.OutputFault.TheVariants as output
 
@@ -70,10 +71,6 @@ module _ {T K : Type 0} (t : Meaning T) (k : sinks.Meaning K) (store : StoreView
 
 -- ---- the tape
 
-no_front : (xs ys : List Step) → xs ++ ys ≡ [] → xs ≡ []
-no_front [] ys none = refl
-no_front (x ∷ xs) ys none = absurd (cc)
-
 printed_in_no_step : (needed : List Piece) (lined : Bool) (acts : List Act) → AreOf needed acts → steps_of (printed lined needed acts) ≡ []
 printed_in_no_step [] true [] are = refl
 printed_in_no_step (piece ∷ needed) true [] are = refl
@@ -85,7 +82,7 @@ printed_in_no_step (piece ∷ needed) false (act ∷ acts) are = no_step act.ste
 
 no_step_before : (acts : List Act) (at : Parted acts) → steps_of acts ≡ [] → steps_of at.front ++ at.act.steps ≡ []
 no_step_before acts at none =
-    no_front (steps_of at.front ++ at.act.steps) (steps_of at.rest)
+    no_first (steps_of at.front ++ at.act.steps) (steps_of at.rest)
     (append_assoc (steps_of at.front) at.act.steps (steps_of at.rest)
     ∙ sym (steps_of-append at.front (at.act ∷ at.rest))
     ∙ ap (λ (xs : List Act). steps_of xs) at.parts ∙ none)

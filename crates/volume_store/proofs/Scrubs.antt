@@ -1,5 +1,5 @@
 -- What scrubbing in either form leaves of the volume table's list, done or cut off by the sink.
-use Rattle.std.proofs.Common.{◌≡◌, ℕ, ◌-◌, ◌++◌, List, length, Contains, Option, Some, None, inl, inr, IfSome, IsSomeAnd, Result, Ok, Err, refl, sym, ap, ◌∙◌, subst}
+use Rattle.std.proofs.Common.{◌≡◌, ℕ, ◌-◌, ◌++◌, List, length, Contains, Option, Some, None, IfSome, IsSomeAnd, Result, Ok, Err, refl, sym, ap, ◌∙◌, subst}
 use Rattle.std.specs.Option.{option_map}
 use Rattle.std.proofs.lemmas.List.Elements.{All-take}
 use Rattle.cartridge_laws.specs.TableCells.{HasList}
@@ -29,15 +29,15 @@ use Rattle.command_laws.specs.ScrubSayings.{Rise}
 use Rattle.command_spec.specs.Scrub.{Looked, whole_segment, looked_at, Finding, ScrubsAs}
 use Rattle.command_laws.specs.ScrubTerms.{counts_for}
 use Rattle.command_spec.specs.declared.depth.Depth.{Depth}
-use Rattle.command_laws.proofs.ScrubBeside.{not_the_table}
 use Rattle.command_laws.proofs.ScrubForms.{AsSeen, as_seen, IsLeft, stopped_left}
 use Rattle.command_laws.proofs.ScrubOneWrong.{form_always}
-use Rattle.command_laws.proofs.ScrubSeen.{SameIn, IsSeen}
 use Rattle.command_laws.proofs.ScrubStanding.{written_kept, looks_in_front}
 use Rattle.segment_mending.specs.declared.fault.ScrubFault.{ScrubFault}
 use Rattle.segment_mending.specs.declared.report.ScrubReport.{ScrubReport}
 use Rattle.segment_mending.specs.Mending.{HasScrubbed, ScrubCut, ScrubEnds, reported}
-use Rattle.volume_store.proofs.Worn.{Lists}
+use Rattle.command_laws.proofs.ScrubFormsTable.{seen_table, left_table}
+use Rattle.command_laws.specs.SilentSectors.{IsSameIn}
+use Rattle.volume_store.proofs.Fitting.{Listed}
 use Rattle.qic_base.specs.Sink as sinks
 use Rattle.segment_mending.specs.declared.fault.ScrubFault.TheVariants as fault
 
@@ -59,7 +59,7 @@ mended_list looked c d entries rise among way has =
     }
 
 -- the same views of the table's segment have the same list
-list_same : (c d : Cartridge) (entries : List Entry) → SameIn c d 2 → HasList c entries → HasList d entries
+list_same : (c d : Cartridge) (entries : List Entry) → IsSameIn c d 2 → HasList c entries → HasList d entries
 list_same c d entries same has = record {
   block = has.block;
   code = has.code;
@@ -69,40 +69,26 @@ list_same c d entries same has = record {
 
 -- ---- the table's segment, in which no wrong sector is looked for
 
-seen_same : (depth : Depth) (c e : Cartridge) (looked : List Looked) (fs : List Finding) → IsSeen depth c e looked fs → SameIn c e 2
-seen_same depth c e looked fs seen i h =
-    elim (seen.each 2 i h) [
-      | inl same ↦ same
-      | inr lost ↦ absurd (not_the_table depth lost.found.at lost.found.searched lost.found.here)
-    ]
-
-left_same : (looked : List Looked) (c e d : Cartridge) → SameIn c e 2 → (left : IsLeft looked c e d) → SameIn left.other d 2
-left_same looked c e d same left i h =
-    elim (left.behind.each 2 i h) [
-      | inl is ↦ is
-      | inr kept ↦ kept.0 ∙ sym (same i h) ∙ sym kept.1
-    ]
-
 -- ---- a stop among the acts
 
 module _ (depth : Depth) (words : List ℕ) (entries : List Entry) (last : ℕ) (order : IsSoundList last entries) where
   one_left : (c d : Cartridge) (acts : List Act) (fs : List Finding) → AsSeen depth c words entries acts fs →
-      IsLeft (looked_at words entries) c (without_all c (looked_at words entries) fs) d → Lists entries c → Lists entries d
+      IsLeft (looked_at words entries) c (without_all c (looked_at words entries) fs) d → Listed entries c → Listed entries d
   one_left c d acts fs run left lists = λ mark.
       let looked : List Looked = looked_at words entries in
       let e : Cartridge = without_all c looked fs in
-      let same : SameIn c e 2 = seen_same depth c e looked fs run.seen in
+      let same : IsSameIn c e 2 = seen_table depth c e looked fs run.seen in
       let known : HasList c entries = lists (ap (λ (info : TapeInfo). info.protected) (sym left.behind.info.0) ∙ mark) in
-      list_same left.other d entries (left_same looked c e d same left)
+      list_same left.other d entries (left_table looked c e d same left)
       (mended_list looked e left.other entries run.rise (looks_in_front words entries run.rise).table left.way (list_same c e entries same known))
 
   left_lists : (c : Cartridge) (acts : List Act) (fs : List Finding) (left : Option Cartridge) → AsSeen depth c words entries acts fs →
-      IsSomeAnd left (IsLeft (looked_at words entries) c (without_all c (looked_at words entries) fs)) → Lists entries c → IfSome left (Lists entries)
+      IsSomeAnd left (IsLeft (looked_at words entries) c (without_all c (looked_at words entries) fs)) → Listed entries c → IfSome left (Listed entries)
   left_lists c acts fs None run way lists = tt
   left_lists c acts fs (Some d) run way lists = one_left c d acts fs run way lists
 
   torn_lists : (c : Cartridge) (acts : List Act) (left : Option Cartridge) → ScrubsAs depth c words entries acts → Torn (steps_of acts) (Some c) left →
-      Lists entries c → IfSome left (Lists entries)
+      Listed entries c → IfSome left (Listed entries)
   torn_lists c acts left scrubs torn lists =
       let run : AsSeen depth c words entries acts scrubs.findings = as_seen depth c words entries last acts order scrubs in
       left_lists c acts scrubs.findings left run (stopped_left depth c words entries acts scrubs.findings left run torn) lists
@@ -121,29 +107,29 @@ told_there m host u fits agrees = by_cases u.drive.deck.cartridge (m.told u.tape
 module _ {T K : Type 0} (t : Meaning T) (k : sinks.Meaning K) (depth : Depth) (words : List ℕ) (entries : List Entry) (last : ℕ) (order : IsSoundList last entries) (old new : Outside T (Unit {0}) K) where
   went_held : (acts : List Act) (report : ScrubReport) (held : Option (Option Cartridge)) → (held ≡ Some None → ⊥) →
       IfSome held (λ h. IfSome h (λ c. (scrubs : ScrubsAs depth c words entries acts) × (reported report ≡ counts_for c (looked_at words entries) scrubs.findings))) →
-      IfSome held (λ h. IfSome h (Lists entries)) → IfSome (option_map (effects (steps_of acts)) held) (λ h. IfSome h (Lists entries))
+      IfSome held (λ h. IfSome h (Listed entries)) → IfSome (option_map (effects (steps_of acts)) held) (λ h. IfSome h (Listed entries))
   went_held acts report None there told lists = tt
   went_held acts report (Some None) there told lists = absurd (there refl)
   went_held acts report (Some (Some c)) there told lists =
       torn_lists depth words entries last order c acts (effects (steps_of acts) (Some c)) told.0 (Torn-all (steps_of acts) (Some c)) lists
 
   went_lists : (report : ScrubReport) → HasScrubbed t k depth words entries old new report → (t.told old.tape ≡ Some None → ⊥) →
-      Tells t old.tape (Lists entries) → Tells t new.tape (Lists entries)
+      Tells t old.tape (Listed entries) → Tells t new.tape (Listed entries)
   went_lists report has there lists =
-      subst (λ (held : Option (Option Cartridge)). IfSome held (λ h. IfSome h (Lists entries))) (sym has.went.did.told)
+      subst (λ (held : Option (Option Cartridge)). IfSome held (λ h. IfSome h (Listed entries))) (sym has.went.did.told)
       (went_held has.acts report (t.told old.tape) there has.told lists)
 
   torn_held : (c : Cartridge) (acts : List Act) (held : Option (Option Cartridge)) → ScrubsAs depth c words entries acts →
-      IsSomeAnd held (λ left. Torn (steps_of acts) (Some c) left) → Lists entries c → IfSome held (λ h. IfSome h (Lists entries))
+      IsSomeAnd held (λ left. Torn (steps_of acts) (Some c) left) → Listed entries c → IfSome held (λ h. IfSome h (Listed entries))
   torn_held c acts None scrubs torn lists = absurd torn
   torn_held c acts (Some left) scrubs torn lists = torn_lists depth words entries last order c acts left scrubs torn lists
 
   cut_held : (held : Option (Option Cartridge)) (size : Option ℕ) → t.told old.tape ≡ held → IsToldRight held size → ScrubCut t k depth words entries old new SinkFails →
       (held ≡ Some None → ⊥) →
       IfSome held (λ h. IfSome h (λ c. (acts : List Act) → ScrubsAs depth c words entries acts → Cut t no_source k old new acts SinkFails)) →
-      IfSome held (λ h. IfSome h (Lists entries)) → Tells t new.tape (Lists entries)
+      IfSome held (λ h. IfSome h (Listed entries)) → Tells t new.tape (Listed entries)
   cut_held None size is right cut there told lists =
-      subst (λ (held : Option (Option Cartridge)). IfSome held (λ h. IfSome h (Lists entries)))
+      subst (λ (held : Option (Option Cartridge)). IfSome held (λ h. IfSome h (Listed entries)))
       (sym (cut.cut.did.told ∙ ap (option_map (effects (steps_of cut.cut.at.front ++ cut.cut.at.act.steps))) is)) tt
   cut_held (Some None) size is right cut there told lists = absurd (there refl)
   cut_held (Some (Some c)) size is right cut there told lists =
@@ -153,7 +139,7 @@ module _ {T K : Type 0} (t : Meaning T) (k : sinks.Meaning K) (depth : Depth) (w
   -- the list stands where it stood
   pub scrub_lists : (answer : Result ScrubReport ScrubFault) → ScrubEnds t k depth words entries old new answer → (answer ≡ Err fault.Tape → ⊥) →
       IsToldRight (t.told old.tape) (t.size old.tape) → (t.told old.tape ≡ Some None → ⊥) →
-      Tells t old.tape (Lists entries) → Tells t new.tape (Lists entries)
+      Tells t old.tape (Listed entries) → Tells t new.tape (Listed entries)
   scrub_lists (Ok report) ends other right there lists = went_lists report ends there lists
   scrub_lists (Err fault.Sink) ends other right there lists = cut_held (t.told old.tape) (t.size old.tape) refl right ends there ends.told lists
   scrub_lists (Err fault.Tape) ends other right there lists = absurd (other refl)

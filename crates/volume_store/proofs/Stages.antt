@@ -27,7 +27,8 @@ use Rattle.volume_store.specs.Mounting.{StoreView, StoreFits}
 use Rattle.command_laws.proofs.StoreBehind.{input_behind}
 use Rattle.cartridge_front.proofs.Copies.{IsLearnt, told_learnt, tells_two}
 use Rattle.volume_store.proofs.Ending.{right_tells, made}
-use Rattle.volume_store.proofs.Fitting.{DidBehind, Listed, adding_refused, fits_with, input_did, least_end, lists_added, lists_later, not_empty, same_told, settled_later, settling_refused}
+use Rattle.volume_store.proofs.Fitting.{DidBehind, Listed, adding_refused, fits_with, input_did, least_end, lists_added, lists_later, same_told, settled_later, settling_refused}
+use Rattle.volume_store.proofs.Scrubs.{told_there}
 use Rattle.qic_base.specs.Source as sources
 use Rattle.qic_base.specs.Tape as tapes
 use Rattle.cartridge_front.specs.declared.fault.StoreFault.TheVariants as fault
@@ -77,8 +78,8 @@ module _ {T S : Type 0} (t : tapes.Meaning T) (s : sources.Meaning S) {store : S
     -- .. and stays so
     still_settled : DidBehind t v.tape w.tape → Tells t w.tape (λ c. IsSettledFor c area)
     still_settled did =
-        settled_later t u.tape v.tape w.tape store.entries area again may.unprotected (not_empty t store.host u may.fits.host may.fits.agrees)
-        (not_empty t h v keeps.ready.fits (keeps.agrees may.fits.agrees)) did
+        settled_later t u.tape v.tape w.tape store.entries area again may.unprotected (told_there t store.host u may.fits.host may.fits.agrees)
+        (told_there t h v keeps.ready.fits (keeps.agrees may.fits.agrees)) did
 
     still_listed : DidBehind t v.tape w.tape → Tells t w.tape (Listed store.entries)
     still_listed did = lists_later t w.tape store.entries area again.shown (still_settled did) whole
@@ -138,7 +139,7 @@ module _ {T S : Type 0} (t : tapes.Meaning T) (s : sources.Meaning S) {store : S
               let both = keeps_both keeps next in
               fits_with t store u j x list may.fits (keeps_both both last) (either_order list (inr is))
               (subst (λ (es : List Entry). Tells t x.tape (Listed es)) (sym is)
-              (lists_added t w.tape x.tape store.entries new area did label (omega arith) (omega arith) (not_empty t k w both.ready.fits (both.agrees may.fits.agrees))
+              (lists_added t w.tape x.tape store.entries new area did label (omega arith) (omega arith) (told_there t k w both.ready.fits (both.agrees may.fits.agrees))
               (still_settled did_input) whole (right_tells t x.tape there)))
 
           pub added_ends : {part : List (List ℕ)} (appended : Appended) → appended.number ≡ length list → appended.bytes ≡ size → appended.start ≡ written.start → appended.end ≡ written.end →

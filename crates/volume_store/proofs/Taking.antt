@@ -20,24 +20,17 @@ use Rattle.qic_base.specs.Alone.{no_sink, reading}
 use Rattle.qic_base.specs.Tape.{Rose}
 use Rattle.qic_base.specs.SourceCalls.{Gave, HasEnded}
 use Rattle.tape_script.specs.Reading.{Skips}
-use Rattle.volume_input.proofs.Inputs.{left_of, whole_told, still_tells, none_left}
+use Rattle.volume_input.proofs.Inputs.{left_of, whole_told, still_tells, none_left, untold_content}
 use Rattle.volume_input.specs.Input.{HasWritten, EndedShort}
 use Rattle.volume_input.specs.declared.written.Written.{Written}
 use Rattle.volume_store.specs.Appending.{InputWent, InputWritten, InputBroke, InputIs, TakesNone}
 use Rattle.cartridge_front.specs.declared.fault.StoreFault.{StoreFault}
+use Rattle.volume_input.proofs.Filled.{chosen, refused}
 use Rattle.qic_base.specs.Source as sources
 use Rattle.qic_base.specs.Tape as tapes
 use Rattle.cartridge_front.specs.declared.fault.StoreFault.TheVariants as fault
 
 -- ---- choices
-
-chosen_true : {X : Type 0} (b : Bool) (x y : X) → b ≡ true → cond b x y ≡ x
-chosen_true true x y is = refl
-chosen_true false x y is = absurd (cc)
-
-chosen_false : {X : Type 0} (b : Bool) (x y : X) → b ≡ false → cond b x y ≡ y
-chosen_false true x y is = absurd (cc)
-chosen_false false x y is = refl
 
 first_false : (a b : Bool) → a ≡ false → (a && b) ≡ false
 first_false true b is = absurd (cc)
@@ -51,13 +44,13 @@ second_false false b is = refl
 
 fits_all : (have : ℕ) (input : List ℕ) → 1 ≤ have → length input ≤ have → taking have None input ≡ Fits input
 fits_all have input some within =
-    chosen_true (nat_le 1 have && nat_le (length input) have) (Fits input) (TooLong (min (length input) (have + 1)) have)
+    chosen (nat_le 1 have && nat_le (length input) have) (Fits input) (TooLong (min (length input) (have + 1)) have)
     (both_true (nat_le 1 have) (nat_le (length input) have) (le-leb 1 have some) (le-leb (length input) have within))
 
 too_long : (have : ℕ) (input : List ℕ) → have < length input → taking have None input ≡ TooLong (have + 1) have
 too_long have input beyond =
     let least : min (length input) (have + 1) ≡ have + 1 = omega arith in
-    chosen_false (nat_le 1 have && nat_le (length input) have) (Fits input) (TooLong (min (length input) (have + 1)) have)
+    refused (nat_le 1 have && nat_le (length input) have) (Fits input) (TooLong (min (length input) (have + 1)) have)
     (second_false (nat_le 1 have) (nat_le (length input) have) (lt-leb (length input) have beyond))
     ∙ ap (λ (n : ℕ). TooLong n have) least
 
@@ -73,29 +66,25 @@ has_none have n (inr few) = second_false (nat_le 1 have) (nat_le n have) (lt-leb
 
 promised_fits : (have n : ℕ) (input : List ℕ) → 1 ≤ have → n ≤ have → n ≤ length input → taking have (Some n) input ≡ Fits (take n input)
 promised_fits have n input some within enough =
-    chosen_true (has_promised_room have (Some n)) (cond (nat_lt (length input) n) (TooShort n (length input)) (Fits (take n input))) (TooLong n have) (has_room have n some within)
-    ∙ chosen_false (nat_lt (length input) n) (TooShort n (length input)) (Fits (take n input)) (le-ltb (length input) n enough)
+    chosen (has_promised_room have (Some n)) (cond (nat_lt (length input) n) (TooShort n (length input)) (Fits (take n input))) (TooLong n have) (has_room have n some within)
+    ∙ refused (nat_lt (length input) n) (TooShort n (length input)) (Fits (take n input)) (le-ltb (length input) n enough)
 
 promised_short : (have n : ℕ) (input : List ℕ) → 1 ≤ have → n ≤ have → length input < n → taking have (Some n) input ≡ TooShort n (length input)
 promised_short have n input some within less =
-    chosen_true (has_promised_room have (Some n)) (cond (nat_lt (length input) n) (TooShort n (length input)) (Fits (take n input))) (TooLong n have) (has_room have n some within)
-    ∙ chosen_true (nat_lt (length input) n) (TooShort n (length input)) (Fits (take n input)) (lt-ltb (length input) n less)
+    chosen (has_promised_room have (Some n)) (cond (nat_lt (length input) n) (TooShort n (length input)) (Fits (take n input))) (TooLong n have) (has_room have n some within)
+    ∙ chosen (nat_lt (length input) n) (TooShort n (length input)) (Fits (take n input)) (lt-ltb (length input) n less)
 
 promised_full : (have n : ℕ) (input : List ℕ) → (have ≡ 0) ⊎ (have < n) → taking have (Some n) input ≡ TooLong n have
 promised_full have n input few =
-    chosen_false (has_promised_room have (Some n)) (cond (nat_lt (length input) n) (TooShort n (length input)) (Fits (take n input))) (TooLong n have) (has_none have n few)
+    refused (has_promised_room have (Some n)) (cond (nat_lt (length input) n) (TooShort n (length input)) (Fits (take n input))) (TooLong n have) (has_none have n few)
 
 -- ---- the input, by what was given of it
 
-pub untold_content : (before after : Option (List ℕ)) (bytes : List ℕ) → before ≡ option_map (λ rest. bytes ++ rest) after →
+pub given_content : (before after : Option (List ℕ)) (bytes : List ℕ) → before ≡ option_map (λ rest. bytes ++ rest) after →
     IfNone before (All (λ (b : ℕ). b < 256) bytes) → IfNone before (All (λ (b : ℕ). b < 256) (bytes ++ left_of after))
-untold_content (Some told) after bytes gave content = tt
-untold_content None (Some left) bytes gave content = absurd (cc)
-untold_content None None bytes gave content = subst (All (λ (b : ℕ). b < 256)) (sym (append-nil bytes)) content
-
-pub content_always : (told : Option (List ℕ)) (bytes : List ℕ) → All (λ (b : ℕ). b < 256) bytes → IfNone told (All (λ (b : ℕ). b < 256) bytes)
-content_always None bytes content = content
-content_always (Some told) bytes content = tt
+given_content (Some told) after bytes gave content = tt
+given_content None (Some left) bytes gave content = absurd (cc)
+given_content None None bytes gave content = subst (All (λ (b : ℕ). b < 256)) (sym (append-nil bytes)) content
 
 dropped : (before after : Option (List ℕ)) (bytes : List ℕ) → before ≡ option_map (λ rest. bytes ++ rest) after → after ≡ option_map (drop (length bytes)) before
 dropped before None bytes gave = sym (ap (option_map (drop (length bytes))) gave)
@@ -121,7 +110,7 @@ content_both (Some told) between after xs ys gave content more = tt
 content_both None (Some left) after xs ys gave content more = absurd (cc)
 content_both None None after xs ys gave content more = All-append (λ (b : ℕ). b < 256) xs ys content more
 
-front_of : (bytes rest : List ℕ) (n : ℕ) → length bytes ≡ n → take n (bytes ++ rest) ≡ bytes
+pub front_of : (bytes rest : List ℕ) (n : ℕ) → length bytes ≡ n → take n (bytes ++ rest) ≡ bytes
 front_of bytes rest n long =
     let same : n ≡ length bytes + 0 = omega arith in
     ap (λ (k : ℕ). take k (bytes ++ rest)) same ∙ take-append-add bytes rest 0 ∙ append-nil bytes
@@ -152,11 +141,11 @@ module _ {T S : Type 0} (t : tapes.Meaning T) (s : sources.Meaning S) (words : L
 
   -- the writes that an input asks for, where there is room
   writes_none : (input : List ℕ) → 1 ≤ have → input_writes words entries None input ≡ volume_acts words segments (take have input)
-  writes_none input some = chosen_true (nat_le 1 have) (volume_acts words segments (take have input)) [] (le-leb 1 have some)
+  writes_none input some = chosen (nat_le 1 have) (volume_acts words segments (take have input)) [] (le-leb 1 have some)
 
   writes_some : (n : ℕ) (input : List ℕ) → 1 ≤ have → n ≤ have →
       input_writes words entries (Some n) input ≡ input_acts words segments n true input
-  writes_some n input some within = chosen_true (has_promised_room have (Some n)) (input_acts words segments n true input) [] (has_room have n some within)
+  writes_some n input some within = chosen (has_promised_room have (Some n)) (input_acts words segments n true input) [] (has_room have n some within)
 
   went_with : (promised : Option ℕ) (bytes : List ℕ) (became : Taking) → Gave s old.source new.source bytes → IfNone (s.left old.source) (All (λ (b : ℕ). b < 256) bytes) →
       taking have promised (bytes ++ left_of (s.left new.source)) ≡ became → bytes_taken promised became ≡ length bytes →
@@ -165,7 +154,7 @@ module _ {T S : Type 0} (t : tapes.Meaning T) (s : sources.Meaning S) (words : L
   went_with promised bytes became gave content took taken went = record {
     input = bytes ++ left_of (s.left new.source);
     is_told = whole_told (s.left old.source) (s.left new.source) bytes gave;
-    content = untold_content (s.left old.source) (s.left new.source) bytes gave content;
+    content = given_content (s.left old.source) (s.left new.source) bytes gave content;
     took = took;
     went = went;
     left = dropped (s.left old.source) (s.left new.source) bytes gave ∙ ap (λ (n : ℕ). option_map (drop n) (s.left old.source)) (sym taken);
@@ -177,7 +166,7 @@ module _ {T S : Type 0} (t : tapes.Meaning T) (s : sources.Meaning S) (words : L
   broke_with promised failing bytes gave content cut = record {
     input = bytes ++ left_of (s.left new.source);
     is_told = whole_told (s.left old.source) (s.left new.source) bytes gave;
-    content = untold_content (s.left old.source) (s.left new.source) bytes gave content;
+    content = given_content (s.left old.source) (s.left new.source) bytes gave content;
     cut = cut;
     tells = still_tells (s.left old.source) (s.left new.source) bytes gave;
   }
@@ -192,11 +181,11 @@ module _ {T S : Type 0} (t : tapes.Meaning T) (s : sources.Meaning S) (words : L
         let enough : n ≤ length input = omega (arith, length-append has.bytes (left_of (s.left new.source))) in
         record {
           bytes = has.bytes;
-          went = went_with (Some n) has.bytes (Fits has.bytes) has.gave (content_always (s.left old.source) has.bytes has.content)
+          went = went_with (Some n) has.bytes (Fits has.bytes) has.gave (untold_content (s.left old.source) has.bytes has.content)
               (promised_fits have n input some within enough ∙ ap (λ (xs : List ℕ). Fits xs) front) refl
               (subst (Went t s no_sink old new)
               (ap (volume_acts words segments) (sym front)
-              ∙ sym (chosen_false (true && nat_lt (length input) n) (filled_acts words segments input) (volume_acts words segments (take n input)) (second_false true (nat_lt (length input) n) (le-ltb (length input) n enough)))
+              ∙ sym (refused (true && nat_lt (length input) n) (filled_acts words segments input) (volume_acts words segments (take n input)) (second_false true (nat_lt (length input) n) (le-ltb (length input) n enough)))
               ∙ sym (writes_some n input some within))
               has.went);
           count = has.count;
@@ -210,11 +199,11 @@ module _ {T S : Type 0} (t : tapes.Meaning T) (s : sources.Meaning S) (words : L
         let all : input ≡ has.bytes = ap (λ (xs : List ℕ). has.bytes ++ xs) (none_left (s.left new.source) has.ended) ∙ append-nil has.bytes in
         let long : length input ≡ read = ap (λ (xs : List ℕ). length xs) all ∙ sym has.count in
         let less : length input < n = subst (λ (xs : List ℕ). length xs < n) (sym all) has.short in
-        went_with (Some n) has.bytes (TooShort n read) has.gave (content_always (s.left old.source) has.bytes has.content)
+        went_with (Some n) has.bytes (TooShort n read) has.gave (untold_content (s.left old.source) has.bytes has.content)
         (promised_short have n input some within less ∙ ap (λ (k : ℕ). TooShort n k) long) has.count
         (subst (Went t s no_sink old new)
         (ap (filled_acts words segments) (sym all)
-        ∙ sym (chosen_true (true && nat_lt (length input) n) (filled_acts words segments input) (volume_acts words segments (take n input)) (both_true true (nat_lt (length input) n) refl (lt-ltb (length input) n less)))
+        ∙ sym (chosen (true && nat_lt (length input) n) (filled_acts words segments input) (volume_acts words segments (take n input)) (both_true true (nat_lt (length input) n) refl (lt-ltb (length input) n less)))
         ∙ sym (writes_some n input some within))
         has.went)
 
@@ -226,7 +215,7 @@ module _ {T S : Type 0} (t : tapes.Meaning T) (s : sources.Meaning S) (words : L
     all_written bytes gave content few ended went =
         let input : List ℕ = bytes ++ left_of (s.left new.source) in
         let all : input ≡ bytes = ap (λ (xs : List ℕ). bytes ++ xs) (none_left (s.left new.source) ended) ∙ append-nil bytes in
-        went_with None bytes (Fits bytes) gave (content_always (s.left old.source) bytes content)
+        went_with None bytes (Fits bytes) gave (untold_content (s.left old.source) bytes content)
         (ap (taking have None) all ∙ fits_all have bytes some few) refl
         (subst (Went t s no_sink old new)
         (ap (volume_acts words segments) (sym (take_all have bytes few) ∙ ap (take have) (sym all)) ∙ sym (writes_none input some)) went)
@@ -262,7 +251,7 @@ module _ {T S : Type 0} (t : tapes.Meaning T) (s : sources.Meaning S) (words : L
 
   no_writes : (input : List ℕ) → room words entries ≡ 0 → input_writes words entries None input ≡ []
   no_writes input none =
-      chosen_false (nat_le 1 (room words entries))
+      refused (nat_le 1 (room words entries))
       (volume_acts words (free_segments words entries) (take (room words entries) input)) []
       (lt-leb 1 (room words entries) (omega arith))
 
@@ -273,10 +262,10 @@ module _ {T S : Type 0} (t : tapes.Meaning T) (s : sources.Meaning S) (words : L
       let have : ℕ = room words entries in
       let input : List ℕ = [] ++ left_of (s.left a) in
       went_with t s words entries (reading x a) (reading x a) (Some n) [] (TooLong n have) (Gave-nothing s a a refl)
-      (content_always (s.left a) [] (All-nil (λ (b : ℕ). b < 256)))
+      (untold_content (s.left a) [] (All-nil (λ (b : ℕ). b < 256)))
       (promised_full have n input few) refl
       (subst (Went t s no_sink (reading x a) (reading x a))
-      (sym (chosen_false (has_promised_room have (Some n)) (input_acts words (free_segments words entries) n true input) [] (has_none have n few)))
+      (sym (refused (has_promised_room have (Some n)) (input_acts words (free_segments words entries) n true input) [] (has_none have n few)))
       (nothing a (omega arith)))
 
   -- ---- one at most where there is no room, and none is promised

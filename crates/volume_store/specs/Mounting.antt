@@ -44,14 +44,18 @@ pub record IsSettling (c : Cartridge) (steps : List Step) : Type 0 where
   pub entries : List Entry
   pub settles : Settles c header words entries steps
 
+-- the cartridge is mounted as the store shows it, and these steps settle it
+abbrev pub IsOpened : Cartridge → StoreView → (steps : List Step) → Type 0
+IsOpened c store steps = Settles c store.header store.words store.entries steps
+
 -- a cartridge was mounted, and its table settled
 pub record MountsAs {T : Type 0} (m : Meaning T) (old new : T) (store : StoreView) : Type 0 where
   pub steps : List Step
   pub done : Done m old new steps
-  pub told : Tells m old (λ c. Settles c store.header store.words store.entries steps)
+  pub told : Tells m old (λ c. IsOpened c store steps)
 
 -- A fault of the tape broke a front of its steps off.
-pub record IsCutOff {T : Type 0} (m : Meaning T) (old new : T) : Type 0 where
+pub record SettlingBreaks {T : Type 0} (m : Meaning T) (old new : T) : Type 0 where
   pub steps : List Step
   pub broke : Broke m old new steps
   pub front : IfSome (m.told old) (λ held. (steps ≡ []) ⊎ IsSomeAnd held (λ c. IsSettling c steps))
@@ -64,7 +68,7 @@ pub record MountRefused {T : Type 0} (m : Meaning T) (old new : T) (fault : Stor
 -- what a mounting did, by its answer
 abbrev pub MountDoes : {T : Type 0} (m : Meaning T) (old new : T) → Result StoreView StoreFault → Type 0
 MountDoes m old new (Ok store) = MountsAs m old new store
-MountDoes m old new (Err Tape) = IsCutOff m old new
+MountDoes m old new (Err Tape) = SettlingBreaks m old new
 MountDoes m old new (Err fault) = MountRefused m old new fault
 
 -- A store fits a unit: its host does, in Primary mode, it has learnt the cartridge, and where that is told and may be

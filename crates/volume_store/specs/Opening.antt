@@ -5,14 +5,13 @@ use Rattle.host_driver.specs.Calls.{IsReady}
 use Rattle.host_driver.specs.Fits.{AgreesWithTape}
 use Rattle.host_driver.specs.Starts.{KnowsTold}
 use Rattle.host_driver.specs.declared.host.Host.{Host}
-use Rattle.qic_base.specs.Cartridge.{Cartridge}
 use Rattle.qic_base.specs.Step.{Step}
 use Rattle.qic_base.specs.Tape.{Meaning, Done, Broke}
 use Rattle.volume_store.specs.declared.opening.OpenFault.{OpenFault}
 use Rattle.volume_store.specs.declared.opening.OpenFault.TheVariants.{NoCartridge, Refused}
 use Rattle.cartridge_front.specs.Finding.{is_of_mounting, NamesCause}
 use Rattle.cartridge_front.specs.Learning.{MountRefuses}
-use Rattle.volume_store.specs.Mounting.{StoreView, StoreFits, IsCutOff, Settles}
+use Rattle.volume_store.specs.Mounting.{StoreView, StoreFits, SettlingBreaks, IsOpened}
 use Rattle.cartridge_front.specs.declared.fault.StoreFault.{StoreFault}
 use Rattle.cartridge_front.specs.declared.fault.StoreFault.TheVariants.{Tape}
 
@@ -42,10 +41,6 @@ StartEnds m old new (Err fault) = StartFails m old.tape new.tape fault
 
 -- ---- the opening
 
--- the cartridge is mounted as the store shows it, and these steps settle it
-abbrev pub IsOpened : Cartridge → StoreView → (steps : List Step) → Type 0
-IsOpened c store steps = Settles c store.header store.words store.entries steps
-
 -- The cartridge was opened, by these steps.
 pub record HasOpened {T : Type 0} (m : Meaning T) (old : T) (new : UnitView T) (store : StoreView) : Type 0 where
   pub steps : List Step
@@ -64,7 +59,7 @@ pub record IsTurnedDown {T : Type 0} (m : Meaning T) (old new : T) (fault : Stor
 
 abbrev pub OpenFails : {T : Type 0} (m : Meaning T) (old new : T) → OpenFault → Type 0
 OpenFails m old new NoCartridge = IsAbsent m old new
-OpenFails m old new (Refused Tape) = IsCutOff m old new
+OpenFails m old new (Refused Tape) = SettlingBreaks m old new
 OpenFails m old new (Refused fault) = IsTurnedDown m old new fault
 
 -- how the opening of what a drive holds ended

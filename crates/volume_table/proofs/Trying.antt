@@ -12,8 +12,9 @@ use Rattle.qic_base.specs.Cartridge.{lost_places}
 use Rattle.qic_base.proofs.LostSetLaws.{lost_places-lost, lost_places-kept}
 use Rattle.cartridge_laws.specs.Says.{LosesData}
 use Rattle.cartridge_spec.specs.Says.{set_of, with_used, sets_by}
-use Rattle.cartridge_laws.specs.TableCells.{sets_by_one, sets_by_two}
+use Rattle.cartridge_laws.specs.TableCells.{sets_by_one}
 use Rattle.volume_table.specs.Trials.{with_place, with_last_used, tried}
+use Rattle.cartridge_laws.proofs.MountSeen.{sets_of_two}
 
 -- ---- sets of places
 
@@ -225,11 +226,6 @@ tried_one lost used within loses one =
     (ap (sets_by used) place.1 ∙ by_place used place.0 place.2
     ∙ sym (ap (λ (set : ℕ). with_place set 31 ∷ with_place set 29 ∷ with_last_used set used ++ with_place (with_place set 30) 31 ∷ []) is))
 
-by_two : (used : Option ℕ) (m other : ℕ) → m < 29 → sets_by used (m ∷ other ∷ []) ≡ sets_by_two used m other
-by_two used m other within =
-    let is : nat_lt m 29 ≡ true = grind (arith, nat_tests) in
-    ap (λ (b : Bool). if b then sets_by_two used m other else []) is
-
 pub tried_with_29 : (lost : ℕ) (used : Option ℕ) → lost < 2 ^ 32 → LosesData lost → length (lost_places lost 32) ≡ 2 → IsLost lost 29 →
     tried lost used ≡ lost ∷ with_last_used lost used
 tried_with_29 lost used within loses two has =
@@ -239,7 +235,7 @@ tried_with_29 lost used within loses two has =
     let places : lost_places lost 32 ≡ m ∷ 29 ∷ [] = pair.2 ∙ ap (λ (p : ℕ). m ∷ p ∷ []) other in
     let is : lost ≡ set_of (m ∷ 29 ∷ []) = set_of_places lost within ∙ ap set_of places in
     ap (λ (sets : List ℕ). lost ∷ sets)
-    (ap (sets_by used) places ∙ by_two used m 29 pair.3 ∙ used_with used (m ∷ 29 ∷ [])
+    (ap (sets_by used) places ∙ sets_of_two used m 29 pair.3 ∙ used_with used (m ∷ 29 ∷ [])
     ∙ sym (ap (λ (set : ℕ). with_last_used set used) is))
 
 pub tried_with_30 : (lost : ℕ) (used : Option ℕ) → lost < 2 ^ 32 → LosesData lost → length (lost_places lost 32) ≡ 2 → ¬ (IsLost lost 29) → IsLost lost 30 →
@@ -251,7 +247,7 @@ tried_with_30 lost used within loses two not has =
     let places : lost_places lost 32 ≡ m ∷ 30 ∷ [] = pair.2 ∙ ap (λ (p : ℕ). m ∷ p ∷ []) other in
     let is : lost ≡ set_of (m ∷ 30 ∷ []) = set_of_places lost within ∙ ap set_of places in
     ap (λ (sets : List ℕ). lost ∷ sets)
-    (ap (sets_by used) places ∙ by_two used m 30 pair.3
+    (ap (sets_by used) places ∙ sets_of_two used m 30 pair.3
     ∙ ap (λ (set : ℕ). set ∷ []) (sym (set_of_more (m ∷ 30 ∷ []) 31))
     ∙ sym (ap (λ (set : ℕ). with_place set 31 ∷ []) is))
 
@@ -263,6 +259,6 @@ tried_no_more lost used loses two not_29 not_30 =
     let not_first : (pair.1 == 29) ≡ false = ne_eqb pair.1 29 (pair.6 (ne_eqb (bit_at lost 29) 1 not_29)) in
     let not_second : (pair.1 == 30) ≡ false = ne_eqb pair.1 30 (pair.7 (ne_eqb (bit_at lost 30) 1 not_30)) in
     ap (λ (sets : List ℕ). lost ∷ sets)
-    (ap (sets_by used) pair.2 ∙ by_two used m pair.1 pair.3
+    (ap (sets_by used) pair.2 ∙ sets_of_two used m pair.1 pair.3
     ∙ ap (λ (b : Bool). if b then with_used used (m ∷ 29 ∷ []) else if pair.1 == 30 then set_of (m ∷ 30 ∷ 31 ∷ []) ∷ [] else []) not_first
     ∙ ap (λ (b : Bool). if b then set_of (m ∷ 30 ∷ 31 ∷ []) ∷ [] else []) not_second)

@@ -1,6 +1,6 @@
 -- The last sector of data with a used slot.
-use Rattle.std.proofs.Common.{◌≡◌, ◌↔◌, ℕ, zero, suc, ◌+◌, ◌*◌, ◌/◌, ◌%◌, ◌^◌, ◌<◌, inl, inr, refl, sym, ◌∙◌, ap, subst, arith, Bool, true, false, List, [], ◌∷◌, length, take, drop, map, Option, Some, None, slice_get, unwrap_or}
-use Rattle.std.specs.Prelude.{◌||◌, ◌==◌, if◌then◌else◌}
+use Rattle.std.proofs.Common.{◌≡◌, ◌↔◌, ℕ, zero, suc, ◌+◌, ◌/◌, ◌%◌, ◌^◌, ◌<◌, inl, inr, refl, sym, ◌∙◌, ap, subst, arith, Bool, true, false, List, [], ◌∷◌, length, map, Option, Some, None, slice_get, unwrap_or}
+use Rattle.std.specs.Prelude.{◌==◌, if◌then◌else◌}
 use Rattle.std.proofs.lemmas.Bool.{cases_eq, cases_lt, cases_Bool, ne_eqb, eq-eqb, false≢true}
 use Rattle.qic_base.specs.CartridgeTerms.{IsLost}
 use Rattle.qic_base.specs.declared.tape.SectorView.{SectorView}
@@ -15,17 +15,6 @@ use Rattle.volume_table.specs.Trials.{ShowsUsed, IsLastUsed}
 
 -- ---- the slots of a sector
 
--- a slot of the table is one of its sector's
-pub slot_alone : (area : List (List ℕ)) (place j : ℕ) → j < 8 → slot (sector_at area place ∷ []) j ≡ slot area (8 * place + j)
-unfolding slot
-slot_alone area place j within =
-    let here : j / 8 ≡ 0 = omega arith in
-    let rest : j % 8 ≡ (8 * place + j) % 8 = omega arith in
-    let sector : (8 * place + j) / 8 ≡ place = omega arith in
-    ap (λ (i : ℕ). take 128 (drop (128 * (j % 8)) (sector_at (sector_at area place ∷ []) i))) here
-    ∙ ap (λ (i : ℕ). take 128 (drop (128 * i) (sector_at area place))) rest
-    ∙ ap (λ (i : ℕ). take 128 (drop (128 * ((8 * place + j) % 8)) (sector_at area i))) (sym sector)
-
 pub none_below : (bytes : List ℕ) → some_used_below bytes 0 ≡ false
 unfolding some_used_below
 none_below bytes = refl
@@ -33,19 +22,6 @@ none_below bytes = refl
 pub none_more : (bytes : List ℕ) (n : ℕ) → some_used_below bytes n ≡ false → is_used (slot (bytes ∷ []) n) ≡ false → some_used_below bytes (suc n) ≡ false
 unfolding some_used_below
 none_more bytes n before here = rw (here, before) refl
-
-pub some_here : (bytes : List ℕ) (n j : ℕ) → j < n → is_used (slot (bytes ∷ []) j) ≡ true → some_used_below bytes n ≡ true
-unfolding some_used_below
-some_here bytes zero j within used = absurd (omega arith)
-some_here bytes (suc n) j within used =
-    elim (cases_eq j n) [
-      | inl here ↦ ap (λ (i : ℕ). is_used (slot (bytes ∷ []) i) || some_used_below bytes n) (sym here) ∙ rw used refl
-      | inr other ↦ rw (some_here bytes n j (omega arith) used) (or_true (is_used (slot (bytes ∷ []) n)))
-    ]
-  where
-    or_true : (b : Bool) → (b || true) ≡ true
-    or_true true = refl
-    or_true false = refl
 
 -- ---- the sectors that are not lost
 

@@ -1,7 +1,8 @@
 use Rattle.std.proofs.Common.{◌≡◌, ℕ, refl, ◌∙◌, ap, subst, sym, arith}
 use Rattle.qic_base.specs.Cartridge.{lost_places}
 use Rattle.gf256_qic.specs.Code.{IsSolvable}
-use Rattle.erasure_solve.specs.Lost.{is_lost, lost_count}
+use Rattle.erasure_solve.specs.Lost.{lost_count}
+use Rattle.qic_base.specs.CartridgeTerms.{is_lost}
 use Rattle.code_speed.proofs.solved.Goals as goal
 
 three_lost : lost_count 0x02004008 ≡ 3

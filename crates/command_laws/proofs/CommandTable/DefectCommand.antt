@@ -6,7 +6,7 @@ use Rattle.cartridge_laws.proofs.ChangeViews.{spoiled_alike}
 use Rattle.cartridge_spec.specs.Formatting.{HasNoHeader}
 use Rattle.cartridge_spec.specs.Mounting.{Mounted, Mounts}
 use Rattle.cartridge_spec.specs.Volumes.{Stands}
-use Rattle.command_laws.proofs.CommandClean.{bare_from_less, clean_from_less, Clean, defect_leaving}
+use Rattle.command_laws.proofs.CommandClean.{clean_from_less, Clean, defect_leaving}
 use Rattle.command_laws.proofs.CommandComplete.{where_some, defect_done}
 use Rattle.command_laws.proofs.CommandKeeping.{sector_left}
 use Rattle.command_laws.proofs.CommandPlainLaws.{defect_is_function, defect_leaves}
@@ -17,7 +17,7 @@ use Rattle.command_laws.proofs.CommandUnread.{neither_alike}
 use Rattle.command_laws.proofs.CommandWhole.{some_whole}
 use Rattle.command_laws.proofs.WholeSteps.{spoiled_whole}
 use Rattle.command_laws.proofs.TextCommands.{only, three_words, spelled_length, IsNumber-value, IsRead, Reading, word_at, number_value, named}
-use Rattle.command_laws.specs.CommandRecord.{CommandLaws, NeitherReads}
+use Rattle.command_laws.specs.CommandRecord.{CommandLaws}
 use Rattle.command_spec.specs.Command.{HasForm}
 use Rattle.command_spec.specs.Single.{DefectOutcome, defect_command}
 use Rattle.command_spec.specs.Outcome.{HasPlace}
@@ -25,6 +25,8 @@ use Rattle.qic_base.specs.Cartridge.{view_at}
 use Rattle.qic_base.specs.CartridgeTerms.{IsCartridge}
 use Rattle.qic_base.specs.Step.{changed, Spoil}
 use Rattle.qic_base.specs.Tape.{spoil_answer}
+use Rattle.cartridge_laws.proofs.ChangeClean.{no_header_less}
+use Rattle.cartridge_laws.specs.HeaderTerms.{NeitherReads}
 use Rattle.command_spec.specs.declared.status.Status.TheVariants as status
 use Rattle.command_spec.specs.declared.words.Words.TheVariants as words
 
@@ -70,7 +72,7 @@ defect_laws segment sector = record {
       (clean_from_less area is_area c (changed (Spoil segment sector) c) (spoiled_alike c segment sector).no_more clean) left torn;
   bare = λ c keeps bare input outcome left does torn.
       defect_leaving HasNoHeader segment sector c outcome does bare
-      (bare_from_less c (changed (Spoil segment sector) c) (spoiled_alike c segment sector).no_more bare) left torn;
+      (no_header_less c (changed (Spoil segment sector) c) (spoiled_alike c segment sector).no_more bare) left torn;
   unread = λ c copies keeps none input outcome left does torn.
       sector_left NeitherReads (Spoil segment sector) segment sector c left none
       (λ place. neither_alike c (changed (Spoil segment sector) c) (λ copy h. spoiled_cells c segment sector copy) none)

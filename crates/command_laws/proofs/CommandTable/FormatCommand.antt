@@ -11,10 +11,11 @@ use Rattle.command_laws.proofs.CommandTotals.{format_answers}
 use Rattle.command_laws.proofs.CommandValues.{dated_values}
 use Rattle.command_laws.proofs.CommandWhole.{format_whole, some_whole}
 use Rattle.command_laws.proofs.TextCommands.{dated_cases, two_words, three_words, dated_length, IsDateWord-value, IsRead, Reading, word_at, date_behind, named, date_value}
-use Rattle.command_laws.specs.CommandRecord.{CommandLaws, NeitherReads}
+use Rattle.command_laws.specs.CommandRecord.{CommandLaws}
 use Rattle.command_spec.specs.Command.{HasForm, IsUnprotected}
 use Rattle.command_spec.specs.Single.{FormatOutcome, format_command}
 use Rattle.qic_base.specs.Field.{filled}
+use Rattle.cartridge_laws.specs.HeaderTerms.{NeitherReads}
 use Rattle.command_spec.specs.declared.status.Status.TheVariants as status
 use Rattle.command_spec.specs.declared.words.Words.TheVariants as words
 

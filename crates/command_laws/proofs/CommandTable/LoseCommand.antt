@@ -6,7 +6,7 @@ use Rattle.cartridge_laws.proofs.ChangeViews.{worn_reads_no_more}
 use Rattle.cartridge_spec.specs.Formatting.{HasNoHeader}
 use Rattle.cartridge_spec.specs.Mounting.{Mounted, Mounts}
 use Rattle.cartridge_spec.specs.Volumes.{Stands}
-use Rattle.command_laws.proofs.CommandClean.{bare_from_less, clean_from_less, Clean, lose_leaving}
+use Rattle.command_laws.proofs.CommandClean.{clean_from_less, Clean, lose_leaving}
 use Rattle.command_laws.proofs.CommandComplete.{where_some, lose_done}
 use Rattle.command_laws.proofs.CommandKeeping.{sector_left}
 use Rattle.command_laws.proofs.CommandPlainLaws.{lose_is_function, lose_leaves}
@@ -17,12 +17,14 @@ use Rattle.command_laws.proofs.CommandUnread.{worn_neither}
 use Rattle.command_laws.proofs.CommandWhole.{some_whole}
 use Rattle.command_laws.proofs.WholeSteps.{worn_whole}
 use Rattle.command_laws.proofs.TextCommands.{only, three_words, spelled_length, IsNumber-value, IsRead, Reading, word_at, number_value, named}
-use Rattle.command_laws.specs.CommandRecord.{CommandLaws, NeitherReads}
+use Rattle.command_laws.specs.CommandRecord.{CommandLaws}
 use Rattle.command_spec.specs.Command.{HasForm}
 use Rattle.command_spec.specs.Single.{LoseOutcome, lose_command}
 use Rattle.command_spec.specs.Outcome.{HasPlace}
 use Rattle.qic_base.specs.Step.{changed, Wear}
 use Rattle.qic_base.specs.CartridgeTerms.{IsCartridge}
+use Rattle.cartridge_laws.proofs.ChangeClean.{no_header_less}
+use Rattle.cartridge_laws.specs.HeaderTerms.{NeitherReads}
 use Rattle.command_spec.specs.declared.status.Status.TheVariants as status
 use Rattle.command_spec.specs.declared.words.Words.TheVariants as words
 
@@ -68,7 +70,7 @@ lose_laws segment sector = record {
       lose_leaving (Clean area is_area) segment sector c outcome does clean
       (clean_from_less area is_area c (changed (Wear segment sector) c) (worn_reads_no_more c segment sector) clean) left torn;
   bare = λ c keeps bare input outcome left does torn.
-      lose_leaving HasNoHeader segment sector c outcome does bare (bare_from_less c (changed (Wear segment sector) c) (worn_reads_no_more c segment sector) bare) left torn;
+      lose_leaving HasNoHeader segment sector c outcome does bare (no_header_less c (changed (Wear segment sector) c) (worn_reads_no_more c segment sector) bare) left torn;
   unread = λ c copies keeps none input outcome left does torn.
       sector_left NeitherReads (Wear segment sector) segment sector c left none
       (λ place. worn_neither c segment sector place.in_segment (keeps place) none) (lose_leaves segment sector (Some c) left outcome does torn);

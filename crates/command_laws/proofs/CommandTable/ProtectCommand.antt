@@ -10,13 +10,14 @@ use Rattle.command_laws.proofs.CommandUnread.{marked_neither}
 use Rattle.command_laws.proofs.CommandWhole.{some_whole, step_whole}
 use Rattle.command_laws.proofs.WholeSteps.{protected_whole}
 use Rattle.command_laws.proofs.TextCommands.{only, two_words, spelled_length, IsRead, Reading, word_at, named}
-use Rattle.command_laws.specs.CommandRecord.{CommandLaws, NeitherReads}
+use Rattle.command_laws.specs.CommandRecord.{CommandLaws}
 use Rattle.command_spec.specs.Command.{HasForm}
 use Rattle.command_spec.specs.Lines.{protected_line}
 use Rattle.command_laws.specs.Outcomes.{ProtectOutcome}
 use Rattle.command_spec.specs.Single.{protect_command}
 use Rattle.qic_base.specs.Cartridge.{Cartridge}
 use Rattle.qic_base.specs.Step.{changed, SetProtected}
+use Rattle.cartridge_laws.specs.HeaderTerms.{NeitherReads}
 use Rattle.command_spec.specs.declared.status.Status.TheVariants as status
 use Rattle.command_spec.specs.declared.words.Words.TheVariants as words
 

@@ -2,7 +2,7 @@
 use Rattle.std.proofs.Common.{[], Some, None, refl, sym, subst, append-nil, ℕ, List, arith, codes}
 use Rattle.cartridge_laws.proofs.ChangeStanding.{marks_read_no_more}
 use Rattle.cartridge_spec.specs.Formatting.{HasNoHeader}
-use Rattle.command_laws.proofs.CommandClean.{bare_from_less, clean_from_less, Clean, sent_leaving}
+use Rattle.command_laws.proofs.CommandClean.{clean_from_less, Clean, sent_leaving}
 use Rattle.command_laws.proofs.CommandComplete.{pulses_go}
 use Rattle.command_laws.proofs.CommandKeeping.{pulses_stand, pulses_mount}
 use Rattle.command_laws.proofs.CommandPlainLaws.{sent_leaves, sent_is_function}
@@ -13,11 +13,13 @@ use Rattle.command_laws.proofs.CommandUnread.{marked_neither}
 use Rattle.command_laws.proofs.CommandWhole.{some_whole}
 use Rattle.command_laws.proofs.WholeSteps.{referenced_whole}
 use Rattle.command_laws.proofs.TextCommands.{only, one_word, spelled_length, IsRead, Reading, named}
-use Rattle.command_laws.specs.CommandRecord.{CommandLaws, NeitherReads}
+use Rattle.command_laws.specs.CommandRecord.{CommandLaws}
 use Rattle.command_spec.specs.Command.{HasForm}
 use Rattle.command_spec.specs.Pulses.{AreLevels, pulses_command}
 use Rattle.qic_base.specs.Step.{changed, SetReferenced}
 use Rattle.qic_base.specs.CartridgeTerms.{IsCartridge}
+use Rattle.cartridge_laws.proofs.ChangeClean.{no_header_less}
+use Rattle.cartridge_laws.specs.HeaderTerms.{NeitherReads}
 use Rattle.command_spec.specs.declared.words.Words.TheVariants as words
 
 -- its words are read as it
@@ -49,7 +51,7 @@ pulses_laws = record {
       sent_leaving (Clean area is_area) c input outcome does clean
       (clean_from_less area is_area c (changed SetReferenced c) (marks_read_no_more c (changed (SetReferenced) c) refl) clean) left torn;
   bare = λ c keeps bare input outcome left does torn.
-      sent_leaving HasNoHeader c input outcome does bare (bare_from_less c (changed SetReferenced c) (marks_read_no_more c (changed (SetReferenced) c) refl) bare) left torn;
+      sent_leaving HasNoHeader c input outcome does bare (no_header_less c (changed SetReferenced c) (marks_read_no_more c (changed (SetReferenced) c) refl) bare) left torn;
   unread = λ c copies keeps none input outcome left does torn.
       sent_leaving NeitherReads c input outcome does none (marked_neither c (changed SetReferenced c) refl none) left torn;
   whole = λ c input outcome left values content whole does torn.

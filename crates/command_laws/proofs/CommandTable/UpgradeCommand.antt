@@ -13,13 +13,14 @@ use Rattle.command_laws.proofs.CommandUnread.{marked_neither}
 use Rattle.command_laws.proofs.CommandWhole.{some_whole, step_whole}
 use Rattle.command_laws.proofs.WholeSteps.{upgraded_whole}
 use Rattle.command_laws.proofs.TextCommands.{one_word, only, spelled_length, IsRead, Reading, named}
-use Rattle.command_laws.specs.CommandRecord.{CommandLaws, NeitherReads}
+use Rattle.command_laws.specs.CommandRecord.{CommandLaws}
 use Rattle.command_spec.specs.Command.{HasForm}
 use Rattle.command_spec.specs.Lines.{upgraded_line}
 use Rattle.command_laws.specs.Outcomes.{UpgradeOutcome}
 use Rattle.command_spec.specs.Single.{upgrade_command}
 use Rattle.qic_base.specs.Cartridge.{Cartridge}
 use Rattle.qic_base.specs.Step.{Upgrade, changed}
+use Rattle.cartridge_laws.specs.HeaderTerms.{NeitherReads}
 use Rattle.command_spec.specs.declared.status.Status.TheVariants as status
 use Rattle.command_spec.specs.declared.words.Words.TheVariants as words
 

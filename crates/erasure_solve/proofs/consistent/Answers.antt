@@ -1,9 +1,10 @@
 use Rattle.std.proofs.Common.{◌≡◌, ℕ, ◌∙◌, ap, sym, subst, arith}
 use Rattle.gf256_qic.specs.Code.{IsSolvable}
 use Rattle.gf256_qic.proofs.Parities.{block_count}
-use Rattle.erasure_solve.specs.Lost.{is_lost, lost_count}
+use Rattle.erasure_solve.specs.Lost.{lost_count}
 use Rattle.erasure_solve.specs.Plan.{planned_lost}
 use Rattle.erasure_solve.proofs.Plans.{none_counted, solvable_whole, whole_solvable}
+use Rattle.qic_base.specs.CartridgeTerms.{is_lost}
 use Rattle.erasure_solve.proofs.consistent.Goals as goal
 
 pub of-requires-clause-few : goal.of-requires-clause-few

@@ -2,7 +2,8 @@
 
 ghost use Rattle.std.specs.Prelude.{◌≡◌, OnOk};
 ghost use Rattle.qic_base.specs.TapeCalls.{Does};
-ghost use Rattle.command_spec.specs.Pulses.{pulsed_row, train_changes};
+ghost use Rattle.drive_spec.specs.Row.{pulsed_row};
+ghost use Rattle.drive_spec.specs.Steps.{train_changes};
 ghost use Rattle.command_laws.specs.PulseRuns.{level_line};
 
 use drive_states::Unit;

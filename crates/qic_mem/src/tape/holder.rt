@@ -2,8 +2,8 @@
 
 ghost use Rattle.std.specs.Prelude.{◌≡◌, ◌≢◌, ◌*◌, false, true, None, length, IfOk, IfSome, IsSomeAnd};
 ghost use Rattle.std.specs.Option.{option_map, ForSome};
-ghost use Rattle.qic_base.specs.Cartridge.{IsLength, IsPlace, view_at};
-ghost use Rattle.qic_base.specs.CartridgeTerms.{new_version, place_of};
+ghost use Rattle.qic_base.specs.Cartridge.{IsLength, IsPlace, view_at, new_version};
+ghost use Rattle.qic_base.specs.CartridgeTerms.{place_of};
 ghost use Rattle.qic_base.specs.Step.{WriteSector, FormatSegment, SetReferenced, SetProtected, Renew, Wear, Spoil, Upgrade};
 ghost use Rattle.qic_base.specs.TapeCalls.{Reads, write_answer};
 ghost use Rattle.qic_base.specs.Tape.{spoil_answer};

@@ -2,8 +2,8 @@
 
 ghost use Rattle.std.specs.Prelude.{◌≡◌, ◌≢◌, [], ◌∷◌, Some, None, IsOk, IsSome, IfOk, IfSome, OnOk, OnErr};
 ghost use Rattle.std.specs.Option.{option_map};
-ghost use Rattle.qic_base.specs.Cartridge.{IsLength, view_at};
-ghost use Rattle.qic_base.specs.CartridgeTerms.{IsVersion, new_version};
+ghost use Rattle.qic_base.specs.Cartridge.{IsLength, view_at, new_version};
+ghost use Rattle.qic_base.specs.CartridgeTerms.{IsVersion};
 ghost use Rattle.qic_base.specs.Step.{WriteSector, FormatSegment, SetReferenced, SetProtected, Renew, Wear, Spoil, Upgrade};
 ghost use Rattle.qic_base.specs.TapeCalls.{Does, Tells, IsPlaceOf, Reads, write_answer};
 ghost use Rattle.qic_base.specs.Tape.{Done, spoil_answer};

@@ -1,8 +1,8 @@
 use Rattle.std.proofs.Common.{◌≡◌, ℕ, ◌++◌, List, length, take, drop, sym, ap, ◌∙◌, arith}
 use Rattle.std.proofs.lemmas.List.{take_at}
 use Rattle.cartridge_spec.specs.Code.{parity_sectors}
-use Rattle.erasure_solve.specs.Lost.{is_lost}
 use Rattle.cartridge_front.specs.Settling.{collected_block, is_stale}
+use Rattle.qic_base.specs.CartridgeTerms.{is_lost}
 use Rattle.cartridge_front.proofs.settling.renew_parity.Goals as goal
 
 -- the sectors that were lent are those of the block

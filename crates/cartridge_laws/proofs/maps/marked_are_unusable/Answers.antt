@@ -1,7 +1,7 @@
 use Rattle.std.proofs.Common.{◌≡◌, ◌-◌, ◌<◌, w32, arith}
 use Rattle.std.specs.Int.{bit_at}
 use Rattle.std.proofs.lemmas.Nat.Bits.{bit_at_not, bit_at-lt}
-use Rattle.cartridge_laws.specs.Segment.{mask_of}
+use Rattle.cartridge_spec.specs.Shape.{mask_of}
 use Rattle.cartridge_laws.proofs.maps.marked_are_unusable.Goals as goal
 
 pub returns : goal.returns

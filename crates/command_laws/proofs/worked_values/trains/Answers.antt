@@ -1,9 +1,10 @@
 use Rattle.std.proofs.Common.{refl}
-use Rattle.command_spec.specs.Pulses.{pulsed_row, train_changes}
 use Rattle.qic117_commands.specs.Commands.{command_at, commands}
 use Rattle.qic117_commands.specs.Refusals.{first_refusal, illegal_in_format, illegal_in_primary, illegal_in_verify, is_diagnostic, is_unsupported, needs_cartridge, needs_known_cartridge, needs_logical_bot, needs_reference, needs_writable, waits_for_seek, waits_for_stop}
 use Rattle.qic117_commands.specs.StatusWord.{status_of}
 use Rattle.qic117_commands.specs.Digits.{digits}
+use Rattle.drive_spec.specs.Row.{pulsed_row}
+use Rattle.drive_spec.specs.Steps.{train_changes}
 use Rattle.command_laws.proofs.worked_values.trains.Goals as goal
 
 pub returns-clause-status : goal.returns-clause-status

@@ -7,9 +7,10 @@ use Rattle.drive_spec.specs.Deck.{segments_per_track, is_streaming}
 use Rattle.host_driver.specs.Place.{StreamsAt}
 use Rattle.host_driver.proofs.Keeping.{keeps_both, mode_kept}
 use Rattle.segment_io.proofs.Going.{done_moved}
-use Rattle.formatter.specs.Steps.{formats_from, track_formats}
+use Rattle.formatter.specs.Steps.{track_formats}
 use Rattle.formatter.proofs.Parts.{done_one, broke_one}
 use Rattle.formatter.proofs.Places.{length_kept, before_first, before_next}
+use Rattle.cartridge_laws.specs.FormatMarks.{formats_from}
 use Rattle.formatter.proofs.clearing.clear_track.Goals as goal
 
 pub loop-preserved : goal.loop-preserved

@@ -3,8 +3,8 @@ use Rattle.std.proofs.Common.{◌≡◌, ◌*◌, true}
 use Rattle.qic_base.specs.Tape.{Done}
 use Rattle.qic117_commands.specs.Views.{is_format}
 use Rattle.host_driver.specs.Calls.{Keeps}
-use Rattle.formatter.specs.Steps.{formats_from}
 use Rattle.formatter.proofs.Places.{IsBefore}
+use Rattle.cartridge_laws.specs.FormatMarks.{formats_from}
 use Rattle.formatter.proofs.clearing.clear_track.Given as goal
 
 abbrev pub invariant-loop : goal.invariant-loop

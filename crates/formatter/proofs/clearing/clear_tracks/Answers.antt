@@ -5,9 +5,10 @@ use Rattle.qic_base.specs.Tape.{Done, Broke}
 use Rattle.qic117_commands.specs.Views.{is_format}
 use Rattle.drive_spec.specs.Deck.{segments_per_track}
 use Rattle.host_driver.proofs.Keeping.{keeps_both, mode_kept}
-use Rattle.formatter.specs.Steps.{formats_from, track_formats}
+use Rattle.formatter.specs.Steps.{track_formats}
 use Rattle.formatter.proofs.Parts.{done_track, broke_track}
 use Rattle.formatter.proofs.Places.{length_kept}
+use Rattle.cartridge_laws.specs.FormatMarks.{formats_from}
 use Rattle.formatter.proofs.clearing.clear_tracks.Goals as goal
 
 pub loop-track-preserved : goal.loop-track-preserved

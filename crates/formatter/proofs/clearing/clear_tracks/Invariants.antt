@@ -4,7 +4,7 @@ use Rattle.qic_base.specs.Tape.{Done}
 use Rattle.qic117_commands.specs.Views.{is_format}
 use Rattle.drive_spec.specs.Deck.{segments_per_track, is_stopped}
 use Rattle.host_driver.specs.Calls.{Keeps}
-use Rattle.formatter.specs.Steps.{formats_from}
+use Rattle.cartridge_laws.specs.FormatMarks.{formats_from}
 use Rattle.formatter.proofs.clearing.clear_tracks.Given as goal
 
 abbrev pub invariant-loop-track : goal.invariant-loop-track

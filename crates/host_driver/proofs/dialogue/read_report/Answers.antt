@@ -5,8 +5,10 @@ use Rattle.qic117_commands.specs.declared.command.Command.TheVariants.{ReportNex
 use Rattle.drive_spec.specs.Record.{Record}
 use Rattle.drive_states.specs.Unit.{UnitView}
 use Rattle.host_driver.specs.Reports.{command_of, width_of, reported_word}
-use Rattle.host_driver.specs.Train.{TakesTrain, train_steps, after_train}
+use Rattle.host_driver.specs.Train.{TakesTrain}
 use Rattle.host_driver.proofs.Reporting.{reporting, reporting-none, reporting-next, reporting-all, takes-command, takes-next, reads-command, reads-next, reported-small, collected, collected-all, taken-room, next-level, length-levels_of}
+use Rattle.drive_spec.specs.Row.{pulsed_row}
+use Rattle.drive_spec.specs.Steps.{train_changes}
 use Rattle.host_driver.proofs.dialogue.read_report.Goals as goal
 
 pub sample-requires-clause-taken : goal.sample-requires-clause-taken
@@ -18,7 +20,7 @@ sample-requires-clause-taken g c =
 pub sample-requires-clause-reads : goal.sample-requires-clause-reads
 sample-requires-clause-reads g c =
     let number : c.number.result ≡ number_of (command_of c.args.kind) = c.number.ensures ∙ ap number_of c.command.ensures in
-    ap (train_steps c.args.unit.now.drive) number ∙ reads-command c.args.kind c.args.unit.now.drive
+    ap (train_changes c.args.unit.now.drive) number ∙ reads-command c.args.kind c.args.unit.now.drive
 
 pub loop-level-init : goal.loop-level-init
 loop-level-init g c =
@@ -26,7 +28,7 @@ loop-level-init g c =
     let width : c.width-width.result ≡ width_of c.args.kind = c.width-width.ensures in
     record {
       unit = c.sample.ensures.row ∙ ap (λ (r : Record). record c.args.unit.now { drive = r })
-          (ap (after_train c.args.unit.now.drive) number ∙ reporting-none c.args.kind c.args.unit.now.drive c.requires.no_pulse c.requires.idle c.requires.taken);
+          (ap (pulsed_row c.args.unit.now.drive) number ∙ reporting-none c.args.kind c.args.unit.now.drive c.requires.no_pulse c.requires.idle c.requires.taken);
       sound = c.sample.ensures.sound;
       width = ap (λ (k : Collected). k.width) c.new-collector.ensures ∙ width;
       taken = ap (λ (k : Collected). k.levels) c.new-collector.ensures;
@@ -42,7 +44,7 @@ sample-requires-in-loop-level-clause-taken g c =
 
 pub sample-requires-in-loop-level-clause-reads : goal.sample-requires-in-loop-level-clause-reads
 sample-requires-in-loop-level-clause-reads g c =
-    ap (train_steps c.loop-level.unit.drive) c.number-in-loop-level.ensures ∙ reads-next c.loop-level.unit.drive
+    ap (train_changes c.loop-level.unit.drive) c.number-in-loop-level.ensures ∙ reads-next c.loop-level.unit.drive
 
 pub loop-level-preserved : goal.loop-level-preserved
 loop-level-preserved g c =
@@ -54,8 +56,8 @@ loop-level-preserved g c =
     let some : c.loop-level._level < length levels = omega (arith, long) in
     let shown : c.sample-in-loop-level.new.unit ≡ record c.args.unit.now { drive = reporting c.args.kind c.args.unit.now.drive (c.loop-level._level + 1) } =
     c.sample-in-loop-level.ensures.row
-    ∙ ap (λ (n : ℕ). record c.loop-level.unit { drive = after_train c.loop-level.unit.drive n }) c.number-in-loop-level.ensures
-    ∙ ap (λ (u : UnitView _). record u { drive = after_train u.drive (number_of ReportNextBit) }) c.loop-level.invariant.unit
+    ∙ ap (λ (n : ℕ). record c.loop-level.unit { drive = pulsed_row c.loop-level.unit.drive n }) c.number-in-loop-level.ensures
+    ∙ ap (λ (u : UnitView _). record u { drive = pulsed_row u.drive (number_of ReportNextBit) }) c.loop-level.invariant.unit
     ∙ ap (λ (r : Record). record c.args.unit.now { drive = r })
     (reporting-next c.args.kind c.args.unit.now.drive c.loop-level._level c.requires.no_pulse more) in
     let line : c.sample-in-loop-level.new.unit.drive.line ≡ get_or levels c.loop-level._level false =

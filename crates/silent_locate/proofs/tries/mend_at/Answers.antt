@@ -1,7 +1,8 @@
 use Rattle.std.proofs.Common.{◌≡◌, ℕ, ◌+◌, ◌≤◌, arith}
-use Rattle.erasure_solve.specs.Lost.{is_lost, lost_count}
+use Rattle.erasure_solve.specs.Lost.{lost_count}
 use Rattle.silent_locate.specs.Tries.{lost_or}
 use Rattle.silent_locate.proofs.Sets.{with_place-test, count_with_place}
+use Rattle.qic_base.specs.CartridgeTerms.{is_lost}
 use Rattle.silent_locate.proofs.tries.mend_at.Goals as goal
 
 pub returns-in_default-clause-mended : goal.returns-in_default-clause-mended

@@ -2,10 +2,9 @@ use Rattle.std.proofs.Common.{◌≡◌, List, ap, subst, OnOk, arith}
 use Rattle.qic_base.specs.Step.{Step}
 use Rattle.qic_base.specs.TapeCalls.{Does}
 use Rattle.drive_spec.specs.Record.{Record}
-use Rattle.drive_spec.specs.Steps.{gap_steps}
+use Rattle.drive_spec.specs.Steps.{gap_steps, train_changes}
 use Rattle.drive_states.specs.Unit.{UnitView}
-use Rattle.command_spec.specs.Pulses.{train_changes}
-use Rattle.command_laws.proofs.PulseTrains.{sent, sent_steps}
+use Rattle.drive_states.proofs.Units.{sent, sent_steps}
 use Rattle.hand_commands.proofs.pulses.sending.send_train.Goals as goal
 
 pub returns-clause-row : goal.returns-clause-row

@@ -1,7 +1,9 @@
 use Rattle.std.proofs.Common.{ℕ, ◌+◌, ap, sym, subst, ◌∙◌}
 use Rattle.host_driver.specs.Fits.{parameter_of}
-use Rattle.host_driver.specs.Train.{TakesTrain, after_train, train_steps}
+use Rattle.host_driver.specs.Train.{TakesTrain}
 use Rattle.host_driver.proofs.Sending.{gives, given_as}
+use Rattle.drive_spec.specs.Row.{pulsed_row}
+use Rattle.drive_spec.specs.Steps.{train_changes}
 use Rattle.host_driver.proofs.host.Host.give.Goals as goal
 
 pub tell-requires-clause-taken : goal.tell-requires-clause-taken
@@ -12,11 +14,11 @@ tell-requires-clause-taken g c =
 pub tell-requires-clause-reads : goal.tell-requires-clause-reads
 tell-requires-clause-reads g c =
     let gave = gives c.args.unit.now.drive c.args.value c.requires.still c.requires.fits.no_error c.requires.fits.generates c.requires.awaited in
-    ap (λ (n : ℕ). train_steps c.args.unit.now.drive (n + c.args.value)) c.number.ensures ∙ gave.steps
+    ap (λ (n : ℕ). train_changes c.args.unit.now.drive (n + c.args.value)) c.number.ensures ∙ gave.steps
 
 pub returns-clause-given : goal.returns-clause-given
 returns-clause-given g c =
     let gave = gives c.args.unit.now.drive c.args.value c.requires.still c.requires.fits.no_error c.requires.fits.generates c.requires.awaited in
     given_as c.args.unit.now.drive c.tell.new.unit.drive c.args.value
-    (c.tell.ensures.row ∙ ap (λ (n : ℕ). after_train c.args.unit.now.drive (n + c.args.value)) c.number.ensures)
+    (c.tell.ensures.row ∙ ap (λ (n : ℕ). pulsed_row c.args.unit.now.drive (n + c.args.value)) c.number.ensures)
     (parameter_of c.args.unit.now.drive.under_way) gave.given

@@ -8,7 +8,7 @@ use Rattle.host_driver.specs.declared.host.Host.{Host}
 use Rattle.host_driver.specs.Fits.{segments_of}
 use Rattle.cartridge_front.specs.declared.fault.StoreFault.{StoreFault}
 use Rattle.cartridge_front.specs.declared.fault.StoreFault.TheVariants.{Tape}
-use Rattle.volume_store.specs.Mounting.{StoreView, Settles, IsSettling, IsCutOff, MountDoes}
+use Rattle.volume_store.specs.Mounting.{StoreView, Settles, IsSettling, SettlingBreaks, MountDoes}
 use Rattle.cartridge_front.specs.Settling.{mending_steps}
 use Rattle.cartridge_front.proofs.Passing.{passed}
 use Rattle.volume_store.proofs.Storing.{sound_volumes, told_settles, told_lists, told_there, none_mended, one_length, still_primary, still_referenced}
@@ -63,7 +63,7 @@ returns-in_err-settle-clause-did g c =
     let is : c.from_residual-in_err-settle.result ≡ Err fault = passed c.from_residual-in_err-settle.result fault c.from_residual-in_err-settle.ensures.1 in
     let tape : fault ≡ Tape = c.in_err-settle.ensures.fault in
     let steps : List Step = mending_steps (is_protected c.learn.new.unit.drive.deck) c.in_ok-learnt.learnt.unread c.learn.new.work in
-    let broken : IsCutOff m c.args.unit.now.tape c.settle.new.unit.tape = record {
+    let broken : SettlingBreaks m c.args.unit.now.tape c.settle.new.unit.tape = record {
       steps = steps;
       broke = Broke-after_reads c.in_ok-learnt.ensures.did c.in_err-settle.ensures.did;
       front = told_there c.args.unit.now.drive.deck.cartridge (m.told c.args.unit.now.tape) _
