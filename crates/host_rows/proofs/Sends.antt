@@ -1,4 +1,4 @@
--- What a host that knows its cartridge may send where the tape seen_stop: reports.
+-- What a host that knows its cartridge may send where the tape stands: reports.
 use Rattle.std.proofs.Common.{◌≡◌, true, None, refl}
 use Rattle.qic_base.specs.Tape.{Meaning}
 use Rattle.qic117_commands.specs.Refusals.{first_refusal, is_unsupported, is_diagnostic, needs_cartridge, waits_for_seek, waits_for_stop, illegal_in_primary, illegal_in_format, illegal_in_verify, needs_writable, needs_known_cartridge, needs_reference, needs_logical_bot}
