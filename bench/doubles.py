@@ -6,8 +6,9 @@
 
 Two lemmas say the same where their types are one text once bound names are left out of account, and each name that the
 types cite is imported from one file. One could cite the other where its crate stands on the other's, or where both are of one
-crate and the first's file doesn't come to the other's by its own imports. Lemmas within a module of a file are not looked at, nor
-answers. It reads the files alone, in some seconds.
+crate and the first's file doesn't come to the other's by its own imports. Where neither crate stands on the other, both could
+cite one of a lower crate, the lowest with all that their types cite at hand: it is told behind the pair.
+Lemmas within a module of a file are not looked at, nor answers. It reads the files alone, in some seconds.
 """
 import re
 import sys
@@ -43,7 +44,7 @@ class File:
         self.path = path
         self.crate, _, *inner = path.relative_to(TOP / "crates").with_suffix("").parts
         self.module = f"{self.crate}.proofs.{'.'.join(inner)}"
-        self.imports, self.below, self.types, self.own = {}, set(), {}, set()
+        self.imports, self.aliases, self.below, self.types, self.own = {}, {}, set(), {}, set()
         lines = path.read_text().split("\n")
         for at, line in enumerate(lines):
             if match := USE.match(line):
@@ -51,11 +52,19 @@ class File:
                 self.imports |= {name.split(" as ")[-1]: match[1] for name in match[2].split(", ")}
             elif match := ALIAS.match(line):
                 self.below.add(match[1])
-                self.imports[match[2]] = match[1]
+                self.imports[match[2]] = self.aliases[match[2]] = match[1]
             elif match := re.match(r"^(?:abbrev |unfoldable |pub |record |data )*([^\s:(){}]+)[ :({]", line):
                 self.own.add(match[1])
                 if (head := HEAD.match(line)) and (end := self.end_of_type(lines, at, head[1])):
-                    self.types[head[1]] = " ".join(" ".join(lines[at:end]).split()).split(" : ", 1)[1]
+                    self.types[head[1]] = self.plain(" ".join(" ".join(lines[at:end]).split()).split(" : ", 1)[1])
+
+    def plain(self, text):
+        """The type, with the names that it cites by a module's other name cited alone, as if they were imported."""
+        for alias, name in re.findall(r"(?<![\w.])(\w+)\.([^\s(){},;]+)", text):
+            if alias in self.aliases and name not in self.imports.keys() | self.own:
+                self.imports[name] = self.aliases[alias]
+                text = re.sub(rf"(?<![\w.]){alias}\.{re.escape(name)}(?![\w\-◌])", name, text)
+        return text
 
     @staticmethod
     def end_of_type(lines, at, name):
@@ -94,6 +103,12 @@ def main():
             return lower.crate in stands_on[upper.crate]
         return upper.module not in reaches(lower.module)
 
+    def home(one, other, words):
+        """The lowest crate below both that can have what both say."""
+        cited = {source.split(".")[0] for source in map(one.source, words) if source} & stands_on.keys()
+        below = [crate for crate in stands_on if crate in stands_on[one.crate] & stands_on[other.crate]]
+        return next((crate for crate in below if cited <= stands_on[crate] | {crate}), None)
+
     same = defaultdict(list)
     for file in files.values():
         for name, text in file.types.items():
@@ -109,8 +124,13 @@ def main():
                 if any(one.source(word) != other.source(word) for word in words if one.source(word) and other.source(word)):
                     continue
                 if may_cite(other, one) or may_cite(one, other):
-                    count += 1
-                    print(f"{one.module} {name}: {other.module} {its_name}")
+                    where = ""
+                elif one.crate != other.crate and (lower := home(one, other, words)):
+                    where = f", both above {lower}"
+                else:
+                    continue
+                count += 1
+                print(f"{one.module} {name}: {other.module} {its_name}{where}")
     print(f"{count} pairs")
 
 

@@ -1,5 +1,5 @@
 -- The bytes of an area, and the numbers in its fields.
-use Rattle.std.proofs.Common.{◌≡◌, ℕ, ◌+◌, ◌-◌, List, [], ◌∷◌, ◌++◌, arith}
+use Rattle.std.proofs.Common.{◌≡◌, ℕ, ◌+◌, List, [], ◌∷◌, ◌++◌, arith}
 use Rattle.std.proofs.lemmas.List.FromFn.{map-range_with_len_more}
 use Rattle.cartridge_spec.specs.Header.{word_in}
 use Rattle.cartridge_laws.specs.HeaderTerms.{words_in}

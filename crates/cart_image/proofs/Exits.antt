@@ -1,8 +1,7 @@
 -- What a function on the disk did, at each of its exits.
 use Rattle.std.proofs.Common.{◌≡◌, ℕ, inl, inr, List, [], ◌++◌, refl, ◌∙◌, ap, Option, Some, None, IfSome, subst, Result, Ok, Err}
 use Rattle.cart_image.specs.declared.layout.Layout.{Layout}
-use Rattle.qic_base.specs.Disk.{Meaning, DiskStep, Look, stored, Stored, Failed}
-use Rattle.std.specs.Option.{option_map}
+use Rattle.qic_base.specs.Disk.{Meaning, DiskStep, Look, Failed}
 use Rattle.cart_image.specs.Run.{Looks, Looked, Ran, Halted, Runs, Went, Carried, CarriedBy}
 use Rattle.cart_image.proofs.Runs.{Looks-Looks, Ran-Ran, Ran-Halted}
 
@@ -67,14 +66,6 @@ planned-by told s F plan steps fact follows bytes is = follows bytes (told-fact 
 pub Looked-err : {D T E : Type 0} (m : Meaning D) (a b c : D) (r : Result T E) (e : E) → r ≡ Err e → Looks m a b → ((mid : D) × Looks m b mid × Failed m mid c Look) → Looked m a c r
 Looked-err m a b c (Ok x) e is first next = cc
 Looked-err m a b c (Err f) e is first next = (next.0, Looks-Looks first next.1, next.2)
-
--- a look leaves the told bytes as they were
-pub told-look : {D : Type 0} {m : Meaning D} {a b : D} → Stored m a b Look → m.told b ≡ m.told a
-told-look {m = m} {a = a} s = s.told ∙ same (m.told a)
-  where
-    same : (told : Option (List ℕ)) → option_map (stored Look) told ≡ told
-    same None = refl
-    same (Some bytes) = refl
 
 -- after looks
 pub Carried-after : {D T E : Type 0} (m : Meaning D) (old mid new : D) (plan : List ℕ → List DiskStep) (r : Result T E) → Looks m old mid → Carried m mid new plan r → Carried m old new plan r

@@ -2,7 +2,7 @@
 
 ghost use Rattle.std.specs.Prelude.{◌≡◌, ◌≢◌, ◌<◌, ◌≤◌, ℕ, List, [], ◌∷◌, true, Some, None, length, slice_index, IsSome, IfOk, IfSome, OnOk, OnErr};
 ghost use Rattle.std.specs.Option.{option_map};
-ghost use Rattle.qic_base.specs.Cartridge.{IsLength, view_at};
+ghost use Rattle.qic_base.specs.Cartridge.{IsLength, view_at, info_of};
 ghost use Rattle.qic_base.specs.CartridgeTerms.{IsVersion, place_of};
 ghost use Rattle.qic_base.specs.Disk.{IsSettled};
 ghost use Rattle.qic_base.specs.Step.{WriteSector, FormatSegment, SetReferenced, SetProtected, Renew, Wear, Spoil, Upgrade};
@@ -203,7 +203,7 @@ impl<D: Disk> Tape for ImageTape<D> {
     fn info(&mut self) -> Result<Option<TapeInfo>, TapeFailed>
         ensures did { Does image_means self.old self.new [] result }
         ensures info { IfOk result (λ info.
-            IfSome (image_means.told self.old) (λ held. info ≡ option_map (λ c. c.info) held)) }
+            IfSome (image_means.told self.old) (λ held. info ≡ info_of held)) }
         ensures size { IfOk result (λ info.
             image_means.size self.new ≡ option_map (λ i. i.segments_per_track) info) }
         ensures failed { OnErr result (image_means.size self.new ≡ image_means.size self.old) }

@@ -1,5 +1,5 @@
 -- The writes of an entry into the table's segment, as those of two sets of places.
-use Rattle.std.proofs.Common.{◌≡◌, ◌≢◌, ℕ, zero, suc, ◌*◌, ◌%◌, ◌^◌, ◌<◌, ◌++◌, refl, sym, ◌∙◌, ap, arith, inl, inr, Bool, true, false, List, [], ◌∷◌, map, bit_or, Result, Ok, Err, subst}
+use Rattle.std.proofs.Common.{◌≡◌, ◌≢◌, ℕ, zero, suc, ◌*◌, ◌%◌, ◌^◌, ◌<◌, ◌++◌, refl, sym, ◌∙◌, ap, arith, inl, inr, Bool, true, false, List, [], ◌∷◌, map, bit_or, Result, Err, subst}
 use Rattle.std.specs.Prelude.{◌==◌, if◌then◌else◌}
 use Rattle.std.specs.Int.{w32, bit_at}
 use Rattle.std.specs.Int.Bits.{or_zero_l}
@@ -9,7 +9,7 @@ use Rattle.qic_base.specs.Cartridge.{lost_places}
 use Rattle.qic_base.specs.Step.{Step}
 use Rattle.qic_base.specs.Tape.{Meaning, Done, Broke}
 use Rattle.qic_base.specs.TapeCalls.{Does}
-use Rattle.qic_base.proofs.Steps.{Done-Done, Done-Broke, Broke-front}
+use Rattle.qic_base.proofs.Steps.{Broke-front, Done-Does}
 use Rattle.erasure_solve.proofs.Places.{is_lost_from}
 use Rattle.cartridge_spec.specs.Shape.{sector_at}
 use Rattle.cartridge_spec.specs.Says.{with_parity}
@@ -87,13 +87,9 @@ both_writes new changed = refl
 
 -- ---- calls, one after another
 
-both_done : {S A E : Type 0} (m : Meaning S) (a b c : S) (xs ys : List Step) (r : Result A E) → Done m a b xs → Does m b c ys r → Does m a c (xs ++ ys) r
-both_done m a b c xs ys (Ok answer) first next = Done-Done first next
-both_done m a b c xs ys (Err fault) first next = Done-Broke first next
-
 -- a call behind one that was done
 pub does_after : {S A E : Type 0} (m : Meaning S) (a b c : S) (xs ys zs : List Step) (r : Result A E) → xs ++ ys ≡ zs → Done m a b xs → Does m b c ys r → Does m a c zs r
-does_after m a b c xs ys zs r are first next = subst (λ (steps : List Step). Does m a c steps r) are (both_done m a b c xs ys r first next)
+does_after m a b c xs ys zs r are first next = subst (λ (steps : List Step). Does m a c steps r) are (Done-Does m a b c xs ys r first next)
 
 -- .. and one that broke off, before another
 pub broke_front : {S A E : Type 0} (m : Meaning S) (a b : S) (xs ys zs : List Step) (fault : E) (r : Result A E) → r ≡ Err fault → xs ++ ys ≡ zs → Broke m a b xs → Does m a b zs r

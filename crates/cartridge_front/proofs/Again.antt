@@ -13,7 +13,7 @@ use Rattle.drive_spec.specs.Terms.{is_protected}
 use Rattle.drive_states.specs.Unit.{UnitView}
 use Rattle.host_driver.specs.Fits.{Fits, AgreesWithTape}
 use Rattle.host_driver.specs.declared.host.Host.{Host}
-use Rattle.qic_base.proofs.Steps.{Tells-read, Done-after_reads, Broke-after_reads, Tells-map}
+use Rattle.qic_base.proofs.Steps.{Tells-read, Done-after_reads, Broke-after_reads, Tells-map, tells_two}
 use Rattle.qic_base.specs.Cartridge.{Cartridge}
 use Rattle.qic_base.specs.Step.{Step}
 use Rattle.qic_base.specs.Tape.{Meaning, Broke, Done}
@@ -21,7 +21,7 @@ use Rattle.qic_base.specs.TapeCalls.{Tells, Does}
 use Rattle.qic_base.specs.declared.tape.SectorView.{SectorView}
 use Rattle.segment_io.proofs.Going.{tells_always}
 use Rattle.segment_io.specs.declared.fault.SegFault.{SegFault}
-use Rattle.cartridge_front.proofs.Copies.{IsLearnt, told_learnt, tells_two}
+use Rattle.cartridge_front.proofs.Copies.{IsLearnt, told_learnt}
 use Rattle.cartridge_front.proofs.Settled.{mending_settles}
 use Rattle.cartridge_front.specs.Again.{FindsList, IsBrokenOff, IsOfReading, IsRefused, SettlesAgain, AddsEntry, entry_writes, HasTable, IsSettledAgain, BrokeUnread, FaultUnread}
 use Rattle.cartridge_front.specs.Finding.{FindsTable, refusal_of, Leaves}

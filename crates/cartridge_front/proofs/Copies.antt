@@ -43,14 +43,6 @@ leaves_on {A = A} m a b steps fault r is refused = subst (λ (answer : Result A 
 
 -- ---- what is told
 
-pub tells_two : {T : Type 0} (m : Meaning T) (s : T) (P Q R : Cartridge → Type 0) → ((c : Cartridge) → P c → Q c → R c) → Tells m s P → Tells m s Q → Tells m s R
-tells_two m s P Q R follows first second = by_cases (m.told s) first second
-  where
-    by_cases : (held : Option (Option Cartridge)) → IfSome held (λ h. IfSome h P) → IfSome held (λ h. IfSome h Q) → IfSome held (λ h. IfSome h R)
-    by_cases None one two = tt
-    by_cases (Some None) one two = tt
-    by_cases (Some (Some c)) one two = follows c one two
-
 -- a cartridge that the host has learnt right
 pub record IsLearnt (host : Host) (c : Cartridge) : Type 0 where
   pub length_told : c.info.segments_per_track ≡ segments_of host

@@ -17,8 +17,8 @@ use Rattle.cartridge_front.specs.Settling.{is_stale}
 
 -- ---- a set with one place more
 
-with_place : (stale place i : ℕ) → place < 32 → is_lost (bit_or stale (1 * 2 ^ place % 2 ^ 32)) i ≡ (is_lost stale i || (i == place))
-with_place stale place i within =
+is_lost-with_place : (stale place i : ℕ) → place < 32 → is_lost (bit_or stale (1 * 2 ^ place % 2 ^ 32)) i ≡ (is_lost stale i || (i == place))
+is_lost-with_place stale place i within =
     elim (cases_eq i place) [
       | inl same ↦
           let here : IsLost (bit_or stale (1 * 2 ^ place % 2 ^ 32)) i =
@@ -41,7 +41,7 @@ with_place stale place i within =
 pub stale_with : (stale place i : ℕ) (same : Bool) → same ≡ false → place < 32 →
     is_lost (bit_or stale (1 * 2 ^ place % 2 ^ 32)) i ≡ (is_lost stale i || (i == place && not same))
 stale_with stale place i same differs within =
-    with_place stale place i within
+    is_lost-with_place stale place i within
     ∙ ap (λ (b : Bool). is_lost stale i || b) (and_true (i == place) ∙ ap (λ (s : Bool). i == place && not s) (sym differs))
   where
     and_true : (b : Bool) → b ≡ (b && true)

@@ -21,7 +21,7 @@ use segment_io::Workspace;
 use segment_parity::parity_of;
 
 /// The places of a whole segment's parity.
-const PARITY_SECTORS: [u8; 3] = [29, 30, 31];
+const PARITY_PLACES: [u8; 3] = [29, 30, 31];
 
 /// The mask with the bit of a place where its sector isn't the one that belongs there.
 fn with_stale(stale: u32, place: u8, held: &Sector, wanted: &Sector) -> u32
@@ -43,9 +43,9 @@ fn replace_parity(sectors: &mut [Sector], lost: u32, parity: &[Sector; 3]) -> u3
     ensures stale { (i : ℕ) → i < 32 →
         is_lost result i ≡ is_stale lost sectors.old (take 29 sectors.old ++ parity.now) i }
 {
-    let stale = with_stale(lost, PARITY_SECTORS[0], &sectors[29], &parity[0]);
-    let stale = with_stale(stale, PARITY_SECTORS[1], &sectors[30], &parity[1]);
-    let stale = with_stale(stale, PARITY_SECTORS[2], &sectors[31], &parity[2]);
+    let stale = with_stale(lost, PARITY_PLACES[0], &sectors[29], &parity[0]);
+    let stale = with_stale(stale, PARITY_PLACES[1], &sectors[30], &parity[1]);
+    let stale = with_stale(stale, PARITY_PLACES[2], &sectors[31], &parity[2]);
     sectors[DATA_SECTORS..].copy_from_slice(parity);
     stale
 }

@@ -2,7 +2,7 @@
 use Rattle.std.proofs.Common.{◌≤◌, Bool, true, false, cond, arith, ◌≡◌, ℕ, ◌<◌, List, length, sym, ap, ◌∙◌, ◌≢◌, zero, suc, [], ◌∷◌, refl, inl, inr}
 use Rattle.std.proofs.lemmas.List.{take_all}
 use Rattle.std.proofs.lemmas.Bool.{cases_eq}
-use Rattle.cartridge_laws.proofs.Cells.{IsReadable, count_of_readable, unreadable_count-first}
+use Rattle.cartridge_laws.proofs.Cells.{IsReadable, count_of_readable, unreadable_count-first, one_if_any}
 use Rattle.cartridge_laws.proofs.FormatCopies.{view_held}
 use Rattle.cartridge_laws.proofs.MountParts.{readable_front, length-block, data_read}
 use Rattle.cartridge_laws.proofs.MountStanding.{written_table}
@@ -18,10 +18,6 @@ use Rattle.qic_base.specs.declared.tape.SectorView.{SectorView}
 use Rattle.qic_base.specs.declared.tape.SectorView.TheVariants.{Lost, Holds}
 
 -- ---- one sector lost
-
-pub one_if_any : (b : Bool) → cond b 1 0 ≤ 1
-one_if_any true = omega arith
-one_if_any false = omega arith
 
 pub none_if_readable : (b : Bool) → b ≡ false → cond b 1 0 ≤ 0
 none_if_readable true is = absurd (cc)

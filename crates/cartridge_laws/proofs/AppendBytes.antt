@@ -5,7 +5,7 @@ use Rattle.std.proofs.lemmas.List.Sums.{sum_by-cons}
 use Rattle.std.specs.List.{range_with_len}
 use Rattle.std.proofs.lemmas.Bool.{cases_Bool, leb-true, le-leb, cases_lt}
 use Rattle.std.proofs.lemmas.List.Elements.{All-head, All-tail}
-use Rattle.std.proofs.lemmas.List.{append_assoc, take_all, take_at, append-nil, take-append-drop, length-take, length-drop}
+use Rattle.std.proofs.lemmas.List.{append_assoc, take_all, take_at, take-append-drop, length-take, length-drop}
 use Rattle.cartridge_laws.proofs.AppendDone.{segments_are}
 use Rattle.cartridge_laws.proofs.AppendSegments.{carries, carried, carrying_are, AreTaken, HasRoom, carrying_carry}
 use Rattle.cartridge_laws.proofs.AppendVolume.{ready_taken, plain_room}
@@ -19,6 +19,7 @@ use Rattle.cartridge_laws.specs.Table.{last_end}
 use Rattle.cartridge_spec.specs.HeaderCopies.{last_segment}
 use Rattle.cartridge_spec.specs.Shape.{mask_at, capacity, data_count, usable_count}
 use Rattle.cartridge_spec.specs.Table.{Entry}
+use Rattle.qic_base.proofs.Arrays.{full_sector}
 
 -- ---- what segments carry
 
@@ -92,12 +93,6 @@ short_bytes bytes rest few =
     ap (λ (front : List ℕ). take (length bytes) (filled_up front ++ rest)) (take_all 1024 bytes few)
     ∙ ap (take (length bytes)) (append_assoc bytes (replicate (1024 - length bytes) 0) rest)
     ∙ take_at bytes (replicate (1024 - length bytes) 0 ++ rest) (length bytes) refl
-
--- a sector that they fill
-full_sector : (front : List ℕ) → length front ≡ 1024 → filled_up front ≡ front
-full_sector front long =
-    let none : 1024 - length front ≡ 0 = omega arith in
-    ap (λ (n : ℕ). front ++ replicate n 0) none ∙ append-nil front
 
 pub bytes_of_sectors : (count : ℕ) (bytes : List ℕ) → length bytes ≤ 1024 * count → take (length bytes) (bytes_in (in_sectors count bytes)) ≡ bytes
 bytes_of_sectors zero bytes within = no_bytes bytes (omega arith)

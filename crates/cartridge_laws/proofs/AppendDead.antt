@@ -1,9 +1,9 @@
 -- A table of which each sector that takes a write holds its part, and the writes of its new data.
 use Rattle.std.proofs.Common.{ℕ, inl, List, arith, ◌≡◌, ◌⊎◌, sym, ◌∙◌, subst, refl, Bool, cond, ap, ◌≤◌, ◌∷◌, suc, ◌<◌, [], length, Some, inr}
-use Rattle.cartridge_laws.proofs.AppendBetween.{one_if_any, none_if_readable}
+use Rattle.cartridge_laws.proofs.AppendBetween.{none_if_readable}
 use Rattle.cartridge_laws.proofs.AppendStanding.{AreKeptTo}
 use Rattle.cartridge_laws.proofs.AppendTableWrites.{HoldParts, DifferIn, table_written, table_lived}
-use Rattle.cartridge_laws.proofs.Cells.{IsReadable, unreadable_count-first, count_of_readable, readable_from_count}
+use Rattle.cartridge_laws.proofs.Cells.{IsReadable, unreadable_count-first, count_of_readable, readable_from_count, one_if_any}
 use Rattle.cartridge_laws.proofs.FormatCopies.{held_view, view_held}
 use Rattle.cartridge_laws.proofs.FormatStanding.{same_cells}
 use Rattle.cartridge_laws.proofs.MountFar.{length-table_block}

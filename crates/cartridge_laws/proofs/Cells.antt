@@ -1,5 +1,5 @@
 -- The cells of a segment by place: which of them are unreadable, and how many.
-use Rattle.std.proofs.Common.{ℕ, zero, suc, Bool, false, List, [], ◌∷◌, ◌≡◌, ◌+◌, refl, arith, sym, ◌∙◌, ap, length, slice_get, Some, ◌<◌, ◌≤◌, take, zero-add}
+use Rattle.std.proofs.Common.{ℕ, zero, suc, Bool, false, List, [], ◌∷◌, ◌≡◌, ◌+◌, refl, arith, sym, ◌∙◌, ap, length, slice_get, Some, ◌<◌, ◌≤◌, take, zero-add, true, cond}
 use Rattle.std.proofs.lemmas.List.Sums.{sum_by-cons}
 use Rattle.cartridge_spec.specs.Code.{IsCodeBlock}
 use Rattle.cartridge_spec.specs.Says.{unreadable_count, Agrees}
@@ -90,3 +90,8 @@ readable_from_count (suc n) (Holds bytes ∷ cells) long none (suc i) h =
     let rest : unreadable_count (take n cells) ≡ 0 =
     omega (arith, unreadable_count-first (Holds bytes) (take n cells)) in
     readable_from_count n cells (omega arith) rest i (omega arith)
+
+-- a test that counts as one at most
+pub one_if_any : (b : Bool) → cond b 1 0 ≤ 1
+one_if_any true = omega arith
+one_if_any false = omega arith

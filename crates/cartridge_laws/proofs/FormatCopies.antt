@@ -1,9 +1,9 @@
 -- What the cells of a segment are by the views of its sectors, and whether a header copy reads.
-use Rattle.std.proofs.Common.{◌≡◌, ℕ, ◌<◌, List, ◌-◌, sym, ◌∙◌, arith, length, slice_get, Some, ap, ◌≤◌, true, inl, inr, Bool, false, cond, refl, suc, [], ◌∷◌, ◌+◌, ◌*◌, replicate, zero, ◌==◌, get_or}
+use Rattle.std.proofs.Common.{◌≡◌, ℕ, ◌<◌, List, ◌-◌, sym, ◌∙◌, arith, length, slice_get, Some, ap, ◌≤◌, true, inl, inr, false, cond, refl, suc, [], ◌∷◌, ◌+◌, ◌*◌, replicate, zero, ◌==◌, get_or}
 use Rattle.std.proofs.lemmas.Option.{slice_get_within, unwrap_or-slice_get, slice_get-get_or, get_or_from_slice_get}
 use Rattle.std.proofs.lemmas.Bool.{cases_lt, false≢true}
 use Rattle.std.proofs.lemmas.List.{get_or-replicate, get_or_past, length-replicate, take_all, get_or-take}
-use Rattle.cartridge_laws.proofs.Cells.{unreadable_count-first, IsReadable, count_of_readable}
+use Rattle.cartridge_laws.proofs.Cells.{unreadable_count-first, IsReadable, count_of_readable, one_if_any}
 use Rattle.cartridge_laws.proofs.Sayings.{written_is_said}
 use Rattle.cartridge_laws.proofs.Segments.{cells_of_whole, length-whole_cells, zero_does_not_read}
 use Rattle.cartridge_laws.specs.FormatLaws.{NewHasNoHeader}
@@ -90,16 +90,12 @@ bare_does_not_read c copy (inr many) = lost_does_not_read c copy many
 pub unformatted_from_bare : (c : Cartridge) → HasNoHeader c → IsUnformatted c
 unformatted_from_bare c none = inr (bare_does_not_read c 0 none.first, bare_does_not_read c 1 none.second)
 
-pub one_at_most : (b : Bool) → cond b 1 0 ≤ 1
-one_at_most true = omega arith
-one_at_most false = omega arith
-
 -- where a cell can be read only if another can, it counts no less
 counts_no_less : (x y : SectorView) → ((bytes : List ℕ) → y ≡ Holds bytes → x ≡ Holds bytes) →
     cond (is_unreadable x) 1 0 ≤ cond (is_unreadable y) 1 0
-counts_no_less x Blank held = one_at_most (is_unreadable x)
-counts_no_less x Defect held = one_at_most (is_unreadable x)
-counts_no_less x Lost held = one_at_most (is_unreadable x)
+counts_no_less x Blank held = one_if_any (is_unreadable x)
+counts_no_less x Defect held = one_if_any (is_unreadable x)
+counts_no_less x Lost held = one_if_any (is_unreadable x)
 counts_no_less x (Holds bytes) held =
     let one : SectorView → ℕ = λ view. cond (is_unreadable view) 1 0 in
     let none : one x ≡ 0 = ap one (held bytes refl) in
@@ -178,7 +174,7 @@ few_unreadable n [] long each = absurd (omega arith)
 few_unreadable n (cell ∷ cells) long each =
     let rest : unreadable_count cells ≡ 0 =
     ap (λ (xs : List SectorView). unreadable_count xs) (sym (take_all n cells (omega arith))) ∙ count_of_readable n cells each in
-    let first = one_at_most (is_unreadable cell) in
+    let first = one_if_any (is_unreadable cell) in
     omega (arith, unreadable_count-first cell cells)
 
 pub copy_is_readable : (c : Cartridge) (segment : ℕ) (block : List (List ℕ)) → IsCopyOf c segment block →

@@ -6,7 +6,7 @@ use Rattle.std.proofs.lemmas.List.Elements.{All-nil, All-replicate}
 use Rattle.cartridge_laws.proofs.FormatCopies.{HoldsZeros, zero_from_views}
 use Rattle.cartridge_laws.proofs.FormatFresh.{fresh_are_sound}
 use Rattle.cartridge_laws.proofs.Segments.{length-whole_cells}
-use Rattle.cartridge_laws.proofs.Zeros.{zero_sector-is_sector, zero_is_written}
+use Rattle.cartridge_laws.proofs.Zeros.{zero_is_written}
 use Rattle.cartridge_spec.specs.Formatting.{IsFreshFor, fresh_plain}
 use Rattle.cartridge_spec.specs.Header.{header_fault}
 use Rattle.cartridge_spec.specs.HeaderCopies.{CopyReads, copy_cells}
@@ -19,6 +19,7 @@ use Rattle.qic_base.specs.CartridgeTerms.{IsCartridge}
 use Rattle.qic_base.specs.Field.{number_at, little_endian}
 use Rattle.qic_base.specs.declared.tape.TapeInfo.{TapeInfo}
 use Rattle.cartridge_laws.proofs.FreshBuilding.{zero_area, zero_bytes}
+use Rattle.qic_base.proofs.Arrays.{zero_sector-is_sector}
 use Rattle.cartridge_spec.specs.Table as tables
 
 -- ---- the empty table

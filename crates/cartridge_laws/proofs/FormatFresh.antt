@@ -18,8 +18,6 @@ use Rattle.qic_base.specs.Field.{little_endian, number_at}
 use Rattle.cartridge_laws.proofs.HeaderReadingLaws.{any}
 use Rattle.cartridge_laws.proofs.HeaderRefusals.{map_fault-none, first_fault-holds}
 
--- ---- the fields
-
 -- ---- the words of the map
 
 -- a number of so many bytes

@@ -1,64 +1,21 @@
 -- What a change of one segment or of one sector does to the views of a cartridge.
-use Rattle.std.proofs.Common.{◌≡◌, ℕ, ◌+◌, ◌*◌, ◌-◌, get_or, List, ◌++◌, take, drop, map, ◌≤◌, length, arith, length-append, length-take, length-drop, ◌<◌, ◌∙◌, ap, sym, ◌≢◌, inl, inr, slice_get, Option}
+use Rattle.std.proofs.Common.{◌≡◌, ℕ, ◌+◌, ◌*◌, get_or, List, ◌≤◌, length, arith, length-append, length-take, length-drop, ◌<◌, ◌∙◌, ap, sym, ◌≢◌, inl, inr, slice_get, Option}
 use Rattle.std.proofs.lemmas.Option.{unwrap_or-slice_get}
-use Rattle.std.proofs.lemmas.List.{length-map, get_or-take, get_or_append_left, get_or-drop, get_or-append_right, get_or-map, get_or-set_same, get_or_past, set_past, get_or-set_other}
+use Rattle.std.proofs.lemmas.List.{length-map, get_or-set_same, get_or_past, set_past, get_or-set_other}
 use Rattle.std.proofs.lemmas.Bool.{cases_lt}
 use Rattle.std.specs.Prelude.{unwrap_or}
 use Rattle.qic_base.specs.Cartridge.{Cartridge, view_at, with_view}
-use Rattle.qic_base.specs.CartridgeTerms.{with_segment, place_of, changed_views}
+use Rattle.qic_base.specs.CartridgeTerms.{with_segment, place_of}
 use Rattle.qic_base.specs.Step.{SegmentBecame}
 use Rattle.qic_base.specs.declared.tape.SectorView.{SectorView}
 use Rattle.qic_base.specs.declared.tape.SectorView.TheVariants.{Blank}
+use Rattle.qic_base.proofs.Views.{get-below, get-above, get-within}
 
 -- the view of a sector, in the list of views
 view_from : (c : Cartridge) (segment sector : ℕ) → view_at c segment sector ≡ get_or c.views (32 * segment + sector) Blank
 view_from c segment sector = unwrap_or-slice_get c.views (32 * segment + sector) Blank
 
 -- ---- one segment changed
-
-length-part : (views : List SectorView) (segment : ℕ) (change : SectorView → SectorView) → 32 * (segment + 1) ≤ length views →
-    length (take (32 * segment) views ++ map change (take 32 (drop (32 * segment) views))) ≡ 32 * (segment + 1)
-length-part views segment change within = simp (length-append, length-map, length-take, length-drop) (omega arith)
-
-get-below : (views : List SectorView) (segment place : ℕ) (change : SectorView → SectorView) →
-    32 * (segment + 1) ≤ length views → place < 32 * segment →
-    get_or (changed_views views segment change) place Blank ≡ get_or views place Blank
-get-below views segment place change within below =
-    let front : List SectorView = take (32 * segment) views in
-    let long : length front ≡ 32 * segment = simp length-take (omega arith) in
-    let middle : List SectorView = map change (take 32 (drop (32 * segment) views)) in
-    get_or_append_left (front ++ middle) (drop (32 * (segment + 1)) views) Blank place
-    (omega (arith, length-part views segment change within))
-    ∙ get_or_append_left front middle Blank place (omega arith)
-    ∙ get_or-take (32 * segment) views place Blank below
-
-get-above : (views : List SectorView) (segment place : ℕ) (change : SectorView → SectorView) →
-    32 * (segment + 1) ≤ length views → 32 * (segment + 1) ≤ place →
-    get_or (changed_views views segment change) place Blank ≡ get_or views place Blank
-get-above views segment place change within above =
-    let sum : 32 * (segment + 1) + (place - 32 * (segment + 1)) ≡ place = omega arith in
-    get_or-append_right (take (32 * segment) views ++ map change (take 32 (drop (32 * segment) views)))
-    (drop (32 * (segment + 1)) views) (32 * (segment + 1)) place Blank (length-part views segment change within) above
-    ∙ get_or-drop (32 * (segment + 1)) views (place - 32 * (segment + 1)) Blank
-    ∙ ap (λ p. get_or views p Blank) sum
-
-get-within : (views : List SectorView) (segment sector : ℕ) (change : SectorView → SectorView) →
-    32 * (segment + 1) ≤ length views → sector < 32 →
-    get_or (changed_views views segment change) (32 * segment + sector) Blank
-    ≡ change (get_or views (32 * segment + sector) Blank)
-get-within views segment sector change within in_segment =
-    let front : List SectorView = take (32 * segment) views in
-    let part : List SectorView = take 32 (drop (32 * segment) views) in
-    let long : length front ≡ 32 * segment = simp length-take (omega arith) in
-    let some : length part ≡ 32 = simp (length-take, length-drop) (omega arith) in
-    let left : 32 * segment + sector - 32 * segment ≡ sector = omega arith in
-    get_or_append_left (front ++ map change part) (drop (32 * (segment + 1)) views) Blank (32 * segment + sector)
-    (omega (arith, length-part views segment change within))
-    ∙ get_or-append_right front (map change part) (32 * segment) (32 * segment + sector) Blank long (omega arith)
-    ∙ ap (λ p. get_or (map change part) p Blank) left
-    ∙ get_or-map change part sector Blank Blank (omega arith)
-    ∙ ap change (get_or-take 32 (drop (32 * segment) views) sector Blank in_segment
-    ∙ get_or-drop (32 * segment) views sector Blank)
 
 -- as many views as before
 pub length-with_segment : (c : Cartridge) (segment : ℕ) (change : SectorView → SectorView) →

@@ -13,6 +13,7 @@ use Rattle.cartridge_spec.specs.Shape.{IsArea}
 use Rattle.qic_base.proofs.FieldLaws.{length-overwritten, length-little_endian_bytes, number_at-overwritten}
 use Rattle.qic_base.specs.Cartridge.{IsSector, zero_sector}
 use Rattle.qic_base.specs.Field.{overwritten, little_endian_bytes, number_at}
+use Rattle.qic_base.proofs.Arrays.{zero_sector-is_sector}
 
 -- ---- sectors that are written over
 
@@ -39,17 +40,13 @@ number_bytes (suc width) value =
 unfoldable pub zero_area : List (List ℕ)
 zero_area = replicate 29 zero_sector
 
-zero_sector_is : IsSector zero_sector
-unfolding zero_sector
-zero_sector_is = record { size = length-replicate {A = ℕ} 1024 0; each = All-replicate (λ b. b < 256) 1024 0 (omega arith) }
-
 pub zero_bytes : zero_sector ≡ replicate 1024 0
 unfolding zero_sector
 zero_bytes = refl
 
 pub zero_area_is : IsArea zero_area
 unfolding zero_area
-zero_area_is = record { size = length-replicate 29 zero_sector; sectors = All-replicate IsSector 29 zero_sector zero_sector_is }
+zero_area_is = record { size = length-replicate 29 zero_sector; sectors = All-replicate IsSector 29 zero_sector zero_sector-is_sector }
 
 pub zero_area_clear : (k : ℕ) → byte_in zero_area k ≡ 0
 unfolding zero_area

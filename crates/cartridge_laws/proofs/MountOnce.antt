@@ -87,6 +87,7 @@ not_otherwise c xs saying other (inr hx) says =
     let same : ByCode (Data xs) ≡ ByCode saying = table_says_is_function (table_cells c) (ByCode (Data xs)) (ByCode saying) hx says in
     other (cc)
 
+-- what a table that can be read says is not that it is lost
 pub not_lost : (c : Cartridge) (xs : List (List ℕ)) (n : ℕ) → TableIs c xs → TableSays (table_cells c) (ByCode (LostSectors n)) → ⊥
 not_lost c xs n table lost = not_otherwise c xs (LostSectors n) (λ same. cc) table lost
 

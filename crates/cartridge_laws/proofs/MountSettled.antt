@@ -17,7 +17,7 @@ use Rattle.cartridge_laws.specs.MountLaws.{SettledKeepsTable, SettledMounts, Set
 use Rattle.cartridge_spec.specs.TableSegment.{TableIs, ReadsPlainly, IsTableLive}
 use Rattle.cartridge_spec.specs.Mounting.{settled}
 use Rattle.cartridge_spec.specs.Says.{whole_mask, with_parity}
-use Rattle.cartridge_spec.specs.Settling.{settling_steps, writes_of, changed_by, holds, block_writes}
+use Rattle.cartridge_spec.specs.Settling.{settling_steps, writes_of, changed_by, holds, block_writes, settling_places}
 use Rattle.cartridge_laws.specs.TableCells.{is_unsettled, is_left_out}
 use Rattle.cartridge_laws.specs.Segment.{places_where}
 use Rattle.cartridge_spec.specs.Shape.{usable_places, sector_at, is_unreadable}
@@ -134,3 +134,7 @@ settled_needs_no_steps c area table live =
     let info = (settled_keeps_table c area table).info in
     ap (λ (i : TapeInfo). if i.protected then [] else settling_writes (settled area c) area) info
     ∙ by_marks c area c.info.protected refl table live
+
+-- nothing settles a protected cartridge
+pub locked_steps : (table : List (List ℕ)) (c : Cartridge) → c.info.protected ≡ true → settling_steps table c ≡ []
+locked_steps table c is = ap (λ (b : Bool). if b then [] else block_writes (with_parity table) (settling_places c table)) is

@@ -7,7 +7,7 @@ use Rattle.std.specs.List.{range_with_len}
 use Rattle.std.proofs.lemmas.List.FromFn.{map-range_with_len_more}
 use Rattle.std.proofs.lemmas.Nat.{pow_pos}
 use Rattle.cartridge_spec.specs.Shape.{usable_count, usable_places}
-use Rattle.qic_base.proofs.LostSetLaws.{lost_places-lost, lost_places-kept, lost_places-above}
+use Rattle.qic_base.proofs.LostSetLaws.{lost_places-lost, lost_places-kept, lost_places-above, count_more, count_same}
 use Rattle.qic_base.specs.Cartridge.{lost_places}
 use Rattle.qic_base.specs.CartridgeTerms.{IsLost}
 
@@ -57,13 +57,6 @@ place_of_sector mask i lost h =
     ∙ append_assoc (lost_places mask i) (i ∷ []) front.rest in
     ap (λ (l : List ℕ). get_or l (length (lost_places mask i)) 0) parts
     ∙ get_or_at (lost_places mask i) i front.rest 0 (length (lost_places mask i)) refl
-
--- how many are below a number
-pub count_more : (mask i : ℕ) → IsLost mask i → length (lost_places mask (i + 1)) ≡ length (lost_places mask i) + 1
-count_more mask i lost = ap (λ (l : List ℕ). length l) (lost_places-lost mask i lost) ∙ length_push (lost_places mask i) i
-
-pub count_same : (mask i : ℕ) → (IsLost mask i → ⊥) → length (lost_places mask (i + 1)) ≡ length (lost_places mask i)
-count_same mask i kept = ap (λ (l : List ℕ). length l) (lost_places-kept mask i kept)
 
 pub count_front : (mask n : ℕ) → n ≤ 32 → length (lost_places mask n) ≤ usable_count mask
 count_front mask n h =

@@ -1,5 +1,5 @@
 -- What the writes of a segment leave on a cartridge.
-use Rattle.std.proofs.Common.{◌≡◌, ℕ, zero, suc, ◌<◌, refl, arith, List, [], ◌∷◌, length, set, slice_get, Some, ◌≢◌, ap, ◌≤◌, ◌∙◌, sym, inl, inr, Option, get_or, subst}
+use Rattle.std.proofs.Common.{◌≡◌, ℕ, zero, suc, ◌<◌, refl, arith, List, [], ◌∷◌, length, set, slice_get, Some, ◌≢◌, ap, ◌≤◌, ◌∙◌, sym, inl, inr, Option, get_or, subst, map}
 use Rattle.std.proofs.lemmas.List.{length-append, length-take-le, set_past, length-map, take_all}
 use Rattle.std.specs.Prelude.{unwrap_or}
 use Rattle.std.proofs.lemmas.Bool.{cases_lt}
@@ -17,9 +17,10 @@ use Rattle.cartridge_spec.specs.Shape.{usable_count, data_count, usable_places, 
 use Rattle.gf256_qic.proofs.Parities.{length-parity_sectors}
 use Rattle.qic_base.specs.Cartridge.{Cartridge, view_at}
 use Rattle.qic_base.specs.CartridgeTerms.{place_of}
-use Rattle.qic_base.specs.Step.{WriteSector, changed, written_view}
+use Rattle.qic_base.specs.Step.{WriteSector, changed, written_view, Step}
 use Rattle.qic_base.specs.declared.tape.SectorView.{SectorView}
 use Rattle.qic_base.specs.declared.tape.SectorView.TheVariants.{Blank, Defect, Lost, Holds}
+use Rattle.qic_base.proofs.Arrays.{slice_get-set_other}
 
 -- ---- lists
 
@@ -27,13 +28,6 @@ pub slice_get-set_same : {A : Type 0} (xs : List A) (i : ℕ) (y : A) → i < le
 slice_get-set_same [] i y h = absurd (omega arith)
 slice_get-set_same (x ∷ xs) zero y h = refl
 slice_get-set_same (x ∷ xs) (suc i) y h = slice_get-set_same xs i y (omega arith)
-
-pub slice_get-set_other : {A : Type 0} (xs : List A) (i j : ℕ) (y : A) → j ≢ i → slice_get (set xs i y) j ≡ slice_get xs j
-slice_get-set_other [] i j y apart = refl
-slice_get-set_other (x ∷ xs) zero zero y apart = absurd (apart refl)
-slice_get-set_other (x ∷ xs) zero (suc j) y apart = refl
-slice_get-set_other (x ∷ xs) (suc i) zero y apart = refl
-slice_get-set_other (x ∷ xs) (suc i) (suc j) y apart = slice_get-set_other xs i j y (λ e. apart (ap suc e))
 
 -- the block of data sectors and their parity is as long as there are usable sectors
 pub length-block_in : (usable : ℕ) (sectors : List (List ℕ)) → 4 ≤ usable_count usable → usable_count usable ≤ length sectors →
@@ -172,3 +166,9 @@ writes_make_readable c segment usable sectors least room live =
 
 pub writes_touch_only : WritesTouchOnly
 writes_touch_only c segment places sectors s i small h other = view_kept places sectors c segment s i small h other
+
+pub writes_of_map : (segment : ℕ) (f : ℕ → ℕ) (g : ℕ → List ℕ) (places : List ℕ) →
+    writes_of segment (map f places) (map g places) ≡ map (λ p. WriteSector segment (f p) (g p)) places
+writes_of_map segment f g [] = refl
+writes_of_map segment f g (p ∷ places) =
+    ap (λ (steps : List Step). WriteSector segment (f p) (g p) ∷ steps) (writes_of_map segment f g places)

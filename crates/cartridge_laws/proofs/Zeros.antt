@@ -15,6 +15,7 @@ use Rattle.gf256_qic.proofs.Products.{product_zero_left}
 use Rattle.gf256_qic.proofs.Values.{value_at-none, value_at-first}
 use Rattle.qic_base.specs.Field.{number_at}
 use Rattle.qic_base.specs.declared.tape.SectorView.TheVariants.{Holds}
+use Rattle.qic_base.proofs.Arrays.{zero_sector-is_sector}
 
 -- a column of zero bytes has the value 0 everywhere
 value_at-zeros : (p n : ℕ) → value_at p (replicate n 0) ≡ 0
@@ -37,10 +38,6 @@ zeros_codeword n least most =
       at_one = value_at-zeros 0x01 n;
       at_generator = value_at-zeros 0x02 n;
     }
-
-pub zero_sector-is_sector : IsSector zero_sector
-unfolding zero_sector
-zero_sector-is_sector = record { size = length-replicate {A = ℕ} 1024 0; each = All-replicate (λ b. b < 256) 1024 0 (omega arith) }
 
 zero_byte : (j : ℕ) → j < 1024 → slice_index zero_sector j ≡ 0
 unfolding zero_sector

@@ -1,5 +1,5 @@
--- The formats of the first segments; a cartridge that was cleared, and one that was formatted (Linux ftape headers: two header
--- copies; the rest is this project's profile).
+-- The formats of segments that follow each other; a cartridge that was cleared, and one that was formatted (Linux ftape
+-- headers: two header copies; the rest is this project's profile).
 use Rattle.std.specs.Prelude.{◌≡◌, ℕ, ◌*◌, ◌<◌, true, ◌≤◌, List, map}
 use Rattle.cartridge_spec.specs.Says.{with_parity}
 use Rattle.cartridge_spec.specs.Shape.{sector_at}

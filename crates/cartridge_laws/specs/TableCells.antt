@@ -1,6 +1,6 @@
 -- The sectors of the volume table's segment: the sets that its reading tries, those that its settling or an append writes, and a
 -- table that holds a list (this project's profile).
-use Rattle.std.specs.Prelude.{ℕ, List, ◌∷◌, [], ◌+◌, ◌==◌, ◌++◌, Bool, false, not, Option, nat_lt, if◌then◌else◌}
+use Rattle.std.specs.Prelude.{ℕ, List, ◌∷◌, [], ◌==◌, ◌++◌, Bool, false, not, Option, nat_lt, if◌then◌else◌}
 use Rattle.cartridge_spec.specs.Code.{IsCodeBlock}
 use Rattle.cartridge_spec.specs.Shape.{sector_at, is_unreadable}
 use Rattle.cartridge_spec.specs.TableSegment.{table_cells}

@@ -18,7 +18,7 @@ use Rattle.command_laws.proofs.CommandEnds.{Laws, over_at, told_whole}
 use Rattle.command_laws.proofs.CommandOpened.{quiet}
 use Rattle.command_laws.proofs.CommandSeveral.{heard_fault, never_sink, some_long, none_left}
 use Rattle.command_laws.proofs.CommandTable.{plain_answers}
-use Rattle.command_laws.proofs.CommandTold.{input_of, input_told}
+use Rattle.command_laws.proofs.CommandTold.{input_told}
 use Rattle.command_laws.proofs.CommandVolumes.{done_now, Did, carried_out_did, now_weaker}
 use Rattle.command_laws.proofs.MadeLeaving.{made_are_listed, make_lists}
 use Rattle.command_laws.proofs.MountedListed.{mounted_listed}
@@ -54,6 +54,7 @@ use Rattle.qic_base.specs.Cartridge.{Cartridge}
 use Rattle.qic_base.specs.CartridgeTerms.{IsCartridge}
 use Rattle.qic_base.specs.Step.{effects, Step as TapeStep}
 use Rattle.qic_base.specs.declared.tape.TapeInfo.{TapeInfo}
+use Rattle.qic_base.specs.SourceCalls.{input_of}
 use Rattle.command_spec.specs.declared.status.Status.TheVariants as status
 use Rattle.qic_base.specs.Sink as sinks
 use Rattle.qic_base.specs.Source as sources

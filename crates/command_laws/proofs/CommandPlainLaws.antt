@@ -20,7 +20,7 @@ use Rattle.command_spec.specs.Single.{DefectOutcome, FormatOutcome, LoseOutcome}
 use Rattle.command_laws.specs.Outcomes.{cleared, formatted, Printing, Mends, ScrubOutcome, Appends, RestoreOutcome}
 use Rattle.command_spec.specs.Make.{Making}
 use Rattle.command_spec.specs.Outcome.{refused, CommandOutcome, Going, Opened, OpenOutcome, WritableOutcome, Shows, settling_act, HasPlace}
-use Rattle.command_laws.specs.PulseRuns.{sent, info_of}
+use Rattle.command_laws.specs.PulseRuns.{sent}
 use Rattle.command_spec.specs.Pulses.{SentOutcome, train_acts}
 use Rattle.command_spec.specs.Restore.{GivingEnd, Restores, pieces, Gives, ending_status}
 use Rattle.command_spec.specs.Script.{Scripting}
@@ -29,7 +29,7 @@ use Rattle.command_spec.specs.declared.status.Status.{Status}
 use Rattle.drive_spec.specs.Record.{power_on}
 use Rattle.qic_base.proofs.Steps.{Torn-append}
 use Rattle.qic_base.specs.Acts.{Act, steps_of}
-use Rattle.qic_base.specs.Cartridge.{Cartridge}
+use Rattle.qic_base.specs.Cartridge.{Cartridge, info_of}
 use Rattle.qic_base.specs.Step.{Step as TapeStep, changed, SetReferenced, Wear, Spoil, effect, effects, Torn, Halfway}
 use Rattle.command_laws.proofs.ScrubOneWrong.{form_is_function}
 use Rattle.command_spec.specs.declared.depth.Depth.TheVariants.{Shallow}

@@ -11,7 +11,7 @@ use Rattle.command_laws.proofs.CommandMachineLaws.{machine_is_function_where, ma
 use Rattle.command_laws.proofs.CommandSeveral.{makes_volumes, carries_out_lines, none_made, none_scripted, makes_stop, scripts_stop}
 use Rattle.command_laws.proofs.CommandSurvives.{survives_one_loss, none_survives}
 use Rattle.command_laws.proofs.CommandTable.{laws_of, has_values}
-use Rattle.command_laws.proofs.CommandTold.{input_of, input_told}
+use Rattle.command_laws.proofs.CommandTold.{input_told}
 use Rattle.command_laws.proofs.CommandVolumes.{volumes_stay, list_stays, stays_live, stays_clean, stops_format, stops_append, is_changed, may_change, none_changed, stays_bare}
 use Rattle.command_laws.proofs.TextWords.{one_command, each_words}
 use Rattle.command_laws.specs.CommandLaws.{MachineIsFunction, MachineAnswers}
@@ -34,6 +34,7 @@ use Rattle.qic_base.specs.Alone.{no_source, around}
 use Rattle.qic_base.specs.Cartridge.{Cartridge}
 use Rattle.qic_base.specs.Tape.{Rose}
 use Rattle.qic_base.specs.Source.{IsInput}
+use Rattle.qic_base.specs.SourceCalls.{input_of}
 use Rattle.command_spec.specs.declared.status.Status.TheVariants as status
 use Rattle.qic_base.specs.Sink as sinks
 use Rattle.qic_base.specs.Source as sources

@@ -49,10 +49,11 @@ use Rattle.qic_base.specs.Acts.{Act, steps_of, text_of, next_steps, Outside, Fai
 use Rattle.qic_base.specs.Cartridge.{Cartridge}
 use Rattle.qic_base.specs.CartridgeTerms.{IsCartridge}
 use Rattle.qic_base.specs.Step.{effects, Step as TapeStep, Torn}
-use Rattle.command_laws.proofs.CommandTold.{input_of, input_told, input_bytes}
+use Rattle.command_laws.proofs.CommandTold.{input_told, input_bytes}
 use Rattle.qic_base.specs.Source.{IsInput}
 use Rattle.command_laws.proofs.ScriptListing.{no_rest}
 use Rattle.command_laws.proofs.CommandComplete.{GoesOn}
+use Rattle.qic_base.specs.SourceCalls.{input_of}
 use Rattle.command_spec.specs.declared.status.Status.TheVariants as status
 use Rattle.qic_base.specs.Tape as tapes
 use Rattle.qic_base.specs.TapeCalls as tape_calls
@@ -84,7 +85,7 @@ mounted_or_turned goes c plain outcome stood (m, mounts, opened) =
 
 -- ---- what acts print
 
--- .. so none is left of it where an act and those before it print nothing
+-- none is left of a text where the act that printed some of it and those before print nothing
 pub none_left : (front : List Act) (act : Act) (some more : List ℕ) → some ++ more ≡ act.text → text_of (front ++ act ∷ []) ≡ [] → more ≡ []
 none_left front act some more written none =
     let last : act.text ++ [] ≡ [] = no_rest (text_of front) (act.text ++ []) (sym (text_of-append front (act ∷ [])) ∙ none) in

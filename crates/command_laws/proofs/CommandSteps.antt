@@ -28,7 +28,6 @@ use Rattle.command_spec.specs.Lines.{reply_behind}
 use Rattle.command_spec.specs.Outcome.{CommandOutcome, Going, Opened, OpenOutcome, WritableOutcome, Shows, settling_act}
 use Rattle.command_laws.specs.Outcomes.{Printing, Mends, Appends}
 use Rattle.command_spec.specs.Pulses.{SentOutcome, train_acts}
-use Rattle.command_laws.specs.PulseRuns.{info_of}
 use Rattle.command_spec.specs.Restore.{Gives, pieces, framed, GivingEnd, Restored, LostIn, MismatchIn}
 use Rattle.command_spec.specs.Script.{reply, refusal_line, Scripting, Did, Meeting, Refuses, Finds, acts_on, append_did, taken_as, given_as, LineDoes, acts_of, ItemsDo, EndDoes, cartridge_behind, entries_behind, place_behind}
 use Rattle.command_spec.specs.Scrub.{Looked, looked_at, reads, steps_in, mending_writes, ScrubsAs}
@@ -42,7 +41,7 @@ use Rattle.qic117_commands.specs.declared.command.Command.TheVariants.{WriteRefe
 use Rattle.qic117_commands.specs.declared.command.Command.{Command}
 use Rattle.qic_base.proofs.Joins.{steps_of-append}
 use Rattle.qic_base.specs.Acts.{Act, steps_of, text_of}
-use Rattle.qic_base.specs.Cartridge.{Cartridge, view_at}
+use Rattle.qic_base.specs.Cartridge.{Cartridge, view_at, info_of}
 use Rattle.qic_base.specs.Step.{Step, WriteSector, FormatSegment, Wear}
 use Rattle.command_spec.specs.declared.status.Status.{Status}
 use Rattle.command_laws.proofs.ScrubPlain.{as_plain}

@@ -10,7 +10,7 @@ use Rattle.command_laws.proofs.CommandComesBack.{make_comes_back, make_comes_don
 use Rattle.command_laws.proofs.CommandEnds.{Laws, told_whole}
 use Rattle.command_laws.proofs.CommandOneLoss.{append_comes_back, nothing_torn, done_comes_back}
 use Rattle.command_laws.proofs.CommandSeveral.{ends_ran, untouched_now, over_any, over_stop}
-use Rattle.command_laws.proofs.CommandTold.{input_of, input_told}
+use Rattle.command_laws.proofs.CommandTold.{input_told}
 use Rattle.command_laws.proofs.CommandVolumes.{whole_of, of_bytes, each_weaker, done_now, now_weaker, Did, carried_out_did}
 use Rattle.command_laws.proofs.IntactKeeping.{one_comes}
 use Rattle.command_laws.proofs.TextWords.{one_command}
@@ -29,6 +29,7 @@ use Rattle.qic_base.specs.Step.{effects, Torn}
 use Rattle.command_spec.specs.ScriptLists.{CameFurther, GoesNoFurther, ItemsSpare, ItemsSpareTable, printed_by, with_items}
 use Rattle.qic_base.specs.Source.{IsInput}
 use Rattle.command_spec.specs.Make.{with_made}
+use Rattle.qic_base.specs.SourceCalls.{input_of}
 use Rattle.command_spec.specs.declared.words.Words.TheVariants as commands
 use Rattle.qic_base.specs.Tape as tapes
 use Rattle.qic_base.specs.TapeCalls as tape_calls

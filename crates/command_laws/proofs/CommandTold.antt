@@ -1,10 +1,7 @@
 -- An input that is told, or none where none is told.
-use Rattle.std.proofs.Common.{ℕ, ◌<◌, List, [], All, Option, Some, None, ◌≡◌, IfSome, IfNone, refl}
+use Rattle.std.proofs.Common.{ℕ, ◌<◌, List, All, Option, Some, None, ◌≡◌, IfSome, IfNone, refl}
 use Rattle.std.proofs.lemmas.List.Elements.{All-nil}
-
-abbrev pub input_of : Option (List ℕ) → List ℕ
-input_of None = []
-input_of (Some bytes) = bytes
+use Rattle.qic_base.specs.SourceCalls.{input_of}
 
 pub input_told : (told : Option (List ℕ)) → IfSome told (λ bytes. input_of told ≡ bytes)
 input_told None = tt

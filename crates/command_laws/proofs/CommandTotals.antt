@@ -20,12 +20,12 @@ use Rattle.command_spec.specs.Single.{DefectOutcome, FormatOutcome, LoseOutcome}
 use Rattle.command_spec.specs.Make.{Making}
 use Rattle.command_spec.specs.Outcome.{CommandOutcome, HasPlace, Going, Opened, OpenOutcome, WritableOutcome, Shows}
 use Rattle.command_laws.specs.Outcomes.{Printing, Mends, Appends}
-use Rattle.command_laws.specs.PulseRuns.{sent, info_of}
+use Rattle.command_laws.specs.PulseRuns.{sent}
 use Rattle.command_spec.specs.Pulses.{SentOutcome}
 use Rattle.command_spec.specs.Restore.{Gives, volume_at, pieces}
 use Rattle.command_spec.specs.Script.{Scripting}
 use Rattle.command_spec.specs.declared.depth.Depth.TheVariants.{Shallow}
-use Rattle.qic_base.specs.Cartridge.{Cartridge, view_at}
+use Rattle.qic_base.specs.Cartridge.{Cartridge, view_at, info_of}
 use Rattle.qic_base.specs.CartridgeTerms.{IsCartridge}
 use Rattle.qic_base.specs.Tape.{spoil_answer}
 use Rattle.cartridge_spec.specs.Mounting as mounting

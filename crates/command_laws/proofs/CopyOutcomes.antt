@@ -46,9 +46,6 @@ record CopiesSome (from : Side) (e : Entry) (to : Side) : Type 0 where
   copies : CopiesVolume from e to acts answer
   next : answer ≡ status.Done → IsTarget (behind_copy from e to acts)
 
-no_less : (m n : ℕ) → m ≡ n → nat_lt m n ≡ false
-no_less m n same = le-ltb m n (omega arith)
-
 module _ (from : Side) (e : Entry) (to : Side) (values : HasValues e) (target : IsTarget to) (table : List (List ℕ)) (reads : TableIs to.cartridge table) where
   abbrev kept : Kept
   kept = kept_on to table
@@ -62,7 +59,7 @@ module _ (from : Side) (e : Entry) (to : Side) (values : HasValues e) (target : 
   more_behind bytes long enough =
       let became : Taking → List Entry = λ took. listed_behind kept e.name e.date took in
       ap (λ (b : Bool). became (cond b (cond (nat_lt (length bytes) size) (TooShort size (length bytes)) (Fits (take size bytes))) (TooLong size (room_in kept)))) enough
-      ∙ ap (λ (b : Bool). became (cond b (TooShort size (length bytes)) (Fits (take size bytes)))) (no_less (length bytes) size long)
+      ∙ ap (λ (b : Bool). became (cond b (TooShort size (length bytes)) (Fits (take size bytes)))) (le-ltb (length bytes) size (omega (arith, long)))
       ∙ ap (λ (xs : List ℕ). became (Fits xs)) (take_all size bytes (omega arith))
       ∙ ap (λ (n : ℕ). to.entries ++ new_entry (taken_by to.words n (free_segments to.words to.entries)) e.name e.date n ∷ []) long
 

@@ -47,7 +47,6 @@ use Rattle.command_spec.specs.declared.words.Words.TheVariants as words
 -- ---- header data
 
 -- appended volumes leave the header data
-
 all_header : (plain : Plain) (contents : List Content) → (with_all plain contents).header_area ≡ plain.header_area
 all_header plain [] = refl
 all_header plain (content ∷ more) = all_header (with_bytes plain content.name content.date content.bytes) more

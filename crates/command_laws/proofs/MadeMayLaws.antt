@@ -3,7 +3,7 @@ use Rattle.std.proofs.Common.{inl, inr, ℕ, List, [], ◌∷◌, ◌++◌, refl
 use Rattle.cartridge_spec.specs.Table.{Entry}
 use Rattle.command_laws.proofs.MadeMachineLaws.{done_or_not}
 use Rattle.command_spec.specs.Make.{MakeStep, AppendMade, after_item, MayRun, MayDo}
-use Rattle.command_laws.specs.MadeTerms.{MayAnswerAppend, after_items}
+use Rattle.command_laws.specs.MadeTerms.{IsAppendAnswer, after_items}
 use Rattle.command_spec.specs.declared.status.Status.{Status}
 use Rattle.command_spec.specs.declared.status.Status.TheVariants as status
 
@@ -28,7 +28,7 @@ may_longer seed words es (item ∷ xs) ys a x other (inl refused) = inl refused
 may_longer seed words es (item ∷ xs) ys a x other (inr (first, rest, parts, does, more)) =
     inr (first, rest, parts, does, may_longer seed words (after_item seed words es item) xs ys rest x other more)
 
-pub may_append : (seed : ℕ) (words : List ℕ) (es : List Entry) (volume : ℕ) (text : List ℕ) (answer : Status) → text ≡ [] → MayAnswerAppend seed words es volume answer →
+pub may_append : (seed : ℕ) (words : List ℕ) (es : List Entry) (volume : ℕ) (text : List ℕ) (answer : Status) → text ≡ [] → IsAppendAnswer seed words es volume answer →
     MayDo seed words es (AppendMade volume) text answer
 may_append seed words es volume text status.Protected none may = none
 may_append seed words es volume text status.TableMismatch none may = none

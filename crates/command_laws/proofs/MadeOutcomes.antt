@@ -40,9 +40,6 @@ record DoesSomething (seed : ℕ) (c : Cartridge) (words : List ℕ) (entries : 
   does : StepDoes seed c words entries item acts answer
   next : answer ≡ status.Done → IsListed (changed_by (steps_of acts) c) words (after_item seed words entries item)
 
-no_less : (x y : ℕ) → x ≡ y → nat_lt x y ≡ false
-no_less x y same = le-ltb x y (omega arith)
-
 all_taken : (n : ℕ) (xs : List ℕ) → length xs ≡ n → take n xs ≡ xs
 all_taken n xs long = take_all n xs (omega arith)
 
@@ -76,7 +73,7 @@ module _ (seed : ℕ) (c : Cartridge) (words : List ℕ) (entries : List Entry) 
           behind (taking have (Some n) bytes) ≡ entries ++ made_entry seed words entries volume ∷ []
       by_room true enough is =
           ap (λ (b : Bool). behind (cond b (cond (nat_lt (length bytes) n) (TooShort n (length bytes)) (Fits (take n bytes))) (TooLong n have))) enough
-          ∙ ap (λ (b : Bool). behind (cond b (TooShort n (length bytes)) (Fits (take n bytes)))) (no_less (length bytes) n long)
+          ∙ ap (λ (b : Bool). behind (cond b (TooShort n (length bytes)) (Fits (take n bytes)))) (le-ltb (length bytes) n (omega (arith, long)))
           ∙ ap (λ (xs : List ℕ). behind (Fits xs)) (all_taken n bytes long)
       by_room false short is = absurd (cc)
 

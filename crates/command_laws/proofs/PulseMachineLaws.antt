@@ -7,12 +7,12 @@ use Rattle.command_laws.proofs.TextReadings.{each_pulses}
 use Rattle.command_laws.specs.PulseLaws.{PulsesHaveAnOutcome, PulsesHaveOneOutcome, TrainsAreLines, FaultsAreBehind, FrontsDoFronts}
 use Rattle.command_spec.specs.Input.{IsPulse, Ending, HasItems, most_items, AtEnd, AtStop, AtFault, input_status}
 use Rattle.command_spec.specs.Outcome.{CommandOutcome}
-use Rattle.command_laws.specs.PulseRuns.{PulseRun, PulsesOutcome, info_of, outcome_of, after_trains, pulses_answer, sent, sent_status}
+use Rattle.command_laws.specs.PulseRuns.{PulseRun, PulsesOutcome, outcome_of, after_trains, pulses_answer, sent, sent_status}
 use Rattle.command_spec.specs.Pulses.{SentOutcome, pulses_taken, train_line, train_lines, train_acts}
 use Rattle.command_spec.specs.declared.status.Status.{Status}
 use Rattle.drive_spec.specs.Record.{power_on}
 use Rattle.qic_base.specs.Acts.{Act}
-use Rattle.qic_base.specs.Cartridge.{Cartridge}
+use Rattle.qic_base.specs.Cartridge.{Cartridge, info_of}
 
 pub each_outcome : PulsesHaveAnOutcome
 each_outcome known input =

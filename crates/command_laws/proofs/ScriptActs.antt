@@ -1,7 +1,6 @@
 -- The acts of an append of promised bytes, whatever stands behind them in the input, and with or without the reply.
-use Rattle.std.proofs.Common.{List, [], ◌≡◌, ◌≢◌, ℕ, Bool, true, false, cond, refl, ◌≤◌, nat_lt, ltb-false, length, take, Some, sym, ◌∷◌, ◌++◌, ap, ◌∙◌, Option, append-nil, inl, inr, ltb-true, arith, ◌<◌}
+use Rattle.std.proofs.Common.{List, [], ◌≡◌, ◌≢◌, ℕ, Bool, true, false, cond, refl, ◌≤◌, nat_lt, ltb-false, length, take, Some, sym, ◌∷◌, ◌++◌, ap, ◌∙◌, Option, append-nil, ltb-true, arith, ◌<◌}
 use Rattle.std.specs.Prelude.{is_some, if◌then◌else◌}
-use Rattle.std.proofs.lemmas.Bool.{cases_Bool}
 use Rattle.std.proofs.lemmas.List.{take_all, length-take-le}
 use Rattle.cartridge_spec.specs.Table.{Entry}
 use Rattle.command_laws.proofs.InputActLaws.{input_prints_nothing}
@@ -15,6 +14,7 @@ use Rattle.command_spec.specs.declared.line.Line.{Line}
 use Rattle.qic_base.specs.Cartridge.{Cartridge, IsPlace}
 use Rattle.qic_base.specs.Step.{Step}
 use Rattle.command_laws.proofs.CommandOpened.{quiet}
+use Rattle.std.proofs.lemmas.Bool.{le-ltb}
 use Rattle.command_spec.specs.declared.line.Line.TheVariants as line
 
 -- ---- lines that wear a sector
@@ -32,14 +32,6 @@ pub line_spares : (c : Cartridge) (plain : Plain) (asked : Line) →
 line_spares c plain (line.Lose segment sector) spares = spares segment sector refl
 line_spares c plain asked spares = tt
 
--- ---- acts
-
-not_less : (m n : ℕ) → n ≤ m → nat_lt m n ≡ false
-not_less m n le = elim (cases_Bool (nat_lt m n)) [
-  | inl is ↦ absurd (let l = ltb-true m n is in omega arith)
-  | inr is ↦ is
-]
-
 -- ---- bytes enough
 
 module _ (kept : Kept) (name : List ℕ) (date n : ℕ) (input : List ℕ) (enough : n ≤ length input) where
@@ -51,17 +43,17 @@ module _ (kept : Kept) (name : List ℕ) (date n : ℕ) (input : List ℕ) (enou
 
   same_volume : (words segments : List ℕ) → input_acts words segments n true input ≡ input_acts words segments n true (take n input)
   same_volume words segments =
-      ap (λ (b : Bool). cond b (filled_acts words segments input) (volume_acts words segments (take n input))) (not_less (length input) n enough)
+      ap (λ (b : Bool). cond b (filled_acts words segments input) (volume_acts words segments (take n input))) (le-ltb (length input) n enough)
       ∙ ap (λ (bytes : List ℕ). volume_acts words segments bytes) (sym first_first)
       ∙ sym (ap (λ (b : Bool). cond b (filled_acts words segments (take n input)) (volume_acts words segments (take n (take n input))))
-      (not_less (length (take n input)) n (let l = first_long in omega arith)))
+      (le-ltb (length (take n input)) n (let l = first_long in omega arith)))
 
   pub same_writes : input_writes kept.words kept.entries (Some n) input ≡ input_writes kept.words kept.entries (Some n) (take n input)
   same_writes = ap (λ (acts : List Act). cond (has_promised_room (room_in kept) (Some n)) acts []) (same_volume kept.words (free_in kept))
 
   taking_where : (bytes : List ℕ) → n ≤ length bytes → taking (room_in kept) (Some n) bytes ≡ cond (has_promised_room (room_in kept) (Some n)) (Fits (take n bytes)) (TooLong n (room_in kept))
   taking_where bytes long =
-      ap (λ (b : Bool). cond (has_promised_room (room_in kept) (Some n)) (cond b (TooShort n (length bytes)) (Fits (take n bytes))) (TooLong n (room_in kept))) (not_less (length bytes) n long)
+      ap (λ (b : Bool). cond (has_promised_room (room_in kept) (Some n)) (cond b (TooShort n (length bytes)) (Fits (take n bytes))) (TooLong n (room_in kept))) (le-ltb (length bytes) n long)
 
   pub same_taking : taking (room_in kept) (Some n) input ≡ taking (room_in kept) (Some n) (take n input)
   same_taking =

@@ -7,16 +7,12 @@ use Rattle.command_laws.specs.Inputs.{IsLine, words_of}
 use Rattle.command_spec.specs.Input.{IsLineText}
 use Rattle.command_spec.specs.Script.{EndsEarly}
 use Rattle.command_spec.specs.declared.line.Line.{Line}
+use Rattle.command_laws.proofs.TextInputs.{SameItem}
 use Rattle.command_spec.specs.declared.line.Line.TheVariants as line
 
 -- ---- one line begins the input
 
-pub record SameLine (a b r q : List ℕ) (x y : Line) : Type 0 where
-  pub texts : a ≡ b
-  pub rests : r ≡ q
-  pub lines : x ≡ y
-
-pub same_line : (a b r q : List ℕ) (x y : Line) → IsLineText a x → IsLineText b y → a ++ r ≡ b ++ q → SameLine a b r q x y
+pub same_line : (a b r q : List ℕ) (x y : Line) → IsLineText a x → IsLineText b y → a ++ r ≡ b ++ q → SameItem a b r q x y
 same_line a b r q x y first second e =
     let before : first.before ≡ second.before =
     one_before first.before second.before r q first.one_line second.one_line
@@ -27,10 +23,10 @@ same_line a b r q x y first second e =
     record {
       texts = same;
       rests = append_cancel_left a r q (e ∙ ap (λ t. t ++ q) (sym same));
-      lines = one_line (words_of first.before) x y first.has here;
+      items = one_line (words_of first.before) x y first.has here;
     }
 
 -- how an append's line begins them is one thing
 pub early_lines : (rest : List ℕ) (x y : EndsEarly rest) →
-    SameLine x.text y.text x.bytes y.bytes (line.Append x.name x.promised x.date) (line.Append y.name y.promised y.date)
+    SameItem x.text y.text x.bytes y.bytes (line.Append x.name x.promised x.date) (line.Append y.name y.promised y.date)
 early_lines rest x y = same_line x.text y.text x.bytes y.bytes (line.Append x.name x.promised x.date) (line.Append y.name y.promised y.date) x.lined y.lined (sym x.parts ∙ y.parts)

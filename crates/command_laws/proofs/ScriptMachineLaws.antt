@@ -69,7 +69,7 @@ one_early c words entries x y xs ys a b lines bytes first second =
 one_fault : (c : Cartridge) (words : List ℕ) (entries : List Entry) (number : ℕ) (rest : List ℕ) (a b : List Act) → FaultDoes c words entries number rest a → FaultDoes c words entries number rest b → a ≡ b
 one_fault c words entries number rest a b (inl (below, (x, (m, meets, is)))) (inl (again, (y, (n, too, are)))) =
     let same = early_lines rest x y in
-    one_early c words entries (line.Append x.name x.promised x.date) (line.Append y.name y.promised y.date) x.bytes y.bytes a b same.lines same.rests (m, meets, is) (n, too, are)
+    one_early c words entries (line.Append x.name x.promised x.date) (line.Append y.name y.promised y.date) x.bytes y.bytes a b same.items same.rests (m, meets, is) (n, too, are)
 one_fault c words entries number rest a b (inl (below, (x, met))) (inr (never, are)) = absurd (never below x)
 one_fault c words entries number rest a b (inr (never, are)) (inl (below, (x, met))) = absurd (never below x)
 one_fault c words entries number rest a b (inr (never, are)) (inr (again, too)) = are ∙ sym too

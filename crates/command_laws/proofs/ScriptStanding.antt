@@ -1,5 +1,5 @@
 -- What the items of a script leave of a cartridge that stands for a plain one, done or stopped.
-use Rattle.std.proofs.Common.{◌≡◌, ℕ, ◌<◌, List, length, All, ◌+◌, [], ◌∷◌, ◌++◌, subst, ◌⊎◌, Option, Some, IsSomeAnd, ◌-◌, Bool, cond, ap, inl, sym, ◌∙◌, false, nat_lt, arith, inr, ◌==◌, true, take, append-nil, refl, ◌≢◌}
+use Rattle.std.proofs.Common.{◌≡◌, ℕ, ◌<◌, List, length, All, ◌+◌, [], ◌∷◌, ◌++◌, subst, ◌⊎◌, Option, Some, IsSomeAnd, Bool, cond, ap, inl, sym, ◌∙◌, false, nat_lt, arith, inr, ◌==◌, true, take, append-nil, refl, ◌≢◌}
 use Rattle.std.proofs.lemmas.Bool.{eq-eqb, cases_Bool, eqb-true, lt-ltb}
 use Rattle.std.proofs.lemmas.List.{length-append, map-append, take_all}
 use Rattle.cartridge_laws.proofs.AppendVolume.{free_writes_stand}

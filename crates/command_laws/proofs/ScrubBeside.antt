@@ -11,7 +11,7 @@ use Rattle.cartridge_laws.proofs.FormatStanding.{same_cells}
 use Rattle.cartridge_laws.proofs.Places.{count_below, usable_small}
 use Rattle.cartridge_laws.proofs.Sayings.{says_is_function, written_is_said}
 use Rattle.cartridge_laws.proofs.Segments.{count_of_cells, length-whole_cells, zero_does_not_read}
-use Rattle.cartridge_laws.proofs.Zeros.{zero_is_written, zero_sector-is_sector}
+use Rattle.cartridge_laws.proofs.Zeros.{zero_is_written}
 use Rattle.cartridge_laws.specs.Shape.{Carries}
 use Rattle.cartridge_laws.specs.VolumeParts.{PartStands}
 use Rattle.cartridge_laws.specs.Table.{last_end}
@@ -37,6 +37,7 @@ use Rattle.qic_base.specs.declared.tape.SectorView.{SectorView}
 use Rattle.qic_base.specs.declared.tape.SectorView.TheVariants.{Holds}
 use Rattle.qic_base.specs.declared.tape.TapeInfo.{TapeInfo}
 use Rattle.command_laws.specs.SilentSectors.{IsSameIn}
+use Rattle.qic_base.proofs.Arrays.{zero_sector-is_sector}
 
 -- ---- a segment that was written
 

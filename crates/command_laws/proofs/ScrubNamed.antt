@@ -14,7 +14,7 @@ use Rattle.cartridge_laws.specs.Writes.{named_writes}
 use Rattle.cartridge_spec.specs.Says.{with_parity}
 use Rattle.cartridge_spec.specs.Settling.{writes_of}
 use Rattle.cartridge_spec.specs.Shape.{sector_at, usable_places, is_unreadable, usable_count}
-use Rattle.cartridge_laws.proofs.Writing.{cell_at}
+use Rattle.cartridge_laws.proofs.Writing.{cell_at, writes_of_map}
 use Rattle.command_laws.specs.ScrubLaws.{CountOfNamed, StepsByPlaces}
 use Rattle.command_spec.specs.Scrub.{mending_writes, Looked, cells_at}
 use Rattle.qic_base.proofs.LostSetLaws.{lost_places-above}
@@ -48,11 +48,6 @@ places_filter set (suc n) =
 
 abbrev write_at : (segment : ℕ) → (all : List ℕ) → (sectors : List (List ℕ)) → ℕ → Step
 write_at segment all sectors place = WriteSector segment (get_or all place 0) (sector_at sectors place)
-
-writes_of_map : (segment : ℕ) (f : ℕ → ℕ) (g : ℕ → List ℕ) (places : List ℕ) →
-    writes_of segment (map f places) (map g places) ≡ map (λ p. WriteSector segment (f p) (g p)) places
-writes_of_map segment f g [] = refl
-writes_of_map segment f g (p ∷ places) = ap (λ (steps : List Step). WriteSector segment (f p) (g p) ∷ steps) (writes_of_map segment f g places)
 
 length-writes_of_map : (segment : ℕ) (f : ℕ → ℕ) (g : ℕ → List ℕ) (places : List ℕ) →
     length (writes_of segment (map f places) (map g places)) ≡ length places

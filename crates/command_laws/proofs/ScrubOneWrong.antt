@@ -4,9 +4,9 @@ use Rattle.std.proofs.lemmas.Bool.{cases_eq, cases_lt, cases_Bool, false≢true}
 use Rattle.std.proofs.lemmas.Option.{slice_get_within}
 use Rattle.cartridge_laws.proofs.AppendWhole.{sector_writes_are_cartridge}
 use Rattle.cartridge_laws.proofs.Blocks.{says_always}
-use Rattle.cartridge_laws.proofs.Cells.{unreadable_count-first, one_agreeing_block}
+use Rattle.cartridge_laws.proofs.Cells.{unreadable_count-first, one_agreeing_block, one_if_any}
 use Rattle.cartridge_laws.proofs.ChangeViews.{held_before, worn_reads_no_more}
-use Rattle.cartridge_laws.proofs.FormatCopies.{no_fewer_unreadable, one_at_most}
+use Rattle.cartridge_laws.proofs.FormatCopies.{no_fewer_unreadable}
 use Rattle.cartridge_laws.proofs.FormatWriting.{effects-some, worn_holds}
 use Rattle.cartridge_laws.proofs.Places.{usable_small}
 use Rattle.cartridge_laws.proofs.Sayings.{says_is_function}
@@ -35,9 +35,9 @@ use Rattle.qic_base.specs.declared.tape.SectorView.TheVariants.{Blank, Defect, L
 -- ---- how many are unreadable
 
 holds_no_less : (x y : SectorView) → ((bytes : List ℕ) → x ≡ Holds bytes → y ≡ Holds bytes) → cond (is_unreadable y) 1 0 ≤ cond (is_unreadable x) 1 0
-holds_no_less Blank y held = one_at_most (is_unreadable y)
-holds_no_less Defect y held = one_at_most (is_unreadable y)
-holds_no_less Lost y held = one_at_most (is_unreadable y)
+holds_no_less Blank y held = one_if_any (is_unreadable y)
+holds_no_less Defect y held = one_if_any (is_unreadable y)
+holds_no_less Lost y held = one_if_any (is_unreadable y)
 holds_no_less (Holds bytes) y held =
     let one : SectorView → ℕ = λ view. cond (is_unreadable view) 1 0 in
     let none : one y ≡ 0 = ap one (held bytes refl) in
@@ -52,7 +52,7 @@ count_one_more k [] (y ∷ ys) long held = absurd (omega arith)
 count_one_more k (x ∷ xs) [] long held = absurd (omega arith)
 count_one_more zero (x ∷ xs) (y ∷ ys) long held =
     let rest = no_fewer_unreadable ys xs (omega arith) (λ i bytes at. held (suc i) bytes (λ e. omega arith) at) in
-    omega (arith, unreadable_count-first x xs, unreadable_count-first y ys, one_at_most (is_unreadable y))
+    omega (arith, unreadable_count-first x xs, unreadable_count-first y ys, one_if_any (is_unreadable y))
 count_one_more (suc k) (x ∷ xs) (y ∷ ys) long held =
     let rest = count_one_more k xs ys (omega arith) (λ i bytes apart at. held (suc i) bytes (λ e. apart (omega arith)) at) in
     let first = holds_no_less x y (λ bytes is. let at : Some y ≡ Some (Holds bytes) = held 0 bytes (λ e. omega arith) (ap (λ (z : SectorView). Some z) is) in cc) in

@@ -3,8 +3,8 @@ use Rattle.std.proofs.Common.{◌≤◌, cond, arith, List, [], ◌∷◌, lengt
 use Rattle.std.proofs.lemmas.Option.{slice_get-get_or, unwrap_or-slice_get}
 use Rattle.std.proofs.lemmas.List.{take-append-drop, length-drop}
 use Rattle.std.proofs.lemmas.List.Sums.{sum_by-append}
-use Rattle.cartridge_laws.proofs.Cells.{unreadable_count-first}
-use Rattle.cartridge_laws.proofs.FormatCopies.{held_view, one_at_most}
+use Rattle.cartridge_laws.proofs.Cells.{unreadable_count-first, one_if_any}
+use Rattle.cartridge_laws.proofs.FormatCopies.{held_view}
 use Rattle.cartridge_laws.proofs.FormatWriting.{some_weaker}
 use Rattle.cartridge_laws.proofs.MountParts.{length-block}
 use Rattle.cartridge_laws.proofs.MountStanding.{can_be_read}
@@ -35,7 +35,7 @@ count_most : (cells : List SectorView) → unreadable_count cells ≤ length cel
 count_most [] = omega arith
 count_most (cell ∷ cells) =
     let rest = count_most cells in
-    omega (arith, unreadable_count-first cell cells, one_at_most (is_unreadable cell))
+    omega (arith, unreadable_count-first cell cells, one_if_any (is_unreadable cell))
 
 settled_written : (c : Cartridge) (area : List (List ℕ)) → IsArea area → IsSettledFor c area → Written (table_cells c) area
 settled_written c area is_area known = record {

@@ -1,4 +1,4 @@
--- The data of a table are one, and where it holds a list they show it.
+-- A segment that holds a list has data that show it.
 use Rattle.std.proofs.Common.{◌≡◌, ℕ, inl, inr, List, ◌-◌, ◌<◌, sym, ◌∙◌, ap, arith, length, take, refl, subst}
 use Rattle.std.proofs.lemmas.List.{same_lists, length-take-le, get_or-take}
 use Rattle.std.proofs.lemmas.Option.{get_or_from_slice_get}
@@ -10,8 +10,6 @@ use Rattle.cartridge_laws.specs.Segment.{data_of}
 use Rattle.cartridge_spec.specs.Says.{Data, ByCode, ReadsAll, Agrees, TableSays, HasBlock}
 use Rattle.cartridge_spec.specs.Table.{Entry, Shows}
 use Rattle.qic_base.specs.Cartridge.{Cartridge}
-
--- ---- the table's data are one
 
 -- data that are all read are those of a block that agrees
 read_block : (c : Cartridge) (area block : List (List ℕ)) → ReadsAll (table_cells c) area → Agrees (table_cells c) block → area ≡ data_of block

@@ -80,7 +80,7 @@ pub record AreItems {I : Type 0} (Spelled : List ℕ → I → Type 0) : Type 0 
   pub some : (text : List ℕ) (x : I) → Spelled text x → text ≢ []
   pub no_stop : (text rest : List ℕ) (x : I) → Spelled text x → ¬ (HasStop (text ++ rest))
 
--- one item begins an input
+-- one item begins an input, or one line
 pub record SameItem {I : Type 0} (s t r q : List ℕ) (x y : I) : Type 0 where
   pub texts : s ≡ t
   pub rests : r ≡ q

@@ -36,6 +36,7 @@ use Rattle.qic_base.specs.Step.{FormatSegment, SetProtected, SetReferenced, Spoi
 use Rattle.qic_base.specs.declared.tape.TapeInfo.{TapeInfo}
 use Rattle.qic_base.specs.declared.tape.SectorView.{SectorView}
 use Rattle.qic_base.specs.declared.tape.SectorView.TheVariants.{Blank, Defect, Lost, Holds}
+use Rattle.qic_base.proofs.Arrays.{zero_sector-is_sector}
 
 -- ---- one sector or mark
 
@@ -88,15 +89,11 @@ behind_leave c table steps whole reads next =
 
 -- ---- formatting
 
-zero_is_sector : IsSector zero_sector
-unfolding zero_sector
-zero_is_sector = record { size = length-replicate {A = ℕ} 1024 0; each = All-replicate (λ b. b < 256) 1024 0 (omega arith) }
-
 formatted_is_view : (view : SectorView) → IsView view → IsView (formatted_view view)
-formatted_is_view Blank good = zero_is_sector
+formatted_is_view Blank good = zero_sector-is_sector
 formatted_is_view Defect good = tt
-formatted_is_view Lost good = zero_is_sector
-formatted_is_view (Holds old) good = zero_is_sector
+formatted_is_view Lost good = zero_sector-is_sector
+formatted_is_view (Holds old) good = zero_sector-is_sector
 
 view_by : (a b : SectorView) → a ≡ b → IsView b → IsView a
 view_by a b same good = subst IsView (sym same) good
@@ -111,12 +108,12 @@ closing_is_view (Holds bytes) new good (inr is) = view_by new Lost is tt
 opening_is_view : (old new : SectorView) → IsView old → OpeningView old new → IsView new
 opening_is_view Blank new good (inl is) = view_by new Blank is tt
 opening_is_view Blank new good (inr (inl is)) = view_by new Lost is tt
-opening_is_view Blank new good (inr (inr is)) = view_by new (Holds zero_sector) is zero_is_sector
+opening_is_view Blank new good (inr (inr is)) = view_by new (Holds zero_sector) is zero_sector-is_sector
 opening_is_view Defect new good is = view_by new Defect is tt
 opening_is_view Lost new good (inl is) = view_by new Lost is tt
-opening_is_view Lost new good (inr is) = view_by new (Holds zero_sector) is zero_is_sector
+opening_is_view Lost new good (inr is) = view_by new (Holds zero_sector) is zero_sector-is_sector
 opening_is_view (Holds bytes) new good (inl is) = view_by new Lost is tt
-opening_is_view (Holds bytes) new good (inr is) = view_by new (Holds zero_sector) is zero_is_sector
+opening_is_view (Holds bytes) new good (inr is) = view_by new (Holds zero_sector) is zero_sector-is_sector
 
 segment_whole : (c : Cartridge) (segment : ℕ) → IsCartridge c → IsCartridge (changed (FormatSegment segment) c)
 segment_whole c segment whole =

@@ -1,5 +1,5 @@
 -- The input of `pulses` and that of `script`: its lines, and what they are (this project's own).
-use Rattle.std.specs.Prelude.{ℕ, List, ◌⊎◌, ◌+◌, ◌++◌, ◌==◌, ◌≡◌}
+use Rattle.std.specs.Prelude.{ℕ, List, ◌⊎◌, ◌++◌, ◌==◌, ◌≡◌}
 use Rattle.command_spec.specs.Input.{AtEnd, AtStop, IsPulses, IsScript, Item, line_forms}
 use Rattle.std.specs.List.{slice_split}
 use Rattle.command_spec.specs.Command.{HasForm, SpellsPart, Number}

@@ -63,11 +63,11 @@ AppendedFrom seed volume count words entries (status.Mismatch segment) n = n ≡
 AppendedFrom seed volume count words entries other n = Unit {0}
 
 -- an append is carried out, or full, by the map and the volumes; else its table was refused, or the cartridge is protected
-abbrev pub MayAnswerAppend : (seed : ℕ) → (words : List ℕ) → List Entry → (volume : ℕ) → Status → Type 0
-MayAnswerAppend seed words entries volume status.Protected = Unit {0}
-MayAnswerAppend seed words entries volume status.TableMismatch = Unit {0}
-MayAnswerAppend seed words entries volume (status.Lost segment lost) = (segment ≡ 2) × (3 < lost)
-MayAnswerAppend seed words entries volume answer = made_answer seed words entries volume ≡ answer
+abbrev pub IsAppendAnswer : (seed : ℕ) → (words : List ℕ) → List Entry → (volume : ℕ) → Status → Type 0
+IsAppendAnswer seed words entries volume status.Protected = Unit {0}
+IsAppendAnswer seed words entries volume status.TableMismatch = Unit {0}
+IsAppendAnswer seed words entries volume (status.Lost segment lost) = (segment ≡ 2) × (3 < lost)
+IsAppendAnswer seed words entries volume answer = made_answer seed words entries volume ≡ answer
 
 -- the sum of the volume with this number, as a step of a run
 abbrev pub IsSummed : Cartridge → (words : List ℕ) → List Entry → (number : ℕ) → List Act → Status → Type 0

@@ -1,13 +1,11 @@
 -- A run of trains as the code answers it, with what the drive is in then (this project's own).
 use Rattle.std.specs.Prelude.{ℕ, List, [], ◌∷◌, Bool, codes, if◌then◌else◌, ◌≡◌, Option}
-use Rattle.std.specs.Option.{option_map}
 use Rattle.command_spec.specs.Input.{Ending, AtEnd, AtStop, AtFault, IsPulses}
 use Rattle.command_spec.specs.Outcome.{CommandOutcome}
 use Rattle.command_spec.specs.Pulses.{pulses_taken, train_acts}
 use Rattle.command_spec.specs.declared.status.Status.{Status}
 use Rattle.drive_spec.specs.Record.{Record, power_on}
 use Rattle.qic_base.specs.Acts.{Act}
-use Rattle.qic_base.specs.Cartridge.{Cartridge}
 use Rattle.qic_base.specs.declared.tape.TapeInfo.{TapeInfo}
 use Rattle.drive_spec.specs.Row.{pulsed_row}
 use Rattle.drive_spec.specs.Steps.{train_changes}
@@ -68,7 +66,3 @@ sent_status (ScriptFault line place) = status.ScriptFault line place
 -- .. and its outcome
 abbrev pub sent : PulseRun → CommandOutcome
 sent came = record { acts = came.acts; taken = came.taken; status = sent_status came.answer }
-
--- what the drive knows of its cartridge
-abbrev pub info_of : Option Cartridge → Option TapeInfo
-info_of held = option_map (λ c. c.info) held

@@ -1,4 +1,4 @@
--- A run: its answer over what is told, and what it leaves (this project's own).
+-- Answers of a run: by what is told, by whether its command was done, and whatever the source is (this project's own).
 use Rattle.std.specs.Prelude.{ℕ, List, ◌≡◌, ◌≢◌, ◌⊎◌}
 use Rattle.command_spec.specs.Headline.{Stepped}
 use Rattle.command_spec.specs.Machine.{OverTold, CommandEnds}

@@ -41,9 +41,7 @@ abbrev pub LeftComesBack : Cartridge → (standing : ℕ → Plain) (least most 
 LeftComesBack c standing least most left =
     ((least ≡ 0) × Torn (settling_steps (standing 0).table_area c) (Some c) left) ⊎ SomeComeBack standing least most left
 
--- ---- the plain cartridges
-
--- without the volume of an append, and with it
+-- a plain cartridge without the volume of an append, and with it
 abbrev pub with_one : Plain → (name : List ℕ) (date : ℕ) (input : List ℕ) (n : ℕ) → Plain
 with_one plain name date input n = with_all plain (take n (record { name = name; date = date; bytes = input } ∷ []))
 

@@ -1,13 +1,12 @@
 -- The plain machine of `pulses`: the trains of an input, and the levels that they leave (this project's own).
 use Rattle.std.specs.Prelude.{ℕ, List, [], ◌∷◌, if◌then◌else◌, codes, ◌+◌, ◌++◌, decimal, length, ◌≡◌, Option, ◌⊎◌, true}
-use Rattle.std.specs.Option.{option_map}
 use Rattle.command_spec.specs.Input.{Ending, AtEnd, AtStop, AtFault, IsPulses, input_status}
 use Rattle.command_spec.specs.Outcome.{CommandOutcome}
 use Rattle.drive_spec.specs.Record.{Record, power_on}
 use Rattle.drive_spec.specs.Row.{pulsed_row}
 use Rattle.drive_spec.specs.Steps.{train_changes}
 use Rattle.qic_base.specs.Acts.{Act, text_of}
-use Rattle.qic_base.specs.Cartridge.{Cartridge}
+use Rattle.qic_base.specs.Cartridge.{Cartridge, info_of}
 use Rattle.qic_base.specs.declared.tape.TapeInfo.{TapeInfo}
 use Rattle.command_spec.specs.Command.{Command, plain_command, none_of_them, Word}
 
@@ -47,7 +46,7 @@ pub record SentOutcome (held : Option Cartridge) (input : List ℕ) (outcome : C
   pub ending : Ending
   pub read : IsPulses input trains ending
   pub is : outcome ≡ record {
-    acts = train_acts (power_on (option_map (λ c. c.info) held)) trains;
+    acts = train_acts (power_on (info_of held)) trains;
     taken = pulses_taken input trains ending;
     status = input_status ending;
   }

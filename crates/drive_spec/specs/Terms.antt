@@ -144,6 +144,6 @@ row r train = after_tick (record r { deck = ticked r.deck }) train
 
 -- ---- steps
 
--- what a train does to the cartridge
-abbrev pub train_steps : Record → (train : ℕ) → List Step
-train_steps r train = if is_idle r.under_way then command_steps r.deck (command_at train) else []
+-- what a train does to the cartridge once the tick before it is done
+abbrev pub steps_once_ticked : Record → (train : ℕ) → List Step
+steps_once_ticked r train = if is_idle r.under_way then command_steps r.deck (command_at train) else []

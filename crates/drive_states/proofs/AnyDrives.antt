@@ -8,7 +8,7 @@ use Rattle.qic117_commands.specs.Commands.{command_at, commands}
 use Rattle.qic117_commands.specs.declared.command.Command.{Command}
 use Rattle.qic117_commands.specs.declared.command.Command.TheVariants.{Reset, SkipReverse, SkipForward}
 use Rattle.qic117_commands.specs.Refusals.{waits_for_seek, illegal_in_primary, illegal_in_format, illegal_in_verify}
-use Rattle.drive_spec.specs.Terms.{refusal_of, train_steps}
+use Rattle.drive_spec.specs.Terms.{refusal_of, steps_once_ticked}
 use Rattle.drive_spec.specs.Record.{Record}
 use Rattle.drive_spec.specs.Steps.{command_steps, is_idle}
 use Rattle.drive_states.specs.declared.any_drive.AnyDrive.{AnyDrive}
@@ -56,11 +56,11 @@ chosen true xs e = e
 chosen false xs e = refl
 
 -- a reset and an empty gap do nothing to the cartridge
-pub reset_steps : (r : Record) (train : ℕ) → train ≡ 1 → train_steps r train ≡ []
+pub reset_steps : (r : Record) (train : ℕ) → train ≡ 1 → steps_once_ticked r train ≡ []
 unfolding command_at commands
 reset_steps r train e =
     rw e (chosen (is_idle r.under_way) (command_steps r.deck (Some Reset)) (chosen (is_none (refusal_of r.deck Reset)) [] refl))
 
-pub idle_steps : (r : Record) (train : ℕ) → train ≡ 0 → train_steps r train ≡ []
+pub idle_steps : (r : Record) (train : ℕ) → train ≡ 0 → steps_once_ticked r train ≡ []
 unfolding command_at commands
 idle_steps r train e = rw e (chosen (is_idle r.under_way) [] refl)

@@ -1,4 +1,4 @@
--- What the calls of a unit keep true of it.
+-- What the calls of a unit keep true of it, and what they came to.
 use Rattle.std.proofs.Common.{◌≡◌, ℕ, ap, ◌∙◌, Bool, true, false, [], ◌∷◌, Option, Some, None, IfSome, IfOk, Result, Ok, Err, OnOk, OnErr, refl, sym, subst, arith}
 use Rattle.qic_base.specs.declared.tape.TapeFailed.{TapeFailed}
 use Rattle.qic_base.specs.declared.tape.TapeInfo.{TapeInfo}

@@ -7,6 +7,7 @@ use Rattle.drive_spec.specs.declared.deck.Deck.{Deck}
 use Rattle.drive_spec.specs.Terms.{power_on_deck}
 use Rattle.drive_spec.specs.Record.{Record, power_on}
 use Rattle.drive_states.specs.Sound.{HasLength, IsSoundRecord}
+use Rattle.qic_base.specs.Cartridge.{info_of}
 
 -- a typed drive
 pub record DeckAndTape (T : Type 0) : Type 0 where
@@ -40,7 +41,7 @@ pub record IsSoundUnit {T : Type 0} (m : Meaning T) (u : UnitView T) : Type 0 wh
 pub record KnowsAll {T : Type 0} (m : Meaning T) (d : DeckAndTape T) : Type 0 where
   pub deck : d.deck ≡ power_on_deck d.deck.cartridge
   pub long : HasLength d.deck.cartridge
-  pub told : IfSome (m.told d.tape) (λ there. d.deck.cartridge ≡ option_map (λ c. c.info) there)
+  pub told : IfSome (m.told d.tape) (λ there. d.deck.cartridge ≡ info_of there)
   pub size : m.size d.tape ≡ option_map (λ i. i.segments_per_track) d.deck.cartridge
 
 -- the cartridge was put in: the record is the power-on record, and the drive knows what the cartridge is

@@ -4,7 +4,7 @@ ghost use Rattle.std.specs.Prelude.{◌≡◌, ◌≢◌, ◌<◌, ◌≤◌, �
 ghost use Rattle.qic_base.specs.Step.{SetReferenced};
 ghost use Rattle.qic_base.specs.TapeCalls.{Does};
 ghost use Rattle.qic117_commands.specs.Commands.{command_at};
-ghost use Rattle.drive_spec.specs.Terms.{refusal_of, obeying, obeyed, idled, train_steps};
+ghost use Rattle.drive_spec.specs.Terms.{refusal_of, obeying, obeyed, idled, steps_once_ticked};
 ghost use Rattle.drive_spec.specs.Deck.{is_streaming};
 ghost use Rattle.drive_spec.specs.Effects.{ticked, reset, given};
 ghost use Rattle.drive_spec.specs.Parameters.{parameter_trains};
@@ -161,11 +161,11 @@ impl<T: Tape> Dialogue<T> {
         requires train { 1 ≤ train }
         requires sound { IsSoundRecord (record_of self.old) }
         ensures did { Does T.means (unit_of self.old).tape (unit_of self.new).tape
-            (train_steps (record_of self.old) train) result }
+            (steps_once_ticked (record_of self.old) train) result }
         ensures ok { OnOk result (record_of self.new ≡ obeyed (record_of self.old) train) }
-        ensures failed { OnErr result ((train_steps (record_of self.old) train ≡ SetReferenced ∷ [])
+        ensures failed { OnErr result ((steps_once_ticked (record_of self.old) train ≡ SetReferenced ∷ [])
             × (record_of self.new ≡ without_reference (obeyed (record_of self.old) train))) }
-        ensures untouched { train_steps (record_of self.old) train ≡ [] →
+        ensures untouched { steps_once_ticked (record_of self.old) train ≡ [] →
             (unit_of self.new).tape ≡ (unit_of self.old).tape }
         ensures over { OnErr result (self.new.under_way ≡ UnderWay.Nothing) }
         ensures size { T.means.size (unit_of self.new).tape ≡ T.means.size (unit_of self.old).tape }

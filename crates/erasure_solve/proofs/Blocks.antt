@@ -27,6 +27,7 @@ use Rattle.erasure_solve.proofs.Algebra.{Powers, AddUp, scale_byte, only_correct
 use Rattle.erasure_solve.proofs.Places.{lost_below-count}
 use Rattle.qic_base.specs.Disk.{AreBytes}
 use Rattle.qic_base.specs.CartridgeTerms.{is_lost}
+use Rattle.qic_base.proofs.Arrays.{slice_get-set_other}
 
 -- ---- the corrections from the values
 
@@ -79,13 +80,6 @@ any_default_of xs i d e h =
 
 pub none_lost : (i : ℕ) → is_lost 0 i ≡ false
 none_lost i = ne_eqb (0 / 2 ^ i % 2) 1 (λ e. absurd (omega (arith, zero-div (2 ^ i))))
-
-slice_get-set_other : {A : Type 0} (xs : List A) (i j : ℕ) (v : A) → j ≢ i → slice_get (set xs i v) j ≡ slice_get xs j
-slice_get-set_other [] i j v ne = refl
-slice_get-set_other (x ∷ xs) zero zero v ne = absurd (ne refl)
-slice_get-set_other (x ∷ xs) zero (suc j) v ne = refl
-slice_get-set_other (x ∷ xs) (suc i) zero v ne = refl
-slice_get-set_other (x ∷ xs) (suc i) (suc j) v ne = slice_get-set_other xs i j v (λ e. ne (ap suc e))
 
 column-set : (j i : ℕ) (ss : List (List ℕ)) (s : List ℕ) → column j (set ss i s) ≡ set (column j ss) i (get_or s j 0)
 unfolding column

@@ -1,8 +1,8 @@
 -- The values of a segment's columns at the roots, sector by sector.
-use Rattle.std.proofs.Common.{◌≡◌, ℕ, zero, suc, ◌+◌, ◌-◌, ◌<◌, ◌≤◌, inl, inr, refl, sym, ◌∙◌, ap, arith, List, [], ◌∷◌, ◌++◌, length, get_or, All, bit_xor, replicate, subst, take, drop}
+use Rattle.std.proofs.Common.{◌≡◌, ℕ, suc, ◌+◌, ◌-◌, ◌<◌, ◌≤◌, inl, inr, refl, sym, ◌∙◌, ap, arith, List, [], ◌∷◌, ◌++◌, length, get_or, All, bit_xor, subst, take, drop}
 use Rattle.std.specs.Int.Bits.{xor_zero_r}
 use Rattle.std.proofs.lemmas.List.{take_more, drop_more, drop_all, length-drop}
-use Rattle.std.proofs.lemmas.List.Elements.{All-get_or, All-from_get_or, All-take, All-drop}
+use Rattle.std.proofs.lemmas.List.Elements.{All-get_or, All-take, All-drop}
 use Rattle.std.proofs.lemmas.Nat.{xor_comm}
 use Rattle.std.proofs.lemmas.Bool.{cases_lt}
 use Rattle.cartridge_spec.specs.Code.{product, power, value_at, column}
@@ -13,7 +13,7 @@ use Rattle.gf256_qic.proofs.Powers.{power_none, power_one, power_more, power_byt
 use Rattle.gf256_qic.proofs.Values.{no_bytes, more_bytes, value_at-byte, value_at-none, value_at-first, value_at-append}
 use Rattle.gf256_qic.proofs.Parities.{bytes_of_column, column-append}
 use Rattle.gf256_qic.proofs.Distance.{power_inverse}
-use Rattle.gf256_qic.proofs.Agreement.{length-column}
+use Rattle.gf256_qic.proofs.Agreement.{length-column, column-one}
 use Rattle.erasure_solve.specs.Rows.{AreValues, IsStrip, AddsToStrip, PutsPart, PutsStrip}
 use Rattle.erasure_solve.specs.declared.values.Strip.{Strip}
 use Rattle.erasure_solve.specs.declared.values.Values.{Values}
@@ -23,10 +23,6 @@ use Rattle.qic_base.specs.Disk.{AreBytes}
 column-none : (j : ℕ) → column j [] ≡ []
 unfolding column
 column-none j = refl
-
-column-one : (j : ℕ) (s : List ℕ) → column j (s ∷ []) ≡ get_or s j 0 ∷ []
-unfolding column
-column-one j s = refl
 
 -- a column's value, one byte further
 value_at-push : (p : ℕ) (cs : List ℕ) (c : ℕ) → p < 256 → AreBytes cs → c < 256 →
@@ -38,10 +34,6 @@ value_at-push p cs c h all hc =
     value_at-append p cs (c ∷ []) h all
     ∙ ap (λ x. bit_xor (product (value_at p cs) x) (value_at p (c ∷ []))) (power_one p h)
     ∙ ap (bit_xor (product (value_at p cs) p)) last
-
--- an array of 1,024 bytes is a sector
-pub sector_from : (s : List ℕ) → length s ≡ 1024 → ((i : ℕ) → get_or s i 0 < 256) → IsSector s
-sector_from s size fits = record { size = size; each = All-from_get_or (λ b. b < 256) s 0 (λ i h. fits i) }
 
 -- the value at 1, one byte further
 value_at-push-one : (cs : List ℕ) (c : ℕ) → AreBytes cs → c < 256 →
@@ -259,9 +251,3 @@ all_first count values ss most first =
       at_one = record { each = λ j h. first.at_one.each j (omega arith) };
       at_generator = record { each = λ j h. first.at_generator.each j (omega arith) };
     }
-
--- a row of zeros is 0 at each index, and past its end
-pub zeros_are_zero : (n j : ℕ) → get_or {A = ℕ} (replicate n 0) j 0 ≡ 0
-zeros_are_zero zero j = refl
-zeros_are_zero (suc n) zero = refl
-zeros_are_zero (suc n) (suc j) = zeros_are_zero n j

@@ -4,7 +4,7 @@ use Rattle.std.proofs.Math.ListN.{length-append, length-set}
 use Rattle.std.proofs.lemmas.Bool.{cases_eq, cases_lt, eqb-true, eq-eqb, ne_eqb}
 use Rattle.qic_base.specs.CartridgeTerms.{IsLost, is_lost}
 use Rattle.qic_base.specs.Cartridge.{lost_places}
-use Rattle.qic_base.proofs.LostSetLaws.{lost_places-lost, lost_places-kept}
+use Rattle.qic_base.proofs.LostSetLaws.{lost_places-lost, lost_places-kept, count_more, count_same}
 use Rattle.gf256_qic.specs.Code.{lost_below}
 use Rattle.erasure_solve.specs.Lost.{lost_count}
 use Rattle.erasure_solve.specs.Correction.{AreDegrees}
@@ -50,17 +50,6 @@ lost_more mask n (suc more) =
           omega arith
     ]
 
--- one more lost place makes one more degree, and there is room for it
-number_more : (mask place : ℕ) → IsLost mask place →
-    length (lost_places mask (place + 1)) ≡ length (lost_places mask place) + 1
-number_more mask place lost =
-    ap (λ (l : List ℕ). length l) (lost_places-lost mask place lost)
-    ∙ length-append (lost_places mask place) (place ∷ [])
-
-number_kept : (mask place : ℕ) → (IsLost mask place → ⊥) →
-    length (lost_places mask (place + 1)) ≡ length (lost_places mask place)
-number_kept mask place kept = ap (λ (l : List ℕ). length l) (lost_places-kept mask place kept)
-
 pub found_below : (mask count place : ℕ) → place < count → count ≤ 32 → IsLost mask place → lost_count mask ≤ 3 →
     length (lost_places mask place) < 3
 found_below mask count place lt most lost few =
@@ -69,7 +58,7 @@ found_below mask count place lt most lost few =
     lost_more mask (place + 1) (32 - (place + 1)) in
     let same : length (lost_places mask (place + 1 + (32 - (place + 1)))) ≡ length (lost_places mask 32) =
     ap (λ (k : ℕ). length (lost_places mask k)) whole in
-    let one : length (lost_places mask (place + 1)) ≡ length (lost_places mask place) + 1 = number_more mask place lost in
+    let one : length (lost_places mask (place + 1)) ≡ length (lost_places mask place) + 1 = count_more mask place lost in
     omega arith
 
 -- ---- the loop's steps
@@ -100,7 +89,7 @@ pub gathered_kept : (mask count place found : ℕ) (ds : List ℕ) → (IsLost m
     Gathered mask count place found ds → Gathered mask count (place + 1) found ds
 gathered_kept mask count place found ds kept g = record {
   size = g.size;
-  number = g.number ∙ sym (number_kept mask place kept);
+  number = g.number ∙ sym (count_same mask place kept);
   low = g.low;
   high = λ k h. let before : count ≤ get_or ds k 0 + place = g.high k h in omega arith;
   rest = g.rest;
@@ -126,7 +115,7 @@ gathered_lost mask count place found ds lost lt room g =
     let fresh : (k : ℕ) → k < found → get_or ds k 0 ≢ v =
     λ k h e. let before : count ≤ get_or ds k 0 + place = g.high k h in absurd (omega arith) in
     let number : found ≡ length (lost_places mask place) = g.number in
-    let more : length (lost_places mask (place + 1)) ≡ length (lost_places mask place) + 1 = number_more mask place lost in
+    let more : length (lost_places mask (place + 1)) ≡ length (lost_places mask place) + 1 = count_more mask place lost in
     record {
       size = long ∙ size;
       number = omega arith;
@@ -245,11 +234,11 @@ lost_below-places mask (suc n) =
     elim (cases_eq (mask / 2 ^ n % 2) 1) [
       | inl lost ↦
           let one : one_if (is_lost mask n) ≡ 1 = ap one_if (is_lost_from mask n lost) in
-          let more : length (lost_places mask (n + 1)) ≡ length (lost_places mask n) + 1 = number_more mask n lost in
+          let more : length (lost_places mask (n + 1)) ≡ length (lost_places mask n) + 1 = count_more mask n lost in
           omega arith
       | inr kept ↦
           let none : one_if (is_lost mask n) ≡ 0 = ap one_if (ne_eqb (mask / 2 ^ n % 2) 1 kept) in
-          let same : length (lost_places mask (n + 1)) ≡ length (lost_places mask n) = number_kept mask n kept in
+          let same : length (lost_places mask (n + 1)) ≡ length (lost_places mask n) = count_same mask n kept in
           omega arith
     ]
 

@@ -6,7 +6,7 @@ use Rattle.std.proofs.lemmas.List.{take_all, same_lists, get_or_default, length-
 use Rattle.std.proofs.lemmas.List.Elements.{All-append}
 use Rattle.std.proofs.lemmas.Option.{unwrap_or-slice_get}
 use Rattle.std.specs.List.{flat_map}
-use Rattle.qic_base.proofs.Steps.{Tells-read}
+use Rattle.qic_base.proofs.Steps.{Tells-read, tells_two}
 use Rattle.qic_base.specs.Cartridge.{Cartridge, view_at}
 use Rattle.qic_base.specs.CartridgeTerms.{IsView}
 use Rattle.qic_base.specs.Sink as sinks
@@ -17,7 +17,7 @@ use Rattle.qic_base.specs.declared.tape.SectorView.TheVariants.{Blank}
 use Rattle.flat_dump.specs.Export.{IsFrontOf, AreFirst}
 use Rattle.flat_dump.specs.Seen.{AreSeen, SegmentsSeen}
 use Rattle.flat_dump.proofs.Held.{held_words-more}
-use Rattle.flat_dump.proofs.Seeing.{told_both, views_bytes-append}
+use Rattle.flat_dump.proofs.Seeing.{views_bytes-append}
 
 -- the first segments were read and written
 pub record SoFar {T K : Type 0} (t : tapes.Meaning T) (k : sinks.Meaning K) (first : T) (from to : K) (count : ℕ) (mask : List ℕ) : Type 0 where
@@ -46,7 +46,7 @@ segment_more t first tape count text mask sectors word did room seen next = reco
   views = seen.views ++ next.views;
   each = All-append IsView seen.views next.views seen.each next.each;
   size = length-append seen.views next.views ∙ (let a = seen.size in let b = next.size in omega arith);
-  told = told_both t first (λ c. (q : ℕ) → q < 32 * count → get_or seen.views q Blank ≡ get_or c.views q Blank)
+  told = tells_two t first (λ c. (q : ℕ) → q < 32 * count → get_or seen.views q Blank ≡ get_or c.views q Blank)
       (λ c. (k : ℕ) → k < 32 → get_or next.views k Blank ≡ view_at c count k)
       (λ c. (q : ℕ) → q < 32 * (count + 1) → get_or (seen.views ++ next.views) q Blank ≡ get_or c.views q Blank)
       (λ c before here. segment_behind c seen.views next.views count seen.size before here)

@@ -2,9 +2,8 @@
 use Rattle.std.proofs.Common.{◌≡◌, ℕ, ◌*◌, ◌<◌, List, [], get_or, Option, Some, None, IfSome, Result, Ok, Err, refl, sym, ◌∙◌, ap, subst, arith}
 use Rattle.std.proofs.lemmas.List.{same_lists, get_or_default}
 use Rattle.std.proofs.lemmas.Option.{same_Some}
-use Rattle.std.specs.Option.{option_map}
 use Rattle.qic_base.proofs.Steps.{Broke-after_reads, Done-after_reads, Done-told}
-use Rattle.qic_base.specs.Cartridge.{Cartridge, IsLength}
+use Rattle.qic_base.specs.Cartridge.{Cartridge, IsLength, info_of}
 use Rattle.qic_base.specs.Sink as sinks
 use Rattle.qic_base.specs.Tape as tapes
 use Rattle.qic_base.specs.TapeCalls as tape_calls
@@ -27,7 +26,7 @@ record Read {T : Type 0} (t : tapes.Meaning T) (tape : T) (n : ℕ) (views : Lis
 
 -- what `info` told of it
 abbrev pub IsInfo : Option (Option Cartridge) → TapeInfo → Type 0
-IsInfo told info = IfSome told (λ held. Some info ≡ option_map (λ c. c.info) held)
+IsInfo told info = IfSome told (λ held. Some info ≡ info_of held)
 
 is_read : {T : Type 0} (t : tapes.Meaning T) (tape : T) (n : ℕ) (size : Option ℕ) (info : TapeInfo) (text mask : List ℕ) → IsLength n → info.segments_per_track ≡ n → tape_calls.IsToldRight (t.told tape) size →
     IsInfo (t.told tape) info → (seen : SegmentsSeen t tape (28 * n) text mask) → Read t tape n seen.views

@@ -7,7 +7,7 @@ use Rattle.std.proofs.Math.ListN.{get_or-append}
 use Rattle.std.proofs.Math.Seq.{get_or-append_seam}
 use Rattle.std.proofs.lemmas.List.Concat.{flat_map-append}
 use Rattle.std.specs.List.{flat_map}
-use Rattle.qic_base.proofs.Steps.{Tells-map, Tells-read}
+use Rattle.qic_base.proofs.Steps.{Tells-map, Tells-read, tells_two}
 use Rattle.qic_base.specs.Cartridge.{Cartridge, IsSector, view_at, zero_sector}
 use Rattle.qic_base.specs.CartridgeTerms.{IsView}
 use Rattle.qic_base.specs.Tape.{Meaning, Done}
@@ -70,14 +70,6 @@ other_seen {T} t tape segment sector old new bytes answer other reads zero = by_
 
 -- ---- sectors that are seen one behind the other
 
--- two facts that are told of a cartridge
-pub told_both : {T : Type 0} (t : Meaning T) (tape : T) (P Q R : Cartridge → Type 0) → ((c : Cartridge) → P c → Q c → R c) → Tells t tape P → Tells t tape Q → Tells t tape R
-told_both t tape P Q R both first second = by_told (t.told tape) first second where
-  by_told : (held : Option (Option Cartridge)) → IfSome held (λ h. IfSome h P) → IfSome held (λ h. IfSome h Q) → IfSome held (λ h. IfSome h R)
-  by_told None p q = tt
-  by_told (Some None) p q = tt
-  by_told (Some (Some c)) p q = both c p q
-
 pub views_bytes-append : (xs ys : List SectorView) → views_bytes (xs ++ ys) ≡ views_bytes xs ++ views_bytes ys
 views_bytes-append [] ys = refl
 views_bytes-append (x ∷ xs) ys =
@@ -100,7 +92,7 @@ next_seen t first tape segment count sectors bytes word next held few room did s
   views = seen.views ++ one.view ∷ [];
   each = All-append IsView seen.views (one.view ∷ []) seen.each (All-cons IsView one.view [] one.is_view (All-nil IsView));
   size = length-append seen.views (one.view ∷ []) ∙ ap (λ (n : ℕ). n + 1) seen.size;
-  told = told_both t first (λ c. (k : ℕ) → k < count → get_or seen.views k Blank ≡ view_at c segment k) (λ c. one.view ≡ view_at c segment count)
+  told = tells_two t first (λ c. (k : ℕ) → k < count → get_or seen.views k Blank ≡ view_at c segment k) (λ c. one.view ≡ view_at c segment count)
       (λ c. (k : ℕ) → k < count + 1 → get_or (seen.views ++ one.view ∷ []) k Blank ≡ view_at c segment k)
       (λ c before here. view_more seen.views one.view count (view_at c segment) seen.size before here)
       seen.told (Tells-read (λ c. one.view ≡ view_at c segment count) did one.told);

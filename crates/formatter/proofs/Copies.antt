@@ -9,6 +9,7 @@ use Rattle.cartridge_laws.proofs.FormatPlaces.{copy_writes_by_places}
 use Rattle.cartridge_spec.specs.Formatting.{copy_writes}
 use Rattle.cartridge_spec.specs.Says.{with_parity}
 use Rattle.cartridge_laws.specs.Writes.{named_writes}
+use Rattle.qic_base.proofs.Arrays.{lent}
 
 -- all 32 sectors are usable
 all_places : usable_places 4294967295 ≡ range_with_len 0 32
@@ -27,10 +28,6 @@ copy_is copy sectors size = sym (copy_writes_by_places copy sectors size)
 -- the data sectors are the first 29 of the block
 pub block_data : (area : List (List ℕ)) → length area ≡ 29 → take 29 (with_parity area) ≡ area
 block_data area size = take_at area (parity_sectors area) 29 size
-
--- the workspace whose 32 sectors were lent
-pub lent : (left old : List (List ℕ)) → length left ≡ 32 → take 32 (left ++ drop (length left) old) ≡ left
-lent left old size = take_at left (drop (length left) old) 32 size
 
 pub lent_room : (left old : List (List ℕ)) → length left ≡ 32 → length (take 32 (left ++ drop (length left) old)) ≡ 32
 lent_room left old size = ap (λ (l : List (List ℕ)). length l) (lent left old size) ∙ size

@@ -1,6 +1,5 @@
 -- The map of the unreadable sectors, sector by sector.
 use Rattle.std.proofs.Common.{refl, ◌≡◌, ◌≢◌, ◌↔◌, ℕ, ◌+◌, ◌^◌, ◌<◌, inl, inr, sym, ◌∙◌, ap, subst, arith, List, length, get_or, set, max, get_or-set_same, get_or-set_other, w32, Option, Some, None, IfSome}
-use Rattle.std.specs.Int.RustNames.{bit_or}
 use Rattle.std.specs.Int.{bit_at, trailing_zeros}
 use Rattle.std.proofs.Math.ListN.{length-set}
 use Rattle.std.proofs.Math.Pow.{pow-lt}
@@ -8,7 +7,7 @@ use Rattle.std.proofs.lemmas.Bool.{cases_eq, false≢true}
 use Rattle.std.proofs.lemmas.Nat.{or_of_32}
 use Rattle.std.proofs.lemmas.Nat.Bits.{bit_at-zero, bit_at-lt, bit_at_or, bit_at-pow_same, bit_at-pow_other, bit_at-trailing_zeros}
 use Rattle.qic_base.specs.Cartridge.{Cartridge, view_at}
-use Rattle.qic_base.specs.CartridgeTerms.{place_of}
+use Rattle.qic_base.specs.CartridgeTerms.{place_of, with_place}
 use Rattle.qic_base.specs.Tape.{Meaning}
 use Rattle.qic_base.specs.TapeCalls.{Tells, Reads}
 use Rattle.qic_base.specs.declared.tape.SectorRead.{SectorRead}
@@ -20,19 +19,16 @@ use Rattle.qic_base.specs.declared.tape.SectorRead.TheVariants as read
 
 -- ---- a word with one bit more
 
-abbrev pub with_bit : (word sector : ℕ) → ℕ
-with_bit word sector = bit_or word (2 ^ sector)
-
-bit_same : (word sector : ℕ) → bit_at (with_bit word sector) sector ≡ 1
+bit_same : (word sector : ℕ) → bit_at (with_place word sector) sector ≡ 1
 bit_same word sector =
     let other : bit_at word sector < 2 = bit_at-lt word sector in
     bit_at_or word (2 ^ sector) sector ∙ ap (max (bit_at word sector)) (bit_at-pow_same sector) ∙ omega arith
 
-bit_other : (word sector i : ℕ) → i ≢ sector → bit_at (with_bit word sector) i ≡ bit_at word i
+bit_other : (word sector i : ℕ) → i ≢ sector → bit_at (with_place word sector) i ≡ bit_at word i
 bit_other word sector i apart =
     bit_at_or word (2 ^ sector) i ∙ ap (max (bit_at word i)) (bit_at-pow_other sector i apart) ∙ omega arith
 
-bit_fits : (word sector : ℕ) → word < 2 ^ 32 → sector < 32 → with_bit word sector < 2 ^ 32
+bit_fits : (word sector : ℕ) → word < 2 ^ 32 → sector < 32 → with_place word sector < 2 ^ 32
 bit_fits word sector fits within = or_of_32 word (2 ^ sector) fits (pow-lt {i = sector} {j = 32} within)
 
 -- ---- the map
@@ -68,7 +64,7 @@ marks_good c words s i within readable m = record {
 
 -- it can't, and is marked
 pub marks_bad : (c : Cartridge) (words : List ℕ) (s i : ℕ) → s < length words → i < 32 → IsUnreadable (view_at c s i) →
-    MarksBelow c words (place_of s i) → MarksBelow c (set words s (with_bit (get_or words s 0) i)) (place_of s i + 1)
+    MarksBelow c words (place_of s i) → MarksBelow c (set words s (with_place (get_or words s 0) i)) (place_of s i + 1)
 marks_bad c words s i there within unreadable m = record {
   fits = λ t. elim (cases_eq t s) [
     | inl same ↦ subst (λ (k : ℕ). get_or now k 0 < 2 ^ 32) (sym same)
@@ -84,7 +80,7 @@ marks_bad c words s i there within unreadable m = record {
           λ both. bit,
         )
     | inr apart ↦
-        let was : t < length words = subst (λ (n : ℕ). t < n) (length-set words s (with_bit (get_or words s 0) i)) inside in
+        let was : t < length words = subst (λ (n : ℕ). t < n) (length-set words s (with_place (get_or words s 0) i)) inside in
         let kept : bit_at (get_or now t 0) j ≡ bit_at (get_or words t 0) j = bit_kept t j apart in
         let old = other_sector c (place_of s i) t j (IsMarked words t j) apart (m.each t j was low) in
         (λ is. old.0 (sym kept ∙ is), λ both. kept ∙ old.1 both)
@@ -92,13 +88,13 @@ marks_bad c words s i there within unreadable m = record {
 }
   where
     now : List ℕ
-    now = set words s (with_bit (get_or words s 0) i)
+    now = set words s (with_place (get_or words s 0) i)
 
-    word_same : get_or now s 0 ≡ with_bit (get_or words s 0) i
-    word_same = get_or-set_same words s (with_bit (get_or words s 0) i) 0 there
+    word_same : get_or now s 0 ≡ with_place (get_or words s 0) i
+    word_same = get_or-set_same words s (with_place (get_or words s 0) i) 0 there
 
     word_other : (t : ℕ) → t ≢ s → get_or now t 0 ≡ get_or words t 0
-    word_other t apart = get_or-set_other words s t (with_bit (get_or words s 0) i) 0 apart
+    word_other t apart = get_or-set_other words s t (with_place (get_or words s 0) i) 0 apart
 
     bit_kept : (t j : ℕ) → place_of t j ≢ place_of s i → bit_at (get_or now t 0) j ≡ bit_at (get_or words t 0) j
     bit_kept t j apart = elim (cases_eq t s) [

@@ -1,10 +1,9 @@
 -- The formats of the segments, joined.
-use Rattle.std.proofs.Common.{◌≡◌, ℕ, zero, suc, ◌+◌, ◌-◌, ◌*◌, ◌≤◌, sym, ◌∙◌, ap, subst, arith, List, [], ◌∷◌, ◌++◌, add-zero, append_assoc, Result, Ok, Err}
+use Rattle.std.proofs.Common.{◌≡◌, ℕ, zero, suc, ◌+◌, ◌-◌, ◌*◌, ◌≤◌, sym, ◌∙◌, ap, subst, arith, List, [], ◌∷◌, ◌++◌, add-zero, append_assoc}
 use Rattle.std.proofs.lemmas.List.{append-nil}
 use Rattle.std.proofs.lemmas.List.FromFn.{map-range_with_len_more}
 use Rattle.qic_base.specs.Step.{Step, FormatSegment}
 use Rattle.qic_base.specs.Tape.{Meaning, Done, Broke}
-use Rattle.qic_base.specs.TapeCalls.{Does}
 use Rattle.qic_base.proofs.Steps.{Done-Done, Done-Broke, Broke-front}
 use Rattle.formatter.specs.Steps.{track_formats}
 use Rattle.cartridge_laws.specs.FormatMarks.{formats_from}
@@ -62,8 +61,3 @@ broke_track {m = m} {a = a} {c = c} n track all within before more =
     broke_of 0 ((track + 1) * n) all within
     (subst (λ (steps : List Step). Broke m a c steps) (sym (tracks_more n track))
     (Done-Broke {xs = formats_from 0 (track * n)} {ys = track_formats n track} before more))
-
--- what a call did after what was done
-pub does_after : {S T E : Type 0} (m : Meaning S) (a b c : S) (xs ys : List Step) (r : Result T E) → Done m a b xs → Does m b c ys r → Does m a c (xs ++ ys) r
-does_after m a b c xs ys (Ok x) before more = Done-Done {xs = xs} {ys = ys} before more
-does_after m a b c xs ys (Err e) before more = Done-Broke {xs = xs} {ys = ys} before more

@@ -57,7 +57,7 @@ no_defect c words segment whole marks front none index within =
     let long : 3 ≤ c.info.segments_per_track = whole.long.shortest in
     λ defect. no_mark words segment index none ((marks.each segment index (omega arith) within).1 defect)
 
--- ---- where the verify pass found none in front, ..
+-- ---- where the verify pass found no mark in front
 
 pub marks_formattable : {S : Type 0} (m : Meaning S) (a b : S) (n : ℕ) (words : List ℕ) → IsToldRight (m.told a) (m.size a) →
     m.size a ≡ Some n → length words ≡ 28 * n → Done m a b (clearing_steps n) → Tells m b (λ c. MarksUnreadable c words) →
@@ -68,7 +68,7 @@ marks_formattable m a b n words right size long done told front =
     let defects = marks_defects c n words whole is long marks in
     (defects, λ segment low. no_defect c words segment whole defects low (front segment low)))
 
--- .. and where it found one
+-- ---- where it found one
 
 pub first_defect : {S : Type 0} (m : Meaning S) (a b : S) (n : ℕ) (words : List ℕ) (segment : ℕ) → IsToldRight (m.told a) (m.size a) →
     m.size a ≡ Some n → length words ≡ 28 * n → Done m a b (clearing_steps n) → Tells m b (λ c. MarksUnreadable c words) →

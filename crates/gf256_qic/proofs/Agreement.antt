@@ -220,3 +220,18 @@ one_block lost ss ts ha hb agree few =
     subst (λ (n : ℕ). lost_below lost n ≤ 3) (sym count) few in
     one_codeword lost (column j ss) (column j ts) (ha.columns j h) (hb.columns j h)
     (columns_agree lost j ss ts agree) few_in_column)
+
+-- sets that agree below a number have as many places below it
+pub lost_below-same : (p q : ℕ → Bool) (n : ℕ) → ((i : ℕ) → i < n → p i ≡ q i) → lost_below p n ≡ lost_below q n
+unfolding lost_below
+lost_below-same p q zero same = refl
+lost_below-same p q (suc n) same =
+    let rest : lost_below p n ≡ lost_below q n = lost_below-same p q n (λ i h. same i (omega arith)) in
+    let here : p n ≡ q n = same n (omega arith) in
+    let one : one_if (p n) ≡ one_if (q n) = ap one_if here in
+    omega arith
+
+-- a column of one sector is that sector's byte
+pub column-one : (j : ℕ) (s : List ℕ) → column j (s ∷ []) ≡ get_or s j 0 ∷ []
+unfolding column
+column-one j s = refl

@@ -1,7 +1,6 @@
 -- The ways in which a command ends that reads no input: refused, cut off, or with one text printed once all is done; and the
 -- outcomes of the commands of a hand.
 use Rattle.std.proofs.Common.{◌≡◌, false, List, [], ◌∷◌, ℕ, None, refl, Option, Some, IfSome, ◌≢◌, true, ◌++◌, Result, Ok, Err, sym, subst, inl, inr, arith, append-nil, Bool, ap}
-use Rattle.std.specs.Option.{option_map}
 use Rattle.command_laws.proofs.CommandEndings.{Rules, appends_none, any_input, nothing_front, text_front, none_printed}
 use Rattle.command_laws.proofs.CommandTable.{plain_is_function}
 use Rattle.command_spec.specs.Commands.{traits_of}
@@ -25,6 +24,7 @@ use Rattle.qic_base.specs.declared.sink.SinkFailed.{SinkFailed}
 use Rattle.qic_base.specs.declared.tape.TapeInfo.{TapeInfo}
 use Rattle.hand_commands.specs.Outcome.{first_steps}
 use Rattle.hand_commands.specs.Writing.{printed_status}
+use Rattle.qic_base.specs.CartridgeTerms.{IsInfoOf}
 use Rattle.command_spec.specs.declared.status.Status.TheVariants as status
 use Rattle.qic_base.specs.Sink as sinks
 use Rattle.qic_base.specs.SinkCalls as sink_calls
@@ -253,79 +253,75 @@ told_back t a b P read told = subst (λ (held : Option (Option Cartridge)). IfSo
 
 -- ---- by what the drive knows of the cartridge
 
--- the drive knows what is told
-abbrev pub Known : Option TapeInfo → Option Cartridge → Type 0
-Known cartridge held = cartridge ≡ option_map (λ c. c.info) held
-
-pub protect_absent : (on : Bool) (held : Option Cartridge) → Known None held → ProtectOutcome on held (refused status.NoCartridge)
+pub protect_absent : (on : Bool) (held : Option Cartridge) → IsInfoOf None held → ProtectOutcome on held (refused status.NoCartridge)
 protect_absent on None known = refl
 protect_absent on (Some c) known = cc
 
-pub protect_present : (on : Bool) (info : TapeInfo) (held : Option Cartridge) → Known (Some info) held → ProtectOutcome on held (carried_out (SetProtected on) (protected_line on))
+pub protect_present : (on : Bool) (info : TapeInfo) (held : Option Cartridge) → IsInfoOf (Some info) held → ProtectOutcome on held (carried_out (SetProtected on) (protected_line on))
 protect_present on info None known = cc
 protect_present on info (Some c) known = refl
 
-pub protect_front : (on : Bool) (info : TapeInfo) (held : Option Cartridge) (outcome : CommandOutcome) → Known (Some info) held → ProtectOutcome on held outcome → SetProtected on ∷ [] ≡ first_steps outcome
+pub protect_front : (on : Bool) (info : TapeInfo) (held : Option Cartridge) (outcome : CommandOutcome) → IsInfoOf (Some info) held → ProtectOutcome on held outcome → SetProtected on ∷ [] ≡ first_steps outcome
 protect_front on info None outcome known plain = cc
 protect_front on info (Some c) outcome known plain = sym (ap (λ (o : CommandOutcome). first_steps o) plain)
 
-pub upgrade_absent : (held : Option Cartridge) → Known None held → UpgradeOutcome held (refused status.NoCartridge)
+pub upgrade_absent : (held : Option Cartridge) → IsInfoOf None held → UpgradeOutcome held (refused status.NoCartridge)
 upgrade_absent None known = refl
 upgrade_absent (Some c) known = cc
 
-pub upgrade_present : (info : TapeInfo) (version : ℕ) (held : Option Cartridge) → Known (Some info) held → IfSome held (λ c. version ≡ c.version) → UpgradeOutcome held (carried_out Upgrade (upgraded_line version))
+pub upgrade_present : (info : TapeInfo) (version : ℕ) (held : Option Cartridge) → IsInfoOf (Some info) held → IfSome held (λ c. version ≡ c.version) → UpgradeOutcome held (carried_out Upgrade (upgraded_line version))
 upgrade_present info version None known told = cc
 upgrade_present info version (Some c) known told = ap (λ (v : ℕ). carried_out Upgrade (upgraded_line v)) told
 
-pub upgrade_front : (info : TapeInfo) (held : Option Cartridge) (outcome : CommandOutcome) → Known (Some info) held → UpgradeOutcome held outcome → Upgrade ∷ [] ≡ first_steps outcome
+pub upgrade_front : (info : TapeInfo) (held : Option Cartridge) (outcome : CommandOutcome) → IsInfoOf (Some info) held → UpgradeOutcome held outcome → Upgrade ∷ [] ≡ first_steps outcome
 upgrade_front info None outcome known plain = cc
 upgrade_front info (Some c) outcome known plain = sym (ap (λ (o : CommandOutcome). first_steps o) plain)
 
-pub lose_absent : (segment sector : ℕ) (held : Option Cartridge) → Known None held → LoseOutcome segment sector held (refused status.NoCartridge)
+pub lose_absent : (segment sector : ℕ) (held : Option Cartridge) → IsInfoOf None held → LoseOutcome segment sector held (refused status.NoCartridge)
 lose_absent segment sector None known = refl
 lose_absent segment sector (Some c) known = cc
 
 -- a place by the length that the drive knows is one of the cartridge
-place_known : (info : TapeInfo) (c : Cartridge) (segment sector : ℕ) → Known (Some info) (Some c) → IsPlace info.segments_per_track segment sector → IsPlace c.info.segments_per_track segment sector
+place_known : (info : TapeInfo) (c : Cartridge) (segment sector : ℕ) → IsInfoOf (Some info) (Some c) → IsPlace info.segments_per_track segment sector → IsPlace c.info.segments_per_track segment sector
 place_known info c segment sector known place =
     let same : info ≡ c.info = cc in
     subst (λ (i : TapeInfo). IsPlace i.segments_per_track segment sector) same place
 
-place_told : (info : TapeInfo) (c : Cartridge) (segment sector : ℕ) → Known (Some info) (Some c) → IsPlace c.info.segments_per_track segment sector → IsPlace info.segments_per_track segment sector
+place_told : (info : TapeInfo) (c : Cartridge) (segment sector : ℕ) → IsInfoOf (Some info) (Some c) → IsPlace c.info.segments_per_track segment sector → IsPlace info.segments_per_track segment sector
 place_told info c segment sector known place =
     let same : c.info ≡ info = cc in
     subst (λ (i : TapeInfo). IsPlace i.segments_per_track segment sector) same place
 
-pub lose_misplaced : (segment sector : ℕ) (info : TapeInfo) (held : Option Cartridge) → Known (Some info) held → ¬ (IsPlace info.segments_per_track segment sector) → LoseOutcome segment sector held (refused status.BadPlace)
+pub lose_misplaced : (segment sector : ℕ) (info : TapeInfo) (held : Option Cartridge) → IsInfoOf (Some info) held → ¬ (IsPlace info.segments_per_track segment sector) → LoseOutcome segment sector held (refused status.BadPlace)
 lose_misplaced segment sector info None known none = cc
 lose_misplaced segment sector info (Some c) known none = inl ((λ place. none (place_told info c segment sector known place)), refl)
 
-pub lose_placed : (segment sector : ℕ) (info : TapeInfo) (held : Option Cartridge) → Known (Some info) held → IsPlace info.segments_per_track segment sector → LoseOutcome segment sector held (carried_out (Wear segment sector) (lost_line segment sector))
+pub lose_placed : (segment sector : ℕ) (info : TapeInfo) (held : Option Cartridge) → IsInfoOf (Some info) held → IsPlace info.segments_per_track segment sector → LoseOutcome segment sector held (carried_out (Wear segment sector) (lost_line segment sector))
 lose_placed segment sector info None known place = cc
 lose_placed segment sector info (Some c) known place = inr (place_known info c segment sector known place, refl)
 
-pub lose_front : (segment sector : ℕ) (info : TapeInfo) (held : Option Cartridge) (outcome : CommandOutcome) → Known (Some info) held → IsPlace info.segments_per_track segment sector → LoseOutcome segment sector held outcome → Wear segment sector ∷ [] ≡ first_steps outcome
+pub lose_front : (segment sector : ℕ) (info : TapeInfo) (held : Option Cartridge) (outcome : CommandOutcome) → IsInfoOf (Some info) held → IsPlace info.segments_per_track segment sector → LoseOutcome segment sector held outcome → Wear segment sector ∷ [] ≡ first_steps outcome
 lose_front segment sector info None outcome known place plain = cc
 lose_front segment sector info (Some c) outcome known place (inl plain) = absurd (plain.0 (place_known info c segment sector known place))
 lose_front segment sector info (Some c) outcome known place (inr plain) = sym (ap (λ (o : CommandOutcome). first_steps o) plain.1)
 
-pub defect_absent : (segment sector : ℕ) (held : Option Cartridge) → Known None held → DefectOutcome segment sector held (refused status.NoCartridge)
+pub defect_absent : (segment sector : ℕ) (held : Option Cartridge) → IsInfoOf None held → DefectOutcome segment sector held (refused status.NoCartridge)
 defect_absent segment sector None known = refl
 defect_absent segment sector (Some c) known = cc
 
-pub defect_misplaced : (segment sector : ℕ) (info : TapeInfo) (held : Option Cartridge) → Known (Some info) held → ¬ (IsPlace info.segments_per_track segment sector) → DefectOutcome segment sector held (refused status.BadPlace)
+pub defect_misplaced : (segment sector : ℕ) (info : TapeInfo) (held : Option Cartridge) → IsInfoOf (Some info) held → ¬ (IsPlace info.segments_per_track segment sector) → DefectOutcome segment sector held (refused status.BadPlace)
 defect_misplaced segment sector info None known none = cc
 defect_misplaced segment sector info (Some c) known none = inl ((λ place. none (place_told info c segment sector known place)), refl)
 
-pub defect_placed : (segment sector : ℕ) (info : TapeInfo) (held : Option Cartridge) → Known (Some info) held → IsPlace info.segments_per_track segment sector → IfSome held (λ c. spoil_answer (view_at c segment sector) ≡ true) → DefectOutcome segment sector held (carried_out (Spoil segment sector) (defect_line segment sector))
+pub defect_placed : (segment sector : ℕ) (info : TapeInfo) (held : Option Cartridge) → IsInfoOf (Some info) held → IsPlace info.segments_per_track segment sector → IfSome held (λ c. spoil_answer (view_at c segment sector) ≡ true) → DefectOutcome segment sector held (carried_out (Spoil segment sector) (defect_line segment sector))
 defect_placed segment sector info None known place spoiled = cc
 defect_placed segment sector info (Some c) known place spoiled = inr (inr (place_known info c segment sector known place, spoiled, refl))
 
-pub defect_formatted : (segment sector : ℕ) (info : TapeInfo) (held : Option Cartridge) → Known (Some info) held → IsPlace info.segments_per_track segment sector → IfSome held (λ c. spoil_answer (view_at c segment sector) ≡ false) → DefectOutcome segment sector held (refused_behind (Spoil segment sector ∷ []) status.NotBlank)
+pub defect_formatted : (segment sector : ℕ) (info : TapeInfo) (held : Option Cartridge) → IsInfoOf (Some info) held → IsPlace info.segments_per_track segment sector → IfSome held (λ c. spoil_answer (view_at c segment sector) ≡ false) → DefectOutcome segment sector held (refused_behind (Spoil segment sector ∷ []) status.NotBlank)
 defect_formatted segment sector info None known place kept = cc
 defect_formatted segment sector info (Some c) known place kept = inr (inl (place_known info c segment sector known place, kept, refl))
 
-pub defect_front : (segment sector : ℕ) (info : TapeInfo) (held : Option Cartridge) (outcome : CommandOutcome) → Known (Some info) held → IsPlace info.segments_per_track segment sector → DefectOutcome segment sector held outcome → Spoil segment sector ∷ [] ≡ first_steps outcome
+pub defect_front : (segment sector : ℕ) (info : TapeInfo) (held : Option Cartridge) (outcome : CommandOutcome) → IsInfoOf (Some info) held → IsPlace info.segments_per_track segment sector → DefectOutcome segment sector held outcome → Spoil segment sector ∷ [] ≡ first_steps outcome
 defect_front segment sector info None outcome known place plain = cc
 defect_front segment sector info (Some c) outcome known place (inl plain) = absurd (plain.0 (place_known info c segment sector known place))
 defect_front segment sector info (Some c) outcome known place (inr (inl plain)) = sym (ap (λ (o : CommandOutcome). first_steps o) plain.2)

@@ -1,9 +1,8 @@
 -- A run of `pulses`, line after line: the acts so far went, and then those of what is left went or were cut off.
 use Rattle.std.proofs.Common.{◌≡◌, inl, inr, ℕ, ◌+◌, ◌*◌, ◌≤◌, ◌<◌, List, [], ◌∷◌, ◌++◌, length, Option, Some, None, IfSome, Result, Ok, Err, codes, refl, sym, ap, ◌∙◌, subst, arith, append-nil}
-use Rattle.std.specs.Option.{option_map}
 use Rattle.std.proofs.lemmas.List.{length-append, length_push}
 use Rattle.qic_base.specs.declared.tape.TapeInfo.{TapeInfo}
-use Rattle.qic_base.specs.Cartridge.{Cartridge}
+use Rattle.qic_base.specs.Cartridge.{Cartridge, info_of}
 use Rattle.qic_base.proofs.Steps.{Done-told}
 use Rattle.qic_base.proofs.Writing.{TakesBoth}
 use Rattle.qic_base.specs.Acts.{Act, Outside, Failing, TapeFails, SourceFails, SinkFails, Went, Cut}
@@ -42,7 +41,7 @@ train_lines-push ps p =
 
 -- the cartridge that the tape tells is this
 abbrev IsKnown : {T : Type 0} → tapes.Meaning T → T → Option TapeInfo → Type 0
-IsKnown t tape known = IfSome (t.told tape) (λ held. known ≡ option_map (λ c. c.info) held)
+IsKnown t tape known = IfSome (t.told tape) (λ held. known ≡ info_of held)
 
 -- so many lines were trains, with so many bytes; the acts of all of them went
 pub record SoFar {T S K : Type 0} (t : tapes.Meaning T) (s : sources.Meaning S) (k : sinks.Meaning K) (start now : Outside T S K) (r : Record) (lines place : ℕ) : Type 0 where
@@ -60,11 +59,11 @@ pub record SoFar {T S K : Type 0} (t : tapes.Meaning T) (s : sources.Meaning S) 
 
 told_before : {T : Type 0} (t : tapes.Meaning T) (a b : T) (known : Option TapeInfo) → tapes.Done t a b [] → IsKnown t b known → IsKnown t a known
 told_before t a b known did told =
-    let P : Option (Option Cartridge) → Type 0 = λ o. IfSome o (λ held. known ≡ option_map (λ c. c.info) held) in subst P (Done-told did) told
+    let P : Option (Option Cartridge) → Type 0 = λ o. IfSome o (λ held. known ≡ info_of held) in subst P (Done-told did) told
 
-known_told : (told : Option (Option Cartridge)) → (known : Option TapeInfo) × IfSome told (λ held. known ≡ option_map (λ c. c.info) held)
+known_told : (told : Option (Option Cartridge)) → (known : Option TapeInfo) × IfSome told (λ held. known ≡ info_of held)
 known_told None = (None, tt)
-known_told (Some held) = (option_map (λ c. c.info) held, refl)
+known_told (Some held) = (info_of held, refl)
 
 module _ {T S K : Type 0} {t : tapes.Meaning T} {s : sources.Meaning S} {k : sinks.Meaning K} where
   -- the cartridge was put in

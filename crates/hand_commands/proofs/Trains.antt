@@ -1,7 +1,7 @@
 -- How `pulses` ended, by how the sending of its trains did.
 use Rattle.std.proofs.Common.{◌≡◌, ℕ, true, List, [], Option, Some, None, IfSome, Result, Ok, Err, refl, sym, ap, ◌∙◌, subst, inl, inr, append-nil}
 use Rattle.std.specs.Prelude.{is_some}
-use Rattle.qic_base.specs.Cartridge.{Cartridge}
+use Rattle.qic_base.specs.Cartridge.{Cartridge, info_of}
 use Rattle.qic_base.specs.declared.tape.TapeInfo.{TapeInfo}
 use Rattle.qic_base.specs.Sink as sinks
 use Rattle.qic_base.specs.Source as sources
@@ -14,7 +14,7 @@ use Rattle.command_laws.proofs.TextFaults.{fault_line}
 use Rattle.command_laws.proofs.TextInputs as inputs
 use Rattle.hand_commands.specs.declared.pulses.fault.PulseFault.{PulseFault}
 use Rattle.hand_commands.specs.declared.pulses.fault.PulseFault.TheVariants as fault
-use Rattle.command_laws.specs.PulseRuns.{PulseRun, PulsesOutcome, Answer, AllSent, ScriptFault, pulses_answer, sent_status, sent, info_of}
+use Rattle.command_laws.specs.PulseRuns.{PulseRun, PulsesOutcome, Answer, AllSent, ScriptFault, pulses_answer, sent_status, sent}
 use Rattle.hand_commands.specs.PulseRuns as runs
 use Rattle.command_laws.proofs.PulseMachineLaws.{one_outcome, run_of, sends_of}
 use Rattle.command_spec.specs.declared.status.Status.{Status}

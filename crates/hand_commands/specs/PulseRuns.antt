@@ -12,11 +12,12 @@ use Rattle.hand_commands.specs.declared.pulses.fault.PulseFault.TheVariants as f
 use Rattle.tape_script.specs.Reading.{LeftFromLine}
 use Rattle.command_laws.specs.PulseRuns.{PulseRun, PulsesOutcome, Answer, AllSent, ScriptFault}
 use Rattle.qic_base.specs.Source.{IsInput}
+use Rattle.qic_base.specs.Cartridge.{info_of}
 
 -- What the drive learnt when the cartridge was put in, and the input: what the tape and the source told, or some where
 -- they tell none.
 pub record Over {T S K : Type 0} (t : tapes.Meaning T) (s : sources.Meaning S) (old : Outside T S K) (known : Option TapeInfo) (input : List ℕ) : Type 0 where
-  pub cartridge : IfSome (t.told old.tape) (λ held. known ≡ option_map (λ c. c.info) held)
+  pub cartridge : IfSome (t.told old.tape) (λ held. known ≡ info_of held)
   pub bytes : IsInput (s.left old.source) input
 
 -- what is left of the source: the bytes behind those taken; or, where a line is none, an end of those from that line on

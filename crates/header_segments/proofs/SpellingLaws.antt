@@ -1,13 +1,12 @@
 -- What an encoder writes spells the header and its map.
-use Rattle.std.proofs.Common.{◌≡◌, ℕ, suc, ◌+◌, ◌%◌, ◌<◌, List, [], ◌∷◌, length, set, take, drop, sym, ◌∙◌, arith, ◌++◌, ap, refl}
-use Rattle.std.proofs.lemmas.List.{set_split, append_assoc, drop-drop}
+use Rattle.std.proofs.Common.{◌≡◌, ℕ, suc, ◌+◌, ◌%◌, ◌<◌, List, [], ◌∷◌, length, set, take, drop, sym, ◌∙◌, arith, refl}
+use Rattle.std.proofs.lemmas.List.{set_split, append_assoc}
 use Rattle.cartridge_laws.proofs.HeaderSpellingLaws.{profile_fit}
 use Rattle.cartridge_laws.specs.HeaderWriting.{with_fields}
 use Rattle.cartridge_spec.specs.Header.{profile_fields}
 use Rattle.header_segments.proofs.FieldSets.{length-before_fields}
 use Rattle.qic_base.specs.Cartridge.{IsLength}
 use Rattle.qic_base.specs.Field.{little_endian_bytes, overwritten}
-use borrow.Rule.Slice.PartMut.{put_mid}
 
 -- ---- single writes
 
@@ -18,13 +17,6 @@ set-overwritten sector at value h small =
     let same : value % 256 ≡ value = omega arith in
     let next : at + 1 ≡ suc at = omega arith in
     rw (same, next) (set_split sector at value h ∙ sym (append_assoc (take at sector) (value ∷ []) (drop (suc at) sector)))
-
--- bytes that are copied over a part as a field
-pub put_mid-overwritten : (sector bytes : List ℕ) (at k : ℕ) → length bytes ≡ k → put_mid at k sector bytes ≡ overwritten sector at bytes
-unfolding overwritten
-put_mid-overwritten sector bytes at k h =
-    sym (append_assoc (take at sector) bytes (drop k (drop at sector)))
-    ∙ ap (λ (xs : List ℕ). take at sector ++ bytes ++ xs) (drop-drop k at sector ∙ ap (λ (n : ℕ). drop (at + n) sector) (sym h))
 
 -- a first sector that is whole after the profile's fields were whole before
 pub profile_whole : (n : ℕ) (sector : List ℕ) → IsLength n → length (with_fields (profile_fields n) sector) ≡ 1024 → length sector ≡ 1024

@@ -4,13 +4,12 @@ use Rattle.std.specs.Prelude.{if◌then◌else◌, ◌≤◌, ◌↔◌, is_some
 use Rattle.std.specs.Option.{option_map}
 use Rattle.std.proofs.Math.Nat.{min-eq_left}
 use Rattle.std.proofs.lemmas.Bool.{leb-true, lt-ltb, cases_lt, or_left, or_right, and_cases, leb-false, eq-eqb}
-use Rattle.cartridge_laws.proofs.MountOnce.{one_table}
+use Rattle.cartridge_laws.proofs.MountOnce.{one_table, not_lost}
 use Rattle.cartridge_laws.proofs.MountSettled.{settled_keeps_table}
-use Rattle.cartridge_laws.proofs.TableSayings.{table_says_is_function}
 use Rattle.cartridge_spec.specs.Appending.{room, table_writes}
 use Rattle.cartridge_spec.specs.TableSegment.{TableIs, table_cells}
 use Rattle.cartridge_spec.specs.Mounting.{settled}
-use Rattle.cartridge_spec.specs.Says.{Data, LostSectors, AsRead, ByCode, TableSays}
+use Rattle.cartridge_spec.specs.Says.{LostSectors, ByCode, TableSays}
 use Rattle.cartridge_spec.specs.Settling.{settling_steps}
 use Rattle.cartridge_spec.specs.Table.{Entry, table_with}
 use Rattle.cartridge_laws.specs.Slots.{slot_sector}
@@ -19,7 +18,7 @@ use Rattle.command_laws.proofs.ScriptActs.{input_texts}
 use Rattle.command_laws.proofs.CommandEndings.{nothing_front}
 use Rattle.command_laws.proofs.CommandOpened.{quiet}
 use Rattle.command_laws.proofs.CommandTable.{plain_is_function}
-use Rattle.command_laws.proofs.CommandTold.{input_of, input_told, input_bytes}
+use Rattle.command_laws.proofs.CommandTold.{input_told, input_bytes}
 use Rattle.command_laws.proofs.StoreTaking.{both_true}
 use Rattle.command_spec.specs.Append.{Kept, Taking, Fits, TooLong, TooShort, entry_acts, taking, room_in, input_writes, append_acts, appended, AppendOutcome, kept_over}
 use Rattle.command_laws.specs.AppendTerms.{entry_for, silently, status_by_room, bytes_taken}
@@ -32,20 +31,19 @@ use Rattle.command_spec.specs.declared.status.Status.{Status}
 use Rattle.drive_spec.specs.Terms.{is_protected}
 use Rattle.drive_states.specs.Unit.{UnitView}
 use Rattle.qic_base.proofs.Joins.{steps_of-append, text_of-append, broke_behind}
-use Rattle.qic_base.proofs.Steps.{Done-nothing, Done-Done, Done-Broke, effects-append, is_some-option_map}
+use Rattle.qic_base.proofs.Steps.{Done-nothing, Done-Done, Done-Broke, effects-append, is_some-option_map, tells_two}
 use Rattle.qic_base.proofs.Writing.{TakesBoth}
 use Rattle.qic_base.specs.Acts.{steps_of, Act, text_of, next_steps, Failing, TapeFails, SourceFails, SinkFails, Went, Cut, TapeCut, SourceCut, SinkCut}
-use Rattle.qic_base.specs.Alone.{no_sink, reading}
+use Rattle.qic_base.specs.Alone.{no_sink, reading, outside}
 use Rattle.qic_base.specs.Cartridge.{Cartridge}
 use Rattle.qic_base.specs.Step.{Step as TapeStep, effects, Torn}
 use Rattle.qic_base.specs.declared.sink.SinkFailed.{SinkFailed}
 use Rattle.volume_store.proofs.Ending.{none_left}
-use Rattle.volume_store.proofs.Opened.{IsKnown, outside, went_behind, settled_told, opened_known, known_before, found_locked, never_both, unlocked}
+use Rattle.volume_store.proofs.Opened.{IsKnown, went_behind, settled_told, opened_known, known_before, found_locked, never_both, unlocked}
 use Rattle.volume_store.specs.Opening.{HasOpened}
 use Rattle.volume_store.specs.Appending.{kept_by, AppendRan, HasAppended, TableRefused, AppendCut, AppendEnds}
 use Rattle.volume_store.specs.Mounting.{StoreView, IsOpened}
 use Rattle.volume_store.specs.declared.appended.Appended.{Appended}
-use Rattle.cartridge_front.proofs.Copies.{tells_two}
 use Rattle.cartridge_front.specs.declared.fault.StoreFault.{StoreFault}
 use Rattle.hand_commands.proofs.Endings.{told_map, told_both}
 use Rattle.host_commands.proofs.Mounted.{BeginsSettling, locked_is, unlocked_refused_is, writable_begins, table_lost, input_unread, no_outcome}
@@ -54,6 +52,7 @@ use Rattle.host_commands.specs.Statuses.{store_status}
 use Rattle.hand_commands.specs.Outcome.{first_steps}
 use Rattle.hand_commands.specs.Writing.{printed_status}
 use Rattle.qic_base.specs.Source.{IsInput}
+use Rattle.qic_base.specs.SourceCalls.{input_of}
 use Rattle.command_spec.specs.declared.words.Words.TheVariants as words
 use Rattle.command_spec.specs.declared.status.Status.TheVariants as status
 use Rattle.qic_base.specs.Sink as sinks
@@ -141,13 +140,6 @@ full_numbers have input need most took = by_flag (nat_le 1 have && nat_le (lengt
             | inr long ↦ let more = leb-false (length input) have long in absurd (omega arith)
           ]
         ]
-
--- what a table that can be read says is not that it is lost
-not_lost : (lost : ℕ) (d : Cartridge) (table : List (List ℕ)) → TableIs d table → TableSays (table_cells d) (ByCode (LostSectors lost)) → ⊥
-not_lost lost d table (inl read) says =
-    let same = table_says_is_function (table_cells d) (AsRead table) (ByCode (LostSectors lost)) read says in cc
-not_lost lost d table (inr code) says =
-    let same = table_says_is_function (table_cells d) (ByCode (Data table)) (ByCode (LostSectors lost)) code says in cc
 
 -- with nothing promised no input ends too early
 never_short : (have : ℕ) (input : List ℕ) (asked read : ℕ) → taking have None input ≡ TooShort asked read → ⊥
@@ -596,7 +588,7 @@ module _ {T S K : Type 0} (t : tapes.Meaning T) (s : sources.Meaning S) (k : sin
     append_failed c j after (fault.Lost segment lost) nothing both free mark refusal =
         append_untabled c j (status.Lost segment lost) (λ d. TableSays (table_cells d) (ByCode (LostSectors lost))) nothing both
         (table_lost segment lost (segment == 2) (both_true (nat_lt 3 lost) (segment == 2) (lt-ltb 3 lost refusal.1) (eq-eqb segment 2 refusal.0)) (eq-eqb segment 2)) (λ line place is. cc) (λ is. cc)
-        (λ d table is says. not_lost lost d table is says) refusal.2
+        (λ d table is says. not_lost d table lost is says) refusal.2
     append_failed c j after fault.TableMismatch nothing both free mark refusal =
         append_untabled c j status.TableMismatch (λ d. ⊥) nothing both refl (λ line place is. cc) (λ is. cc) (λ d table is says. says) refusal
     append_failed c j after (fault.Full need have) nothing both free mark ran = append_full c j need have nothing both (unlocked b (fault.Full need have) mark (λ same. cc)) ran

@@ -24,12 +24,13 @@ use Rattle.command_laws.specs.Outcomes.{cleared, formatted}
 use Rattle.command_spec.specs.Single.{FormatOutcome}
 use Rattle.host_commands.specs.Format.{format_status}
 use Rattle.host_commands.proofs.Mounted.{BeginsSteps}
-use Rattle.host_commands.specs.Opening.{StartRefuses}
+use Rattle.host_commands.specs.Opening.{NoStart}
 use Rattle.hand_commands.specs.Writing.{printed_status}
 use Rattle.command_laws.specs.RunTerms.{EndsBlind}
 use Rattle.hand_commands.proofs.Endings.{IsBlind, printed, turned_down, turned_behind, cut_off, cut_off_first}
 use Rattle.command_laws.proofs.CommandEndings.{Rules}
-use Rattle.volume_store.proofs.Started.{Present, Knows, told_known, told_known_beside, told_at_start}
+use Rattle.volume_store.proofs.Started.{Present, told_known, told_known_beside, told_at_start}
+use Rattle.qic_base.specs.CartridgeTerms.{IsInfoOf}
 use Rattle.qic_base.specs.Sink as sinks
 use Rattle.qic_base.specs.SinkCalls as sink_calls
 use Rattle.qic_base.specs.Tape as tapes
@@ -44,12 +45,12 @@ not_true false other = refl
 
 -- ---- outcomes
 
-protected_is : (label : List ℕ) (date : ℕ) (info : TapeInfo) (held : Option Cartridge) → info.protected ≡ true → Knows (Some info) held → FormatOutcome label date held (refused status.Protected)
+protected_is : (label : List ℕ) (date : ℕ) (info : TapeInfo) (held : Option Cartridge) → info.protected ≡ true → IsInfoOf (Some info) held → FormatOutcome label date held (refused status.Protected)
 protected_is label date info None mark known = cc
 protected_is label date info (Some c) mark known =
     let same : info ≡ c.info = cc in inl (ap (λ (i : TapeInfo). i.protected) (sym same) ∙ mark, refl)
 
-cleared_is : (label : List ℕ) (date : ℕ) (info : TapeInfo) (segment : ℕ) (held : Option Cartridge) → info.protected ≡ false → Knows (Some info) held →
+cleared_is : (label : List ℕ) (date : ℕ) (info : TapeInfo) (segment : ℕ) (held : Option Cartridge) → info.protected ≡ false → IsInfoOf (Some info) held →
     IfSome held (λ c. IsFirstDefectInFront c segment) → FormatOutcome label date held (cleared info.segments_per_track segment)
 cleared_is label date info segment None mark known first = cc
 cleared_is label date info segment (Some c) mark known first =
@@ -68,7 +69,7 @@ fresh_with label date info words area c same fresh marks =
     record { size = here.size; spells = here.spells; marks = marks.0 }
 
 formatted_is : (label : List ℕ) (date : ℕ) (info : TapeInfo) (words : List ℕ) (area : List (List ℕ)) (held : Option Cartridge) → info.protected ≡ false →
-    IsFreshArea info.segments_per_track label date words area → Knows (Some info) held → IfSome held (AreMarks words) → FormatOutcome label date held (formatted info.segments_per_track words area)
+    IsFreshArea info.segments_per_track label date words area → IsInfoOf (Some info) held → IfSome held (AreMarks words) → FormatOutcome label date held (formatted info.segments_per_track words area)
 formatted_is label date info words area None mark fresh known marks = cc
 formatted_is label date info words area (Some c) mark fresh known marks =
     let same : info ≡ c.info = cc in
@@ -80,7 +81,7 @@ formatted_is label date info words area (Some c) mark fresh known marks =
 
 -- ---- fronts of their steps
 
-clearing_begins : (label : List ℕ) (date : ℕ) (info : TapeInfo) (held : Option Cartridge) (outcome : CommandOutcome) → info.protected ≡ false → Knows (Some info) held →
+clearing_begins : (label : List ℕ) (date : ℕ) (info : TapeInfo) (held : Option Cartridge) (outcome : CommandOutcome) → info.protected ≡ false → IsInfoOf (Some info) held →
     FormatOutcome label date held outcome → BeginsSteps (clearing_steps info.segments_per_track) outcome
 clearing_begins label date info None outcome mark known plain = cc
 clearing_begins label date info (Some c) outcome mark known (inl plain) =
@@ -95,7 +96,7 @@ clearing_begins label date info (Some c) outcome mark known (inr (inr (unlocked,
     )
 
 formatting_begins : (label : List ℕ) (date : ℕ) (info : TapeInfo) (words : List ℕ) (area : List (List ℕ)) (held : Option Cartridge) (outcome : CommandOutcome) → info.protected ≡ false →
-    IsFreshArea info.segments_per_track label date words area → Knows (Some info) held → IfSome held (AreMarks words) → FormatOutcome label date held outcome →
+    IsFreshArea info.segments_per_track label date words area → IsInfoOf (Some info) held → IfSome held (AreMarks words) → FormatOutcome label date held outcome →
     BeginsSteps (format_steps info.segments_per_track area) outcome
 formatting_begins label date info words area None outcome mark fresh known marks plain = cc
 formatting_begins label date info words area (Some c) outcome mark fresh known marks (inl plain) =
@@ -123,7 +124,7 @@ no_cartridge label date (Some (Some c)) none = absurd (cc)
 
 -- there was no start
 pub format_unstarted : {T K : Type 0} (t : tapes.Meaning T) (k : sinks.Meaning K) (label : List ℕ) (date : ℕ) (a b : T) (x : K) (why : Status) → ((z : K) → k.took z [] z) →
-    StartRefuses t a b why → EndsBlind t k (Format label date) a b x x why
+    NoStart t a b why → EndsBlind t k (Format label date) a b x x why
 format_unstarted t k label date a b x why nothing (inl (is, (did, none))) =
     rw is (turned_down t k (Format label date) is_blind a b x status.NoCartridge nothing refl (λ same. cc) (no_cartridge label date (t.told a) none) did)
 format_unstarted t k label date a b x why nothing (inr (is, broke)) =

@@ -10,11 +10,10 @@ use Rattle.cartridge_spec.specs.Table.{Entry}
 use Rattle.cartridge_laws.proofs.MountOnce.{mounts_is_function}
 use Rattle.command_laws.proofs.StoreTaking.{both_true}
 use Rattle.std.proofs.lemmas.Bool.{lt-ltb, eqb-true, eq-eqb, le-leb, and_parts}
-use Rattle.std.specs.Prelude.{◌==◌, nat_lt, if◌then◌else◌}
+use Rattle.std.specs.Prelude.{◌==◌, nat_lt}
 use Rattle.volume_store.specs.Mounting.{StoreView, IsSettling, SettlingBreaks, IsOpened}
 use Rattle.drive_states.specs.Unit.{UnitView}
-use Rattle.cartridge_spec.specs.Settling.{settling_steps, settling_places, block_writes}
-use Rattle.cartridge_spec.specs.Says.{with_parity}
+use Rattle.cartridge_spec.specs.Settling.{settling_steps}
 use Rattle.cartridge_spec.specs.Mounting.{Mounting}
 use Rattle.command_spec.specs.declared.words.Words.{Words}
 use Rattle.command_spec.specs.declared.status.Status.{Status}
@@ -22,25 +21,29 @@ use Rattle.command_spec.specs.Lines.{list_text, info_text}
 use Rattle.command_spec.specs.Outcome.{CommandOutcome, refused, acted, Going, Opened, OpenOutcome, WritableOutcome, Shows}
 use Rattle.command_laws.specs.Outcomes.{Printing, telling, listing}
 use Rattle.volume_store.proofs.Refusals.{foreign_is_refused}
-use Rattle.volume_store.proofs.Opened.{opening_cut, outside}
+use Rattle.volume_store.proofs.Opened.{opening_cut}
 use Rattle.volume_store.specs.Opening.{HasOpened, IsTurnedDown, OpenFails, StartFails}
 use Rattle.volume_store.specs.declared.opening.OpenFault.{OpenFault}
 use Rattle.command_laws.specs.CommandFields.{CommandPrints, Yields}
 use Rattle.command_laws.specs.RunTerms.{EndsBlind}
 use Rattle.command_laws.proofs.CommandOpened.{quiet}
-use Rattle.command_laws.proofs.CommandTold.{input_of, input_told, input_bytes}
+use Rattle.command_laws.proofs.CommandTold.{input_told, input_bytes}
 use Rattle.command_spec.specs.Machine.{may_come_from, CommandEnds}
 use Rattle.command_laws.proofs.CommandEndings.{Rules, nothing_front}
 use Rattle.volume_store.proofs.Mounted.{cut_first}
-use Rattle.volume_store.proofs.Started.{Present, Knows}
+use Rattle.volume_store.proofs.Started.{Present}
 use Rattle.cartridge_front.specs.declared.fault.StoreFault.{StoreFault}
 use Rattle.cartridge_front.specs.Learning.{MountRefuses}
 use Rattle.hand_commands.specs.Outcome.{first_steps}
-use Rattle.host_commands.specs.Opening.{IsRefusal, RefusesOpening, is_opening, StartRefuses, OpeningRefused, OpeningEnds, IsUnlocked, WritableEnds}
+use Rattle.host_commands.specs.Opening.{IsRefusal, RefusesOpening, is_opening, NoStart, OpeningRefused, OpeningEnds, IsUnlocked, WritableEnds}
 use Rattle.host_commands.specs.Statuses.{store_status, open_status}
 use Rattle.hand_commands.specs.Writing.{printed_status}
 use Rattle.hand_commands.proofs.Endings.{IsBlind, printed, turned_down, cut_off, told_map}
 use Rattle.qic_base.specs.Acts.{TapeFails}
+use Rattle.cartridge_laws.proofs.MountSettled.{locked_steps}
+use Rattle.qic_base.specs.CartridgeTerms.{IsInfoOf}
+use Rattle.qic_base.specs.SourceCalls.{input_of}
+use Rattle.qic_base.specs.Alone.{outside}
 use Rattle.qic_base.specs.Sink as sinks
 use Rattle.qic_base.specs.Source as sources
 use Rattle.qic_base.specs.SinkCalls as sink_calls
@@ -102,10 +105,6 @@ pub unlocked_refused_is : (goes : Going) (why : Status) (held : Option Cartridge
 unlocked_refused_is goes why None free is = ap refused is
 unlocked_refused_is goes why (Some c) free is = inr (free, refused_is goes why (Some c) is)
 
--- nothing settles a protected cartridge
-locked_steps : (table : List (List ℕ)) (c : Cartridge) → c.info.protected ≡ true → settling_steps table c ≡ []
-locked_steps table c is = ap (λ (b : Bool). if b then [] else block_writes (with_parity table) (settling_places c table)) is
-
 pub writable_begins : (goes : Going) → BeginsSettling goes → (steps : List TapeStep) (held : Option Cartridge) → (steps ≡ []) ⊎ IsSomeAnd held (λ c. IsSettling c steps) →
     (outcome : CommandOutcome) → WritableOutcome goes held outcome → BeginsSteps steps outcome
 writable_begins goes first steps None front outcome plain = begins_is goes first steps None front outcome plain
@@ -139,7 +138,7 @@ never_short t a b open_fault.NoCartridge fails promised read is = cc
 never_short t a b (open_fault.Refused (fault.Short p r)) fails promised read is = let kind = fails.kind in absurd (cc)
 never_short t a b (open_fault.Refused f) fails promised read is = cc
 
-pub start_failed : {T : Type 0} (t : tapes.Meaning T) (a b : T) (why : OpenFault) → StartFails t a b why → StartRefuses t a b (open_status why)
+pub start_failed : {T : Type 0} (t : tapes.Meaning T) (a b : T) (why : OpenFault) → StartFails t a b why → NoStart t a b (open_status why)
 start_failed t a b open_fault.NoCartridge fails = inl (refl, fails)
 start_failed t a b (open_fault.Refused fault.Tape) fails = inr (refl, fails)
 start_failed t a b (open_fault.Refused f) fails = absurd fails
@@ -169,7 +168,7 @@ open_failed t a b (open_fault.Refused f) fails = let kind = fails.kind in absurd
 pub unlocked_known : {T : Type 0} (t : tapes.Meaning T) (a b : T) (info : TapeInfo) → Present t a b info → info.protected ≡ false → IsUnlocked t a
 unlocked_known t a b info there free = told_map (t.told a) _ _ there.known (λ held known. by_held held known)
   where
-    by_held : (held : Option Cartridge) → Knows (Some info) held → IfSome held (λ c. c.info.protected ≡ false)
+    by_held : (held : Option Cartridge) → IsInfoOf (Some info) held → IfSome held (λ c. c.info.protected ≡ false)
     by_held None known = tt
     by_held (Some c) known = let same : info ≡ c.info = cc in ap (λ (i : TapeInfo). i.protected) (sym same) ∙ free
 
@@ -178,7 +177,7 @@ absent_unlocked None none = tt
 absent_unlocked (Some None) none = tt
 absent_unlocked (Some (Some c)) none = absurd (cc)
 
-pub writable_unstarted : {T : Type 0} (t : tapes.Meaning T) (a : T) (b : UnitView T) (why : Status) → StartRefuses t a b.tape why → WritableEnds t a b (Err why)
+pub writable_unstarted : {T : Type 0} (t : tapes.Meaning T) (a : T) (b : UnitView T) (why : Status) → NoStart t a b.tape why → WritableEnds t a b (Err why)
 writable_unstarted t a b why (inl (is, (did, none))) =
     inr (inl (absent_unlocked (t.told a) none, record { did = did; sound = ap is_opening is; told = rw is (absent_told (t.told a) none) }))
 writable_unstarted t a b why (inr (is, broke)) = inr (inr (is, cut_first t a b.tape broke))

@@ -30,13 +30,13 @@ use Rattle.volume_store.specs.Opening.{HasOpened}
 use Rattle.command_spec.specs.Machine.{IsCutOff, fault_of, may_come_from}
 use Rattle.volume_store.proofs.Opened.{IsKnown, went_behind, cut_behind, settled_told, opened_known, known_before, found_locked, never_both, unlocked}
 use Rattle.command_laws.proofs.CommandOpened.{quiet}
-use Rattle.cartridge_front.proofs.Copies.{tells_two}
 use Rattle.cartridge_front.specs.declared.fault.StoreFault.{StoreFault}
 use Rattle.host_commands.specs.Opening.{IsUnlocked, WritableEnds, is_opening}
 use Rattle.host_commands.specs.Statuses.{store_status}
 use Rattle.hand_commands.specs.Outcome.{first_steps}
 use Rattle.hand_commands.proofs.Endings.{IsBlind, turned_behind, turned_down, cut_off, told_map, told_both}
 use Rattle.host_commands.proofs.Mounted.{BeginsSettling, no_outcome, locked_is, unlocked_refused_is, writable_begins, table_lost}
+use Rattle.qic_base.proofs.Steps.{tells_two}
 use Rattle.qic_base.specs.Sink as sinks
 use Rattle.qic_base.specs.Tape as tapes
 use Rattle.qic_base.specs.TapeCalls as tape_calls

@@ -44,15 +44,15 @@ is_opening status.TableMismatch = true
 is_opening answer = false
 
 -- there is no cartridge, or a fault of the tape broke the insertion off
-abbrev pub StartRefuses : {T : Type 0} (m : Meaning T) (old new : T) → Status → Type 0
-StartRefuses m old new why =
+abbrev pub NoStart : {T : Type 0} (m : Meaning T) (old new : T) → Status → Type 0
+NoStart m old new why =
     ((why ≡ status.NoCartridge) × IsAbsent m old new)
     ⊎ ((why ≡ status.TapeFault) × Broke m old new [])
 
 -- how the start of a host on what a drive holds ended
 abbrev pub StartAnswers : {T : Type 0} (m : Meaning T) (old new : UnitView T) → Result Host Status → Type 0
 StartAnswers m old new (Ok host) = HasStarted m old new host
-StartAnswers m old new (Err why) = StartRefuses m old.tape new.tape why
+StartAnswers m old new (Err why) = NoStart m old.tape new.tape why
 
 -- It was refused, before anything was written.
 pub record OpeningRefused {T : Type 0} (m : Meaning T) (old new : T) (why : Status) : Type 0 where

@@ -17,7 +17,7 @@ pub length_is : (n : ℕ) (c : Option TapeInfo) → IsSomeAnd c (λ info. info.s
 length_is n None h = absurd h
 length_is n (Some info) h = h
 
--- the tape that streams_to is in a segment of the cartridge
+-- a tape that streams is in a segment of the cartridge
 segment_on_tape : (d : Deck) → IsSound d → is_streaming d.motion ≡ true → segment_of d < 28 * segments_per_track d
 segment_on_tape d s running =
     let before = before_limit d.motion (limit d) d.offset running s.motion in

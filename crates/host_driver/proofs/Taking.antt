@@ -5,7 +5,6 @@ use Rattle.qic117_commands.specs.Views.{is_format, is_verify}
 use Rattle.qic117_commands.specs.declared.command.Command.TheVariants.{LogicalForward, SeekTrack, EnterFormat, EnterVerify, SkipReverse, SkipForward, EnterPrimary}
 use Rattle.qic117_commands.specs.declared.view.Mode.{Mode}
 use Rattle.qic117_commands.specs.declared.view.Mode.TheVariants.{Primary, Format, Verify}
-use Rattle.qic117_commands.specs.declared.view.Motion.TheVariants as seen_as
 use Rattle.drive_spec.specs.declared.deck.Deck.{Deck}
 use Rattle.drive_spec.specs.declared.deck.Motion.{Motion}
 use Rattle.drive_spec.specs.declared.deck.Motion.TheVariants.{Stopped, Streaming, Seeking}

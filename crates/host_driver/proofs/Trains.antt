@@ -1,4 +1,4 @@
--- What trains do to the drive.
+-- Units of which the drive alone changed, and answers of gaps.
 use Rattle.std.proofs.Common.{◌≡◌, List, [], ◌∷◌, refl, ap, ◌∙◌, Result, Ok, Err, IsOk, OnErr}
 use Rattle.qic_base.specs.Step.{Step}
 use Rattle.drive_spec.specs.Record.{Record}

@@ -9,6 +9,7 @@ use Rattle.drive_states.specs.Unit.{UnitView}
 use Rattle.host_driver.specs.declared.fault.HostFault.{HostFault}
 use Rattle.host_driver.specs.declared.fault.HostFault.TheVariants.{NoCartridge, Protected, Tape}
 use Rattle.host_driver.specs.declared.host.Host.{Host}
+use Rattle.qic_base.specs.Cartridge.{info_of}
 
 -- the drive of a host that has read its status, its error word and its format segments
 abbrev pub started_drive : Option TapeInfo → Record
@@ -31,7 +32,7 @@ Starts m old new (Err Tape) = (new.drive ≡ power_on None) × Broke m old.tape 
 
 -- where the tape tells what it holds, the drive knows just that
 abbrev pub KnowsTold : {T : Type 0} (m : Meaning T) → UnitView T → Type 0
-KnowsTold m u = IfSome (m.told u.tape) (λ there. u.drive.deck.cartridge ≡ option_map (λ c. c.info) there)
+KnowsTold m u = IfSome (m.told u.tape) (λ there. u.drive.deck.cartridge ≡ info_of there)
 
 -- the tape's size is that of what the drive knows
 abbrev pub KnowsSize : {T : Type 0} (m : Meaning T) → UnitView T → Type 0

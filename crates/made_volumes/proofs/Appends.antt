@@ -5,7 +5,7 @@ use Rattle.std.proofs.lemmas.Bool.{le-ltb}
 use Rattle.std.proofs.lemmas.List.{take_all}
 use Rattle.qic_base.specs.Cartridge.{Cartridge}
 use Rattle.qic_base.specs.Step.{Step}
-use Rattle.qic_base.proofs.Steps.{Tells-map, Done-nothing}
+use Rattle.qic_base.proofs.Steps.{Tells-map, Done-nothing, tells_two}
 use Rattle.qic_base.specs.Acts.{Act, text_of, TapeFails, Went, Cut}
 use Rattle.qic_base.specs.Alone.{no_source, no_sink, around, reading}
 use Rattle.cartridge_spec.specs.TableSegment.{table_cells, TableIs}
@@ -18,7 +18,7 @@ use Rattle.command_spec.specs.Make.{made_length, made_bytes, AppendMade, made_na
 use Rattle.tape_script.specs.Generator.{made_means}
 use Rattle.volume_store.specs.declared.appended.Appended.{Appended}
 use Rattle.command_spec.specs.Append.{Taking, Fits, TooLong, TooShort, taking, has_promised_room, append_acts}
-use Rattle.command_laws.specs.MadeTerms.{made_entry, made_acts, MayAnswerAppend}
+use Rattle.command_laws.specs.MadeTerms.{made_entry, made_acts, IsAppendAnswer}
 use Rattle.command_laws.specs.AppendTerms.{entry_for, silently}
 use Rattle.volume_store.specs.Appending.{kept_by, AppendRan, AppendCut, TableRefused, AppendEnds, CutUnread, FaultsUnread}
 use Rattle.volume_store.specs.Mounting.{StoreView, StoreFits}
@@ -30,8 +30,8 @@ use Rattle.command_laws.proofs.MadeMadeBytes.{length-made_bytes}
 use Rattle.command_laws.proofs.MadeMayLaws.{may_of, may_append}
 use Rattle.command_spec.specs.declared.status.Status.{Status}
 use Rattle.cartridge_front.specs.declared.fault.StoreFault.{StoreFault}
-use Rattle.cartridge_front.proofs.Copies.{IsLearnt, told_learnt, tells_two}
 use Rattle.cartridge_laws.proofs.MountOnce.{not_lost}
+use Rattle.volume_store.proofs.Fitting.{told_mark}
 use Rattle.qic_base.specs.Tape as tapes
 use Rattle.qic_base.specs.TapeCalls as tape_calls
 use Rattle.cartridge_front.specs.declared.fault.StoreFault.TheVariants as store
@@ -39,14 +39,6 @@ use Rattle.made_volumes.specs.declared.fault.MakeFault.TheVariants as fault
 use Rattle.command_spec.specs.declared.status.Status.TheVariants as status
 
 -- ---- the mark
-
--- the cartridge's mark is that which the drive knows
-pub told_mark : {T : Type 0} (t : tapes.Meaning T) (held : StoreView) (u : UnitView T) → StoreFits t held u → (mark : Bool) → is_protected u.drive.deck ≡ mark →
-    tape_calls.Tells t u.tape (λ c. c.info.protected ≡ mark)
-told_mark t held u fits mark is =
-    Tells-map t u.tape (IsLearnt held.host) (λ c. c.info.protected ≡ mark)
-    (λ c known. known.protected ∙ sym (ap is_protected fits.host.deck) ∙ is)
-    (told_learnt t held.host u fits.host fits.agrees)
 
 -- a mark that would mean something which is not so is not set
 pub not_marked : (P : Type 0) (mark : Bool) → (mark ≡ true → P) → (P → ⊥) → mark ≡ false
@@ -130,7 +122,7 @@ module _ {T : Type 0} (t : tapes.Meaning T) (seed volume : ℕ) (before : StoreV
   around_went acts went = record { did = went.did; wrote = went.wrote; source_later = omega arith }
 
   -- the acts went up to this answer
-  went_so : (acts : List Act) (answer : Status) → Acts acts → MayAnswerAppend seed words entries volume answer →
+  went_so : (acts : List Act) (answer : Status) → Acts acts → IsAppendAnswer seed words entries volume answer →
       tape_calls.Tells t a (λ c. StepDoes seed c words entries (AppendMade volume) acts answer) →
       HasRun t no_sink seed words entries (AppendMade volume ∷ []) (around a tt) (around b tt) answer
   went_so acts answer went may told = record {
@@ -150,7 +142,7 @@ module _ {T : Type 0} (t : tapes.Meaning T) (seed volume : ℕ) (before : StoreV
 
   ran_so : (became : Taking) (answer : Status) → is_protected u.drive.deck ≡ false →
       AppendRan t made_means (reading a bytes) (reading b rest) before (made_name volume) 0 promise became →
-      made_answer seed words entries volume ≡ answer → MayAnswerAppend seed words entries volume answer →
+      made_answer seed words entries volume ≡ answer → IsAppendAnswer seed words entries volume answer →
       HasRun t no_sink seed words entries (AppendMade volume ∷ []) (around a tt) (around b tt) answer
   ran_so became answer free ran answered may =
       let acts : List Act = append_acts (kept_by before ran.table ran.settling) (made_name volume) 0 promise silently ran.input in
@@ -173,7 +165,7 @@ module _ {T : Type 0} (t : tapes.Meaning T) (seed volume : ℕ) (before : StoreV
   became_is became ran = ap (λ (xs : List ℕ). taking have promise xs) (sym ran.is_told) ∙ ran.took
 
   refused_so : (Says : Cartridge → Type 0) (answer : Status) → is_protected u.drive.deck ≡ false →
-      TableRefused t made_means (reading a bytes) (reading b rest) Says → MayAnswerAppend seed words entries volume answer →
+      TableRefused t made_means (reading a bytes) (reading b rest) Says → IsAppendAnswer seed words entries volume answer →
       ((c : Cartridge) (acts : List Act) → acts ≡ [] → Says c → IsTableLost c acts answer) →
       HasRun t no_sink seed words entries (AppendMade volume ∷ []) (around a tt) (around b tt) answer
   refused_so Says answer free refused may means =

@@ -1,7 +1,7 @@
 -- How steps of `make` that ran one after the other join.
 use Rattle.std.proofs.Common.{◌≢◌, ℕ, List, [], ◌++◌, Result, Ok, Err, refl, sym, subst, arith}
 use Rattle.qic_base.specs.Cartridge.{Cartridge}
-use Rattle.qic_base.proofs.Steps.{Tells-map}
+use Rattle.qic_base.proofs.Steps.{Tells-map, tells_two}
 use Rattle.qic_base.proofs.Writing.{TakesBoth}
 use Rattle.qic_base.specs.Acts.{Act, steps_of, text_of, Outside, Failing, TapeFails, SourceFails, SinkFails, Went, Cut}
 use Rattle.qic_base.specs.Alone.{no_source, no_sink, around}
@@ -17,7 +17,6 @@ use Rattle.command_laws.proofs.MadeMachineLaws.{runs_both, runs_longer, runs_beh
 use Rattle.command_laws.proofs.MadeMayLaws.{may_both, may_longer}
 use Rattle.command_spec.specs.declared.status.Status.{Status}
 use Rattle.command_laws.specs.MadeTerms.{after_items}
-use Rattle.cartridge_front.proofs.Copies.{tells_two}
 use Rattle.qic_base.specs.Sink as sinks
 use Rattle.qic_base.specs.Tape as tapes
 use Rattle.made_volumes.specs.declared.fault.MakeFault.TheVariants as fault

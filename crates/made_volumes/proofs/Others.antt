@@ -1,7 +1,7 @@
 -- How the wearing of a sector and a scrub ended, as steps of a run.
 use Rattle.std.proofs.Common.{◌≡◌, ◌↔◌, inl, inr, ℕ, true, false, List, [], ◌∷◌, Result, Ok, Err, refl, sym, ◌∙◌, subst, arith}
 use Rattle.qic_base.specs.Step.{Wear}
-use Rattle.qic_base.proofs.Steps.{Tells-map, Done-nothing}
+use Rattle.qic_base.proofs.Steps.{Tells-map, Done-nothing, tells_two}
 use Rattle.qic_base.specs.Acts.{Act, text_of, Failing, TapeFails, SinkFails, Cut}
 use Rattle.qic_base.specs.Alone.{no_source, no_sink, around}
 use Rattle.cartridge_spec.specs.Table.{Entry}
@@ -19,11 +19,11 @@ use Rattle.command_spec.specs.Make.{WearSector, ScrubAll, Runs}
 use Rattle.made_volumes.specs.Runs.{RunEnds, NeverFull}
 use Rattle.command_laws.proofs.MadeMachineLaws.{run_of, done_of}
 use Rattle.command_laws.proofs.MadeMayLaws.{may_of}
-use Rattle.made_volumes.proofs.Appends.{told_mark, not_marked}
+use Rattle.made_volumes.proofs.Appends.{not_marked}
 use Rattle.command_spec.specs.declared.status.Status.{Status}
 use Rattle.command_spec.specs.declared.depth.Depth.TheVariants.{Shallow}
-use Rattle.cartridge_front.proofs.Copies.{tells_two}
 use Rattle.cartridge_front.specs.declared.fault.StoreFault.{StoreFault}
+use Rattle.volume_store.proofs.Fitting.{told_mark}
 use Rattle.qic_base.specs.Sink as sinks
 use Rattle.qic_base.specs.Tape as tapes
 use Rattle.qic_base.specs.TapeCalls as tape_calls

@@ -136,3 +136,10 @@ put_mid-field bytes buf mid at width value h n e =
     ∙ sym (append_assoc (take at bytes) part (drop (at + width - at) (drop at bytes)))
     ∙ ap (λ (xs : List ℕ). take at bytes ++ part ++ xs) (drop-drop (at + width - at) at bytes)
     ∙ ap (λ (m : ℕ). take at bytes ++ part ++ drop m bytes) end
+
+-- bytes that are copied over a part as a field
+pub put_mid-overwritten : (sector bytes : List ℕ) (at k : ℕ) → length bytes ≡ k → put_mid at k sector bytes ≡ overwritten sector at bytes
+unfolding overwritten
+put_mid-overwritten sector bytes at k h =
+    sym (append_assoc (take at sector) bytes (drop k (drop at sector)))
+    ∙ ap (λ (xs : List ℕ). take at sector ++ bytes ++ xs) (drop-drop k at sector ∙ ap (λ (n : ℕ). drop (at + n) sector) (sym h))

@@ -1,4 +1,6 @@
+pub mod Arrays
 pub mod DateLaws
+pub mod Disks
 pub mod FieldLaws
 pub mod Giving
 pub mod Joins
@@ -6,4 +8,5 @@ pub mod LineBytes
 pub mod LostSetLaws
 pub mod Outcomes
 pub mod Steps
+pub mod Views
 pub mod Writing

@@ -1,7 +1,7 @@
 -- Laws of the places that a mask names.
-use Rattle.std.proofs.Common.{◌≡◌, ℕ, zero, suc, ◌+◌, ◌*◌, ◌/◌, ◌%◌, ◌^◌, ◌<◌, ◌≤◌, [], ◌∷◌, ◌++◌, length, ◌==◌, if◌then◌else◌, add_comm, add-one, add-zero, refl, sym, ap, ◌∙◌, arith}
+use Rattle.std.proofs.Common.{◌≡◌, ℕ, zero, suc, ◌+◌, ◌*◌, ◌/◌, ◌%◌, ◌^◌, ◌<◌, ◌≤◌, [], ◌∷◌, ◌++◌, length, ◌==◌, if◌then◌else◌, add_comm, add-one, add-zero, refl, sym, ap, ◌∙◌, arith, List}
 use Rattle.std.proofs.lemmas.Nat.{ones_cat, mod-pow-add, pow_pos}
-use Rattle.std.proofs.lemmas.List.{length-append, append-nil}
+use Rattle.std.proofs.lemmas.List.{length-append, append-nil, length_push}
 use Rattle.std.proofs.Math.Nat.{mod-lt, mod-one, pow-le-pow_right, div-eq_of_lt}
 use Rattle.qic_base.specs.CartridgeTerms.{IsLost}
 use Rattle.qic_base.specs.Cartridge.{lost_places}
@@ -64,3 +64,11 @@ length-lost_places mask (suc n) =
     ∙ add_comm (ones (mask % 2 ^ n)) (ones bit)
     ∙ sym (ones_cat n bit (mask % 2 ^ n) (mod-lt mask (pow_pos n)))
     ∙ ap ones (sym (next ∙ digits))
+
+-- one more lost place is one more in the list
+pub count_more : (mask i : ℕ) → IsLost mask i → length (lost_places mask (i + 1)) ≡ length (lost_places mask i) + 1
+count_more mask i lost = ap (λ (l : List ℕ). length l) (lost_places-lost mask i lost) ∙ length_push (lost_places mask i) i
+
+-- and one that is not lost is none
+pub count_same : (mask i : ℕ) → (IsLost mask i → ⊥) → length (lost_places mask (i + 1)) ≡ length (lost_places mask i)
+count_same mask i kept = ap (λ (l : List ℕ). length l) (lost_places-kept mask i kept)

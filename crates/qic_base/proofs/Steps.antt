@@ -1,11 +1,11 @@
 -- How what several calls did to a tape joins: calls one after the other are one list of steps.
-use Rattle.std.proofs.Common.{◌≡◌, ℕ, ◌≤◌, ◌⊎◌, inl, inr, true, List, [], ◌∷◌, ◌++◌, refl, sym, ◌∙◌, ap, arith, Option, Some, None, is_some, IfSome, subst}
+use Rattle.std.proofs.Common.{◌≡◌, ℕ, ◌≤◌, ◌⊎◌, inl, inr, true, List, [], ◌∷◌, ◌++◌, refl, sym, ◌∙◌, ap, arith, Option, Some, None, is_some, IfSome, subst, Result, Ok, Err}
 use Rattle.std.proofs.lemmas.List.{append-nil}
 use Rattle.std.specs.Option.{option_map}
 use Rattle.qic_base.specs.Tape.{Rose, Meaning, Stops, Done, Broke}
 use Rattle.qic_base.specs.Cartridge.{Cartridge}
 use Rattle.qic_base.specs.Step.{Step, effect, effects, Torn}
-use Rattle.qic_base.specs.TapeCalls.{Tells, IsLeftNow}
+use Rattle.qic_base.specs.TapeCalls.{Tells, IsLeftNow, Does}
 
 -- a rise in a part of a call is a rise in the call
 pub Rose-after : (a b c : ℕ) → a ≤ b → Rose b c → Rose a c
@@ -24,7 +24,7 @@ option_map-effects-append : (xs ys : List Step) (told : Option (Option Cartridge
 option_map-effects-append xs ys None = refl
 option_map-effects-append xs ys (Some held) = ap Some (effects-append xs ys held)
 
-option_map-effects-none : (told : Option (Option Cartridge)) → option_map (effects []) told ≡ told
+pub option_map-effects-none : (told : Option (Option Cartridge)) → option_map (effects []) told ≡ told
 option_map-effects-none None = refl
 option_map-effects-none (Some held) = refl
 
@@ -204,3 +204,17 @@ pub Tells-read : {S : Type 0} {m : Meaning S} {a b : S} (P : Cartridge → Type 
 Tells-read {m = m} P read told =
     let telling : Option (Option Cartridge) → Type 0 = λ held. IfSome held (λ h. IfSome h P) in
     subst telling (Done-told read) told
+
+-- what a call did after what was done
+pub Done-Does : {S T E : Type 0} (m : Meaning S) (a b c : S) (xs ys : List Step) (r : Result T E) → Done m a b xs → Does m b c ys r → Does m a c (xs ++ ys) r
+Done-Does m a b c xs ys (Ok x) before more = Done-Done {xs = xs} {ys = ys} before more
+Done-Does m a b c xs ys (Err e) before more = Done-Broke {xs = xs} {ys = ys} before more
+
+-- two facts that are told of a cartridge
+pub tells_two : {T : Type 0} (m : Meaning T) (s : T) (P Q R : Cartridge → Type 0) → ((c : Cartridge) → P c → Q c → R c) → Tells m s P → Tells m s Q → Tells m s R
+tells_two m s P Q R follows first second = by_cases (m.told s) first second
+  where
+    by_cases : (held : Option (Option Cartridge)) → IfSome held (λ h. IfSome h P) → IfSome held (λ h. IfSome h Q) → IfSome held (λ h. IfSome h R)
+    by_cases None one two = tt
+    by_cases (Some None) one two = tt
+    by_cases (Some (Some c)) one two = follows c one two

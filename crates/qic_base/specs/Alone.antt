@@ -1,4 +1,4 @@
--- Parts of the outside alone (this project's own).
+-- The outside of its parts, and some of them alone (this project's own).
 use Rattle.std.specs.Prelude.{◌≡◌, [], None}
 use Rattle.qic_base.specs.Acts.{Outside}
 use Rattle.qic_base.specs.Sink as sinks
@@ -11,6 +11,10 @@ no_source = record { left = λ asked. None; keeps = λ old new. Unit {0}; faults
 -- a sink that is never asked, so that it takes no byte
 abbrev pub no_sink : sinks.Meaning (Unit {0})
 no_sink = record { written = λ asked. None; took = λ old text new. text ≡ []; faults = λ asked. 0 }
+
+-- a tape, a source and a sink
+abbrev pub outside : {T S K : Type 0} → T → S → K → Outside T S K
+outside tape source sink = record { tape = tape; source = source; sink = sink }
 
 -- a tape and a sink alone
 abbrev pub around : {T K : Type 0} → T → K → Outside T (Unit {0}) K

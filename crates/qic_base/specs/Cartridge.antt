@@ -1,10 +1,11 @@
 -- A cartridge: its marks, the version of what keeps it, and the view of each of its sectors (this project's profile of a
 -- QIC-80 minicartridge); a set of sectors as a word.
-use Rattle.std.specs.Prelude.{ℕ, zero, suc, ◌/◌, ◌%◌, ◌^◌, List, [], ◌∷◌, ◌++◌, ◌==◌, if◌then◌else◌, ◌≡◌, ◌+◌, ◌*◌, ◌<◌, ◌≤◌, length, replicate, All, false, slice_get, slice_set, unwrap_or}
+use Rattle.std.specs.Prelude.{ℕ, zero, suc, ◌/◌, ◌%◌, ◌^◌, List, [], ◌∷◌, ◌++◌, ◌==◌, if◌then◌else◌, ◌≡◌, ◌+◌, ◌*◌, ◌<◌, ◌≤◌, length, replicate, All, false, slice_get, slice_set, unwrap_or, Option}
 use Rattle.qic_base.specs.declared.tape.SectorView.{SectorView}
 use Rattle.qic_base.specs.declared.tape.SectorView.TheVariants.{Blank}
 use Rattle.qic_base.specs.declared.tape.TapeInfo.{TapeInfo}
 use Rattle.qic_base.specs.declared.TheConstants.{LONGEST}
+use Rattle.std.specs.Option.{option_map}
 
 -- the places below a number that are in the set, in ascending order
 unfoldable pub lost_places : ℕ → ℕ → List ℕ
@@ -17,6 +18,10 @@ pub record Cartridge : Type 0 where
   pub info : TapeInfo
   pub version : ℕ
   pub views : List SectorView
+
+-- the length and marks of the cartridge, where there is one
+abbrev pub info_of : Option Cartridge → Option TapeInfo
+info_of held = option_map (λ c. c.info) held
 
 -- A sector has 1,024 bytes (QIC-80-MC).
 pub record IsSector (bytes : List ℕ) : Type 0 where

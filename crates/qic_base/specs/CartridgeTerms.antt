@@ -1,10 +1,11 @@
 -- Words of cartridges that contracts and proofs cite, and that no clause of `run` reaches: a cartridge that is whole, a place of its
--- views, a changed segment, and a place in a set.
-use Rattle.std.specs.Prelude.{◌≡◌, ◌==◌, Bool, List, ℕ, ◌+◌, ◌*◌, ◌/◌, ◌%◌, ◌^◌, ◌≤◌, ◌++◌, length, take, drop, map, All, Option}
+-- views, a changed segment, what is known of it, and a place in a set.
+use Rattle.std.specs.Prelude.{◌≡◌, ◌==◌, Bool, List, ℕ, ◌+◌, ◌*◌, ◌/◌, ◌%◌, ◌^◌, ◌≤◌, ◌++◌, length, take, drop, map, All, Option, bit_or}
 use Rattle.qic_base.specs.declared.tape.SectorView.{SectorView}
 use Rattle.qic_base.specs.declared.tape.SectorView.TheVariants.{Blank, Defect, Lost, Holds}
-use Rattle.qic_base.specs.Cartridge.{Cartridge, IsSector, IsLength}
+use Rattle.qic_base.specs.Cartridge.{Cartridge, IsSector, IsLength, info_of}
 use Rattle.qic_base.specs.Step.{FormatSegment, Halfway}
+use Rattle.qic_base.specs.declared.tape.TapeInfo.{TapeInfo}
 
 -- what a readable sector holds is a sector
 abbrev pub IsView : SectorView → Type 0
@@ -42,6 +43,10 @@ with_segment c segment change = record c { views = changed_views c.views segment
 abbrev pub HalfFormatted : ℕ → Option Cartridge → Option Cartridge → Type 0
 HalfFormatted segment held left = Halfway (FormatSegment segment) held left
 
+-- these are its length and marks, or it is not there
+abbrev pub IsInfoOf : Option TapeInfo → Option Cartridge → Type 0
+IsInfoOf info held = info ≡ info_of held
+
 -- the place is in the set: its bit of the mask is 1
 abbrev pub IsLost : ℕ → ℕ → Type 0
 IsLost mask place = mask / 2 ^ place % 2 ≡ 1
@@ -49,3 +54,7 @@ IsLost mask place = mask / 2 ^ place % 2 ≡ 1
 -- whether it is
 abbrev pub is_lost : ℕ → ℕ → Bool
 is_lost mask place = mask / 2 ^ place % 2 == 1
+
+-- the set with one place more
+abbrev pub with_place : (set place : ℕ) → ℕ
+with_place set place = bit_or set (2 ^ place)

@@ -34,3 +34,8 @@ GaveSome m old new n = (bytes : List ℕ) × (length bytes ≡ n) × Gave m old 
 -- where it tells its bytes, none are left
 abbrev pub HasEnded : {S : Type 0} → Meaning S → S → Type 0
 HasEnded m s = NoneLeft (m.left s)
+
+-- the bytes that a source has left, and none where it tells none
+abbrev pub input_of : Option (List ℕ) → List ℕ
+input_of None = []
+input_of (Some bytes) = bytes

@@ -2,7 +2,7 @@
 
 ghost use Rattle.std.specs.Prelude.{◌≡◌, ◌≢◌, ◌<◌, [], ◌∷◌, None, Some, IfOk, IfSome, IsSome, OnErr, OnOk};
 ghost use Rattle.std.specs.Option.{option_map};
-ghost use Rattle.qic_base.specs.Cartridge.{IsLength, view_at};
+ghost use Rattle.qic_base.specs.Cartridge.{IsLength, view_at, info_of};
 ghost use Rattle.qic_base.specs.CartridgeTerms.{IsVersion};
 ghost use Rattle.qic_base.specs.Step.{WriteSector, FormatSegment, SetReferenced, SetProtected, Renew, Wear, Spoil, Upgrade};
 ghost use Rattle.qic_base.specs.Tape.{Meaning, spoil_answer};
@@ -57,7 +57,7 @@ pub trait Tape {
     fn info(&mut self) -> Result<Option<TapeInfo>, TapeFailed>
         ensures did { Does means self.old self.new [] result }
         ensures info { IfOk result (λ info.
-            IfSome (means.told self.old) (λ held. info ≡ option_map (λ c. c.info) held)) }
+            IfSome (means.told self.old) (λ held. info ≡ info_of held)) }
         ensures size { IfOk result (λ info.
             means.size self.new ≡ option_map (λ i. i.segments_per_track) info) }
         ensures failed { OnErr result (means.size self.new ≡ means.size self.old) };

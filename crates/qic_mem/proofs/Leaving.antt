@@ -1,7 +1,7 @@
 -- What a failing call leaves is what a stop inside it may leave.
-use Rattle.std.proofs.Common.{◌≡◌, ℕ, ◌+◌, ◌*◌, ◌-◌, ◌<◌, ◌≤◌, inl, inr, List, [], ◌∷◌, ◌++◌, take, drop, map, length, Option, Some, None, refl, sym, ap, ◌∙◌, arith, IsSomeAnd, get_or, length-append, length-take, length-drop}
+use Rattle.std.proofs.Common.{◌≡◌, ℕ, ◌+◌, ◌*◌, ◌≤◌, inl, inr, List, [], ◌∷◌, length, Option, Some, None, refl, sym, ap, ◌∙◌, arith, IsSomeAnd, length-append, length-take, length-drop}
 use Rattle.std.specs.Option.{option_map}
-use Rattle.std.proofs.lemmas.List.{length-map, get_or-take, get_or-drop, get_or_append_left, get_or-append_right, get_or-map}
+use Rattle.std.proofs.lemmas.List.{length-map}
 use Rattle.std.proofs.lemmas.Option.{unwrap_or-slice_get}
 use Rattle.qic_base.specs.declared.tape.SectorView.{SectorView}
 use Rattle.qic_base.specs.declared.tape.SectorView.TheVariants.{Blank, Defect, Lost, Holds}
@@ -14,6 +14,7 @@ use Rattle.qic_mem.specs.declared.tape.outcome.Outcome.TheVariants as outcome
 use Rattle.qic_mem.specs.TapeChange.{IsReached}
 use Rattle.qic_mem.specs.Outcome.{left_by}
 use Rattle.qic_mem.proofs.Places.{slice_get-same}
+use Rattle.qic_base.proofs.Views.{get-below, get-above, get-within}
 
 -- a worn sector is one whose segment's formatting has begun
 closing-worn : (view : SectorView) → ClosingView view (worn_view view)
@@ -26,38 +27,6 @@ closing-worn (Holds bytes) = inr refl
 
 length-changed : (views : List SectorView) (segment : ℕ) (change : SectorView → SectorView) → 32 * (segment + 1) ≤ length views → length (changed_views views segment change) ≡ length views
 length-changed views segment change within = simp (length-append, length-map, length-take, length-drop) (omega arith)
-
-length-part : (views : List SectorView) (segment : ℕ) (change : SectorView → SectorView) → 32 * (segment + 1) ≤ length views → length (take (32 * segment) views ++ map change (take 32 (drop (32 * segment) views))) ≡ 32 * (segment + 1)
-length-part views segment change within = simp (length-append, length-map, length-take, length-drop) (omega arith)
-
-get-below : (views : List SectorView) (segment place : ℕ) (change : SectorView → SectorView) → 32 * (segment + 1) ≤ length views → place < 32 * segment → get_or (changed_views views segment change) place Blank ≡ get_or views place Blank
-get-below views segment place change within below =
-    let front : List SectorView = take (32 * segment) views in
-    let long : length front ≡ 32 * segment = simp length-take (omega arith) in
-    let middle : List SectorView = map change (take 32 (drop (32 * segment) views)) in
-    get_or_append_left (front ++ middle) (drop (32 * (segment + 1)) views) Blank place (omega (arith, length-part views segment change within))
-    ∙ get_or_append_left front middle Blank place (omega arith)
-    ∙ get_or-take (32 * segment) views place Blank below
-
-get-above : (views : List SectorView) (segment place : ℕ) (change : SectorView → SectorView) → 32 * (segment + 1) ≤ length views → 32 * (segment + 1) ≤ place → get_or (changed_views views segment change) place Blank ≡ get_or views place Blank
-get-above views segment place change within above =
-    let sum : 32 * (segment + 1) + (place - 32 * (segment + 1)) ≡ place = omega arith in
-    get_or-append_right (take (32 * segment) views ++ map change (take 32 (drop (32 * segment) views))) (drop (32 * (segment + 1)) views) (32 * (segment + 1)) place Blank (length-part views segment change within) above
-    ∙ get_or-drop (32 * (segment + 1)) views (place - 32 * (segment + 1)) Blank
-    ∙ ap (λ p. get_or views p Blank) sum
-
-get-within : (views : List SectorView) (segment sector : ℕ) (change : SectorView → SectorView) → 32 * (segment + 1) ≤ length views → sector < 32 → get_or (changed_views views segment change) (32 * segment + sector) Blank ≡ change (get_or views (32 * segment + sector) Blank)
-get-within views segment sector change within in_segment =
-    let front : List SectorView = take (32 * segment) views in
-    let part : List SectorView = take 32 (drop (32 * segment) views) in
-    let long : length front ≡ 32 * segment = simp length-take (omega arith) in
-    let some : length part ≡ 32 = simp (length-take, length-drop) (omega arith) in
-    let left : 32 * segment + sector - 32 * segment ≡ sector = omega arith in
-    get_or_append_left (front ++ map change part) (drop (32 * (segment + 1)) views) Blank (32 * segment + sector) (omega (arith, length-part views segment change within))
-    ∙ get_or-append_right front (map change part) (32 * segment) (32 * segment + sector) Blank long (omega arith)
-    ∙ ap (λ p. get_or (map change part) p Blank) left
-    ∙ get_or-map change part sector Blank Blank (omega arith)
-    ∙ ap change (get_or-take 32 (drop (32 * segment) views) sector Blank in_segment ∙ get_or-drop (32 * segment) views sector Blank)
 
 -- a segment whose readable sectors were worn
 segment-worn : (c : Cartridge) (segment : ℕ) → 32 * (segment + 1) ≤ length c.views → SegmentBecame ClosingView segment c (with_segment c segment worn_view)

@@ -2,7 +2,7 @@
 
 ghost use Rattle.std.specs.Prelude.{◌≡◌, ◌≢◌, ◌↔◌, [], ◌∷◌, Some, None, is_err, IsErr, IsSome, IfOk, IfSome, OnOk, OnErr};
 ghost use Rattle.std.specs.Option.{option_map};
-ghost use Rattle.qic_base.specs.Cartridge.{IsLength, view_at, new_version};
+ghost use Rattle.qic_base.specs.Cartridge.{IsLength, view_at, new_version, info_of};
 ghost use Rattle.qic_base.specs.CartridgeTerms.{IsVersion};
 ghost use Rattle.qic_base.specs.Step.{WriteSector, FormatSegment, SetReferenced, SetProtected, Renew, Wear, Spoil, Upgrade};
 ghost use Rattle.qic_base.specs.TapeCalls.{Does, Tells, IsPlaceOf, Reads, write_answer};
@@ -138,7 +138,7 @@ impl Tape for MemTape {
     fn info(&mut self) -> Result<Option<TapeInfo>, TapeFailed>
         ensures did { Does tape_means self.old self.new [] result }
         ensures info { IfOk result (λ info.
-            IfSome (tape_means.told self.old) (λ held. info ≡ option_map (λ c. c.info) held)) }
+            IfSome (tape_means.told self.old) (λ held. info ≡ info_of held)) }
         ensures size { IfOk result (λ info.
             tape_means.size self.new ≡ option_map (λ i. i.segments_per_track) info) }
         ensures failed { OnErr result (tape_means.size self.new ≡ tape_means.size self.old) }

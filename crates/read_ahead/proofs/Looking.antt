@@ -1,11 +1,7 @@
 -- What a look leaves in a disk in which nothing is pending, whether it was done or failed.
-use Rattle.std.proofs.Common.{◌≡◌, ℕ, List, Option, Some, None, is_some, Bool, true, false, refl, sym, ap, ◌∙◌}
-use Rattle.std.specs.Option.{option_map}
-use Rattle.qic_base.specs.Disk.{Meaning, Look, stored, IsSettled, IsToldRight, Stored, Failed}
-
-told-look : (told : Option (List ℕ)) → option_map (stored Look) told ≡ told
-told-look None = refl
-told-look (Some bytes) = refl
+use Rattle.std.proofs.Common.{◌≡◌, ℕ, List, Option, Some, None, is_some, true, false, refl, sym, ap, ◌∙◌}
+use Rattle.qic_base.specs.Disk.{Meaning, Look, IsSettled, Stored, Failed}
+use Rattle.qic_base.proofs.Disks.{stored-look}
 
 -- it tells what it told
 told-kept : {D : Type 0} (m : Meaning D) (old new : D) → IsSettled m old → Failed m old new Look → (was now : Option (List ℕ)) → m.told old ≡ was → m.told new ≡ now → m.told new ≡ m.told old
@@ -25,16 +21,8 @@ told-kept m old new settled failed (Some bytes) (Some left) before after =
 -- a look that failed leaves what one that was done leaves
 pub failed-look : {D : Type 0} (m : Meaning D) (old new : D) → IsSettled m old → Failed m old new Look → Stored m old new Look
 failed-look m old new settled failed = record {
-  told = told-kept m old new settled failed (m.told old) (m.told new) refl refl ∙ sym (told-look (m.told old));
+  told = told-kept m old new settled failed (m.told old) (m.told new) refl refl ∙ sym (stored-look (m.told old));
   later = failed.later;
   leaves = failed.leaves;
   crashes = failed.crashes;
 }
-
--- a disk that doesn't tell its crashes loses nothing
-pub settled-told : {D : Type 0} (m : Meaning D) (d : D) → IsToldRight m d → (m.tells_stops d ≡ true → IsSettled m d) → IsSettled m d
-settled-told m d right settled = by_telling (m.tells_stops d) refl
-  where
-    by_telling : (telling : Bool) → m.tells_stops d ≡ telling → IsSettled m d
-    by_telling true is = settled is
-    by_telling false is = right.untold is

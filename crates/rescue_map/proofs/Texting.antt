@@ -1,7 +1,6 @@
 -- The text of a map, written piece by piece.
-use Rattle.std.proofs.Common.{◌≡◌, ◌≢◌, ℕ, suc, ◌+◌, ◌-◌, ◌*◌, ◌<◌, ◌≤◌, ◌==◌, Bool, true, false, not, List, [], ◌∷◌, ◌++◌, length, take, drop, Result, Ok, Err, if◌then◌else◌, refl, sym, ap, ◌∙◌, arith, append_assoc, add_assoc}
+use Rattle.std.proofs.Common.{◌≡◌, ℕ, suc, ◌+◌, ◌-◌, ◌*◌, ◌<◌, ◌==◌, Bool, true, false, not, List, [], ◌∷◌, ◌++◌, Result, Ok, Err, if◌then◌else◌, refl, sym, ap, ◌∙◌, arith, append_assoc, add_assoc}
 use Rattle.std.proofs.lemmas.Bool.{eq-eqb}
-use Rattle.std.proofs.lemmas.List.{take-take, drop-take, take-append-drop, length-take, length-drop}
 use mathlib.Core.Bool.{beq}
 use Rattle.qic_base.specs.Sink.{Meaning, Wrote}
 use Rattle.qic_base.specs.SinkCalls.{BrokeOff, Writes}
@@ -16,23 +15,6 @@ pub record Written {K : Type 0} (m : Meaning K) (old new : K) (text rest : List 
   pub wrote : Wrote m old new front
 
 -- ---- bytes that are written
-
--- a front, and the next n bytes
-take-more : (text : List ℕ) (at n : ℕ) → take at text ++ take n (drop at text) ≡ take (at + n) text
-take-more text at n = rw (← drop-take at n text, ← take-take at (at + n) text (omega arith)) (take-append-drop at (take (at + n) text))
-
--- a front, and n bytes of what is left
-pub front_more : (text : List ℕ) (at n : ℕ) → n ≤ length (take (length text - at) (drop at text)) →
-    take at text ++ take n (take (length text - at) (drop at text)) ≡ take (at + n) text
-front_more text at n within =
-    rw (take-take n (length text - at) (drop at text) (omega (arith, length-take (length text - at) (drop at text)))) (take-more text at n)
-
-pub front_within : (text : List ℕ) (at n : ℕ) → at ≤ length text → n ≤ length (take (length text - at) (drop at text)) → at + n ≤ length text
-front_within text at n here within = omega (arith, length-take (length text - at) (drop at text))
-
--- what is left behind a place within is some
-pub some_left : (text : List ℕ) (at : ℕ) → at < length text → drop at text ≢ []
-some_left text at within none = let long = ap length none in absurd (omega (arith, length-drop at text))
 
 pub write_next : {K : Type 0} {m : Meaning K} {old new now : K} {text rest : List ℕ} (piece more : List ℕ) → TakesBoth m → piece ++ more ≡ rest → Written m old new text rest → Wrote m new now piece →
     Written m old now text more

@@ -3,7 +3,7 @@ use Rattle.std.proofs.Common.{◌≡◌, ℕ, zero, suc, ◌+◌, ◌-◌, ◌*�
 use Rattle.std.specs.Prelude.{Result, Ok, Err, IfOk}
 use Rattle.std.specs.Option.{option_map}
 use Rattle.std.proofs.lemmas.Bool.{cases_lt}
-use Rattle.std.proofs.lemmas.List.{take_all, drop_all, take_at, take-append-le, take-append-drop, length-take-le, length-drop, length-replicate, replicate-append-replicate, append-nil}
+use Rattle.std.proofs.lemmas.List.{take_all, drop_all, take_at, take-append-le, take-append-drop, length-take-le, length-drop, length-replicate, replicate-append-replicate}
 use Rattle.std.specs.Simd.{first_chunks}
 use Rattle.std.proofs.lemmas.List as lists
 use Rattle.std.proofs.Math.Seq.{take-append-add}
@@ -12,6 +12,7 @@ use Rattle.core.proofs.slice.Relends.{length-first_chunks}
 use Rattle.qic_base.specs.Source.{Meaning}
 use Rattle.cartridge_spec.specs.Appending.{filled_up, in_sectors}
 use Rattle.sector_fill.specs.Filling.{GaveUpTo, GaveWithin, IsFilled, FillsBytes, AreFilled, FillsSectors, IsFrontOf}
+use Rattle.qic_base.proofs.Arrays.{full_sector}
 
 -- ---- a slice whose rear was written
 
@@ -44,11 +45,6 @@ length-filled_up bytes few =
     let room : ℕ = 1024 - length bytes in
     omega (arith, lists.length-append bytes (replicate room 0), length-replicate {A = ℕ} room 0)
 
-filled_up-full : (sector : List ℕ) → length sector ≡ 1024 → filled_up sector ≡ sector
-filled_up-full sector long =
-    let none : 1024 - length sector ≡ 0 = omega arith in
-    ap (λ (padding : ℕ). sector ++ replicate padding 0) none ∙ append-nil sector
-
 padding_apart : (count : ℕ) (bytes : List ℕ) (padding : ℕ) → length bytes ≤ 1024 → length bytes + padding ≡ 1024 * suc count →
     bytes ++ replicate padding 0 ≡ filled_up bytes ++ replicate (1024 * count) 0
 padding_apart count bytes padding few all =
@@ -70,7 +66,7 @@ cut_filled (suc count) bytes padding all =
           ∙ ap (first_chunks 1024 (suc count)) (append_assoc (take 1024 bytes) (drop 1024 bytes) (replicate padding 0))
           ∙ cut_next count (take 1024 bytes) (drop 1024 bytes ++ replicate padding 0) front
           ∙ ap (λ (sectors : List (List ℕ)). take 1024 bytes ∷ sectors) (cut_filled count (drop 1024 bytes) padding behind)
-          ∙ ap (λ (sector : List ℕ). sector ∷ in_sectors count (drop 1024 bytes)) (sym (filled_up-full (take 1024 bytes) front))
+          ∙ ap (λ (sector : List ℕ). sector ∷ in_sectors count (drop 1024 bytes)) (sym (full_sector (take 1024 bytes) front))
       | inr few ↦
           ap (first_chunks 1024 (suc count)) (padding_apart count bytes padding few all)
           ∙ cut_next count (filled_up bytes) (replicate (1024 * count) 0) (length-filled_up bytes few)

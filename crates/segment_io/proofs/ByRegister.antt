@@ -13,12 +13,13 @@ use Rattle.gf256_qic.proofs.Parities.{length-parity_sectors}
 use Rattle.cartridge_spec.specs.Says.{with_parity}
 use Rattle.cartridge_spec.specs.Shape.{sector_at, usable_count, data_count}
 use Rattle.cartridge_laws.specs.Writes.{block_in, segment_writes, named_writes}
-use Rattle.cartridge_laws.proofs.Places.{count_below, count_more, count_front}
+use Rattle.cartridge_laws.proofs.Places.{count_below, count_front}
 use Rattle.segment_parity.specs.declared.Parity.{Parity}
 use Rattle.segment_io.specs.Register.{IsAtPlace, completed}
 use Rattle.segment_io.specs.Writes.{next_write, usable_write}
 use Rattle.segment_io.proofs.NamedWrites.{writes_of_block}
 use Rattle.std.proofs.lemmas.Nat.{pow_pos}
+use Rattle.qic_base.proofs.LostSetLaws.{count_more}
 
 -- the data and their parity are three sectors more
 length-with_parity : (count : ℕ) (sectors : List (List ℕ)) → count ≤ length sectors →

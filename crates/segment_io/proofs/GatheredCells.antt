@@ -18,7 +18,8 @@ use Rattle.qic_base.specs.declared.tape.SectorView.{SectorView}
 use Rattle.qic_base.specs.declared.tape.SectorView.TheVariants.{Blank, Defect, Lost, Holds}
 use Rattle.cartridge_laws.specs.Segment.{IsUnreadable}
 use Rattle.segment_io.specs.Gathered.{IsUnreadableAt, NamesUnreadable, Gathered, cells_below}
-use Rattle.cartridge_laws.proofs.Writing.{slice_get-set_other, slice_get-set_same}
+use Rattle.cartridge_laws.proofs.Writing.{slice_get-set_same}
+use Rattle.qic_base.proofs.Arrays.{slice_get-set_other}
 
 -- ---- one element more
 
@@ -76,26 +77,26 @@ names_readable cells lost bytes names i = (
 )
 
 -- the set with one place more
-abbrev pub with_place : (lost place : ℕ) → ℕ
-with_place lost place = bit_or lost (1 * 2 ^ place % 2 ^ 32)
+abbrev pub with_unread : (lost place : ℕ) → ℕ
+with_unread lost place = bit_or lost (1 * 2 ^ place % 2 ^ 32)
 
-pub with_place-below : (lost place : ℕ) → lost < 2 ^ place → place < 32 → with_place lost place < 2 ^ (place + 1)
-with_place-below lost place below few =
+pub with_unread-below : (lost place : ℕ) → lost < 2 ^ place → place < 32 → with_unread lost place < 2 ^ (place + 1)
+with_unread-below lost place below few =
     let next : 2 ^ place < 2 ^ (place + 1) = pow-lt {i = place} {j = place + 1} (omega arith) in
     let small : 2 ^ place < 2 ^ 32 = pow-lt {i = place} {j = 32} few in
     or_lt (place + 1) lost (1 * 2 ^ place % 2 ^ 32) (omega arith) (omega arith)
 
 -- a cell that is unreadable
 names_unreadable : (cells : List SectorView) (lost : ℕ) (cell : SectorView) → length cells < 32 → IsUnreadable cell →
-    NamesUnreadable cells lost → NamesUnreadable (cells ++ cell ∷ []) (with_place lost (length cells))
+    NamesUnreadable cells lost → NamesUnreadable (cells ++ cell ∷ []) (with_unread lost (length cells))
 names_unreadable cells lost cell few unreadable names i =
     elim (cases_eq i (length cells)) [
       | inl last ↦ (
         λ is. subst (IsUnreadableAt (cells ++ cell ∷ [])) (sym last) ((unreadable_last cells cell).0 unreadable),
-        λ u. subst (IsLost (with_place lost (length cells))) (sym last) (bit_at_set_same w32 lost (length cells) few),
+        λ u. subst (IsLost (with_unread lost (length cells))) (sym last) (bit_at_set_same w32 lost (length cells) few),
       )
       | inr other ↦
-          let same : with_place lost (length cells) / 2 ^ i % 2 ≡ lost / 2 ^ i % 2 =
+          let same : with_unread lost (length cells) / 2 ^ i % 2 ≡ lost / 2 ^ i % 2 =
           bit_at_set_other w32 lost (length cells) few i other in (
             λ is. let was : IsLost lost i = sym same ∙ is in
                 (unreadable_front cells cell i (lost_within cells lost i names was)).0 ((names i).0 was),
@@ -144,7 +145,7 @@ gathered_readable cells lost sectors bytes room g = record {
 
 gathered_unreadable : (cells : List SectorView) (lost : ℕ) (sectors : List (List ℕ)) (cell : SectorView) (now : List ℕ) →
     length cells < 32 → IsUnreadable cell → Gathered cells lost sectors →
-    Gathered (cells ++ cell ∷ []) (with_place lost (length cells)) (set sectors (length cells) now)
+    Gathered (cells ++ cell ∷ []) (with_unread lost (length cells)) (set sectors (length cells) now)
 gathered_unreadable cells lost sectors cell now few unreadable g = record {
   unreadable = names_unreadable cells lost cell few unreadable g.unreadable;
   readable = λ i held at.
@@ -178,9 +179,9 @@ gathered_good cells (Holds bytes) lost place sectors old now count room reads g 
 -- one that could not be read
 pub gathered_bad : (cells : List SectorView) (cell : SectorView) (lost place : ℕ) (sectors : List (List ℕ)) (old now : List ℕ) (answer : SectorRead) →
     length cells ≡ place → place < 32 → answer ≢ read.Good → Reads cell old now answer → Gathered cells lost sectors →
-    Gathered (cells ++ cell ∷ []) (with_place lost place) (set sectors place now)
+    Gathered (cells ++ cell ∷ []) (with_unread lost place) (set sectors place now)
 gathered_bad cells cell lost place sectors old now answer count few bad reads g =
-    subst (λ (k : ℕ). Gathered (cells ++ cell ∷ []) (with_place lost k) (set sectors k now)) count
+    subst (λ (k : ℕ). Gathered (cells ++ cell ∷ []) (with_unread lost k) (set sectors k now)) count
     (gathered_unreadable cells lost sectors cell now (omega arith) (unreadable_of cell reads) g)
   where
     unreadable_of : (c : SectorView) → Reads c old now answer → IsUnreadable c

@@ -9,13 +9,13 @@ use Rattle.std.proofs.lemmas.Option.{unwrap_or-slice_get}
 use Rattle.qic_base.specs.CartridgeTerms.{IsLost}
 use Rattle.qic_base.specs.Cartridge.{lost_places}
 use Rattle.qic_base.specs.Step.{Step, WriteSector}
-use Rattle.qic_base.proofs.LostSetLaws.{lost_places-lost, lost_places-kept}
+use Rattle.qic_base.proofs.LostSetLaws.{lost_places-lost, lost_places-kept, count_more, count_same}
 use Rattle.cartridge_spec.specs.Shape.{sector_at, usable_places, usable_count}
 use Rattle.cartridge_spec.specs.Settling.{writes_of}
 use Rattle.cartridge_laws.specs.Writes.{block_in, segment_writes, named_writes}
 use Rattle.segment_io.specs.Writes.{named_write, usable_write}
-use Rattle.cartridge_laws.proofs.Places.{place_of_sector, count_more, Front, places_within, all_places, count_same, front_of_all, count_below}
-use Rattle.cartridge_laws.proofs.Writing.{length-block_in}
+use Rattle.cartridge_laws.proofs.Places.{place_of_sector, Front, places_within, all_places, front_of_all, count_below}
+use Rattle.cartridge_laws.proofs.Writing.{length-block_in, writes_of_map}
 
 -- ---- the writes of named places
 
@@ -26,12 +26,6 @@ write_at segment usable sectors place = WriteSector segment (get_or (usable_plac
 -- those of the places below a number
 abbrev pub writes_below : (segment usable places : ℕ) → List (List ℕ) → ℕ → List Step
 writes_below segment usable places sectors n = map (write_at segment usable sectors) (lost_places places n)
-
-writes_of_map : (segment : ℕ) (f : ℕ → ℕ) (g : ℕ → List ℕ) (places : List ℕ) →
-    writes_of segment (map f places) (map g places) ≡ map (λ p. WriteSector segment (f p) (g p)) places
-writes_of_map segment f g [] = refl
-writes_of_map segment f g (p ∷ places) =
-    ap (λ (steps : List Step). WriteSector segment (f p) (g p) ∷ steps) (writes_of_map segment f g places)
 
 named_writes_are : (segment usable places : ℕ) (sectors : List (List ℕ)) →
     named_writes segment usable places sectors ≡ writes_below segment usable places sectors 32

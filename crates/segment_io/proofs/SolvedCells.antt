@@ -9,9 +9,9 @@ use Rattle.qic_base.proofs.LostSetLaws.{lost_places-above}
 use Rattle.qic_base.specs.declared.tape.SectorView.{SectorView}
 use Rattle.qic_base.specs.declared.tape.SectorView.TheVariants.{Blank, Defect, Lost, Holds}
 use Rattle.cartridge_spec.specs.Code.{IsCodeBlock}
-use Rattle.gf256_qic.specs.Code.{AgreesOutside, IsSolvable, lost_below}
+use Rattle.gf256_qic.specs.Code.{AgreesOutside, IsSolvable}
 use Rattle.erasure_solve.specs.Lost.{lost_count}
-use Rattle.erasure_solve.proofs.Places.{is_lost_from, lost_below-places, one_if}
+use Rattle.erasure_solve.proofs.Places.{is_lost_from, lost_below-places}
 use Rattle.cartridge_spec.specs.Says.{Agrees, unreadable_count, Says, Data, LostSectors, Mismatch}
 use Rattle.cartridge_laws.specs.Segment.{data_of}
 use Rattle.cartridge_laws.proofs.Cells.{unreadable_at, readable_at, lost_below-cells, IsReadable}
@@ -21,6 +21,7 @@ use Rattle.segment_io.specs.declared.fault.SegFault.TheVariants as fault
 use Rattle.segment_io.specs.Reading.{HasSolved}
 use Rattle.segment_io.proofs.GatheredCells.{lost_within}
 use Rattle.qic_base.specs.CartridgeTerms.{is_lost}
+use Rattle.gf256_qic.proofs.Agreement.{lost_below-same}
 
 pub slice_get-take : {A : Type 0} (n : ℕ) (xs : List A) (i : ℕ) → i < n → slice_get (take n xs) i ≡ slice_get xs i
 slice_get-take zero xs i h = absurd (omega arith)
@@ -61,16 +62,6 @@ same_test cells lost i names h = by_test (unreadable_at cells i) refl
     by_test false is =
         let held : IsReadable cells i = readable_at cells i h is in
         kept_at cells lost i held.0 names held.1 ∙ sym is
-
--- sets that agree below a number have as many lost places below it
-lost_below-same : (p q : ℕ → Bool) (n : ℕ) → ((i : ℕ) → i < n → p i ≡ q i) → lost_below p n ≡ lost_below q n
-unfolding lost_below
-lost_below-same p q zero same = refl
-lost_below-same p q (suc n) same =
-    let rest : lost_below p n ≡ lost_below q n = lost_below-same p q n (λ i h. same i (omega arith)) in
-    let here : p n ≡ q n = same n (omega arith) in
-    let one : one_if (p n) ≡ one_if (q n) = ap one_if here in
-    omega arith
 
 -- as many places are lost as cells are unreadable
 pub count_of_lost : (cells : List SectorView) (lost : ℕ) → length cells ≤ 32 → NamesUnreadable cells lost →

@@ -1,7 +1,7 @@
 -- The cells of a segment whose sectors were gathered: they are read as those of the sectors, of which the lost ones can't be.
-use Rattle.std.proofs.Common.{◌≡◌, ℕ, ◌/◌, ◌%◌, ◌^◌, ◌<◌, ◌≤◌, ◌↔◌, ◌++◌, refl, sym, ◌∙◌, ap, subst, arith, false, List, length, take, drop, slice_get, get_or, Option, Some, None, IsSomeAnd, Result, Ok, Err}
+use Rattle.std.proofs.Common.{◌≡◌, ℕ, ◌/◌, ◌%◌, ◌^◌, ◌<◌, ◌≤◌, ◌↔◌, refl, sym, ◌∙◌, ap, subst, arith, false, List, length, take, slice_get, get_or, Option, Some, None, IsSomeAnd, Result, Ok, Err}
 use Rattle.std.proofs.lemmas.Bool.{ne_eqb, false≢true}
-use Rattle.std.proofs.lemmas.List.{length-take-le, take_at}
+use Rattle.std.proofs.lemmas.List.{length-take-le}
 use Rattle.std.proofs.lemmas.Option.{slice_get_within, slice_get-get_or}
 use Rattle.cartridge_laws.proofs.Places.{count_below}
 use Rattle.cartridge_laws.specs.Segment.{IsUnreadable}
@@ -92,10 +92,6 @@ locates_of cells new (Ok Agrees) agrees wrong many none = (agrees new).0 (refl, 
 locates_of cells new (Ok (Wrong place)) agrees wrong many none = (wrong place new).0 (refl, refl)
 locates_of cells new (Err (TooMany n)) agrees wrong many none = (many n).0 refl
 locates_of cells new (Err Mismatch) agrees wrong many none = none.0 refl
-
--- a workspace whose sectors were lent ends with those that were left
-pub left_now : (left old : List (List ℕ)) → length left ≡ 32 → take 32 (left ++ drop (length left) old) ≡ left
-left_now left old size = take_at left (drop (length left) old) 32 size
 
 -- the wrong sector is one of them
 pub place_within : (usable lost place : ℕ) (old block : List (List ℕ)) → length old ≡ 32 →

@@ -6,7 +6,7 @@ use Rattle.qic_base.specs.Step.{Step}
 use Rattle.qic_base.specs.Sink as sinks
 use Rattle.qic_base.specs.Tape as tapes
 use Rattle.qic_base.specs.TapeCalls as tape_calls
-use Rattle.qic_base.proofs.Steps.{Tells-map}
+use Rattle.qic_base.proofs.Steps.{Tells-map, tells_two}
 use Rattle.qic_base.proofs.Writing.{TakesBoth}
 use Rattle.qic_base.specs.Acts.{Act, steps_of, text_of, Outside, Failing, TapeFails, SinkFails, Cut}
 use Rattle.qic_base.specs.Alone.{no_source}
@@ -14,7 +14,6 @@ use Rattle.qic_base.proofs.Joins.{steps_of-append, text_of-append, nothing_went,
 use Rattle.cartridge_spec.specs.Settling.{changed_by}
 use Rattle.command_spec.specs.Scrub.{Looked, Counts, unread_count, Finding, FindInTurn, finding_acts, lines_for, sayings_of}
 use Rattle.command_spec.specs.declared.depth.Depth.{Depth}
-use Rattle.segment_io.proofs.Going.{tells_then}
 use Rattle.segment_mending.specs.declared.fault.ScrubFault.{ScrubFault}
 use Rattle.segment_mending.specs.declared.fault.ScrubFault.TheVariants as fault
 use Rattle.segment_mending.specs.Looking.{AreActs, Counted, HasLooked, LookingCut, Looks, HasFew}
@@ -22,20 +21,13 @@ use Rattle.segment_mending.proofs.Parts.{behind, turns_join, acts_join, TurnsOf,
 use Rattle.command_laws.proofs.ScrubOneWrong.{one_turn}
 use Rattle.command_laws.proofs.MadeTelling.{tells_before}
 
--- ---- what is told
-
--- what follows of two told facts
-tells_both : {T : Type 0} (t : tapes.Meaning T) (a : T) (P Q R : Cartridge → Type 0) → ((c : Cartridge) → P c → Q c → R c) →
-    tape_calls.Tells t a P → tape_calls.Tells t a Q → tape_calls.Tells t a R
-tells_both t a P Q R follows one other = tells_then t a Q R (Tells-map t a P (λ c. Q c → R c) follows one) other
-
 -- ---- the acts
 
 module _ {T : Type 0} (t : tapes.Meaning T) (a b : T) (depth : Depth) (xs ys : List Looked) (fs gs : List Finding) (front next : List Act) where
   both_told : tapes.Done t a b (steps_of front) → AreActs t a depth xs fs front → AreActs t b depth ys gs next →
       tape_calls.Tells t a (λ c. FindInTurn depth c (xs ++ ys) (fs ++ gs) × (front ++ next ≡ finding_acts c (xs ++ ys) (fs ++ gs)))
   both_told did first later =
-      tells_both t a (λ c. FindInTurn depth c xs fs × (front ≡ finding_acts c xs fs))
+      tells_two t a (λ c. FindInTurn depth c xs fs × (front ≡ finding_acts c xs fs))
       (λ c. FindInTurn depth (changed_by (steps_of front) c) ys gs × (next ≡ finding_acts (changed_by (steps_of front) c) ys gs))
       (λ c. FindInTurn depth c (xs ++ ys) (fs ++ gs) × (front ++ next ≡ finding_acts c (xs ++ ys) (fs ++ gs)))
       (λ c here there.
@@ -147,7 +139,7 @@ module _ {T K : Type 0} {t : tapes.Meaning T} {k : sinks.Meaning K} (depth : Dep
   looked_then_cut both xs ys a b c before between failing first cut =
       let steps : List Step = steps_of first.acts in
       record {
-        told = tells_both t a.tape (λ d. FindInTurn depth d xs first.findings × (first.acts ≡ finding_acts d xs first.findings))
+        told = tells_two t a.tape (λ d. FindInTurn depth d xs first.findings × (first.acts ≡ finding_acts d xs first.findings))
             (λ d. (findings : List Finding) → FindInTurn depth (changed_by steps d) ys findings →
             Cut t no_source k b c (finding_acts (changed_by steps d) ys findings) failing)
             (λ d. (findings : List Finding) → FindInTurn depth d (xs ++ ys) findings → Cut t no_source k a c (finding_acts d (xs ++ ys) findings) failing)

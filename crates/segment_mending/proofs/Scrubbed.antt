@@ -7,7 +7,7 @@ use Rattle.qic_base.specs.Acts.{Act, steps_of, text_of, Outside, Failing, TapeFa
 use Rattle.qic_base.specs.Alone.{no_source, around}
 use Rattle.qic_base.proofs.Joins.{text_of-append, went_both, went_then_cut, cut_is_longer, sink_cut_one}
 use Rattle.cartridge_spec.specs.Table.{Entry}
-use Rattle.command_spec.specs.Scrub.{Looked, Counts, looked_at, unread_count, counts_line, Finding, FindInTurn, ScrubsAs, IsTextFor, finding_acts, sayings_of}
+use Rattle.command_spec.specs.Scrub.{Looked, Counts, looked_at, unread_count, counts_line, Finding, FindInTurn, ScrubsAs, IsTextFor, finding_acts, sayings_of, whole_segment, looked_volumes}
 use Rattle.command_laws.specs.ScrubTerms.{last_act, counts_for}
 use Rattle.command_spec.specs.declared.depth.Depth.{Depth}
 use Rattle.command_laws.proofs.ScrubOneWrong.{form_is_function}
@@ -15,6 +15,7 @@ use Rattle.segment_mending.specs.declared.fault.ScrubFault.{ScrubFault}
 use Rattle.segment_mending.specs.declared.report.ScrubReport.{ScrubReport}
 use Rattle.segment_mending.specs.Looking.{Counted, HasLooked, LookingCut, Looks}
 use Rattle.segment_mending.specs.Mending.{reported, HasScrubbed, ScrubCut, ScrubEnds}
+use Rattle.segment_mending.proofs.Joining.{looked_both}
 use Rattle.qic_base.specs.Sink as sinks
 use Rattle.qic_base.specs.SinkCalls as sink_calls
 use Rattle.qic_base.specs.Tape as tapes
@@ -23,6 +24,15 @@ use Rattle.segment_mending.specs.declared.fault.ScrubFault.TheVariants as fault
 -- nothing is counted yet
 abbrev pub none_counted : Counts
 none_counted = record { segments = 0; mended = 0; unreadable = 0 }
+
+-- the segments in front were looked at, and then, in the form that this left, those of the volumes
+pub all_looked : {T K : Type 0} {t : tapes.Meaning T} {k : sinks.Meaning K} → TakesBoth k → (depth form : Depth) (words : List ℕ) (entries : List Entry)
+    (a b d : Outside T (Unit {0}) K) (between after : Counts) → form ≡ depth →
+    HasLooked t k depth (whole_segment 0 ∷ whole_segment 1 ∷ whole_segment 2 ∷ []) a b none_counted between →
+    HasLooked t k form (looked_volumes words entries) b d between after → HasLooked t k depth (looked_at words entries) a d none_counted after
+all_looked {t = t} {k = k} both depth form words entries a b d between after same front volumes =
+    looked_both depth both (whole_segment 0 ∷ whole_segment 1 ∷ whole_segment 2 ∷ []) (looked_volumes words entries) a b d none_counted between after front
+    (subst (λ (f : Depth). HasLooked t k f (looked_volumes words entries) b d between after) same volumes)
 
 counts_equal : (a b : Counts) → a.segments ≡ b.segments → a.mended ≡ b.mended → a.unreadable ≡ b.unreadable → a ≡ b
 counts_equal a b segments mended unreadable =

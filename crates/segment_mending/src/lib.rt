@@ -7,6 +7,7 @@ mod lines;
 mod locating;
 mod looking;
 mod mending;
+mod progress;
 mod report;
 mod scrubbing;
 mod volumes;

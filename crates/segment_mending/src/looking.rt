@@ -14,9 +14,8 @@ use crate::fault::ScrubFault;
 use crate::lines::unread_text;
 use crate::locating::{Found, find_in_segment};
 use crate::mending::{mend, pass_over};
-use crate::report::ScrubReport;
+use crate::progress::Progress;
 use bad_sector_map::WHOLE;
-use command_spec::Depth;
 use drive_states::Unit;
 use host_driver::Host;
 use qic_base::{Sink, Tape};
@@ -26,75 +25,78 @@ use segment_io::Workspace;
 pub(crate) fn look_at_copy<T: Tape, K: Sink>(
     host: &mut Host,
     unit: &mut Unit<T>,
-    depth: Depth,
     copy: u32,
     work: &mut Workspace,
     sink: &mut K,
-    report: &mut ScrubReport,
+    progress: &mut Progress,
 ) -> Result<(), ScrubFault>
     requires ready { IsReady T.means host.old unit.old }
     requires referenced { is_referenced unit.old.drive.deck ≡ true }
     requires writable { MayWrite unit.old.drive.deck }
     requires copy { copy < 2 }
-    requires few { HasFew (2 ^ 26) (reported report.old) }
-    ensures looks { Looks T.means K.means depth (whole_segment copy ∷ [])
+    requires few { HasFew (2 ^ 26) (reported progress.old.report) }
+    ensures looks { Looks T.means K.means progress.old.depth (whole_segment copy ∷ [])
         (around unit.old.tape sink.old) (around unit.new.tape sink.new)
-        (reported report.old) (reported report.new) result }
+        (reported progress.old.report) (reported progress.new.report) result }
+    ensures depth { progress.new.depth ≡ progress.old.depth }
     ensures keeps { Keeps T.means host.new unit.old unit.new }
 {
-    look_at(host, unit, depth, copy, WHOLE, work, sink, report)
+    look_at(host, unit, copy, WHOLE, work, sink, progress)
 }
 
 /// Looks at a segment that holds no header copy.
 pub(crate) fn look_at_segment<T: Tape, K: Sink>(
     host: &mut Host,
     unit: &mut Unit<T>,
-    depth: Depth,
     segment: u32,
     usable: u32,
     work: &mut Workspace,
     sink: &mut K,
-    report: &mut ScrubReport,
+    progress: &mut Progress,
 ) -> Result<(), ScrubFault>
     requires ready { IsReady T.means host.old unit.old }
     requires segment { HasSegment unit.old.drive.deck segment usable }
     requires writable { MayWrite unit.old.drive.deck }
     requires behind { 2 ≤ segment }
-    requires few { HasFew (2 ^ 26) (reported report.old) }
-    ensures looks { Looks T.means K.means depth (record { segment = segment; mask = usable } ∷ [])
+    requires few { HasFew (2 ^ 26) (reported progress.old.report) }
+    ensures looks { Looks T.means K.means progress.old.depth
+        (record { segment = segment; mask = usable } ∷ [])
         (around unit.old.tape sink.old) (around unit.new.tape sink.new)
-        (reported report.old) (reported report.new) result }
+        (reported progress.old.report) (reported progress.new.report) result }
+    ensures depth { progress.new.depth ≡ progress.old.depth }
     ensures keeps { Keeps T.means host.new unit.old unit.new }
 {
-    look_at(host, unit, depth, segment, usable, work, sink, report)
+    look_at(host, unit, segment, usable, work, sink, progress)
 }
 
 /// Looks at a segment; a header copy has no bad sector.
 fn look_at<T: Tape, K: Sink>(
     host: &mut Host,
     unit: &mut Unit<T>,
-    depth: Depth,
     segment: u32,
     usable: u32,
     work: &mut Workspace,
     sink: &mut K,
-    report: &mut ScrubReport,
+    progress: &mut Progress,
 ) -> Result<(), ScrubFault>
     requires ready { IsReady T.means host.old unit.old }
     requires segment { HasSegment unit.old.drive.deck segment usable }
     requires writable { MayWrite unit.old.drive.deck }
     requires whole { segment < 2 → usable ≡ whole_mask }
-    requires few { HasFew (2 ^ 26) (reported report.old) }
-    ensures looks { Looks T.means K.means depth (record { segment = segment; mask = usable } ∷ [])
+    requires few { HasFew (2 ^ 26) (reported progress.old.report) }
+    ensures looks { Looks T.means K.means progress.old.depth
+        (record { segment = segment; mask = usable } ∷ [])
         (around unit.old.tape sink.old) (around unit.new.tape sink.new)
-        (reported report.old) (reported report.new) result }
+        (reported progress.old.report) (reported progress.new.report) result }
+    ensures depth { progress.new.depth ≡ progress.old.depth }
     ensures keeps { Keeps T.means host.new unit.old unit.new }
 {
-    let found = find_in_segment(host, unit, depth, segment, usable, work)?;
+    let found = find_in_segment(host, unit, progress.depth, segment, usable, work)?;
     match found {
-        Found::Reads { places, wrong } => mend(
-            host, unit, segment, usable, places, wrong, work, sink, report,
-        ),
-        Found::Fails(why) => pass_over(&unread_text(segment, why), sink, report),
+        Found::Reads { places, wrong } => {
+            progress.report.count_mended(places.count());
+            mend(host, unit, segment, usable, places, wrong, work, sink)
+        }
+        Found::Fails(why) => pass_over(&unread_text(segment, why), sink, &mut progress.report),
     }
 }

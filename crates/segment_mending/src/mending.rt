@@ -1,17 +1,16 @@
 //! What is done in one segment that was read.
 
-ghost use Rattle.std.specs.Prelude.{◌≡◌, ◌<◌, ◌^◌, length, OnOk, IsOkUnless};
+ghost use Rattle.std.specs.Prelude.{◌≡◌, ◌<◌, ◌^◌, OnOk, IsOkUnless};
 ghost use Rattle.qic_base.specs.Alone.{around};
 ghost use Rattle.qic_base.specs.SinkCalls.{Writes};
 ghost use Rattle.qic_base.specs.TapeCalls.{Does};
 ghost use Rattle.cartridge_spec.specs.Shape.{usable_count};
-ghost use Rattle.cartridge_laws.specs.Segment.{sectors_of};
 ghost use Rattle.cartridge_laws.specs.Writes.{named_writes};
 ghost use Rattle.host_driver.specs.Calls.{IsReady, MayWrite, Keeps};
 ghost use Rattle.segment_io.specs.Calls.{HasSegment};
 ghost use Rattle.command_spec.specs.Scrub.{wrong_line};
 ghost use Rattle.segment_mending.specs.Locating.{mending, GoesAs};
-ghost use Rattle.segment_mending.specs.Looking.{HasFew, with_mended, with_unread};
+ghost use Rattle.segment_mending.specs.Looking.{HasFew, with_unread};
 ghost use Rattle.segment_mending.specs.Mending.{reported};
 
 use crate::fault::ScrubFault;
@@ -67,9 +66,7 @@ fn tell_wrong<K: Sink>(segment: u32, wrong: Option<u8>, sink: &mut K) -> Result<
     }
 }
 
-/// Mends a segment that reads, and counts it. A wrong sector is one of the lost ones, and its line is printed behind the
-/// writes.
-#[tactic(auto, using(cartridge_laws::proofs::Places::count_below))]
+/// Mends a segment that reads. A wrong sector is one of the lost ones, and its line is printed behind the writes.
 pub(crate) fn mend<T: Tape, K: Sink>(
     host: &mut Host,
     unit: &mut Unit<T>,
@@ -79,22 +76,17 @@ pub(crate) fn mend<T: Tape, K: Sink>(
     wrong: Option<u8>,
     work: &Workspace,
     sink: &mut K,
-    report: &mut ScrubReport,
 ) -> Result<(), ScrubFault>
     requires ready { IsReady T.means host.old unit.old }
     requires segment { HasSegment unit.old.drive.deck segment usable }
     requires writable { MayWrite unit.old.drive.deck }
     requires within { lost < 2 ^ usable_count usable }
-    requires few { HasFew (2 ^ 26) (reported report.old) }
     ensures goes { GoesAs T.means K.means
         (mending (record { segment = segment; mask = usable }) lost wrong work.now)
         (around unit.old.tape sink.old) (around unit.new.tape sink.new) result }
-    ensures counted { OnOk result (reported report.new
-        ≡ with_mended (length (sectors_of lost)) (reported report.old)) }
     ensures keeps { Keeps T.means host.new unit.old unit.new }
 {
     write_lost(host, unit, segment, usable, lost, work)?;
-    report.count_mended(lost.count());
     tell_wrong(segment, wrong, sink)
 }
 

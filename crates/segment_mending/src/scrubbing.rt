@@ -14,6 +14,7 @@ use crate::TABLE_SEGMENT;
 use crate::fault::ScrubFault;
 use crate::lines::counts_text;
 use crate::looking::{look_at_copy, look_at_segment};
+use crate::progress::Progress;
 use crate::report::ScrubReport;
 use crate::volumes::look_at_volumes;
 use bad_sector_map::{BadMap, WHOLE};
@@ -29,25 +30,25 @@ use volume_table::Table;
 fn look_at_front<T: Tape, K: Sink>(
     host: &mut Host,
     unit: &mut Unit<T>,
-    depth: Depth,
     work: &mut Workspace,
     sink: &mut K,
-    report: &mut ScrubReport,
+    progress: &mut Progress,
 ) -> Result<(), ScrubFault>
     requires ready { IsReady T.means host.old unit.old }
     requires referenced { is_referenced unit.old.drive.deck ≡ true }
     requires writable { MayWrite unit.old.drive.deck }
-    requires few { HasFew 0 (reported report.old) }
-    ensures looks { Looks T.means K.means depth
+    requires few { HasFew 0 (reported progress.old.report) }
+    ensures looks { Looks T.means K.means progress.old.depth
         (whole_segment 0 ∷ whole_segment 1 ∷ whole_segment 2 ∷ [])
         (around unit.old.tape sink.old) (around unit.new.tape sink.new)
-        (reported report.old) (reported report.new) result }
-    ensures few { OnOk result (HasFew 3 (reported report.new)) }
+        (reported progress.old.report) (reported progress.new.report) result }
+    ensures few { OnOk result (HasFew 3 (reported progress.new.report)) }
+    ensures depth { progress.new.depth ≡ progress.old.depth }
     ensures keeps { Keeps T.means host.new unit.old unit.new }
 {
-    look_at_copy(host, unit, depth, 0, work, sink, report)?;
-    look_at_copy(host, unit, depth, 1, work, sink, report)?;
-    look_at_segment(host, unit, depth, TABLE_SEGMENT, WHOLE, work, sink, report)
+    look_at_copy(host, unit, 0, work, sink, progress)?;
+    look_at_copy(host, unit, 1, work, sink, progress)?;
+    look_at_segment(host, unit, TABLE_SEGMENT, WHOLE, work, sink, progress)
 }
 
 /// Looks at both header copies, the table's segment and the carrying segments of all volumes, ascending. In each that
@@ -72,15 +73,16 @@ pub fn scrub_segments<T: Tape, K: Sink>(
         (around unit.old.tape sink.old) (around unit.new.tape sink.new) result }
     ensures keeps { Keeps T.means host.new unit.old unit.new }
 {
-    let mut report = ScrubReport {
+    let report = ScrubReport {
         segments: 0,
         mended: 0,
         unreadable: 0,
     };
-    look_at_front(host, unit, depth, work, sink, &mut report)?;
-    look_at_volumes(host, unit, depth, map, table, work, sink, &mut report)?;
-    match write_text(counts_text(report).bytes(), sink) {
-        Ok(()) => Ok(report),
+    let mut progress = Progress { depth, report };
+    look_at_front(host, unit, work, sink, &mut progress)?;
+    look_at_volumes(host, unit, map, table, work, sink, &mut progress)?;
+    match write_text(counts_text(progress.report).bytes(), sink) {
+        Ok(()) => Ok(progress.report),
         Err(SinkFailed) => Err(ScrubFault::Sink),
     }
 }

@@ -14,14 +14,13 @@ ghost use Rattle.segment_mending.specs.Mending.{reported};
 
 use crate::fault::ScrubFault;
 use crate::looking::look_at_segment;
-use crate::report::ScrubReport;
+use crate::progress::Progress;
 use bad_sector_map::BadMap;
-use command_spec::Depth;
 use drive_states::Unit;
 use host_driver::Host;
 use qic_base::{LostSet, Sink, Tape};
 use segment_io::Workspace;
-use volume_table::Table;
+use volume_table::{Entry, Table};
 
 /// The fewest usable sectors with which a segment carries data.
 const FEWEST: u8 = 4;
@@ -30,12 +29,11 @@ const FEWEST: u8 = 4;
 fn look_if_carrying<T: Tape, K: Sink>(
     host: &mut Host,
     unit: &mut Unit<T>,
-    depth: Depth,
     map: &BadMap,
     segment: u32,
     work: &mut Workspace,
     sink: &mut K,
-    report: &mut ScrubReport,
+    progress: &mut Progress,
 ) -> Result<(), ScrubFault>
     requires ready { IsReady T.means host.old unit.old }
     requires referenced { is_referenced unit.old.drive.deck ≡ true }
@@ -43,49 +41,50 @@ fn look_if_carrying<T: Tape, K: Sink>(
     requires map { length map.now ≡ 28 * segments_of host.old }
     requires behind { 2 < segment }
     requires on_tape { segment < length map.now }
-    requires few { HasFew (2 ^ 26) (reported report.old) }
-    ensures looks { Looks T.means K.means depth
+    requires few { HasFew (2 ^ 26) (reported progress.old.report) }
+    ensures looks { Looks T.means K.means progress.old.depth
         (looked_segments map.now (carrying map.now segment segment))
         (around unit.old.tape sink.old) (around unit.new.tape sink.new)
-        (reported report.old) (reported report.new) result }
+        (reported progress.old.report) (reported progress.new.report) result }
+    ensures depth { progress.new.depth ≡ progress.old.depth }
     ensures keeps { Keeps T.means host.new unit.old unit.new }
 {
     let usable = map.usable(segment);
     if LostSet::from_mask(usable).count() < FEWEST {
         return Ok(());
     }
-    look_at_segment(host, unit, depth, segment, usable, work, sink, report)
+    look_at_segment(host, unit, segment, usable, work, sink, progress)
 }
 
 /// Looks at the segments of a volume that carry data, ascending.
 fn look_at_volume<T: Tape, K: Sink>(
     host: &mut Host,
     unit: &mut Unit<T>,
-    depth: Depth,
     map: &BadMap,
-    start: u16,
-    end: u16,
+    entry: &Entry,
     work: &mut Workspace,
     sink: &mut K,
-    report: &mut ScrubReport,
+    progress: &mut Progress,
 ) -> Result<(), ScrubFault>
     requires ready { IsReady T.means host.old unit.old }
     requires referenced { is_referenced unit.old.drive.deck ≡ true }
     requires writable { MayWrite unit.old.drive.deck }
     requires map { length map.now ≡ 28 * segments_of host.old }
-    requires behind { 2 < start }
-    requires forwards { start ≤ end }
-    requires on_tape { end < length map.now }
-    requires few { HasFew (2 ^ 25) (reported report.old) }
-    ensures looks { Looks T.means K.means depth
-        (looked_segments map.now (carrying map.now start end))
+    requires behind { 2 < entry.now.start }
+    requires forwards { entry.now.start ≤ entry.now.end }
+    requires on_tape { entry.now.end < length map.now }
+    requires few { HasFew (2 ^ 25) (reported progress.old.report) }
+    ensures looks { Looks T.means K.means progress.old.depth
+        (looked_segments map.now (carrying map.now entry.now.start entry.now.end))
         (around unit.old.tape sink.old) (around unit.new.tape sink.new)
-        (reported report.old) (reported report.new) result }
-    ensures few { OnOk result (report.new.segments ≤ report.old.segments + 65536) }
+        (reported progress.old.report) (reported progress.new.report) result }
+    ensures few { OnOk result
+        (progress.new.report.segments ≤ progress.old.report.segments + 65536) }
+    ensures depth { progress.new.depth ≡ progress.old.depth }
     ensures keeps { Keeps T.means host.new unit.old unit.new }
 {
-    for segment in u32::from(start)..u32::from(end) + 1 {
-        look_if_carrying(host, unit, depth, map, segment, work, sink, report)?;
+    for segment in u32::from(entry.start)..u32::from(entry.end) + 1 {
+        look_if_carrying(host, unit, map, segment, work, sink, progress)?;
     }
     Ok(())
 }
@@ -94,37 +93,27 @@ fn look_at_volume<T: Tape, K: Sink>(
 pub(crate) fn look_at_volumes<T: Tape, K: Sink>(
     host: &mut Host,
     unit: &mut Unit<T>,
-    depth: Depth,
     map: &BadMap,
     table: &Table,
     work: &mut Workspace,
     sink: &mut K,
-    report: &mut ScrubReport,
+    progress: &mut Progress,
 ) -> Result<(), ScrubFault>
     requires ready { IsReady T.means host.old unit.old }
     requires referenced { is_referenced unit.old.drive.deck ≡ true }
     requires writable { MayWrite unit.old.drive.deck }
     requires map { length map.now ≡ 28 * segments_of host.old }
     requires list { IsSoundList (length map.now - 1) table.now }
-    requires few { HasFew 3 (reported report.old) }
-    ensures looks { Looks T.means K.means depth (looked_volumes map.now table.now)
+    requires few { HasFew 3 (reported progress.old.report) }
+    ensures looks { Looks T.means K.means progress.old.depth (looked_volumes map.now table.now)
         (around unit.old.tape sink.old) (around unit.new.tape sink.new)
-        (reported report.old) (reported report.new) result }
+        (reported progress.old.report) (reported progress.new.report) result }
+    ensures depth { progress.new.depth ≡ progress.old.depth }
     ensures keeps { Keeps T.means host.new unit.old unit.new }
 {
     for index in 0..table.len() {
         let entry = table.entry(index);
-        look_at_volume(
-            host,
-            unit,
-            depth,
-            map,
-            entry.start,
-            entry.end,
-            work,
-            sink,
-            report,
-        )?;
+        look_at_volume(host, unit, map, entry, work, sink, progress)?;
     }
     Ok(())
 }

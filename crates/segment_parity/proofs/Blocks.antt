@@ -6,11 +6,12 @@ use Rattle.std.proofs.lemmas.List.Elements.{All-nil, All-cons, All-get_or, All-f
 use Rattle.cartridge_spec.specs.Code.{product, parity, parity_sectors, column}
 use Rattle.qic_base.specs.Cartridge.{IsSector}
 use Rattle.gf256_qic.proofs.Values.{first_byte, other_bytes}
-use Rattle.gf256_qic.proofs.Agreement.{same_from_columns}
+use Rattle.gf256_qic.proofs.Agreement.{same_from_columns, column-one}
 use Rattle.gf256_qic.proofs.Parities.{bytes_of_column, column-append, bytes_of_parity, column-parity_sectors, length-parity_sectors, parity_sectors-are_sectors}
 use Rattle.segment_parity.specs.Register.{AreParity, HasColumns}
-use Rattle.segment_parity.proofs.Rows.{shifted, parity_more, column-one, column-none, parity_none, zeros_are_zero}
+use Rattle.segment_parity.proofs.Rows.{shifted, parity_more, column-none, parity_none}
 use Rattle.qic_base.specs.Disk.{AreBytes}
+use Rattle.qic_base.proofs.Arrays.{zeros_are_zero}
 
 -- three bytes of a column
 abbrev pub three : List ℕ → List ℕ → List ℕ → ℕ → List ℕ

@@ -2,7 +2,7 @@
 use Rattle.std.proofs.Common.{◌≡◌, ℕ, zero, suc, ◌+◌, ◌<◌, ◌≤◌, refl, sym, ◌∙◌, ap, subst, arith, List, [], ◌∷◌, ◌++◌, length, All, get_or, bit_xor, replicate}
 use Rattle.std.specs.Int.Bits.{xor_assoc, xor_zero_l, xor_zero_r}
 use Rattle.std.proofs.lemmas.Nat.{xor_comm}
-use Rattle.std.proofs.lemmas.List.Elements.{All-get_or, All-from_get_or, All-push}
+use Rattle.std.proofs.lemmas.List.Elements.{All-get_or, All-push}
 use Rattle.std.proofs.lemmas.List.{same_lists, length-replicate}
 use Rattle.std.proofs.Math.ListN.{length-append}
 use Rattle.cartridge_spec.specs.Code.{shifted_copies, remainder, product, power, value_at, added, lagrange, parity, parity_sectors, column, IsCodeBlock}
@@ -13,11 +13,12 @@ use Rattle.gf256_qic.proofs.Products.{product_byte, product_comm, product_assoc,
 use Rattle.gf256_qic.proofs.Powers.{power_more, power_one, power_byte}
 use Rattle.gf256_qic.proofs.Values.{no_bytes, more_bytes, first_byte, other_bytes, value_at-none, value_at-first, value_at-append, value_at-added, value_at-scaled, data_sum-push}
 use Rattle.gf256_qic.proofs.Distance.{AtRoots}
-use Rattle.gf256_qic.proofs.Agreement.{near_columns, distance-le, any_default, same_from_columns}
+use Rattle.gf256_qic.proofs.Agreement.{near_columns, distance-le, any_default, same_from_columns, column-one}
 use Rattle.gf256_qic.proofs.Parities.{bytes_of_column, column-append, length-parity, bytes_of_parity, value_at-parity, column-parity_sectors, length-parity_sectors, parity_sectors-are_sectors, length-parity_sector, get_or-parity_sector, parity_block, parity_block_only}
 use Rattle.segment_parity.specs.declared.Parity.{Parity}
 use Rattle.segment_parity.specs.Register.{pushed, Holds, at, feedback, Shifted}
 use Rattle.qic_base.specs.Disk.{AreBytes}
+use Rattle.qic_base.proofs.Arrays.{zeros_are_zero}
 
 -- ---- products with 0xC0
 
@@ -129,14 +130,6 @@ parity_more ds d h m l all hd same =
 
 -- ---- the rows
 
--- an array of 1,024 bytes is a sector
-pub sector_from : (s : List ℕ) → length s ≡ 1024 → ((i : ℕ) → get_or s i 0 < 256) → IsSector s
-sector_from s size fits = record { size = size; each = All-from_get_or (λ b. b < 256) s 0 (λ i h. fits i) }
-
-pub column-one : (j : ℕ) (s : List ℕ) → column j (s ∷ []) ≡ get_or s j 0 ∷ []
-unfolding column
-column-one j s = refl
-
 column-three : (j : ℕ) (rows : List (List ℕ)) → length rows ≡ 3 →
     column j rows ≡ at rows 0 j ∷ at rows 1 j ∷ at rows 2 j ∷ []
 unfolding column
@@ -188,12 +181,6 @@ column-none j = refl
 pub parity_none : parity [] ≡ 0 ∷ 0 ∷ 0 ∷ []
 unfolding parity value_at lagrange added product shifted_copies remainder power
 parity_none = refl
-
--- a row of zeros is 0 at each index, and past its end
-pub zeros_are_zero : (n j : ℕ) → get_or {A = ℕ} (replicate n 0) j 0 ≡ 0
-zeros_are_zero zero j = refl
-zeros_are_zero (suc n) zero = refl
-zeros_are_zero (suc n) (suc j) = zeros_are_zero n j
 
 zeros_are_parity : (k : ℕ) → k < 3 → zero_sector ≡ parity_sector [] k
 unfolding zero_sector

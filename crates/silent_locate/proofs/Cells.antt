@@ -5,19 +5,9 @@ use Rattle.qic_base.specs.declared.tape.SectorView.{SectorView}
 use Rattle.qic_base.specs.declared.tape.SectorView.TheVariants.{Blank, Defect, Lost, Holds}
 use Rattle.gf256_qic.specs.Code.{lost_below}
 use Rattle.cartridge_laws.proofs.Cells.{unreadable_at, IsReadable, readable_at}
-use Rattle.gf256_qic.proofs.Agreement.{one_if}
+use Rattle.gf256_qic.proofs.Agreement.{one_if, lost_below-same}
 
 -- ---- how many
-
--- sets that agree below a number have as many places below it
-pub lost_below-same : (p q : ℕ → Bool) (n : ℕ) → ((i : ℕ) → i < n → p i ≡ q i) → lost_below p n ≡ lost_below q n
-unfolding lost_below
-lost_below-same p q zero same = refl
-lost_below-same p q (suc n) same =
-    let rest : lost_below p n ≡ lost_below q n = lost_below-same p q n (λ i h. same i (omega arith)) in
-    let here : p n ≡ q n = same n (omega arith) in
-    let one : one_if (p n) ≡ one_if (q n) = ap one_if here in
-    omega arith
 
 -- a set and one place more
 abbrev pub or_place : (ℕ → Bool) → ℕ → ℕ → Bool

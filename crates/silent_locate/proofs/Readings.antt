@@ -5,12 +5,12 @@ use Rattle.qic_base.specs.declared.tape.SectorView.{SectorView}
 use Rattle.qic_base.specs.declared.tape.SectorView.TheVariants.{Blank, Defect, Lost, Holds}
 use Rattle.cartridge_spec.specs.Code.{IsCodeBlock}
 use Rattle.gf256_qic.specs.Code.{lost_below}
-use Rattle.gf256_qic.proofs.Agreement.{one_block}
+use Rattle.gf256_qic.proofs.Agreement.{one_block, lost_below-same}
 use Rattle.cartridge_spec.specs.Says.{unreadable_count, Agrees}
 use Rattle.silent_locate.specs.Deep.{AgreesBut, IsWrongAt, Deep}
 use Rattle.silent_locate.specs.Laws.{DiffersAt, ReadAlike}
 use Rattle.cartridge_laws.proofs.Cells.{unreadable_at, IsReadable, readable_at, lost_below-cells, one_agreeing_block}
-use Rattle.silent_locate.proofs.Cells.{or_place, held_at, same_test, lost_below-same, lost_below-or}
+use Rattle.silent_locate.proofs.Cells.{or_place, held_at, same_test, lost_below-or}
 
 -- ---- blocks that agree with the same cells
 

@@ -17,8 +17,9 @@ use Rattle.silent_locate.specs.Deep.{AgreesBut, IsAllRight, IsWrongAt, HasNoRead
 use Rattle.silent_locate.specs.Laws.{DiffersAt}
 use Rattle.silent_locate.specs.Tries.{lost_or}
 use Rattle.cartridge_laws.proofs.Cells.{unreadable_at, lost_below-cells}
-use Rattle.silent_locate.proofs.Cells.{same_test, lost_below-same}
+use Rattle.silent_locate.proofs.Cells.{same_test}
 use Rattle.silent_locate.proofs.Readings.{wrong_place_differs}
+use Rattle.gf256_qic.proofs.Agreement.{lost_below-same}
 
 -- ---- the cell at a place
 

@@ -6,7 +6,8 @@ use Rattle.gf256_qic.specs.Code.{lost_below}
 use Rattle.erasure_solve.specs.Lost.{lost_count}
 use Rattle.erasure_solve.proofs.Places.{is_lost_from, lost_below-places}
 use Rattle.silent_locate.specs.Tries.{lost_or}
-use Rattle.silent_locate.proofs.Cells.{or_place, or_place-other, lost_below-same, lost_below-or}
+use Rattle.silent_locate.proofs.Cells.{or_place, or_place-other, lost_below-or}
+use Rattle.gf256_qic.proofs.Agreement.{lost_below-same}
 
 -- a place that is lost in both or in none
 same_lost : (a b i : ℕ) → (IsLost a i ↔ IsLost b i) → is_lost a i ≡ is_lost b i

@@ -23,7 +23,7 @@ use Rattle.command_laws.proofs.StoreTaking.{both_true}
 use Rattle.made_volumes.specs.declared.fault.MakeFault.{MakeFault}
 use Rattle.made_volumes.specs.Runs.{HasRun, MakeEnds, RunCut}
 use Rattle.command_spec.specs.declared.status.Status.{Status}
-use Rattle.tape_cmd.specs.Make.{made_status}
+use Rattle.tape_cmd.specs.Make.{status_of_making}
 use Rattle.command_spec.specs.Outcome.{Going, Opened, OpenOutcome, WritableOutcome, CommandOutcome}
 use Rattle.volume_store.specs.Opening.{HasOpened}
 use Rattle.command_spec.specs.Machine.{IsCutOff, fault_of, may_come_from}
@@ -236,7 +236,7 @@ module _ {T K : Type 0} (t : tapes.Meaning T) (k : sinks.Meaning K) (seed count 
 
     -- by the answer of the call
     pub make_ended : (c : T) (x y : K) (result : Result (Unit {0}) MakeFault) → TakesBoth k → ((z : K) → k.took z [] z) →
-        MakeEnds t k store seed count (around b.tape x) (around c y) result → EndsBlind t k (words.Make seed count) a c x y (made_status result)
+        MakeEnds t k store seed count (around b.tape x) (around c y) result → EndsBlind t k (words.Make seed count) a c x y (status_of_making result)
     make_ended c x y (Ok done) both nothing run = ran c x y status.Done both nothing run
     make_ended c x y (Err fault.Protected) both nothing run = ran c x y status.Protected both nothing run
     make_ended c x y (Err fault.TableMismatch) both nothing run = ran c x y status.TableMismatch both nothing run

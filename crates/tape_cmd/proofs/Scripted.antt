@@ -19,10 +19,10 @@ use Rattle.command_spec.specs.Outcome.{Opened, CommandOutcome, refused}
 use Rattle.volume_store.specs.Opening.{HasOpened}
 use Rattle.command_spec.specs.Machine.{CommandEnds, InputLeft, IsCutOff, NamesFault, fault_of, may_come_from}
 use Rattle.tape_cmd.proofs.Printing.{Prints}
-use Rattle.tape_cmd.specs.Script.{scripted_status}
-use Rattle.volume_store.proofs.Opened.{outside, went_behind, cut_behind, settled_told}
+use Rattle.tape_cmd.specs.Script.{status_of_script}
+use Rattle.volume_store.proofs.Opened.{went_behind, cut_behind, settled_told}
 use Rattle.command_laws.proofs.CommandOpened.{quiet}
-use Rattle.command_laws.proofs.CommandTold.{input_of, input_told, input_bytes}
+use Rattle.command_laws.proofs.CommandTold.{input_told, input_bytes}
 use Rattle.command_laws.specs.Outcomes.{ScriptOutcome}
 use Rattle.host_commands.specs.Opening.{OpeningEnds, is_opening}
 use Rattle.hand_commands.specs.Outcome.{first_steps}
@@ -37,6 +37,8 @@ use Rattle.command_laws.proofs.TextFaults.{fault_line}
 use Rattle.hand_commands.proofs.Trains.{told_input}
 use Rattle.volume_store.proofs.Ending.{none_left}
 use Rattle.host_commands.proofs.Added.{no_script, left_by_opening}
+use Rattle.qic_base.specs.SourceCalls.{input_of}
+use Rattle.qic_base.specs.Alone.{outside}
 use Rattle.command_laws.proofs.TextInputs as inputs
 use Rattle.volume_script.specs.declared.fault.ScriptFault.TheVariants as fault
 use Rattle.volume_script.specs.Runs as runs
@@ -220,7 +222,7 @@ module _ {T S K : Type 0} (t : tapes.Meaning T) (s : sources.Meaning S) (k : sin
 
     -- by the answer of the call
     pub script_ended : (result : Result (Unit {0}) ScriptFault) → is_some (s.left j) ≡ is_some (s.left i) → runs.ScriptEnds t s k store (outside b.tape i x) (outside c j y) result →
-        CommandEnds t s k words.Script (outside a i x) (outside c j y) (scripted_status result)
+        CommandEnds t s k words.Script (outside a i x) (outside c j y) (status_of_script result)
     script_ended (Ok done) tells run = ended AllDone run
     script_ended (Err (fault.Input line place)) tells run = ended (FaultIn line place) run
     script_ended (Err fault.TableMismatch) tells run = mismatched run

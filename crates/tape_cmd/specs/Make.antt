@@ -6,12 +6,12 @@ use Rattle.made_volumes.specs.declared.fault.MakeFault.TheVariants as fault
 use Rattle.command_spec.specs.declared.status.Status.TheVariants as status
 
 -- the answer that the end of a run makes
-abbrev pub made_status : Result (Unit {0}) MakeFault → Status
-made_status (Ok done) = status.Done
-made_status (Err fault.Protected) = status.Protected
-made_status (Err fault.TableMismatch) = status.TableMismatch
-made_status (Err (fault.Full need have)) = status.Full need have
-made_status (Err (fault.Lost segment lost)) = status.Lost segment lost
-made_status (Err (fault.Mismatch segment)) = status.Mismatch segment
-made_status (Err fault.Sink) = status.SinkFault
-made_status (Err fault.Tape) = status.TapeFault
+abbrev pub status_of_making : Result (Unit {0}) MakeFault → Status
+status_of_making (Ok done) = status.Done
+status_of_making (Err fault.Protected) = status.Protected
+status_of_making (Err fault.TableMismatch) = status.TableMismatch
+status_of_making (Err (fault.Full need have)) = status.Full need have
+status_of_making (Err (fault.Lost segment lost)) = status.Lost segment lost
+status_of_making (Err (fault.Mismatch segment)) = status.Mismatch segment
+status_of_making (Err fault.Sink) = status.SinkFault
+status_of_making (Err fault.Tape) = status.TapeFault

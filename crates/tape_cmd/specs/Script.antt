@@ -6,10 +6,10 @@ use Rattle.volume_script.specs.declared.fault.ScriptFault.TheVariants as fault
 use Rattle.command_spec.specs.declared.status.Status.TheVariants as status
 
 -- the answer that the end of a script makes
-abbrev pub scripted_status : Result (Unit {0}) ScriptFault → Status
-scripted_status (Ok done) = status.Done
-scripted_status (Err (fault.Input line place)) = status.ScriptFault line place
-scripted_status (Err fault.TableMismatch) = status.TableMismatch
-scripted_status (Err fault.Source) = status.SourceFault
-scripted_status (Err fault.Sink) = status.SinkFault
-scripted_status (Err fault.Tape) = status.TapeFault
+abbrev pub status_of_script : Result (Unit {0}) ScriptFault → Status
+status_of_script (Ok done) = status.Done
+status_of_script (Err (fault.Input line place)) = status.ScriptFault line place
+status_of_script (Err fault.TableMismatch) = status.TableMismatch
+status_of_script (Err fault.Source) = status.SourceFault
+status_of_script (Err fault.Sink) = status.SinkFault
+status_of_script (Err fault.Tape) = status.TapeFault

@@ -1,27 +1,11 @@
 -- The parts of a run.
-use Rattle.std.proofs.Common.{◌≡◌, ℕ, true, false, Bool, List, [], ◌∷◌, length, refl, sym, ◌∙◌, arith, Option, Some, None, IfSome, Result, Ok, Err, inl, inr}
+use Rattle.std.proofs.Common.{◌≡◌, ℕ, List, [], ◌∷◌, length, refl, sym, ◌∙◌, arith, Option, Some, None, IfSome, Result, Ok, Err, inl, inr}
 use Rattle.qic_base.specs.Disk as disks
-use Rattle.qic_base.specs.Disk.{IsSettled, Look, stored}
-use Rattle.std.specs.Option.{option_map}
+use Rattle.qic_base.specs.Disk.{IsSettled, Look}
 use Rattle.cart_image.specs.Layout.{resize}
 use Rattle.cart_image.specs.Run as steps
 use Rattle.tape_import.specs.Runs.{Emptied, FoundEmpty}
-
--- a disk of which this holds where it tells its crashes is settled
-pub settled-by : {D : Type 0} (d : disks.Meaning D) (disk : D) → disks.IsToldRight d disk → (d.tells_stops disk ≡ true → IsSettled d disk) → IsSettled d disk
-settled-by d disk right tells = by (d.tells_stops disk) refl
-  where
-    by : (b : Bool) → d.tells_stops disk ≡ b → IsSettled d disk
-    by true is = tells is
-    by false is = right.untold is
-
--- a look leaves the told bytes as they were
-told-look : {D : Type 0} {d : disks.Meaning D} {a b : D} → disks.Stored d a b Look → d.told b ≡ d.told a
-told-look {d = d} {a = a} s = s.told ∙ same (d.told a)
-  where
-    same : (told : Option (List ℕ)) → option_map (stored Look) told ≡ told
-    same None = refl
-    same (Some bytes) = refl
+use Rattle.qic_base.proofs.Disks.{told-look}
 
 -- it is settled behind a look
 settled-behind : {D : Type 0} (d : disks.Meaning D) (old new : D) → disks.Stored d old new Look → IsSettled d old → IsSettled d new

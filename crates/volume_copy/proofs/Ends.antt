@@ -7,7 +7,7 @@ use Rattle.command_laws.proofs.CommandOpened.{quiet}
 use Rattle.command_laws.proofs.CopyOutcomes.{IsTarget, copies_something}
 use Rattle.command_laws.proofs.CopyValues.{HasValues, shown_values}
 use Rattle.command_laws.proofs.MountedListed.{mounted_listed}
-use Rattle.cartridge_laws.proofs.MountSettled.{settled_keeps_table}
+use Rattle.cartridge_laws.proofs.MountSettled.{settled_keeps_table, locked_steps}
 use Rattle.command_spec.specs.CopyPromises.{CopyEnds, CopyWent, Decks, FromCut, IsUnasked, PrintingCut, ToCut}
 use Rattle.command_spec.specs.Copying.{Compares, Copies, CopyOutcome, CopyYields, Side, ToDoes, ToMounted, copy_refused, missing}
 use Rattle.command_spec.specs.declared.copy_status.CopyStatus.{CopyStatus}
@@ -28,7 +28,7 @@ use Rattle.volume_store.specs.declared.opening.OpenFault.{OpenFault}
 use Rattle.volume_copy.proofs.Appended.{side_over}
 use Rattle.volume_copy.proofs.Carried.{Carried, Reached, carried, seen}
 use Rattle.volume_copy.proofs.Goes.{missing_goes}
-use Rattle.volume_copy.proofs.Openings.{OpenedAt, RefusedAs, locked_steps, opened_at, opened_mark, refused_as, settles_first, source_begins, target_begins}
+use Rattle.volume_copy.proofs.Openings.{OpenedAt, RefusedAs, opened_at, opened_mark, refused_as, settles_first, source_begins, target_begins}
 use Rattle.volume_copy.proofs.Volume.{is_outside}
 use Rattle.volume_copy.specs.Faults.{copy_fault, from_status, to_status}
 use Rattle.volume_copy.specs.Runs.{AreOpened, BothRefused, CopyRuns, CopyView, HasRun, IsUnlike, RunEnds, Units}

@@ -1,14 +1,12 @@
 -- How the openings of a copy end, where a tape tells what its drive holds.
-use Rattle.std.proofs.Common.{◌≡◌, ◌⊎◌, ℕ, Bool, true, List, [], ◌++◌, Option, Some, None, IfSome, IsSomeAnd, refl, ap, sym, subst, ◌∙◌, inl, inr, append-nil}
+use Rattle.std.proofs.Common.{◌≡◌, ◌⊎◌, ℕ, Bool, List, [], ◌++◌, Option, Some, None, IfSome, IsSomeAnd, refl, ap, sym, subst, ◌∙◌, inl, inr, append-nil}
 use Rattle.std.specs.Option.{option_map}
-use Rattle.std.specs.Prelude.{if◌then◌else◌}
 use Rattle.cartridge_laws.proofs.MountOnce.{mounts_is_function}
 use Rattle.cartridge_laws.proofs.MountWhole.{settling_effects}
 use Rattle.cartridge_spec.specs.Header.{Header}
 use Rattle.cartridge_laws.specs.HeaderTerms.{fault_as}
 use Rattle.cartridge_spec.specs.Mounting.{Mounting, Mounts, settled}
-use Rattle.cartridge_spec.specs.Says.{with_parity}
-use Rattle.cartridge_spec.specs.Settling.{block_writes, settling_places, settling_steps}
+use Rattle.cartridge_spec.specs.Settling.{settling_steps}
 use Rattle.cartridge_spec.specs.Table.{Entry}
 use Rattle.command_laws.proofs.CommandEnds.{over_at}
 use Rattle.command_spec.specs.CopyPromises.{MountingRefuses}
@@ -26,6 +24,7 @@ use Rattle.volume_copy.specs.Faults.{copy_fault}
 use Rattle.cartridge_front.specs.Learning.{MountRefuses}
 use Rattle.volume_store.specs.Mounting.{IsSettling, StoreView, IsOpened}
 use Rattle.cartridge_front.specs.declared.fault.StoreFault.{StoreFault}
+use Rattle.cartridge_laws.proofs.MountSettled.{locked_steps}
 use Rattle.cartridge_spec.specs.Mounting as mounting
 use Rattle.command_spec.specs.declared.copy_fault.CopyFault.TheVariants as copy
 use Rattle.command_spec.specs.declared.copy_status.CopyStatus.TheVariants as status
@@ -62,10 +61,6 @@ opened_mark m old unit store held opened o mark is =
     let known : IsKnown (settled o.at.table o.cartridge) store mark =
     over_at (m.told unit.tape) (λ h. IfSome h (λ d. IsKnown d store mark)) (Some (settled o.at.table o.cartridge)) (opened_known m old unit store opened mark is) o.told in
     (known_before o.cartridge store mark opened.steps o.at known).protected
-
--- nothing settles a protected cartridge
-pub locked_steps : (table : List (List ℕ)) (c : Cartridge) → c.info.protected ≡ true → settling_steps table c ≡ []
-locked_steps table c is = ap (λ (b : Bool). if b then [] else block_writes (with_parity table) (settling_places c table)) is
 
 -- ---- refused
 

@@ -3,10 +3,9 @@ use Rattle.std.proofs.Common.{◌≡◌, ◌≢◌, ◌⊎◌, ℕ, ◌+◌, ◌
 use Rattle.std.specs.Option.{option_map}
 use Rattle.std.proofs.lemmas.Bool.{cases_Bool, ltb-false, ltb-true}
 use Rattle.std.proofs.lemmas.List.{length-take-le}
-use Rattle.cartridge_laws.proofs.TableSayings.{table_says_is_function}
 use Rattle.cartridge_spec.specs.Appending.{free_segments, new_entry, table_writes, taken_by, room}
 use Rattle.cartridge_spec.specs.TableSegment.{TableIs, table_cells}
-use Rattle.cartridge_spec.specs.Says.{AsRead, ByCode, Data, LostSectors, TableSays}
+use Rattle.cartridge_spec.specs.Says.{ByCode, LostSectors, TableSays}
 use Rattle.cartridge_spec.specs.Settling.{changed_by, settling_steps}
 use Rattle.cartridge_spec.specs.Table.{Entry, table_with}
 use Rattle.cartridge_laws.specs.Slots.{slot_sector}
@@ -35,6 +34,7 @@ use Rattle.volume_store.specs.Appending.{AppendCut, AppendEnds, CutBeforeEntry, 
 use Rattle.volume_store.specs.declared.appended.Appended.{Appended}
 use Rattle.cartridge_front.specs.declared.fault.StoreFault.{StoreFault}
 use Rattle.qic_base.specs.Source.{IsInput}
+use Rattle.cartridge_laws.proofs.MountOnce.{not_lost}
 use Rattle.command_spec.specs.declared.copy_fault.CopyFault.TheVariants as copy
 use Rattle.command_spec.specs.declared.copy_status.CopyStatus.TheVariants as status
 use Rattle.qic_base.specs.Tape as tapes
@@ -46,13 +46,6 @@ is_outside (status.From copy.Tape) = true
 is_outside (status.To copy.Tape) = true
 is_outside status.SinkFault = true
 is_outside answer = false
-
--- what a table that can be read says is not that it is lost
-not_lost : (lost : ℕ) (d : Cartridge) (table : List (List ℕ)) → TableIs d table → TableSays (table_cells d) (ByCode (LostSectors lost)) → ⊥
-not_lost lost d table (inl read) says =
-    let same = table_says_is_function (table_cells d) (AsRead table) (ByCode (LostSectors lost)) read says in cc
-not_lost lost d table (inr code) says =
-    let same = table_says_is_function (table_cells d) (ByCode (Data table)) (ByCode (LostSectors lost)) code says in cc
 
 -- ---- what came of it
 
@@ -443,7 +436,7 @@ module _ {A B : Type 0} (a : tapes.Meaning A) (b : tapes.Meaning B) (number : �
       ending = status.To (copy.Lost 2 lost);
       copies = by_table lost says;
       cut = tells_at b to.unit.tape (λ f. ((table : List (List ℕ)) → TableIs f table → ⊥) → TapeCut b (source_means a) no_sink old_outside new_outside []) d to_told unread
-          (λ table is. not_lost lost d table is says);
+          (λ table is. not_lost d table lost is says);
     }
   ]
 

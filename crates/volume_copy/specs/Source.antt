@@ -3,16 +3,14 @@
 use Rattle.std.proofs.Common.{arith, ◌∙◌, refl, sym, ap}
 use Rattle.std.proofs.lemmas.Option.{same_Some}
 use Rattle.std.specs.Prelude.{◌≡◌, ℕ, ◌+◌, ◌-◌, ◌*◌, ◌^◌, ◌<◌, ◌≤◌, List, [], ◌++◌, length, take, drop, min, slice_get, Option, Some, None, Result, Ok, Err}
-use Rattle.std.specs.Option.{option_map}
 use Rattle.cartridge_spec.specs.Volumes.{bytes_in}
 use Rattle.cartridge_spec.specs.Says.{Says, Data}
 use Rattle.cartridge_spec.specs.Table.{Entry}
 use Rattle.command_spec.specs.Restore.{Piece, GivingEnd, LostIn, MismatchIn, PieceEnds, pieces, piece_cells, volume_at}
 use Rattle.drive_states.specs.Unit.{UnitView}
-use Rattle.qic_base.proofs.Steps.{Rose-after, Rose-before, Stops-nothing, Stops-Stops}
+use Rattle.qic_base.proofs.Steps.{Rose-after, Rose-before, Stops-nothing, Stops-Stops, option_map-effects-none}
 use Rattle.qic_base.specs.Cartridge.{Cartridge}
 use Rattle.qic_base.specs.Tape.{Rose, Meaning, Stops}
-use Rattle.qic_base.specs.Step.{effects}
 use Rattle.qic_base.specs.TapeCalls.{Tells}
 use Rattle.volume_copy.specs.Given.{given_bytes}
 use Rattle.volume_store.specs.Mounting.{StoreView, StoreFits, KeepsStore}
@@ -170,10 +168,6 @@ keeps_itself m s = record {
   by_tape = λ none some. absurd (cc);
 }
 
-nothing_done : (o : Option (Option Cartridge)) → option_map (effects []) o ≡ o
-nothing_done None = refl
-nothing_done (Some held) = refl
-
 pub keeps_on : {T : Type 0} (m : Meaning T) (a b c : SourceView T) → KeepsVolume m a b → KeepsVolume m b c → KeepsVolume m a c
 keeps_on {T} m a b c first next = record {
   number = next.number ∙ first.number;
@@ -184,7 +178,7 @@ keeps_on {T} m a b c first next = record {
   };
   sound = λ sound. next.sound (first.sound sound);
   told = next.told ∙ first.told;
-  stops = Stops-Stops (first.told ∙ sym (nothing_done (m.told a.unit.tape))) first.stops next.stops;
+  stops = Stops-Stops (first.told ∙ sym (option_map-effects-none (m.told a.unit.tape))) first.stops next.stops;
   later = let one = first.later in let two = next.later in omega arith;
   stays = λ why is. next.stays why (first.stays why is);
   by_tape = λ none some. between b.fault refl none some;

@@ -12,16 +12,12 @@ use Rattle.cartridge_spec.specs.Shape.{mask_at, capacity}
 use Rattle.cartridge_laws.proofs.AppendBytes.{capacity_of}
 use Rattle.command_spec.specs.Append.{segment_act, volume_acts, filled_acts, input_acts}
 use Rattle.volume_input.proofs.Filled.{Carry, GoesOn, act_front, filled_more, filled_behind, volume_behind, volume_full}
+use Rattle.qic_base.specs.SourceCalls.{input_of}
 
 -- ---- what is left
 
--- what is left of a source, and nothing where it tells none
-abbrev pub left_of : Option (List ℕ) → List ℕ
-left_of None = []
-left_of (Some bytes) = bytes
-
 pub whole_told : (before after : Option (List ℕ)) (bytes : List ℕ) → before ≡ option_map (λ rest. bytes ++ rest) after →
-    IfSome before (λ told. bytes ++ left_of after ≡ told)
+    IfSome before (λ told. bytes ++ input_of after ≡ told)
 whole_told before None bytes gave = subst (λ (o : Option (List ℕ)). IfSome o (λ told. bytes ++ [] ≡ told)) (sym gave) tt
 whole_told before (Some rest) bytes gave = subst (λ (o : Option (List ℕ)). IfSome o (λ told. bytes ++ rest ≡ told)) (sym gave) refl
 
@@ -29,7 +25,7 @@ pub still_tells : (before after : Option (List ℕ)) (bytes : List ℕ) → befo
 still_tells before None bytes gave = ap (λ (o : Option (List ℕ)). is_some o) (sym gave)
 still_tells before (Some rest) bytes gave = ap (λ (o : Option (List ℕ)). is_some o) (sym gave)
 
-pub none_left : (after : Option (List ℕ)) → IfSome after (λ bytes. bytes ≡ []) → left_of after ≡ []
+pub none_left : (after : Option (List ℕ)) → IfSome after (λ bytes. bytes ≡ []) → input_of after ≡ []
 none_left None ended = refl
 none_left (Some bytes) ended = ended
 
@@ -42,7 +38,7 @@ untold_content (Some told) bytes content = tt
 -- those of two readings, and what is left
 pub bytes_untold : (before now after : Option (List ℕ)) (first came : List ℕ) → before ≡ option_map (λ rest. first ++ rest) now → now ≡ option_map (λ rest. came ++ rest) after →
     All (λ (b : ℕ). b < 256) first → IfNone now (All (λ (b : ℕ). b < 256) came) →
-    IfNone before (All (λ (b : ℕ). b < 256) ((first ++ came) ++ left_of after))
+    IfNone before (All (λ (b : ℕ). b < 256) ((first ++ came) ++ input_of after))
 bytes_untold (Some told) now after first came gave more content some = tt
 bytes_untold None (Some told) after first came gave more content some = absurd (cc)
 bytes_untold None None (Some left) first came gave more content some = absurd (cc)

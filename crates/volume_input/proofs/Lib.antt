@@ -1,6 +1,5 @@
 pub mod Filled
 pub mod Inputs
-pub mod Lending
 pub mod Next
 pub mod Places
 pub mod Running

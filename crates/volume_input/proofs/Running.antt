@@ -7,7 +7,7 @@ use Rattle.std.proofs.lemmas.List.Sums.{sum_by_push}
 use Rattle.qic_base.specs.Source as sources
 use Rattle.qic_base.specs.Tape as tapes
 use Rattle.qic_base.proofs.Writing.{TakesBoth}
-use Rattle.qic_base.specs.SourceCalls.{Gave}
+use Rattle.qic_base.specs.SourceCalls.{Gave, input_of}
 use Rattle.qic_base.proofs.Giving.{Gave-nothing, Gave-Gave, Gave-end}
 use Rattle.qic_base.specs.Acts.{Act, Outside, Failing, TapeFails, SourceFails, Went, Cut}
 use Rattle.qic_base.specs.Alone.{no_sink}
@@ -24,7 +24,7 @@ use Rattle.volume_input.specs.declared.fault.InputFault.{InputFault}
 use Rattle.volume_input.specs.declared.fault.InputFault.TheVariants as fault
 use Rattle.volume_input.specs.declared.written.Written.{Written}
 use Rattle.volume_input.proofs.Filled.{Carry, GoesOn, carry_head, carries_some, filled_more, filled_ends, volume_ends, filled_behind, volume_behind, volume_full, taken_full, taken_last}
-use Rattle.volume_input.proofs.Inputs.{left_of, bytes_untold, told_bytes, untold_content, whole_told, still_tells, none_left, Begins, filled_begin, next_begins}
+use Rattle.volume_input.proofs.Inputs.{bytes_untold, told_bytes, untold_content, whole_told, still_tells, none_left, Begins, filled_begin, next_begins}
 use Rattle.volume_input.proofs.Told.{Tells, tells_more}
 
 pub no_text : TakesBoth no_sink
@@ -249,11 +249,11 @@ module _ {T S : Type 0} {t : tapes.Meaning T} {s : sources.Meaning S} where
     -- the acts of some more were cut off, and the input asks for them
     cut_off : (came : List ℕ) (acts : List Act) (failing : Failing) → Gave s now.source new.source came →
         IfNone (s.left now.source) (All (λ (b : ℕ). b < 256) came) → Cut t s no_sink now new acts failing →
-        Begins words (far.front ++ segment ∷ rest) most exact (far.bytes ++ (came ++ left_of (s.left new.source))) (filled_acts words far.front far.bytes ++ acts) →
+        Begins words (far.front ++ segment ∷ rest) most exact (far.bytes ++ (came ++ input_of (s.left new.source))) (filled_acts words far.front far.bytes ++ acts) →
         InputCut t s words segments most exact start new failing
     cut_off came acts failing gave content cut begins =
         let done : List Act = filled_acts words far.front far.bytes in
-        let behind : List ℕ = left_of (s.left new.source) in
+        let behind : List ℕ = input_of (s.left new.source) in
         let input : List ℕ = (far.bytes ++ came) ++ behind in
         let same : far.bytes ++ (came ++ behind) ≡ input = sym (append_assoc far.bytes came behind) in
         record {
@@ -272,7 +272,7 @@ module _ {T S : Type 0} {t : tapes.Meaning T} {s : sources.Meaning S} where
     source_failed gave cut =
         let done : List Act = filled_acts words far.front far.bytes in
         let came = told_bytes (s.left now.source) (s.left new.source) gave.0 gave.3 in
-        let begins = filled_begin words far.front (segment ∷ rest) far.bytes most far.carry far.full far.going within exact (came.0 ++ left_of (s.left new.source)) in
+        let begins = filled_begin words far.front (segment ∷ rest) far.bytes most far.carry far.full far.going within exact (came.0 ++ input_of (s.left new.source)) in
         cut_off came.0 [] SourceFails came.1 came.2 cut
         (begins.0, ap (λ (acts : List Act). acts ++ begins.0) (append-nil done) ∙ begins.1)
 
@@ -282,7 +282,7 @@ module _ {T S : Type 0} {t : tapes.Meaning T} {s : sources.Meaning S} where
         let took = come.came.took in
         let before : written.bytes ≡ length far.bytes = far.tells.bytes in
         cut_off came (segment_act words segment came ∷ []) TapeFails took.gave (untold_content (s.left now.source) came come.came.content) come.cut
-        (next_begins words far.front segment rest far.bytes came (left_of (s.left new.source)) most exact far.carry here far.full within took.fits
+        (next_begins words far.front segment rest far.bytes came (input_of (s.left new.source)) most exact far.carry here far.full within took.fits
         (let few = took.within in omega arith)
         (λ less fewer. none_left (s.left new.source) (took.ended less (omega arith)))
         (λ is. come.came.whole is ∙ ap (λ (n : ℕ). min (capacity (mask_at words segment)) (most - n)) before)

@@ -10,7 +10,7 @@ use sector_fill::fill_sectors;
 use segment_io::Workspace;
 
 /// Reads up to `most` bytes into the first `count` sectors, as `fill_sectors` does.
-#[tactic(auto, using(crate::proofs::Lending::lent))]
+#[tactic(auto, using(qic_base::proofs::Arrays::lent))]
 pub fn fill_work<S: Source>(
     source: &mut S,
     work: &mut Workspace,

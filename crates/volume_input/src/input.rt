@@ -10,7 +10,7 @@ ghost use Rattle.volume_input.specs.Input.{InputEnds};
 ghost use Rattle.volume_input.specs.Length.{is_exact};
 
 use crate::fault::InputFault;
-use crate::length::Length;
+use crate::length::Wanted;
 use crate::segment::write_next;
 use crate::written::Written;
 use bad_sector_map::BadMap;
@@ -19,17 +19,16 @@ use host_driver::Host;
 use qic_base::{Source, Tape};
 use segment_io::Workspace;
 
-/// Writes the bytes of the source, at most `most`, into the carrying segments from `first` on, each segment once its
-/// bytes have come: all its usable sectors, with zero bytes behind the last byte, and their parity. One segment is
-/// written for no byte. With `Exact` a source that ends before `most` bytes is a fault, and the segment that it doesn't
-/// fill is left.
+/// Writes the bytes of the source, at most as many as are wanted, into the carrying segments from `first` on, each segment
+/// once its bytes have come: all its usable sectors, with zero bytes behind the last byte, and their parity. One segment
+/// is written for no byte. With `Exact` a source that ends before is a fault, and the segment that it doesn't fill is
+/// left.
 pub fn take_volume<T: Tape, S: Source>(
     host: &mut Host,
     unit: &mut Unit<T>,
     map: &BadMap,
     first: u32,
-    most: u32,
-    asked: Length,
+    wanted: Wanted,
     work: &mut Workspace,
     source: &mut S,
 ) -> Result<Written, InputFault>
@@ -38,9 +37,10 @@ pub fn take_volume<T: Tape, S: Source>(
     requires writable { MayWrite unit.old.drive.deck }
     requires map { length map.now ≡ 28 * segments_of host.old }
     requires room { 1 ≤ capacity_between map.now first (length map.now - 1) }
-    requires within { most ≤ capacity_between map.now first (length map.now - 1) }
+    requires within { wanted.most ≤ capacity_between map.now first (length map.now - 1) }
     ensures ends { InputEnds T.means S.means map.now (carrying map.now first (length map.now - 1))
-        most (is_exact asked) (reading unit.old.tape source.old) (reading unit.new.tape source.new) result }
+        wanted.most (is_exact wanted.length)
+        (reading unit.old.tape source.old) (reading unit.new.tape source.new) result }
     ensures kept { S.means.keeps source.old source.new }
     ensures keeps { Keeps T.means host.new unit.old unit.new }
 {
@@ -60,14 +60,13 @@ pub fn take_volume<T: Tape, S: Source>(
             map,
             segment,
             written.bytes,
-            most,
-            asked,
+            wanted,
             work,
             source,
         ) {
             Ok(Some(read)) => {
                 written = written.with(segment, read);
-                if read < capacity || written.bytes == most {
+                if read < capacity || written.bytes == wanted.most {
                     return Ok(written);
                 }
             }
@@ -75,5 +74,5 @@ pub fn take_volume<T: Tape, S: Source>(
             Err(fault) => return Err(fault),
         }
     }
-    unreachable!("the segments carry `most` bytes")
+    unreachable!("the segments carry all bytes that are wanted")
 }

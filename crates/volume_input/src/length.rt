@@ -1,6 +1,15 @@
-//! How many bytes of a source are asked for.
+//! How many bytes of a source are wanted.
 
-/// What a number of bytes that are asked for says of the source.
+/// How many bytes of a source are wanted.
+#[derive(Clone, Copy, Debug, PartialEq, Eq)]
+pub struct Wanted {
+    /// The most bytes.
+    pub most: u32,
+    /// What their number says of the source.
+    pub length: Length,
+}
+
+/// What a number of bytes that are wanted says of the source.
 #[derive(Clone, Copy, Debug, Drop, PartialEq, Eq)]
 pub enum Length {
     /// It may end before.

@@ -10,5 +10,5 @@ mod written;
 
 pub use fault::InputFault;
 pub use input::take_volume;
-pub use length::Length;
+pub use length::{Length, Wanted};
 pub use written::Written;

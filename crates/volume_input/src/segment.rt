@@ -10,15 +10,15 @@ ghost use Rattle.volume_input.specs.Next.{NextEnds};
 
 use crate::fault::InputFault;
 use crate::filling::{are_sectors, fill_work};
-use crate::length::Length;
+use crate::length::{Length, Wanted};
 use bad_sector_map::BadMap;
 use drive_states::Unit;
 use host_driver::Host;
 use qic_base::{Source, SourceFailed, Tape};
 use segment_io::{SegFault, Workspace, write_segment};
 
-/// Writes a carrying segment with the next bytes of the source, as many as it carries, and no more than `most` with the
-/// `before` ones that stand in the segments in front of it. The answer is their number; None where none came behind
+/// Writes a carrying segment with the next bytes of the source, as many as it carries, and no more than are wanted with
+/// the `before` ones that stand in the segments in front of it. The answer is their number; None where none came behind
 /// some others, and the segment is left.
 pub fn write_next<T: Tape, S: Source>(
     host: &mut Host,
@@ -26,8 +26,7 @@ pub fn write_next<T: Tape, S: Source>(
     map: &BadMap,
     segment: u32,
     before: u32,
-    most: u32,
-    asked: Length,
+    wanted: Wanted,
     work: &mut Workspace,
     source: &mut S,
 ) -> Result<Option<u32>, InputFault>
@@ -35,20 +34,21 @@ pub fn write_next<T: Tape, S: Source>(
     requires writable { MayWrite unit.old.drive.deck }
     requires segment { HasSegment unit.old.drive.deck segment (mask_at map.now segment) }
     requires map { segment < length map.now }
-    requires within { before ≤ most }
-    ensures ends { NextEnds T.means S.means map.now segment before most (is_exact asked)
+    requires within { before ≤ wanted.most }
+    ensures ends { NextEnds T.means S.means map.now segment before
+        wanted.most (is_exact wanted.length)
         (reading unit.old.tape source.old) (reading unit.new.tape source.new) result }
     ensures kept { S.means.keeps source.old source.new }
     ensures keeps { Keeps T.means host.new unit.old unit.new }
 {
     let capacity = map.capacity(segment);
-    let left = most - before;
+    let left = wanted.most - before;
     let read = match fill_work(source, work, (capacity / 1024) as u8, left) {
         Ok(read) => read,
         Err(SourceFailed) => return Err(InputFault::Source),
     };
     are_sectors(work.sectors());
-    if asked == Length::Exact && read < capacity.min(left) {
+    if wanted.length == Length::Exact && read < capacity.min(left) {
         return Err(InputFault::Short {
             read: before + read,
         });

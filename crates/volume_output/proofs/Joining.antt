@@ -36,8 +36,6 @@ pub printed_steps : (lined : Bool) (piece : Piece) (act : Act) → act.steps ≡
 printed_steps true piece act none = ap (λ (steps : List Step). steps ++ []) none
 printed_steps false piece act none = ap (λ (steps : List Step). steps ++ []) none
 
--- ---- what a piece restores
-
 -- ---- the part of one segment, and those behind it
 
 module _ {T K : Type 0} (t : tapes.Meaning T) (k : sinks.Meaning K) (words : List ℕ) (lined : Bool) where

@@ -1,5 +1,5 @@
 -- One segment's part of a volume: what is read of it and written (this project's own).
-use Rattle.std.specs.Prelude.{ℕ, Bool, true, false, List, ◌+◌, ◌++◌, codes, decimal}
+use Rattle.std.specs.Prelude.{ℕ, Bool, true, false, List, ◌++◌, codes, decimal}
 use Rattle.qic_base.specs.Acts.{Act}
 use Rattle.command_spec.specs.Restore.{Piece}
 use Rattle.command_laws.specs.RestoreTerms.{act_of}

@@ -2,6 +2,7 @@
 //! and the first bytes of sectors go to a sink. No call takes memory.
 #![tactic(auto)]
 
+mod extent;
 mod fault;
 mod form;
 mod output;
@@ -9,6 +10,7 @@ mod part;
 mod piece;
 mod sectors;
 
+pub use extent::Extent;
 pub use fault::OutputFault;
 pub use form::Form;
 pub use output::give_volume;

@@ -11,6 +11,7 @@ ghost use Rattle.host_driver.specs.Fits.{segments_of};
 ghost use Rattle.command_spec.specs.Restore.{pieces_of};
 ghost use Rattle.volume_output.specs.Part.{PartEnds, piece_at};
 
+use crate::extent::Extent;
 use crate::fault::OutputFault;
 use bad_sector_map::BadMap;
 use drive_states::Unit;
@@ -33,20 +34,20 @@ pub(crate) struct Place {
     pub(crate) count: u32,
 }
 
-/// The place of the piece with this number, from 0, of the first `bytes` bytes of the volume in the segments `start` to
-/// `end`.
-fn find_part(map: &BadMap, start: u16, end: u16, bytes: u64, number: u32) -> Option<Place>
-    requires { end < length map.now }
+/// The place of the piece with this number, from 0, of a volume's first bytes.
+fn find_part(map: &BadMap, volume: Extent, number: u32) -> Option<Place>
+    requires { volume.end < length map.now }
     ensures is { option_map piece_at result ≡
-        slice_get (pieces_of map.now (carrying map.now start end) bytes) number }
-    ensures on_tape { IfSome result (λ place. place.segment ≤ end) }
+        slice_get (pieces_of map.now (carrying map.now volume.start volume.end) volume.bytes)
+        number }
+    ensures on_tape { IfSome result (λ place. place.segment ≤ volume.end) }
     ensures some { IfSome result (λ place. 0 < place.count) }
     ensures within { IfSome result (λ place. place.count ≤ capacity (mask_at map.now place.segment)) }
     ensures few { IfSome result (λ place. number < 2 ^ 16) }
 {
-    let mut left = bytes;
+    let mut left = volume.bytes;
     let mut before = number;
-    for segment in u32::from(start)..u32::from(end) + 1 {
+    for segment in u32::from(volume.start)..u32::from(volume.end) + 1 {
         let count = left.min(u64::from(map.capacity(segment))) as u32;
         if count > 0 {
             if before == 0 {
@@ -59,15 +60,13 @@ fn find_part(map: &BadMap, start: u16, end: u16, bytes: u64, number: u32) -> Opt
     None
 }
 
-/// Reads the piece with this number, from 0, of the first `bytes` bytes of the volume in the segments `start` to `end`
-/// into the workspace. `None` where there is no such piece: then nothing is read. The tape is only read.
+/// Reads the piece with this number, from 0, of a volume's first bytes into the workspace. `None` where there is no such
+/// piece: then nothing is read. The tape is only read.
 pub fn read_part<T: Tape>(
     host: &mut Host,
     unit: &mut Unit<T>,
     map: &BadMap,
-    start: u16,
-    end: u16,
-    bytes: u64,
+    volume: Extent,
     number: u32,
     work: &mut Workspace,
 ) -> Result<Option<PartRead>, OutputFault>
@@ -75,14 +74,14 @@ pub fn read_part<T: Tape>(
     requires mode { reads_in unit.old.drive.deck.mode ≡ true }
     requires referenced { is_referenced unit.old.drive.deck ≡ true }
     requires map { length map.now ≡ 28 * segments_of host.old }
-    requires on_tape { end < length map.now }
+    requires on_tape { volume.end < length map.now }
     ensures ends { PartEnds T.means map.now
-        (pieces_of map.now (carrying map.now start end) bytes) number
+        (pieces_of map.now (carrying map.now volume.start volume.end) volume.bytes) number
         unit.old.tape unit.new.tape work.new result }
     ensures few { IfOk result (λ found. IfSome found (λ part. number < 2 ^ 16)) }
     ensures keeps { Keeps T.means host.new unit.old unit.new }
 {
-    let place = match find_part(map, start, end, bytes, number) {
+    let place = match find_part(map, volume, number) {
         Some(place) => place,
         None => return Ok(None),
     };

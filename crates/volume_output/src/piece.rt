@@ -13,6 +13,7 @@ ghost use Rattle.volume_output.specs.Piece.{piece_of, part_text};
 
 use crate::fault::OutputFault;
 use crate::form::Form;
+use crate::part::Place;
 use crate::sectors::write_bytes;
 use drive_states::Unit;
 use host_driver::Host;
@@ -20,33 +21,32 @@ use qic_base::{Sector, Sink, SinkFailed, Tape};
 use segment_io::{SegFault, Workspace, read_segment};
 use tape_script::{TextLine, write_text};
 
-/// Reads a segment of these usable sectors, and hands its first `count` bytes to the sink once it agrees.
-pub fn write_piece<T: Tape, K: Sink>(
+/// Reads the segment of a piece, with these usable sectors, and hands the piece's bytes to the sink once it agrees.
+pub(crate) fn write_piece<T: Tape, K: Sink>(
     host: &mut Host,
     unit: &mut Unit<T>,
-    segment: u32,
+    place: Place,
     usable: u32,
-    count: u32,
     form: Form,
     work: &mut Workspace,
     sink: &mut K,
 ) -> Result<(), OutputFault>
     requires ready { IsReady T.means host.old unit.old }
-    requires segment { HasSegment unit.old.drive.deck segment usable }
+    requires segment { HasSegment unit.old.drive.deck place.segment usable }
     requires mode { reads_in unit.old.drive.deck.mode ≡ true }
-    requires within { count ≤ capacity usable }
-    ensures ends { (words : List ℕ) → usable ≡ mask_at words segment →
-        OutputEnds T.means K.means words (piece_of segment count ∷ []) (is_lined form)
+    requires within { place.count ≤ capacity usable }
+    ensures ends { (words : List ℕ) → usable ≡ mask_at words place.segment →
+        OutputEnds T.means K.means words (piece_of place.segment place.count ∷ []) (is_lined form)
         (around unit.old.tape sink.old) (around unit.new.tape sink.new) result }
     ensures keeps { Keeps T.means host.new unit.old unit.new }
 {
-    match read_segment(host, unit, segment, usable, work) {
+    match read_segment(host, unit, place.segment, usable, work) {
         Ok(_) => {}
         Err(SegFault::Lost { segment, lost }) => return Err(OutputFault::Lost { segment, lost }),
         Err(SegFault::Mismatch { segment }) => return Err(OutputFault::Mismatch { segment }),
         Err(SegFault::Tape) => return Err(OutputFault::Tape),
     }
-    match write_part(work.sectors(), count, form, sink) {
+    match write_part(work.sectors(), place.count, form, sink) {
         Ok(()) => Ok(()),
         Err(SinkFailed) => Err(OutputFault::Sink),
     }

@@ -6,10 +6,10 @@ use Rattle.std.proofs.lemmas.List.{length-append, length-take-le}
 use Rattle.qic_base.specs.Cartridge.{Cartridge}
 use Rattle.qic_base.specs.declared.sink.SinkFailed.{SinkFailed}
 use Rattle.qic_base.specs.Step.{Step}
-use Rattle.qic_base.proofs.Steps.{Tells-map}
+use Rattle.qic_base.proofs.Steps.{Tells-map, tells_two}
 use Rattle.qic_base.proofs.Writing.{TakesBoth}
 use Rattle.qic_base.specs.Acts.{Act, text_of, Failing, TapeFails, SourceFails, SinkFails, Went, Cut}
-use Rattle.qic_base.specs.Alone.{no_sink, reading}
+use Rattle.qic_base.specs.Alone.{no_sink, reading, outside}
 use Rattle.cartridge_spec.specs.Appending.{table_writes}
 use Rattle.cartridge_laws.specs.Slots.{slot_sector}
 use Rattle.cartridge_spec.specs.Table.{table_with, Entry}
@@ -40,17 +40,17 @@ use Rattle.command_spec.specs.Script.{refusal_line, Did, LineDoes, Meeting, Find
 use Rattle.volume_script.specs.Promised.{RanPromised, Refuses, replied_so}
 use Rattle.command_laws.proofs.ScriptActs.{same_acts, same_taking, took_enough, took_too_long, took_short, full_acts, full_taking, short_acts, fits_acts, front_acts, front_and_last, replied_steps, replied_text, input_texts}
 use Rattle.command_laws.proofs.ScriptGiven.{gave_all, gave_few, Behind}
-use Rattle.command_laws.proofs.ScriptLifting.{out, TakesNone, read_went, read_cut, replied_went, replied_cut, rested}
+use Rattle.command_laws.proofs.ScriptLifting.{TakesNone, read_went, read_cut, replied_went, replied_cut, rested}
 use Rattle.volume_script.proofs.Content.{BehindBytes, GivenAs, any_bytes, behind_bytes, content_both, given_as, limit_untold, taken_content}
-use Rattle.volume_script.proofs.Quiet.{mark_told, unmarked}
+use Rattle.volume_script.proofs.Quiet.{unmarked}
 use Rattle.command_laws.proofs.ScriptPlain.{line_one, meets_one}
 use Rattle.cartridge_front.specs.declared.fault.StoreFault.{StoreFault}
-use Rattle.cartridge_front.proofs.Copies.{tells_two}
 use Rattle.cartridge_laws.proofs.MountOnce.{not_lost}
 use Rattle.volume_store.proofs.Taking.{front_of}
 use Rattle.qic_base.specs.Disk.{AreBytes}
 use Rattle.qic_base.specs.Source.{IsInput}
 use Rattle.command_laws.proofs.CommandOpened.{quiet}
+use Rattle.volume_store.proofs.Fitting.{told_mark}
 use Rattle.qic_base.specs.Sink as sinks
 use Rattle.qic_base.specs.SinkCalls as sink_calls
 use Rattle.qic_base.specs.Source as sources
@@ -129,11 +129,11 @@ module _ {T S K : Type 0} (t : tapes.Meaning T) (s : sources.Meaning S) (k : sin
         ∙ ap (λ (m : ℕ). option_map (drop n) (option_map (take m) (s.left ran.before.source.now))) ran.promises
         ∙ ap (λ (q : S). option_map (drop n) (option_map (take promised) (s.left q))) ran.starts
 
-    lift : (acts : List Act) → Went t (limited_means s) no_sink (reading a ran.before) (reading b ran.behind) acts → Went t s k (out a i x) (out b j x) acts
+    lift : (acts : List Act) → Went t (limited_means s) no_sink (reading a ran.before) (reading b ran.behind) acts → Went t s k (outside a i x) (outside b j x) acts
     lift acts went = read_went t s k (limited_means s) ran.before ran.behind i j begins stands none a b x acts went
 
     lift_cut : (acts : List Act) (failing : Failing) → failing ≢ SinkFails → Cut t (limited_means s) no_sink (reading a ran.before) (reading b ran.behind) acts failing →
-        Cut t s k (out a i x) (out b j x) acts failing
+        Cut t s k (outside a i x) (outside b j x) acts failing
     lift_cut acts failing other cut = read_cut t s k (limited_means s) ran.before ran.behind i j begins stands none a b x acts failing other cut
 
     -- what is known of the cartridge, by the data that the append found
@@ -193,13 +193,13 @@ module _ {T S K : Type 0} (t : tapes.Meaning T) (s : sources.Meaning S) (k : sin
                 ∙ ap (λ (by : Kept). taken_as by name date (append_acts by name date (Some promised) reply_of has.bytes) (taking (room_in by) (Some promised) has.bytes)) settles,
           )) (known_so free has.ran.table has.ran.settling has.ran.known)
 
-      silent : Went t s k (out a i x) (out b j x) (append_acts kept name date (Some promised) silently has.ran.input)
+      silent : Went t s k (outside a i x) (outside b j x) (append_acts kept name date (Some promised) silently has.ran.input)
       silent = lift (append_acts kept name date (Some promised) silently has.ran.input) has.ran.went
 
       abbrev text : List ℕ
       text = reply_of (entry_for kept name date has.bytes)
 
-      pub appended_done : sinks.Wrote k x y text → ItemDone t s k store after (out a i x) (out b j y) asked
+      pub appended_done : sinks.Wrote k x y text → ItemDone t s k store after (outside a i x) (outside b j y) asked
       appended_done wrote = record {
         bytes = has.bytes;
         kept = bytes_long;
@@ -220,7 +220,7 @@ module _ {T S K : Type 0} (t : tapes.Meaning T) (s : sources.Meaning S) (k : sin
         text = text;
       }
 
-      unreplied : sink_calls.BrokeOff k x y text → Cut t s k (out a i x) (out b j y) whole SinkFails
+      unreplied : sink_calls.BrokeOff k x y text → Cut t s k (outside a i x) (outside b j y) whole SinkFails
       unreplied broke = record {
         at = record {
           front = front_acts kept promised has.ran.input;
@@ -233,15 +233,15 @@ module _ {T S K : Type 0} (t : tapes.Meaning T) (s : sources.Meaning S) (k : sin
         source_later = silent.source_later;
       }
 
-      pub appended_cut : sink_calls.BrokeOff k x y text → ItemCut t s k store (out a i x) (out b j y) asked SinkFails
+      pub appended_cut : sink_calls.BrokeOff k x y text → ItemCut t s k store (outside a i x) (outside b j y) asked SinkFails
       appended_cut broke =
           let rest = any_bytes (s.left j) in record {
             rest = has.bytes ++ rest.rest;
             is_told = flip (s.left i) (has.bytes ++ rest.rest) (whole_told (s.left i) (s.left j) has.bytes rest.rest gave_bytes rest.told);
             content = content_both (s.left i) (s.left j) has.bytes rest.rest gave_bytes bytes_content rest.content;
             told = Tells-map t a (λ c. LineDoes c store.words store.entries asked has.bytes (record { acts = whole; entries = store.entries ++ has.entry ∷ [] }))
-                (λ c. (acts : List Act) → WouldDo c store.words store.entries asked (has.bytes ++ rest.rest) acts → Cut t s k (out a i x) (out b j y) acts SinkFails)
-                (λ c does acts would. subst (λ (zs : List Act). Cut t s k (out a i x) (out b j y) zs SinkFails)
+                (λ c. (acts : List Act) → WouldDo c store.words store.entries asked (has.bytes ++ rest.rest) acts → Cut t s k (outside a i x) (outside b j y) acts SinkFails)
+                (λ c does acts would. subst (λ (zs : List Act). Cut t s k (outside a i x) (outside b j y) zs SinkFails)
                 (would_be c store.words store.entries asked has.bytes rest.rest bytes_long (record { acts = whole; entries = store.entries ++ has.entry ∷ [] }) does acts would) (unreplied broke))
                 (does (store.entries ++ has.entry ∷ []) refl);
             acts = whole;
@@ -257,14 +257,14 @@ module _ {T S K : Type 0} (t : tapes.Meaning T) (s : sources.Meaning S) (k : sin
           ∙ ap (λ (e : Entry). appended_line (length store.entries + 1) (length has.bytes) e.start e.end) has.is_entry
 
       pub appended_ends : (r : Result (Unit {0}) SinkFailed) → sink_calls.Writes k x y (appended_line answered.number answered.bytes answered.start answered.end) r →
-          ItemEnds t s k store after (out a i x) (out b j y) asked (replied_so r)
+          ItemEnds t s k store after (outside a i x) (outside b j y) asked (replied_so r)
       appended_ends (Ok done) wrote = appended_done (subst (sinks.Wrote k x y) text_is wrote)
       appended_ends (Err failed) broke = appended_cut (subst (sink_calls.BrokeOff k x y) text_is broke)
 
     -- ---- fewer bytes came
 
     pub came_short : (asked_for got : ℕ) (short : AppendRan t (limited_means s) (reading a ran.before) (reading b ran.behind) store name date (Some promised) (TooShort asked_for got)) →
-        tape_calls.Tells t a (λ c. c.info.protected ≡ false) → ItemShort t s k store (out a i x) (out b j x) asked
+        tape_calls.Tells t a (λ c. c.info.protected ≡ false) → ItemShort t s k store (outside a i x) (outside b j x) asked
     came_short asked_for got short free =
         let kept : Kept = kept_by store short.table short.settling in
         let few = took_short (room_in kept) promised short.input asked_for got short.took in
@@ -291,15 +291,15 @@ module _ {T S K : Type 0} (t : tapes.Meaning T) (s : sources.Meaning S) (k : sin
     -- ---- a fault of the outside
 
     -- acts that an append would do are cut off as its own are
-    longer_taken : (kept : Kept) (acts : List Act) (became : Taking) (failing : Failing) → Cut t s k (out a i x) (out b j x) acts failing →
-        Cut t s k (out a i x) (out b j x) (taken_as kept name date acts became).acts failing
+    longer_taken : (kept : Kept) (acts : List Act) (became : Taking) (failing : Failing) → Cut t s k (outside a i x) (outside b j x) acts failing →
+        Cut t s k (outside a i x) (outside b j x) (taken_as kept name date acts became).acts failing
     longer_taken kept acts (Fits bytes) failing cut = cut
     longer_taken kept acts (TooLong need have) failing cut =
-        cut_is_longer t s k (out a i x) (out b j x) acts (reply (refusal_line (why.Full need have)) ∷ []) failing cut
+        cut_is_longer t s k (outside a i x) (outside b j x) acts (reply (refusal_line (why.Full need have)) ∷ []) failing cut
     longer_taken kept acts (TooShort n read) failing cut = cut
 
     pub failed : (failing : Failing) → failing ≢ SinkFails → AppendCut t (limited_means s) (reading a ran.before) (reading b ran.behind) store name date (Some promised) failing →
-        CutUnread t (limited_means s) (reading a ran.before) (reading b ran.behind) failing → tape_calls.Tells t a (λ c. c.info.protected ≡ false) → ItemCut t s k store (out a i x) (out b j x) asked failing
+        CutUnread t (limited_means s) (reading a ran.before) (reading b ran.behind) failing → tape_calls.Tells t a (λ c. c.info.protected ≡ false) → ItemCut t s k store (outside a i x) (outside b j x) asked failing
     failed failing other cut unread free =
         let both : BehindBytes (s.left i) promised cut.input =
         behind_bytes (s.left i) promised cut.input (limit_told cut.input cut.is_told) (limit_content cut.input cut.content) in
@@ -312,7 +312,7 @@ module _ {T S K : Type 0} (t : tapes.Meaning T) (s : sources.Meaning S) (k : sin
               Cut t (limited_means s) no_sink (reading a ran.before) (reading b ran.behind) (append_acts (kept_by store table (settling_steps table c)) name date (Some promised) reply cut.input) failing)
               × (((table : List (List ℕ)) → TableIs c table → ⊥) → Cut t (limited_means s) no_sink (reading a ran.before) (reading b ran.behind) [] failing))
               (λ c. c.info.protected ≡ false)
-              (λ c. (acts : List Act) → WouldDo c store.words store.entries asked at.rest acts → Cut t s k (out a i x) (out b j x) acts failing)
+              (λ c. (acts : List Act) → WouldDo c store.words store.entries asked at.rest acts → Cut t s k (outside a i x) (outside b j x) acts failing)
               (λ c each off acts would. by_cases at c each.0 each.1 off acts would)
               (tells_two t a
               (λ c. (table : List (List ℕ)) → TableIs c table → (reply : Entry → List ℕ) →
@@ -340,33 +340,33 @@ module _ {T S K : Type 0} (t : tapes.Meaning T) (s : sources.Meaning S) (k : sin
             ((table : List (List ℕ)) → TableIs c table → (reply : Entry → List ℕ) →
             Cut t (limited_means s) no_sink (reading a ran.before) (reading b ran.behind) (append_acts (kept_by store table (settling_steps table c)) name date (Some promised) reply cut.input) failing) →
             (((table : List (List ℕ)) → TableIs c table → ⊥) → Cut t (limited_means s) no_sink (reading a ran.before) (reading b ran.behind) [] failing) → c.info.protected ≡ false →
-            (acts : List Act) → WouldDo c store.words store.entries asked at.rest acts → Cut t s k (out a i x) (out b j x) acts failing
+            (acts : List Act) → WouldDo c store.words store.entries asked at.rest acts → Cut t s k (outside a i x) (outside b j x) acts failing
         by_cases at c each lost off acts (inl (bytes, (more, (parts, long, (did, same, (script.Refuses meeting, meets, is)))))) =
-            cut_is_longer t s k (out a i x) (out b j x) [] acts failing (lift_cut [] failing other (lost (unbegun c off meeting meets)))
+            cut_is_longer t s k (outside a i x) (outside b j x) [] acts failing (lift_cut [] failing other (lost (unbegun c off meeting meets)))
         by_cases at c each lost off acts (inl (bytes, (more, (parts, long, (did, same, (Finds table, meets, is)))))) =
             let kept : Kept = kept_over c store.words store.entries table in
             let enough : promised ≤ length cut.input = at.enough (let l = ap length parts in let m = length-append bytes more in omega arith) in
             let first : take promised cut.input ≡ bytes = sym at.front ∙ ap (take promised) parts ∙ front_of bytes more promised long in
             let whole : append_acts kept name date (Some promised) reply_of cut.input ≡ append_acts kept name date (Some promised) reply_of bytes =
             same_acts kept name date promised cut.input enough reply_of ∙ ap (λ (bs : List ℕ). append_acts kept name date (Some promised) reply_of bs) first in
-            let own : Cut t s k (out a i x) (out b j x) (append_acts kept name date (Some promised) reply_of bytes) failing =
-            subst (λ (zs : List Act). Cut t s k (out a i x) (out b j x) zs failing) whole
+            let own : Cut t s k (outside a i x) (outside b j x) (append_acts kept name date (Some promised) reply_of bytes) failing =
+            subst (λ (zs : List Act). Cut t s k (outside a i x) (outside b j x) zs failing) whole
             (lift_cut (append_acts kept name date (Some promised) reply_of cut.input) failing other (each table meets.1 reply_of)) in
-            subst (λ (zs : List Act). Cut t s k (out a i x) (out b j x) zs failing) (ap (λ (d : Did). d.acts) (sym is) ∙ same)
+            subst (λ (zs : List Act). Cut t s k (outside a i x) (outside b j x) zs failing) (ap (λ (d : Did). d.acts) (sym is) ∙ same)
             (longer_taken kept (append_acts kept name date (Some promised) reply_of bytes) (taking (room_in kept) (Some promised) bytes) failing own)
         by_cases at c each lost off acts (inr (short, (script.Refuses meeting, meets, is))) =
-            cut_is_longer t s k (out a i x) (out b j x) [] acts failing (lift_cut [] failing other (lost (unbegun c off meeting meets)))
+            cut_is_longer t s k (outside a i x) (outside b j x) [] acts failing (lift_cut [] failing other (lost (unbegun c off meeting meets)))
         by_cases at c each lost off acts (inr (short, (Finds table, meets, is))) =
             let kept : Kept = kept_over c store.words store.entries table in
             let input : cut.input ≡ at.rest = at.few short in
-            subst (λ (zs : List Act). Cut t s k (out a i x) (out b j x) zs failing) (ap (λ (bs : List ℕ). append_acts kept name date (Some promised) reply_of bs) input ∙ sym is)
+            subst (λ (zs : List Act). Cut t s k (outside a i x) (outside b j x) zs failing) (ap (λ (bs : List ℕ). append_acts kept name date (Some promised) reply_of bs) input ∙ sym is)
             (lift_cut (append_acts kept name date (Some promised) reply_of cut.input) failing other (each table meets.1 reply_of))
 
     -- ---- refused
 
     -- it was refused behind these acts, whatever the bytes are
     pub record Refusing (acts : List Act) (refusal : Refusal) : Type 0 where
-      pub went : Went t s k (out a i x) (out b j x) acts
+      pub went : Went t s k (outside a i x) (outside b j x) acts
       pub told : tape_calls.Tells t a (λ c. (meeting : Meeting) × Meets c meeting × (((bytes : List ℕ) → acts_on c store.words store.entries name promised date bytes meeting ≡ acts)
           × ((bytes : List ℕ) → script.append_did c store.words store.entries name promised date bytes meeting ≡ line_refused acts store.entries refusal)))
 
@@ -415,7 +415,7 @@ module _ {T S K : Type 0} (t : tapes.Meaning T) (s : sources.Meaning S) (k : sin
     refusing_protected mark source tape =
         let faults : s.faults i ≡ s.faults j = sym begins ∙ ap (λ (l : Limited S). s.faults l.source.now) (sym source) ∙ stands in
         record {
-          went = subst (λ (w : T). Went t s k (out a i x) (out w j x) []) (sym tape) (rested t s k none a i j x (omega arith));
+          went = subst (λ (w : T). Went t s k (outside a i x) (outside w j x) []) (sym tape) (rested t s k none a i j x (omega arith));
           told = Tells-map t a (λ c. c.info.protected ≡ true) _ (λ c is. (script.Refuses why.Protected, is, ((λ bytes. refl), (λ bytes. refl)))) mark;
         }
 
@@ -426,7 +426,7 @@ module _ {T S K : Type 0} (t : tapes.Meaning T) (s : sources.Meaning S) (k : sin
           Tells-map t a _ (λ c. LineDoes c store.words store.entries asked bytes (record { acts = acts ++ reply (refusal_line refusal) ∷ []; entries = entries }))
           (λ c known. (known.0, known.1, ap (λ (es : List Entry). record { acts = acts ++ reply (refusal_line refusal) ∷ []; entries = es }) is ∙ sym (known.2.1 bytes))) refusing.told
 
-      later_went : s.faults j ≤ s.faults j2 → Went t s k (out a i x) (out b j2 x) acts
+      later_went : s.faults j ≤ s.faults j2 → Went t s k (outside a i x) (outside b j2 x) acts
       later_went later = record {
         did = refusing.went.did;
         wrote = refusing.went.wrote;
@@ -443,17 +443,17 @@ module _ {T S K : Type 0} (t : tapes.Meaning T) (s : sources.Meaning S) (k : sin
       all_long : (bytes : List ℕ) → length bytes ≡ left → length (ran.lends.gave.0 ++ bytes) ≡ promised
       all_long bytes long = (let l = length-append ran.lends.gave.0 bytes in let g = given_long in let c = counted in omega arith)
 
-      pub refused_ends : (r : Result (Unit {0}) ItemFault) → Refuses s k j j2 x y left refusal r → ItemEnds t s k store after (out a i x) (out b j2 y) asked r
+      pub refused_ends : (r : Result (Unit {0}) ItemFault) → Refuses s k j j2 x y left refusal r → ItemEnds t s k store after (outside a i x) (outside b j2 y) asked r
       refused_ends (Ok done) (all, wrote) = let given = given_so all.bytes all.gave in record {
         bytes = given.bytes;
         kept = given.long ∙ all_long all.bytes all.all;
         gave = given.gave;
         content = given.content;
         acts = acts ++ reply (refusal_line refusal) ∷ [];
-        went = replied_went t s k both (out a i x) b j2 x y acts (refusal_line refusal) (later_went all.later) wrote;
+        went = replied_went t s k both (outside a i x) b j2 x y acts (refusal_line refusal) (later_went all.later) wrote;
         told = does_so given.bytes after.entries same;
       }
-      refused_ends (Err fault.Short) (short, sink) = subst (λ (z : K). ItemShort t s k store (out a i x) (out b j2 z) asked) (sym sink) (let given = given_so short.bytes short.gave in record {
+      refused_ends (Err fault.Short) (short, sink) = subst (λ (z : K). ItemShort t s k store (outside a i x) (outside b j2 z) asked) (sym sink) (let given = given_so short.bytes short.gave in record {
         bytes = given.bytes;
         short = (let same = given.long in let l = length-append ran.lends.gave.0 short.bytes in let g = given_long in let c = counted in let f = short.short in omega arith);
         gave = given.gave;
@@ -468,14 +468,14 @@ module _ {T S K : Type 0} (t : tapes.Meaning T) (s : sources.Meaning S) (k : sin
           let given = given_so all.bytes all.gave in
           let bytes : List ℕ = given.bytes in
           let rest = any_bytes (s.left j2) in
-          let cut = replied_cut t s k both none (out a i x) b j2 x y acts (refusal_line refusal) (later_went all.later) broke in
+          let cut = replied_cut t s k both none (outside a i x) b j2 x y acts (refusal_line refusal) (later_went all.later) broke in
           record {
             rest = bytes ++ rest.rest;
             is_told = flip (s.left i) (bytes ++ rest.rest) (whole_told (s.left i) (s.left j2) bytes rest.rest given.gave rest.told);
             content = content_both (s.left i) (s.left j2) bytes rest.rest given.gave given.content rest.content;
             told = Tells-map t a (λ c. LineDoes c store.words store.entries asked bytes (record { acts = acts ++ reply (refusal_line refusal) ∷ []; entries = store.entries }))
-                (λ c. (zs : List Act) → WouldDo c store.words store.entries asked (bytes ++ rest.rest) zs → Cut t s k (out a i x) (out b j2 y) zs SinkFails)
-                (λ c does zs would. subst (λ (ws : List Act). Cut t s k (out a i x) (out b j2 y) ws SinkFails)
+                (λ c. (zs : List Act) → WouldDo c store.words store.entries asked (bytes ++ rest.rest) zs → Cut t s k (outside a i x) (outside b j2 y) zs SinkFails)
+                (λ c does zs would. subst (λ (ws : List Act). Cut t s k (outside a i x) (outside b j2 y) ws SinkFails)
                 (would_be c store.words store.entries asked bytes rest.rest (given.long ∙ all_long all.bytes all.all) (record { acts = acts ++ reply (refusal_line refusal) ∷ []; entries = store.entries }) does zs would) cut)
                 (does_so bytes store.entries refl);
             acts = acts ++ reply (refusal_line refusal) ∷ [];
@@ -484,7 +484,7 @@ module _ {T S K : Type 0} (t : tapes.Meaning T) (s : sources.Meaning S) (k : sin
       refused_ends (Err fault.Source) (failed, sink) =
           let went = later_went failed.later in
           let rest = any_bytes (s.left i) in
-          let cut : Cut t s k (out a i x) (out b j2 x) acts SourceFails = record {
+          let cut : Cut t s k (outside a i x) (outside b j2 x) acts SourceFails = record {
             front = acts;
             rest = [];
             parts = append-nil acts;
@@ -493,11 +493,11 @@ module _ {T S K : Type 0} (t : tapes.Meaning T) (s : sources.Meaning S) (k : sin
             cause = (let e = refusing.went.source_later in let f = failed.cause in omega arith);
             source_later = went.source_later;
           } in
-          subst (λ (z : K). ItemCut t s k store (out a i x) (out b j2 z) asked SourceFails) (sym sink) (record {
+          subst (λ (z : K). ItemCut t s k store (outside a i x) (outside b j2 z) asked SourceFails) (sym sink) (record {
             rest = rest.rest;
             is_told = rest.told;
             content = rest.content;
-            told = Tells-map t a _ (λ c. (zs : List Act) → WouldDo c store.words store.entries asked rest.rest zs → Cut t s k (out a i x) (out b j2 x) zs SourceFails)
+            told = Tells-map t a _ (λ c. (zs : List Act) → WouldDo c store.words store.entries asked rest.rest zs → Cut t s k (outside a i x) (outside b j2 x) zs SourceFails)
                 (λ c known zs would. by_would c known.0 known.1 known.2.0 known.2.1 rest.rest zs would cut) refusing.told;
             acts = acts;
             cut = cut;
@@ -505,17 +505,17 @@ module _ {T S K : Type 0} (t : tapes.Meaning T) (s : sources.Meaning S) (k : sin
         where
           by_would : (c : Cartridge) (meeting : Meeting) → Meets c meeting → ((bytes : List ℕ) → acts_on c store.words store.entries name promised date bytes meeting ≡ acts) →
               ((bytes : List ℕ) → script.append_did c store.words store.entries name promised date bytes meeting ≡ line_refused acts store.entries refusal) → (rest : List ℕ) (zs : List Act) →
-              WouldDo c store.words store.entries asked rest zs → Cut t s k (out a i x) (out b j2 x) acts SourceFails → Cut t s k (out a i x) (out b j2 x) zs SourceFails
+              WouldDo c store.words store.entries asked rest zs → Cut t s k (outside a i x) (outside b j2 x) acts SourceFails → Cut t s k (outside a i x) (outside b j2 x) zs SourceFails
           by_would c meeting meets alone whole rest zs (inl (bytes, (more, (parts, long, (did, is, (other, again, too)))))) cut =
               let one : other ≡ meeting = meets_one c meeting other meets again in
               let acts_are : acts ++ reply (refusal_line refusal) ∷ [] ≡ zs =
               ap (λ (d : Did). d.acts) (sym (whole bytes) ∙ ap (λ (m : Meeting). script.append_did c store.words store.entries name promised date bytes m) (sym one) ∙ sym too) ∙ is in
-              subst (λ (ws : List Act). Cut t s k (out a i x) (out b j2 x) ws SourceFails) acts_are
-              (cut_is_longer t s k (out a i x) (out b j2 x) acts (reply (refusal_line refusal) ∷ []) SourceFails cut)
+              subst (λ (ws : List Act). Cut t s k (outside a i x) (outside b j2 x) ws SourceFails) acts_are
+              (cut_is_longer t s k (outside a i x) (outside b j2 x) acts (reply (refusal_line refusal) ∷ []) SourceFails cut)
           by_would c meeting meets alone whole rest zs (inr (short, (other, again, too))) cut =
               let one : other ≡ meeting = meets_one c meeting other meets again in
               let acts_are : acts ≡ zs = sym (alone rest) ∙ ap (λ (m : Meeting). acts_on c store.words store.entries name promised date rest m) (sym one) ∙ sym too in
-              subst (λ (ws : List Act). Cut t s k (out a i x) (out b j2 x) ws SourceFails) acts_are cut
+              subst (λ (ws : List Act). Cut t s k (outside a i x) (outside b j2 x) ws SourceFails) acts_are cut
       refused_ends (Err fault.TableMismatch) never = absurd never
       refused_ends (Err fault.Tape) never = absurd never
 
@@ -531,46 +531,46 @@ module _ {T S K : Type 0} (t : tapes.Meaning T) (s : sources.Meaning S) (k : sin
   list_as r is = subst (λ (r : Result Appended StoreFault). KeepsList r store after) is list
 
   free : ¬ (answer ≡ Err store_fault.Protected) → tape_calls.Tells t u.tape (λ c. c.info.protected ≡ false)
-  free other = mark_told t store u fits false (unmarked (is_protected u.drive.deck) (answer ≡ Err store_fault.Protected) mark other)
+  free other = told_mark t store u fits false (unmarked (is_protected u.drive.deck) (answer ≡ Err store_fault.Protected) mark other)
 
   pub by_ok : (y : K) (answered : Appended) → answer ≡ Ok answered → (r : Result (Unit {0}) SinkFailed) →
-      sink_calls.Writes k x y (appended_line answered.number answered.bytes answered.start answered.end) r → ItemEnds t s k store after (out u.tape i x) (out b j y) (line.Append name promised date) (replied_so r)
+      sink_calls.Writes k x y (appended_line answered.number answered.bytes answered.start answered.end) r → ItemEnds t s k store after (outside u.tape i x) (outside b j y) (line.Append name promised date) (replied_so r)
   by_ok y answered is r wrote =
       let as_ok = ran_as (Ok answered) is in
       appended_ends t s k store after name promised date both none u.tape b i j x left (Ok answered) as_ok y answered as_ok.ends (free (λ e. let no = sym is ∙ e in cc)) r wrote
 
   pub by_full : (need have : ℕ) → answer ≡ Err (store_fault.Full need have) → (j2 : S) (y : K) (r : Result (Unit {0}) ItemFault) → Refuses s k j j2 x y left (why.Full need have) r →
-      ItemEnds t s k store after (out u.tape i x) (out b j2 y) (line.Append name promised date) r
+      ItemEnds t s k store after (outside u.tape i x) (outside b j2 y) (line.Append name promised date) r
   by_full need have is j2 y r refuses =
       let as_full = ran_as (Err (store_fault.Full need have)) is in
       refused_ends t s k store after name promised date both none u.tape b i j x left (Err (store_fault.Full need have)) as_full (list_as (Err (store_fault.Full need have)) is) (quiet as_full.ends.settling ∷ []) (why.Full need have)
       (refusing_full t s k store after name promised date both none u.tape b i j x left (Err (store_fault.Full need have)) as_full need have (free (λ e. let no = sym is ∙ e in cc)) as_full.ends) j2 y r refuses
 
   pub by_lost : (segment lost : ℕ) → answer ≡ Err (store_fault.Lost segment lost) → (j2 : S) (y : K) (r : Result (Unit {0}) ItemFault) → Refuses s k j j2 x y left (why.Lost segment lost) r →
-      ItemEnds t s k store after (out u.tape i x) (out b j2 y) (line.Append name promised date) r
+      ItemEnds t s k store after (outside u.tape i x) (outside b j2 y) (line.Append name promised date) r
   by_lost segment lost is j2 y r refuses =
       let as_lost = ran_as (Err (store_fault.Lost segment lost)) is in
       refused_ends t s k store after name promised date both none u.tape b i j x left (Err (store_fault.Lost segment lost)) as_lost (list_as (Err (store_fault.Lost segment lost)) is) as_lost.ends.2.acts (why.Lost segment lost)
       (refusing_lost t s k store after name promised date both none u.tape b i j x left (Err (store_fault.Lost segment lost)) as_lost segment lost as_lost.ends.0 (free (λ e. let no = sym is ∙ e in cc)) as_lost.ends.2) j2 y r refuses
 
   pub by_protected : answer ≡ Err store_fault.Protected → (j2 : S) (y : K) (r : Result (Unit {0}) ItemFault) → Refuses s k j j2 x y left why.Protected r →
-      ItemEnds t s k store after (out u.tape i x) (out b j2 y) (line.Append name promised date) r
+      ItemEnds t s k store after (outside u.tape i x) (outside b j2 y) (line.Append name promised date) r
   by_protected is j2 y r refuses =
       let as_refused = ran_as (Err store_fault.Protected) is in
       refused_ends t s k store after name promised date both none u.tape b i j x left (Err store_fault.Protected) as_refused (list_as (Err store_fault.Protected) is) [] why.Protected
-      (refusing_protected t s k store after name promised date both none u.tape b i j x left (Err store_fault.Protected) as_refused (mark_told t store u fits true (mark.0 is)) as_refused.ends.1 as_refused.ends.0) j2 y r refuses
+      (refusing_protected t s k store after name promised date both none u.tape b i j x left (Err store_fault.Protected) as_refused (told_mark t store u fits true (mark.0 is)) as_refused.ends.1 as_refused.ends.0) j2 y r refuses
 
-  pub by_short : (asked_for got : ℕ) → answer ≡ Err (store_fault.Short asked_for got) → ItemShort t s k store (out u.tape i x) (out b j x) (line.Append name promised date)
+  pub by_short : (asked_for got : ℕ) → answer ≡ Err (store_fault.Short asked_for got) → ItemShort t s k store (outside u.tape i x) (outside b j x) (line.Append name promised date)
   by_short asked_for got is =
       let as_short = ran_as (Err (store_fault.Short asked_for got)) is in
       came_short t s k store after name promised date both none u.tape b i j x left (Err (store_fault.Short asked_for got)) as_short asked_for got as_short.ends (free (λ e. let no = sym is ∙ e in cc))
 
-  pub by_source : answer ≡ Err store_fault.Source → ItemCut t s k store (out u.tape i x) (out b j x) (line.Append name promised date) SourceFails
+  pub by_source : answer ≡ Err store_fault.Source → ItemCut t s k store (outside u.tape i x) (outside b j x) (line.Append name promised date) SourceFails
   by_source is =
       let as_cut = ran_as (Err store_fault.Source) is in
       failed t s k store after name promised date both none u.tape b i j x left (Err store_fault.Source) as_cut SourceFails (λ e. cc) as_cut.ends as_cut.unread (free (λ e. let no = sym is ∙ e in cc))
 
-  pub by_tape : answer ≡ Err store_fault.Tape → ItemCut t s k store (out u.tape i x) (out b j x) (line.Append name promised date) TapeFails
+  pub by_tape : answer ≡ Err store_fault.Tape → ItemCut t s k store (outside u.tape i x) (outside b j x) (line.Append name promised date) TapeFails
   by_tape is =
       let as_cut = ran_as (Err store_fault.Tape) is in
       failed t s k store after name promised date both none u.tape b i j x left (Err store_fault.Tape) as_cut TapeFails (λ e. cc) as_cut.ends as_cut.unread (free (λ e. let no = sym is ∙ e in cc))

@@ -30,7 +30,8 @@ use Rattle.volume_script.proofs.Appended.{flip}
 use Rattle.volume_script.proofs.Content.{any_bytes, content_behind}
 use Rattle.volume_script.proofs.Input.{end_is_line, item_of, line_of_item, line_short, some_text}
 use Rattle.command_laws.proofs.ScriptInput.{same_line}
-use Rattle.command_laws.proofs.ScriptLifting.{out, TakesNone}
+use Rattle.command_laws.proofs.ScriptLifting.{TakesNone}
+use Rattle.qic_base.specs.Alone.{outside}
 
 -- an append's line with too few bytes behind it
 abbrev pub early_of : (text bytes : List ℕ) (asked : Line) → IsLineText text asked → length bytes < promised asked → EndsEarly (text ++ bytes)
@@ -49,7 +50,7 @@ no_stop_behind None p text asked is other gave = tt
 no_stop_behind (Some all) None text asked is other gave = absurd (cc)
 no_stop_behind (Some all) (Some behind) text asked is other gave = λ t rest parts stop.
     let same : all ≡ text ++ behind = cc in
-    other (same_line text (codes "end\n") behind rest asked line.End is end_is_line (sym same ∙ parts ∙ ap (λ (l : List ℕ). l ++ rest) stop)).lines
+    other (same_line text (codes "end\n") behind rest asked line.End is end_is_line (sym same ∙ parts ∙ ap (λ (l : List ℕ). l ++ rest) stop)).items
 
 pub on_line : {S : Type 0} (s : sources.Meaning S) (i j : S) (asked : Line) (n : ℕ) → asked ≢ line.End →
     (text : List ℕ) × IsLineText text asked × (length text ≡ n) × Gave s i j text → GaveNoEnd s i j
@@ -78,11 +79,11 @@ on_bad s i j n some few gave no_line = record { n = n; some = some; few = few; g
 module _ {T S K : Type 0} (t : tapes.Meaning T) (s : sources.Meaning S) (k : sinks.Meaning K) where
   -- ---- from before the line was read
 
-  pub earlier_went : (a : T) (i m : S) (x : K) (new : Outside T S K) (acts : List Act) → s.faults i ≤ s.faults m → Went t s k (out a m x) new acts → Went t s k (out a i x) new acts
+  pub earlier_went : (a : T) (i m : S) (x : K) (new : Outside T S K) (acts : List Act) → s.faults i ≤ s.faults m → Went t s k (outside a m x) new acts → Went t s k (outside a i x) new acts
   earlier_went a i m x new acts later went = record { did = went.did; wrote = went.wrote; source_later = let e = went.source_later in omega arith }
 
-  pub earlier_cut : (a : T) (i m : S) (x : K) (new : Outside T S K) (acts : List Act) (failing : Failing) → s.faults i ≤ s.faults m → Cut t s k (out a m x) new acts failing →
-      Cut t s k (out a i x) new acts failing
+  pub earlier_cut : (a : T) (i m : S) (x : K) (new : Outside T S K) (acts : List Act) (failing : Failing) → s.faults i ≤ s.faults m → Cut t s k (outside a m x) new acts failing →
+      Cut t s k (outside a i x) new acts failing
   earlier_cut a i m x new acts TapeFails later cut = record {
     front = cut.front;
     rest = cut.rest;
@@ -107,7 +108,7 @@ module _ {T S K : Type 0} (t : tapes.Meaning T) (s : sources.Meaning S) (k : sin
     -- ---- a line that is no end
 
     module _ (asked : Line) (text : List ℕ) (is : IsLineText text asked) (other : asked ≢ line.End) (gave : Gave s i m text) where
-      pub heard_item : (n : ℕ) → length text ≡ n → ItemDone t s k store after (out a m x) (out b j y) asked → HeardItem t s k store after (out a i x) (out b j y) (n + promised asked)
+      pub heard_item : (n : ℕ) → length text ≡ n → ItemDone t s k store after (outside a m x) (outside b j y) asked → HeardItem t s k store after (outside a i x) (outside b j y) (n + promised asked)
       heard_item n long done = record {
         item = record { line = asked; bytes = done.bytes };
         text = text ++ done.bytes;
@@ -116,11 +117,11 @@ module _ {T S K : Type 0} (t : tapes.Meaning T) (s : sources.Meaning S) (k : sin
         gave = Gave-Gave s i m j text done.bytes gave done.gave;
         content = content_behind (s.left i) (s.left m) text done.bytes asked is gave done.content;
         acts = done.acts;
-        went = earlier_went a i m x (out b j y) done.acts later done.went;
+        went = earlier_went a i m x (outside b j y) done.acts later done.went;
         told = done.told;
       }
 
-      pub heard_short : ItemShort t s k store (out a m x) (out b j y) asked → HeardShort t s k store (out a i x) (out b j y)
+      pub heard_short : ItemShort t s k store (outside a m x) (outside b j y) asked → HeardShort t s k store (outside a i x) (outside b j y)
       heard_short short = record {
         asked = asked;
         text = text;
@@ -131,14 +132,14 @@ module _ {T S K : Type 0} (t : tapes.Meaning T) (s : sources.Meaning S) (k : sin
         content = content_behind (s.left i) (s.left m) text short.bytes asked is gave short.content;
         ended = short.ended;
         acts = short.acts;
-        went = earlier_went a i m x (out b j y) short.acts later short.went;
+        went = earlier_went a i m x (outside b j y) short.acts later short.went;
         told = short.told;
       }
 
-      pub heard_mismatch : ItemMismatched t s k (out a m x) (out b j y) → ItemMismatched t s k (out a i x) (out b j y)
+      pub heard_mismatch : ItemMismatched t s k (outside a m x) (outside b j y) → ItemMismatched t s k (outside a i x) (outside b j y)
       heard_mismatch mismatch = record {
         acts = mismatch.acts;
-        went = earlier_went a i m x (out b j y) mismatch.acts later mismatch.went;
+        went = earlier_went a i m x (outside b j y) mismatch.acts later mismatch.went;
         told = mismatch.told;
         bytes = text ++ mismatch.bytes;
         gave = Gave-Gave s i m j text mismatch.bytes gave mismatch.gave;
@@ -155,22 +156,22 @@ module _ {T S K : Type 0} (t : tapes.Meaning T) (s : sources.Meaning S) (k : sin
               behind,
               (
                 sym one.rests,
-                item_is.kept ∙ ap promised one.lines,
-                (did, same, subst (λ (l : Line). LineDoes c store.words store.entries l item.bytes did) one.lines does),
+                item_is.kept ∙ ap promised one.items,
+                (did, same, subst (λ (l : Line). LineDoes c store.words store.entries l item.bytes did) one.items does),
               ),
             ),
           )
       would_next c number place rest acts within (inr (AtEnd, ends, does)) =
           absurd (let l = ap length ends in let e = length-append text rest in let n = some_text text asked is in omega arith)
       would_next c number place rest acts within (inr (AtStop, ends, does)) =
-          absurd (other (same_line text (codes "end\n") rest ends.0 asked line.End is end_is_line ends.1).lines)
+          absurd (other (same_line text (codes "end\n") rest ends.0 asked line.End is end_is_line ends.1).items)
       would_next c number place rest acts within (inr (AtFault line_number at, ends, inl (below, (early, (meeting, meets, are))))) =
           let one = same_line text early.text rest early.bytes asked (line.Append early.name early.promised early.date) is early.lined early.parts in
           let does : EarlyDoes c store.words store.entries (line.Append early.name early.promised early.date) early.bytes acts = (meeting, meets, are) in
           inr (
-            (let e = early.short in let r = ap length one.rests in let p = ap promised one.lines in omega arith),
+            (let e = early.short in let r = ap length one.rests in let p = ap promised one.items in omega arith),
             subst (λ (bs : List ℕ). EarlyDoes c store.words store.entries asked bs acts) (sym one.rests)
-                (subst (λ (l : Line). EarlyDoes c store.words store.entries l early.bytes acts) (sym one.lines) does),
+                (subst (λ (l : Line). EarlyDoes c store.words store.entries l early.bytes acts) (sym one.items) does),
           )
       would_next c number place rest acts within (inr (AtFault line_number at, ends, inr (never, are))) =
           elim (cases_Bool (nat_le (promised asked) (length rest))) [
@@ -194,25 +195,25 @@ module _ {T S K : Type 0} (t : tapes.Meaning T) (s : sources.Meaning S) (k : sin
                 (early_of text rest asked is (leb-false (promised asked) (length rest) few)))
           ]
 
-      pub heard_cut : (number place : ℕ) (failing : Failing) → number ≤ most_items → ItemCut t s k store (out a m x) (out b j y) asked failing →
-          HeardCut t s k store (out a i x) (out b j y) number place failing
+      pub heard_cut : (number place : ℕ) (failing : Failing) → number ≤ most_items → ItemCut t s k store (outside a m x) (outside b j y) asked failing →
+          HeardCut t s k store (outside a i x) (outside b j y) number place failing
       heard_cut number place failing within cut = record {
         rest = text ++ cut.rest;
         is_told = flip (s.left i) (text ++ cut.rest) (whole_told (s.left i) (s.left m) text cut.rest gave cut.is_told);
         content = content_behind (s.left i) (s.left m) text cut.rest asked is gave cut.content;
-        told = Tells-map t a (λ c. (acts : List Act) → WouldDo c store.words store.entries asked cut.rest acts → Cut t s k (out a m x) (out b j y) acts failing)
-            (λ c. (acts : List Act) → NextDoes c store.words store.entries number place (text ++ cut.rest) acts → Cut t s k (out a i x) (out b j y) acts failing)
-            (λ c each acts next. earlier_cut a i m x (out b j y) acts failing later (each acts (would_next c number place cut.rest acts within next))) cut.told;
+        told = Tells-map t a (λ c. (acts : List Act) → WouldDo c store.words store.entries asked cut.rest acts → Cut t s k (outside a m x) (outside b j y) acts failing)
+            (λ c. (acts : List Act) → NextDoes c store.words store.entries number place (text ++ cut.rest) acts → Cut t s k (outside a i x) (outside b j y) acts failing)
+            (λ c each acts next. earlier_cut a i m x (outside b j y) acts failing later (each acts (would_next c number place cut.rest acts within next))) cut.told;
         acts = cut.acts;
-        cut = earlier_cut a i m x (out b j y) cut.acts failing later cut.cut;
+        cut = earlier_cut a i m x (outside b j y) cut.acts failing later cut.cut;
       }
 
     -- ---- the source failed before the line's end
 
-    pub unheard : TakesNone k → (number place : ℕ) → Rose (s.faults i) (s.faults m) → HeardCut t s k store (out a i x) (out a m x) number place SourceFails
+    pub unheard : TakesNone k → (number place : ℕ) → Rose (s.faults i) (s.faults m) → HeardCut t s k store (outside a i x) (outside a m x) number place SourceFails
     unheard none number place rose =
         let rest = any_bytes (s.left i) in
-        let cut : Cut t s k (out a i x) (out a m x) [] SourceFails = record {
+        let cut : Cut t s k (outside a i x) (outside a m x) [] SourceFails = record {
           front = [];
           rest = [];
           parts = refl;
@@ -225,8 +226,8 @@ module _ {T S K : Type 0} (t : tapes.Meaning T) (s : sources.Meaning S) (k : sin
           rest = rest.rest;
           is_told = rest.told;
           content = rest.content;
-          told = tells_always t a (λ c. (acts : List Act) → NextDoes c store.words store.entries number place rest.rest acts → Cut t s k (out a i x) (out a m x) acts SourceFails)
-              (λ c acts next. cut_is_longer t s k (out a i x) (out a m x) [] acts SourceFails cut);
+          told = tells_always t a (λ c. (acts : List Act) → NextDoes c store.words store.entries number place rest.rest acts → Cut t s k (outside a i x) (outside a m x) acts SourceFails)
+              (λ c acts next. cut_is_longer t s k (outside a i x) (outside a m x) [] acts SourceFails cut);
           acts = [];
           cut = cut;
         }

@@ -4,7 +4,7 @@ use Rattle.std.specs.List.{AllZip, join_with_byte}
 use Rattle.std.proofs.lemmas.List.Splits.{join_with_byte-slice_split}
 use Rattle.std.proofs.lemmas.List.{length-append}
 use Rattle.std.specs.Option.{option_map}
-use Rattle.command_laws.proofs.ScriptInput.{SameLine, same_line}
+use Rattle.command_laws.proofs.ScriptInput.{same_line}
 use Rattle.command_laws.proofs.TextLined.{end_no_newline}
 use Rattle.command_spec.specs.Command.{Word, SpellsPart}
 use Rattle.command_laws.specs.Inputs.{words_of}
@@ -14,6 +14,7 @@ use Rattle.command_spec.specs.declared.line.Line.{Line}
 use Rattle.tape_script.proofs.Rests.{Rest, stop_rest}
 use Rattle.volume_script.proofs.Content.{stop_bytes, zero_byte}
 use Rattle.qic_base.specs.Disk.{AreBytes}
+use Rattle.command_laws.proofs.TextInputs.{SameItem}
 use Rattle.command_spec.specs.declared.line.Line.TheVariants as line
 
 -- ---- the line `end`
@@ -46,7 +47,7 @@ item_of text bytes asked is other long = record { front = text; lined = is; not_
 
 -- the line of an item, where another line begins the input
 pub line_of_item : (text rest front behind : List ℕ) (asked : Line) (item : Item) → IsLineText text asked → (is : IsItem front item) → text ++ rest ≡ front ++ behind →
-    SameLine is.front text (item.bytes ++ behind) rest item.line asked
+    SameItem is.front text (item.bytes ++ behind) rest item.line asked
 line_of_item text rest front behind asked item lined is e =
     same_line is.front text (item.bytes ++ behind) rest item.line asked is.lined lined
     (sym (append_assoc is.front item.bytes behind) ∙ ap (λ t. t ++ behind) (sym is.whole) ∙ sym e)
@@ -79,11 +80,11 @@ early_fault number rest early =
       some = λ e. (let l = ap length (sym e ∙ early.parts) in let m = length-append early.text early.bytes in let n = some_text early.text asked early.lined in omega arith);
       no_stop = λ stop.
           let same = same_line early.text (codes "end\n") early.bytes stop.0 asked line.End early.lined end_is_line (sym early.parts ∙ stop.1) in
-          let lines : line.Append early.name early.promised early.date ≡ line.End = same.lines in cc;
+          let lines : line.Append early.name early.promised early.date ≡ line.End = same.items in cc;
       no_item = λ within item.
           let is = item.1.1.1.1 in
           let same = line_of_item early.text early.bytes item.1.0 item.1.1.0 asked item.0 early.lined is (sym early.parts ∙ item.1.1.1.0) in
-          let long = is.kept in let n = ap promised same.lines in let r = ap length same.rests in let l = length-append item.0.bytes item.1.1.0 in let s = early.short in
+          let long = is.kept in let n = ap promised same.items in let r = ap length same.rests in let l = length-append item.0.bytes item.1.1.0 in let s = early.short in
           omega arith;
     }
 

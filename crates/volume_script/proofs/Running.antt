@@ -3,7 +3,7 @@ use Rattle.std.proofs.Common.{◌≡◌, ℕ, ◌+◌, ◌*◌, ◌<◌, ◌≤�
 use Rattle.std.proofs.lemmas.List.{length-append, length_push}
 use Rattle.std.proofs.Math.Seq.{drop-append_seam}
 use Rattle.qic_base.specs.Cartridge.{Cartridge}
-use Rattle.qic_base.proofs.Steps.{Done-nothing, Tells-map}
+use Rattle.qic_base.proofs.Steps.{Done-nothing, Tells-map, tells_two}
 use Rattle.qic_base.proofs.Writing.{TakesBoth}
 use Rattle.qic_base.specs.Acts.{Act, Outside, Failing, TapeFails, SourceFails, SinkFails, Went, Cut, steps_of, text_of}
 use Rattle.qic_base.proofs.Joins.{text_of-append, went_both, went_then_cut, cut_is_longer}
@@ -32,11 +32,11 @@ use Rattle.volume_script.proofs.Appended.{flip}
 use Rattle.volume_script.proofs.Content.{any_bytes, content_both, ended_content, no_content}
 use Rattle.volume_script.proofs.Hearing.{early_of}
 use Rattle.volume_script.proofs.Input.{no_line_fault, no_line_early, early_fault, none_content, none_rest, on_content, on_rest, stop_content}
-use Rattle.command_laws.proofs.ScriptLifting.{out, TakesNone, replied_went, replied_cut}
+use Rattle.command_laws.proofs.ScriptLifting.{TakesNone, replied_went, replied_cut}
 use Rattle.command_laws.proofs.ScriptReading.{Reads, reads_more, read_end, place_is, split_reading, acts_of-append, entries_behind-append, cartridge_is, do_more, split_doing}
-use Rattle.cartridge_front.proofs.Copies.{tells_two}
 use Rattle.qic_base.specs.Source.{IsInput}
 use Rattle.qic_base.specs.Disk.{AreBytes}
+use Rattle.qic_base.specs.Alone.{outside}
 use Rattle.qic_base.specs.Sink as sinks
 use Rattle.qic_base.specs.SinkCalls as sink_calls
 use Rattle.qic_base.specs.Source as sources
@@ -271,34 +271,34 @@ module _ {T S K : Type 0} {t : tapes.Meaning T} {s : sources.Meaning S} {k : sin
         only (subst (λ (e : Ending). EndDoes c store.words store.entries rest e acts) same does)
 
     module _ (tape : T) (source : S) (sink y : K) (rest : List ℕ) (ending : Ending) (told : IfSome (s.left now.source) (λ bytes. bytes ≡ rest)) (content : IfNone (s.left now.source) (AreBytes rest)) (ends : ItemsEnd IsItem (lines + 1) place rest ending)
-        (went : Went t s k now (out tape source sink) []) (does : (c : Cartridge) → EndDoes c store.words store.entries rest ending (reply end_line ∷ []))
+        (went : Went t s k now (outside tape source sink) []) (does : (c : Cartridge) → EndDoes c store.words store.entries rest ending (reply end_line ∷ []))
         (only : (c : Cartridge) (acts : List Act) → EndDoes c store.words store.entries rest ending acts → (reply end_line ∷ []) ≡ acts) where
       replied_end : sinks.Wrote k sink y end_line → script_answer ending ≡ AllDone →
           ((read : IsScript (far.texts ++ rest) far.items ending) → Leaves s start.source source (items_taken (far.texts ++ rest) far.items ending read) AllDone) →
-          Ended t s k first start (out tape source y) AllDone
+          Ended t s k first start (outside tape source y) AllDone
       replied_end wrote answered left =
-          ended_so both first store store start now (out tape source y) lines place far rest ending AllDone (reply end_line ∷ []) few
+          ended_so both first store store start now (outside tape source y) lines place far rest ending AllDone (reply end_line ∷ []) few
           (replied_went t s k both now tape source sink y [] end_line went wrote) told content ends answered
           (tells_always t now.tape (λ c. EndDoes c store.words store.entries rest ending (reply end_line ∷ [])) does) (λ done. refl) left
 
-      unreplied_end : sink_calls.BrokeOff k sink y end_line → CutOff t s k first start (out tape source y) SinkFails
+      unreplied_end : sink_calls.BrokeOff k sink y end_line → CutOff t s k first start (outside tape source y) SinkFails
       unreplied_end broke =
           let cut = replied_cut t s k both none now tape source sink y [] end_line went broke in
-          cut_so both first store store start now (out tape source y) lines place far SinkFails few (record {
+          cut_so both first store store start now (outside tape source y) lines place far SinkFails few (record {
             rest = rest;
             is_told = told;
             content = content;
-            told = tells_always t now.tape (λ c. (acts : List Act) → NextDoes c store.words store.entries (lines + 1) place rest acts → Cut t s k now (out tape source y) acts SinkFails)
-                (λ c acts next. subst (λ (zs : List Act). Cut t s k now (out tape source y) zs SinkFails) (end_alone c rest ending acts (reply end_line ∷ []) ends (only c acts) next) cut);
+            told = tells_always t now.tape (λ c. (acts : List Act) → NextDoes c store.words store.entries (lines + 1) place rest acts → Cut t s k now (outside tape source y) acts SinkFails)
+                (λ c acts next. subst (λ (zs : List Act). Cut t s k now (outside tape source y) zs SinkFails) (end_alone c rest ending acts (reply end_line ∷ []) ends (only c acts) next) cut);
             acts = reply end_line ∷ [];
             cut = cut;
           })
 
     abbrev Rests : T → S → K → Type 0
-    Rests tape source sink = Went t s k now (out tape source sink) []
+    Rests tape source sink = Went t s k now (outside tape source sink) []
 
     at_end : (tape : T) (source : S) (sink y : K) → Rests tape source sink → GaveEnd s now.source source → (r : Result (Unit {0}) ScriptFault) → RepliesEnd k sink y r →
-        runs.ScriptEnds t s k first start (out tape source y) r
+        runs.ScriptEnds t s k first start (outside tape source y) r
     at_end tape source sink y went (inl end) (Ok done) wrote =
         let behind = ended_rest (s.left now.source) end.0 in
         replied_end tape source sink y behind.rest AtEnd behind.told (ended_content (s.left now.source) behind.rest behind.has) behind.has went (λ c. refl) (λ c acts is. sym is) wrote refl
@@ -394,28 +394,28 @@ module _ {T S K : Type 0} {t : tapes.Meaning T} {s : sources.Meaning S} {k : sin
 
     -- the input was over at a line
     pub over : (mid : Outside T S K) (after : StoreView) (y : K) (r : Result (Unit {0}) ScriptFault) → Hears t s k store after now mid (lines + 1) place (Ok None) → RepliesEnd k mid.sink y r →
-        runs.ScriptEnds t s k first start (out mid.tape mid.source y) r
+        runs.ScriptEnds t s k first start (outside mid.tape mid.source y) r
     over mid after y r (went, same, end) replies = at_end mid.tape mid.source mid.sink y went end r replies
 
     -- ---- the line behind the last that may be an item
 
     pub end_over : (source : S) (y : K) (r : Result (Unit {0}) ScriptFault) → s.faults now.source ≤ s.faults source → GaveEnd s now.source source → RepliesEnd k now.sink y r →
-        runs.ScriptEnds t s k first start (out now.tape source y) r
+        runs.ScriptEnds t s k first start (outside now.tape source y) r
     end_over source y r later end replies =
         at_end now.tape source now.sink y (record { did = Done-nothing t now.tape; wrote = record { took = none now.sink; later = omega arith }; source_later = later }) end r replies
 
     pub end_failed : (source : S) (why : ScriptFault) → lines ≡ most_items → s.faults now.source ≤ s.faults source → HearsEnd s now.source source (most_items + 1) place (Err why) →
-        runs.ScriptEnds t s k first start (out now.tape source now.sink) (Err why)
+        runs.ScriptEnds t s k first start (outside now.tape source now.sink) (Err why)
     end_failed source (fault.Input number at) all later (same, equal, on) =
         let behind = on_rest (lines + 1) (s.left now.source) (s.left source) on.n on.gave.0 (omega arith) on.some on.gave.1 on.gave.2 on.no_stop in
-        faulty (out now.tape source now.sink) behind.rest on.gave.0 number at [] (let e = same in omega arith) equal behind.told
+        faulty (outside now.tape source now.sink) behind.rest on.gave.0 number at [] (let e = same in omega arith) equal behind.told
         (on_content (lines + 1) (s.left now.source) (s.left source) on.n on.gave.0 (omega arith) on.some on.gave.1 on.gave.2 on.no_stop) behind.has
         (record { did = Done-nothing t now.tape; wrote = record { took = none now.sink; later = omega arith }; source_later = later }) on.gave.2
         (inl (let l = on.gave.1 in let f = on.few in omega arith))
         (tells_always t now.tape (λ c. FaultDoes c store.words store.entries number behind.rest []) (λ c. inr ((λ within. absurd (omega arith)), refl)))
     end_failed source fault.Source all later rose =
         let rest = any_bytes (s.left now.source) in
-        let cut : Cut t s k now (out now.tape source now.sink) [] SourceFails = record {
+        let cut : Cut t s k now (outside now.tape source now.sink) [] SourceFails = record {
           front = [];
           rest = [];
           parts = refl;
@@ -424,12 +424,12 @@ module _ {T S K : Type 0} {t : tapes.Meaning T} {s : sources.Meaning S} {k : sin
           cause = rose;
           source_later = later;
         } in
-        cut_so both first store store start now (out now.tape source now.sink) lines place far SourceFails few (record {
+        cut_so both first store store start now (outside now.tape source now.sink) lines place far SourceFails few (record {
           rest = rest.rest;
           is_told = rest.told;
           content = rest.content;
-          told = tells_always t now.tape (λ c. (acts : List Act) → NextDoes c store.words store.entries (lines + 1) place rest.rest acts → Cut t s k now (out now.tape source now.sink) acts SourceFails)
-              (λ c acts next. cut_is_longer t s k now (out now.tape source now.sink) [] acts SourceFails cut);
+          told = tells_always t now.tape (λ c. (acts : List Act) → NextDoes c store.words store.entries (lines + 1) place rest.rest acts → Cut t s k now (outside now.tape source now.sink) acts SourceFails)
+              (λ c acts next. cut_is_longer t s k now (outside now.tape source now.sink) [] acts SourceFails cut);
           acts = [];
           cut = cut;
         })

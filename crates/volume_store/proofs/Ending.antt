@@ -26,7 +26,7 @@ use Rattle.command_laws.specs.AppendTerms.{entry_for, free_in, bytes_taken, sile
 use Rattle.gf256_qic.proofs.Parities.{parity_block}
 use Rattle.qic_base.proofs.Giving.{Gave-nothing}
 use Rattle.qic_base.proofs.Joins.{went_both, went_then_cut, cut_is_longer}
-use Rattle.qic_base.proofs.Steps.{Tells-map, Broke-front, Done-before_reads}
+use Rattle.qic_base.proofs.Steps.{Tells-map, Broke-front, Done-before_reads, tells_two}
 use Rattle.qic_base.specs.Alone.{no_sink, reading}
 use Rattle.qic_base.specs.CartridgeTerms.{IsCartridge}
 use Rattle.qic_base.specs.Acts.{Outside, Act, Failing, TapeFails, SourceFails, Went, Cut, steps_of}
@@ -34,9 +34,8 @@ use Rattle.qic_base.specs.Cartridge.{Cartridge}
 use Rattle.qic_base.specs.Step.{Step, effects}
 use Rattle.qic_base.specs.TapeCalls.{Tells, IsToldRight}
 use Rattle.qic_base.specs.Tape.{Done, Broke}
-use Rattle.volume_input.proofs.Inputs.{left_of, whole_told, untold_content}
+use Rattle.volume_input.proofs.Inputs.{whole_told, untold_content}
 use Rattle.volume_input.specs.declared.written.Written.{Written}
-use Rattle.cartridge_front.proofs.Copies.{tells_two}
 use Rattle.volume_store.proofs.Taking.{given_content}
 use Rattle.cartridge_front.specs.Again.{IsSettledAgain, IsRefused, IsBrokenOff, IsAdded, IsOfReading, SettlesAgain, AddsEntry, entry_writes}
 use Rattle.volume_store.specs.Appending.{AppendEnds, kept_by, InputWent, InputWritten, InputBroke, InputIs, AppendRan, HasAppended, AppendCut, TableRefused}
@@ -45,6 +44,7 @@ use Rattle.volume_store.specs.declared.appended.Appended.{Appended}
 use Rattle.cartridge_front.specs.declared.fault.StoreFault.{StoreFault}
 use Rattle.volume_input.proofs.Running.{no_text}
 use Rattle.cartridge_laws.proofs.MountOnce.{one_table, not_lost}
+use Rattle.qic_base.specs.SourceCalls.{input_of}
 use Rattle.qic_base.specs.Tape as tapes
 use Rattle.qic_base.specs.Source as sources
 use Rattle.cartridge_front.specs.declared.fault.StoreFault.TheVariants as fault
@@ -142,17 +142,17 @@ module _ {T S : Type 0} (t : tapes.Meaning T) (s : sources.Meaning S) (store aft
     left = none_left (s.left a);
   }
   first_refused x0 x1 a sectors fault.Tape did kind lists = record {
-    input = left_of (s.left a);
+    input = input_of (s.left a);
     is_told = whole_told (s.left a) (s.left a) [] (Gave-nothing s a a refl);
     content = given_content (s.left a) (s.left a) [] (Gave-nothing s a a refl) (untold_content (s.left a) [] (All-nil (λ (b : ℕ). b < 256)));
     told = Tells-map t x0 (λ c. (area : List (List ℕ)) → TableIs c area → (rest : List Step) × (did.steps ++ rest ≡ settling_steps area c))
         (λ c. (table : List (List ℕ)) → TableIs c table → (reply : Entry → List ℕ) →
-        Cut t s no_sink (reading x0 a) (reading x1 a) (append_acts (kept_by store table (settling_steps table c)) name date promised reply (left_of (s.left a))) TapeFails)
+        Cut t s no_sink (reading x0 a) (reading x1 a) (append_acts (kept_by store table (settling_steps table c)) name date promised reply (input_of (s.left a))) TapeFails)
         (λ c known table is reply.
         let got = known table is in
         let kept : Kept = kept_by store table (settling_steps table c) in
         broke_cut t s x0 x1 a (record { steps = settling_steps table c; text = [] })
-        (input_writes kept.words kept.entries promised (left_of (s.left a)) ++ entry_acts kept name date reply (taking (room_in kept) promised (left_of (s.left a))))
+        (input_writes kept.words kept.entries promised (input_of (s.left a)) ++ entry_acts kept name date reply (taking (room_in kept) promised (input_of (s.left a))))
         (subst (Broke t x0 x1) got.1 (Broke-front got.0 did.broke))) did.told;
     acts = record { steps = did.steps; text = [] } ∷ [];
     cut = broke_cut t s x0 x1 a (record { steps = did.steps; text = [] }) [] did.broke;

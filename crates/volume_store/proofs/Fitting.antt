@@ -1,5 +1,5 @@
 -- What is known of a store and its unit after an append.
-use Rattle.std.proofs.Common.{◌≡◌, ◌≢◌, ℕ, ◌-◌, ◌*◌, ◌/◌, ◌<◌, ◌≤◌, false, List, [], ◌∷◌, ◌++◌, length, Option, Some, None, IfSome, Err, refl, sym, ap, ◌∙◌, subst, arith}
+use Rattle.std.proofs.Common.{◌≡◌, ◌≢◌, ℕ, ◌-◌, ◌*◌, ◌/◌, ◌<◌, ◌≤◌, false, List, [], ◌∷◌, ◌++◌, length, Option, Some, None, IfSome, Err, refl, sym, ap, ◌∙◌, subst, arith, Bool}
 use Rattle.std.specs.Option.{option_map}
 use Rattle.std.proofs.lemmas.List.{length-append}
 use Rattle.cartridge_laws.proofs.MountSettles.{settling_settles}
@@ -11,7 +11,7 @@ use Rattle.qic_base.specs.CartridgeTerms.{IsCartridge}
 use Rattle.qic_base.specs.Step.{Step, effects}
 use Rattle.qic_base.specs.Tape.{Meaning, Done}
 use Rattle.qic_base.specs.TapeCalls.{Tells}
-use Rattle.qic_base.proofs.Steps.{Tells-map, Done-told}
+use Rattle.qic_base.proofs.Steps.{Tells-map, Done-told, tells_two}
 use Rattle.cartridge_spec.specs.Formatting.{IsLabel}
 use Rattle.cartridge_laws.proofs.FormatWriting.{effects-some}
 use Rattle.qic_base.specs.Acts.{steps_of}
@@ -38,13 +38,15 @@ use Rattle.command_spec.specs.Append.{input_writes}
 use Rattle.volume_store.specs.Appending.{InputIs}
 use Rattle.volume_store.specs.Mounting.{StoreView, StoreFits}
 use Rattle.command_laws.proofs.StoreBehind.{input_behind, settled_behind, front_behind}
-use Rattle.cartridge_front.proofs.Copies.{tells_two}
 use Rattle.volume_store.proofs.Ending.{has_list}
 use Rattle.volume_store.proofs.Storing.{one_length, still_primary, still_referenced}
 use Rattle.cartridge_laws.proofs.MountOnce.{one_table}
+use Rattle.drive_spec.specs.Terms.{is_protected}
+use Rattle.cartridge_front.proofs.Copies.{IsLearnt, told_learnt}
 use Rattle.qic_base.specs.Source as sources
 use Rattle.qic_base.specs.Tape as tapes
 use Rattle.cartridge_front.specs.declared.fault.StoreFault.TheVariants as fault
+use Rattle.qic_base.specs.TapeCalls as tape_calls
 
 forth : {T : Type 0} (m : Meaning T) (old new : T) (steps : List Step) (P : Cartridge → Type 0) → (m.told old ≡ Some None → ⊥) → m.told new ≡ option_map (effects steps) (m.told old) →
     Tells m old (λ c. P (changed_by steps c)) → Tells m new P
@@ -172,3 +174,11 @@ lists_added t x y entries e area did label flags sequence some known whole after
     (subst (λ (d : List (List ℕ)). IsSettledFor c d) one was.0))
     both did.told) in
     lists_later t y (entries ++ e ∷ []) new did.with_entry now after
+
+-- the cartridge's mark is that which the drive knows
+pub told_mark : {T : Type 0} (t : tapes.Meaning T) (held : StoreView) (u : UnitView T) → StoreFits t held u → (mark : Bool) → is_protected u.drive.deck ≡ mark →
+    tape_calls.Tells t u.tape (λ c. c.info.protected ≡ mark)
+told_mark t held u fits mark is =
+    Tells-map t u.tape (IsLearnt held.host) (λ c. c.info.protected ≡ mark)
+    (λ c known. known.protected ∙ sym (ap is_protected fits.host.deck) ∙ is)
+    (told_learnt t held.host u fits.host fits.agrees)

@@ -5,25 +5,26 @@ use Rattle.qic_base.proofs.Steps.{Done-Done, Done-Broke}
 use Rattle.qic_base.specs.Cartridge.{Cartridge}
 use Rattle.qic_base.specs.Step.{Step as TapeStep}
 use Rattle.qic_base.specs.declared.tape.TapeInfo.{TapeInfo}
-use Rattle.volume_store.proofs.Started.{Knows, Present, told_known_beside, told_at_start, told_before}
+use Rattle.volume_store.proofs.Started.{Present, told_known_beside, told_at_start, told_before}
 use Rattle.volume_store.specs.Opening.{IsTurnedDown, HasOpened, OpenFails, StartFails}
 use Rattle.volume_store.specs.declared.opening.OpenFault.{OpenFault}
 use Rattle.cartridge_front.specs.Finding.{is_of_mounting, NamesCause}
 use Rattle.cartridge_front.specs.Learning.{MountRefuses}
 use Rattle.volume_store.specs.Mounting.{StoreView, StoreFits, IsSettling, SettlingBreaks, MountDoes, IsOpened}
 use Rattle.cartridge_front.specs.declared.fault.StoreFault.{StoreFault}
+use Rattle.qic_base.specs.CartridgeTerms.{IsInfoOf}
 use Rattle.qic_base.specs.Tape as tapes
 use Rattle.qic_base.specs.TapeCalls as tape_calls
 use Rattle.volume_store.specs.declared.opening.OpenFault.TheVariants as open_fault
 use Rattle.volume_store.specs.Mounting as stores
 use Rattle.cartridge_front.specs.declared.fault.StoreFault.TheVariants as fault
 
-is_mounted : (info : TapeInfo) (store : StoreView) (steps : List TapeStep) (held : Option Cartridge) → Knows (Some info) held →
+is_mounted : (info : TapeInfo) (store : StoreView) (steps : List TapeStep) (held : Option Cartridge) → IsInfoOf (Some info) held →
     IfSome held (λ c. stores.Settles c store.header store.words store.entries steps) → IsSomeAnd held (λ c. IsOpened c store steps)
 is_mounted info store steps None known settles = cc
 is_mounted info store steps (Some c) known settles = settles
 
-is_refused : (info : TapeInfo) (f : StoreFault) (held : Option Cartridge) → Knows (Some info) held → IfSome held (λ c. MountRefuses c f) → IsSomeAnd held (λ c. MountRefuses c f)
+is_refused : (info : TapeInfo) (f : StoreFault) (held : Option Cartridge) → IsInfoOf (Some info) held → IfSome held (λ c. MountRefuses c f) → IsSomeAnd held (λ c. MountRefuses c f)
 is_refused info f None known refuses = cc
 is_refused info f (Some c) known refuses = refuses
 

@@ -20,14 +20,12 @@ use Rattle.volume_store.specs.Opening.{HasOpened}
 use Rattle.cartridge_front.proofs.Copies.{IsLearnt, told_learnt}
 use Rattle.volume_store.specs.Mounting.{StoreView, IsOpened}
 use Rattle.cartridge_front.specs.declared.fault.StoreFault.{StoreFault}
+use Rattle.qic_base.specs.Alone.{outside}
 use Rattle.qic_base.specs.Sink as sinks
 use Rattle.qic_base.specs.Source as sources
 use Rattle.qic_base.specs.Tape as tapes
 use Rattle.qic_base.specs.TapeCalls as tape_calls
 use Rattle.cartridge_front.specs.declared.fault.StoreFault.TheVariants as fault
-
-abbrev pub outside : {T S K : Type 0} → T → S → K → Outside T S K
-outside tape source sink = record { tape = tape; source = source; sink = sink }
 
 module _ {T S K : Type 0} (t : tapes.Meaning T) (s : sources.Meaning S) (k : sinks.Meaning K) where
   -- steps that were done went as such an act

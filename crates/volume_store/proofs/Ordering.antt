@@ -12,7 +12,7 @@ use Rattle.qic_base.proofs.Steps.{Tells-map, Broke-front}
 use Rattle.qic_base.specs.Acts.{Act, Cut, Failing, Outside, SourceFails, TapeFails}
 use Rattle.qic_base.specs.Alone.{no_sink, reading}
 use Rattle.qic_base.specs.Step.{Step}
-use Rattle.volume_input.proofs.Inputs.{left_of, whole_told, untold_content}
+use Rattle.volume_input.proofs.Inputs.{whole_told, untold_content}
 use Rattle.volume_input.specs.declared.written.Written.{Written}
 use Rattle.volume_store.proofs.Ending.{act_went, broke_cut}
 use Rattle.volume_input.proofs.Running.{no_text}
@@ -23,6 +23,7 @@ use Rattle.volume_store.specs.Mounting.{StoreView}
 use Rattle.volume_store.specs.declared.appended.Appended.{Appended}
 use Rattle.cartridge_front.specs.declared.fault.StoreFault.{StoreFault}
 use Rattle.cartridge_laws.proofs.MountOnce.{one_table}
+use Rattle.qic_base.specs.SourceCalls.{input_of}
 use Rattle.qic_base.specs.Source as sources
 use Rattle.qic_base.specs.Tape as tapes
 use Rattle.cartridge_front.specs.declared.fault.StoreFault.TheVariants as fault
@@ -43,16 +44,16 @@ module _ {T S : Type 0} (t : tapes.Meaning T) (s : sources.Meaning S) (store : S
   module _ (x0 x1 : T) (a : S) (sectors : List (List ℕ)) where
     broke_early : SettlesAgain {A = Unit {0}} t x0 x1 store.entries sectors (Err fault.Tape) → CutBeforeEntry t s (reading x0 a) (reading x1 a) store promised TapeFails
     broke_early did = record {
-      input = left_of (s.left a);
+      input = input_of (s.left a);
       is_told = whole_told (s.left a) (s.left a) [] (Gave-nothing s a a refl);
       content = given_content (s.left a) (s.left a) [] (Gave-nothing s a a refl) (untold_content (s.left a) [] (All-nil (λ (b : ℕ). b < 256)));
       told = Tells-map t x0 (λ c. (area : List (List ℕ)) → TableIs c area → (rest : List Step) × (did.steps ++ rest ≡ settling_steps area c))
           (λ c. (table : List (List ℕ)) → TableIs c table →
-          Cut t s no_sink (reading x0 a) (reading x1 a) (acts_before_entry (kept_by store table (settling_steps table c)) promised (left_of (s.left a))) TapeFails)
+          Cut t s no_sink (reading x0 a) (reading x1 a) (acts_before_entry (kept_by store table (settling_steps table c)) promised (input_of (s.left a))) TapeFails)
           (λ c known table is.
           let got = known table is in
           broke_cut t s x0 x1 a (record { steps = settling_steps table c; text = [] })
-          (input_writes store.words store.entries promised (left_of (s.left a)))
+          (input_writes store.words store.entries promised (input_of (s.left a)))
           (subst (tapes.Broke t x0 x1) got.1 (Broke-front got.0 did.broke))) did.told;
     }
 

@@ -67,8 +67,6 @@ list_same c d entries same has = record {
   shown = has.shown;
 }
 
--- ---- the table's segment, in which no wrong sector is looked for
-
 -- ---- a stop among the acts
 
 module _ (depth : Depth) (words : List ℕ) (entries : List Entry) (last : ℕ) (order : IsSoundList last entries) where

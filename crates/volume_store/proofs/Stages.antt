@@ -5,7 +5,7 @@ use Rattle.qic_base.specs.Alone.{reading}
 use Rattle.qic_base.specs.CartridgeTerms.{IsCartridge}
 use Rattle.qic_base.specs.Tape.{Meaning}
 use Rattle.qic_base.specs.TapeCalls.{Tells, IsToldRight}
-use Rattle.qic_base.proofs.Steps.{Tells-map}
+use Rattle.qic_base.proofs.Steps.{Tells-map, tells_two}
 use Rattle.cartridge_spec.specs.Formatting.{IsLabel}
 use Rattle.qic_base.specs.Acts.{steps_of}
 use Rattle.cartridge_spec.specs.Table.{Entry}
@@ -25,7 +25,7 @@ use Rattle.volume_store.specs.Appending.{InputIs, InputWritten, HasAppended, App
 use Rattle.command_spec.specs.Append.{input_writes}
 use Rattle.volume_store.specs.Mounting.{StoreView, StoreFits}
 use Rattle.command_laws.proofs.StoreBehind.{input_behind}
-use Rattle.cartridge_front.proofs.Copies.{IsLearnt, told_learnt, tells_two}
+use Rattle.cartridge_front.proofs.Copies.{IsLearnt, told_learnt}
 use Rattle.volume_store.proofs.Ending.{right_tells, made}
 use Rattle.volume_store.proofs.Fitting.{DidBehind, Listed, adding_refused, fits_with, input_did, least_end, lists_added, lists_later, same_told, settled_later, settling_refused}
 use Rattle.volume_store.proofs.Scrubs.{told_there}

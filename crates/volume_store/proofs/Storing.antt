@@ -28,7 +28,7 @@ use Rattle.host_driver.specs.Fits.{Fits, AgreesWithTape, segments_of, deck_of}
 use Rattle.host_driver.specs.Place.{KeepsMode}
 use Rattle.qic117_commands.specs.Views.{is_primary}
 use Rattle.drive_spec.specs.declared.deck.Deck.{Deck}
-use Rattle.qic_base.proofs.Steps.{Tells-read}
+use Rattle.qic_base.proofs.Steps.{Tells-read, tells_two}
 use Rattle.header_segments.specs.Header.{header_of}
 use Rattle.cartridge_front.specs.declared.learning.Learnt.{Learnt}
 use Rattle.cartridge_front.specs.Finding.{ShowsVolumes}
@@ -38,7 +38,7 @@ use Rattle.cartridge_laws.proofs.TableOrders.{faultless_is_sound}
 use Rattle.std.proofs.lemmas.Option.{same_Some}
 use Rattle.cartridge_front.specs.declared.table_reader.Unread.{Unread}
 use Rattle.cartridge_front.specs.Settling.{mending_steps, mending_places, collected_block}
-use Rattle.cartridge_front.proofs.Copies.{IsLearnt, told_learnt, tells_two}
+use Rattle.cartridge_front.proofs.Copies.{IsLearnt, told_learnt}
 use Rattle.command_laws.proofs.ScrubNamed.{range_more}
 use Rattle.cartridge_front.proofs.Settled.{mending_settles, writes_info}
 use Rattle.command_laws.proofs.StoreSettled.{settled_list}

@@ -18,9 +18,9 @@ use Rattle.qic_base.proofs.Steps.{Done-nothing, Rose-after}
 use Rattle.qic_base.specs.Acts.{Act, Outside, Failing, Went, Cut, SourceFails}
 use Rattle.qic_base.specs.Alone.{no_sink, reading}
 use Rattle.qic_base.specs.Tape.{Rose}
-use Rattle.qic_base.specs.SourceCalls.{Gave, HasEnded}
+use Rattle.qic_base.specs.SourceCalls.{Gave, HasEnded, input_of}
 use Rattle.tape_script.specs.Reading.{Skips}
-use Rattle.volume_input.proofs.Inputs.{left_of, whole_told, still_tells, none_left, untold_content}
+use Rattle.volume_input.proofs.Inputs.{whole_told, still_tells, none_left, untold_content}
 use Rattle.volume_input.specs.Input.{HasWritten, EndedShort}
 use Rattle.volume_input.specs.declared.written.Written.{Written}
 use Rattle.volume_store.specs.Appending.{InputWent, InputWritten, InputBroke, InputIs, TakesNone}
@@ -81,7 +81,7 @@ promised_full have n input few =
 -- ---- the input, by what was given of it
 
 pub given_content : (before after : Option (List ℕ)) (bytes : List ℕ) → before ≡ option_map (λ rest. bytes ++ rest) after →
-    IfNone before (All (λ (b : ℕ). b < 256) bytes) → IfNone before (All (λ (b : ℕ). b < 256) (bytes ++ left_of after))
+    IfNone before (All (λ (b : ℕ). b < 256) bytes) → IfNone before (All (λ (b : ℕ). b < 256) (bytes ++ input_of after))
 given_content (Some told) after bytes gave content = tt
 given_content None (Some left) bytes gave content = absurd (cc)
 given_content None None bytes gave content = subst (All (λ (b : ℕ). b < 256)) (sym (append-nil bytes)) content
@@ -148,11 +148,11 @@ module _ {T S : Type 0} (t : tapes.Meaning T) (s : sources.Meaning S) (words : L
   writes_some n input some within = chosen (has_promised_room have (Some n)) (input_acts words segments n true input) [] (has_room have n some within)
 
   went_with : (promised : Option ℕ) (bytes : List ℕ) (became : Taking) → Gave s old.source new.source bytes → IfNone (s.left old.source) (All (λ (b : ℕ). b < 256) bytes) →
-      taking have promised (bytes ++ left_of (s.left new.source)) ≡ became → bytes_taken promised became ≡ length bytes →
-      Went t s no_sink old new (input_writes words entries promised (bytes ++ left_of (s.left new.source))) →
+      taking have promised (bytes ++ input_of (s.left new.source)) ≡ became → bytes_taken promised became ≡ length bytes →
+      Went t s no_sink old new (input_writes words entries promised (bytes ++ input_of (s.left new.source))) →
       InputWent t s words entries promised old new became
   went_with promised bytes became gave content took taken went = record {
-    input = bytes ++ left_of (s.left new.source);
+    input = bytes ++ input_of (s.left new.source);
     is_told = whole_told (s.left old.source) (s.left new.source) bytes gave;
     content = given_content (s.left old.source) (s.left new.source) bytes gave content;
     took = took;
@@ -161,10 +161,10 @@ module _ {T S : Type 0} (t : tapes.Meaning T) (s : sources.Meaning S) (words : L
   }
 
   broke_with : (promised : Option ℕ) (failing : Failing) (bytes : List ℕ) → Gave s old.source new.source bytes → IfNone (s.left old.source) (All (λ (b : ℕ). b < 256) bytes) →
-      Cut t s no_sink old new (input_writes words entries promised (bytes ++ left_of (s.left new.source))) failing →
+      Cut t s no_sink old new (input_writes words entries promised (bytes ++ input_of (s.left new.source))) failing →
       InputBroke t s words entries promised old new failing
   broke_with promised failing bytes gave content cut = record {
-    input = bytes ++ left_of (s.left new.source);
+    input = bytes ++ input_of (s.left new.source);
     is_told = whole_told (s.left old.source) (s.left new.source) bytes gave;
     content = given_content (s.left old.source) (s.left new.source) bytes gave content;
     cut = cut;
@@ -176,9 +176,9 @@ module _ {T S : Type 0} (t : tapes.Meaning T) (s : sources.Meaning S) (words : L
     pub promised_written : (written : Written) → HasWritten t s words segments n true old new written → InputWritten t s words entries (Some n) old new written
     promised_written written has =
         let all : length has.bytes ≡ n = has.whole refl in
-        let input : List ℕ = has.bytes ++ left_of (s.left new.source) in
-        let front : take n input ≡ has.bytes = front_of has.bytes (left_of (s.left new.source)) n all in
-        let enough : n ≤ length input = omega (arith, length-append has.bytes (left_of (s.left new.source))) in
+        let input : List ℕ = has.bytes ++ input_of (s.left new.source) in
+        let front : take n input ≡ has.bytes = front_of has.bytes (input_of (s.left new.source)) n all in
+        let enough : n ≤ length input = omega (arith, length-append has.bytes (input_of (s.left new.source))) in
         record {
           bytes = has.bytes;
           went = went_with (Some n) has.bytes (Fits has.bytes) has.gave (untold_content (s.left old.source) has.bytes has.content)
@@ -195,7 +195,7 @@ module _ {T S : Type 0} (t : tapes.Meaning T) (s : sources.Meaning S) (words : L
 
     pub promised_ends_short : (read : ℕ) → EndedShort t s words segments n true old new read → InputWent t s words entries (Some n) old new (TooShort n read)
     promised_ends_short read has =
-        let input : List ℕ = has.bytes ++ left_of (s.left new.source) in
+        let input : List ℕ = has.bytes ++ input_of (s.left new.source) in
         let all : input ≡ has.bytes = ap (λ (xs : List ℕ). has.bytes ++ xs) (none_left (s.left new.source) has.ended) ∙ append-nil has.bytes in
         let long : length input ≡ read = ap (λ (xs : List ℕ). length xs) all ∙ sym has.count in
         let less : length input < n = subst (λ (xs : List ℕ). length xs < n) (sym all) has.short in
@@ -213,7 +213,7 @@ module _ {T S : Type 0} (t : tapes.Meaning T) (s : sources.Meaning S) (words : L
     all_written : (bytes : List ℕ) → Gave s old.source new.source bytes → All (λ (b : ℕ). b < 256) bytes → length bytes ≤ have → HasEnded s new.source →
         Went t s no_sink old new (volume_acts words segments bytes) → InputWent t s words entries None old new (Fits bytes)
     all_written bytes gave content few ended went =
-        let input : List ℕ = bytes ++ left_of (s.left new.source) in
+        let input : List ℕ = bytes ++ input_of (s.left new.source) in
         let all : input ≡ bytes = ap (λ (xs : List ℕ). bytes ++ xs) (none_left (s.left new.source) ended) ∙ append-nil bytes in
         went_with None bytes (Fits bytes) gave (untold_content (s.left old.source) bytes content)
         (ap (taking have None) all ∙ fits_all have bytes some few) refl
@@ -260,7 +260,7 @@ module _ {T S : Type 0} (t : tapes.Meaning T) (s : sources.Meaning S) (words : L
       InputWent t s words entries (Some n) (reading x a) (reading x a) (TooLong n (room words entries))
   promise_refused n few =
       let have : ℕ = room words entries in
-      let input : List ℕ = [] ++ left_of (s.left a) in
+      let input : List ℕ = [] ++ input_of (s.left a) in
       went_with t s words entries (reading x a) (reading x a) (Some n) [] (TooLong n have) (Gave-nothing s a a refl)
       (untold_content (s.left a) [] (All-nil (λ (b : ℕ). b < 256)))
       (promised_full have n input few) refl
@@ -275,26 +275,26 @@ module _ {T S : Type 0} (t : tapes.Meaning T) (s : sources.Meaning S) (words : L
       let have : ℕ = room words entries in
       let few : n ≤ 1 = skipped.0 in
       let got = skipped_as (s.left a) (s.left c) skipped.1.0 n few skipped.1.1 skipped.1.2 in
-      let input : List ℕ = got.0 ++ left_of (s.left c) in
+      let input : List ℕ = got.0 ++ input_of (s.left c) in
       let count : n ≡ min (length input) 1 = counted got.0 got.1 (cases_lt n 1) few in
       went_with t s words entries (reading x a) (reading x c) None got.0 (TooLong n 0) got.2 got.3
       (ap (λ (h : ℕ). taking h None input) none ∙ no_room input n count) (sym got.1)
       (subst (Went t s no_sink (reading x a) (reading x c)) (sym (no_writes input none)) (nothing c later))
     where
-      counted : (bytes : List ℕ) → length bytes ≡ n → (n < 1) ⊎ (1 ≤ n) → n ≤ 1 → n ≡ min (length (bytes ++ left_of (s.left c))) 1
+      counted : (bytes : List ℕ) → length bytes ≡ n → (n < 1) ⊎ (1 ≤ n) → n ≤ 1 → n ≡ min (length (bytes ++ input_of (s.left c))) 1
       counted bytes long (inl ends) few =
-          let rest : length (left_of (s.left c)) ≡ 0 = ap (λ (xs : List ℕ). length xs) (none_left (s.left c) (skipped.2 ends)) in
-          let all = length-append bytes (left_of (s.left c)) in
+          let rest : length (input_of (s.left c)) ≡ 0 = ap (λ (xs : List ℕ). length xs) (none_left (s.left c) (skipped.2 ends)) in
+          let all = length-append bytes (input_of (s.left c)) in
           omega arith
       counted bytes long (inr some) few =
-          let all = length-append bytes (left_of (s.left c)) in
+          let all = length-append bytes (input_of (s.left c)) in
           omega arith
 
   pub none_fails : (c : S) → room words entries ≡ 0 → s.faults a ≤ s.faults c → Rose (s.faults a) (s.faults c) → Skips {E = Unit {0}} s a c 1 (Err tt) →
       InputBroke t s words entries None (reading x a) (reading x c) SourceFails
   none_fails c none later rose skipped =
       let got = skipped_as (s.left a) (s.left c) skipped.2.0 skipped.0 (let few = skipped.1 in omega arith) skipped.2.1 skipped.2.2 in
-      let input : List ℕ = got.0 ++ left_of (s.left c) in
+      let input : List ℕ = got.0 ++ input_of (s.left c) in
       broke_with t s words entries (reading x a) (reading x c) None SourceFails got.0 got.2 got.3
       (subst (λ (acts : List Act). Cut t s no_sink (reading x a) (reading x c) acts SourceFails) (sym (no_writes input none))
       (record {
@@ -328,9 +328,9 @@ module _ {T S : Type 0} (t : tapes.Meaning T) (s : sources.Meaning S) (words : L
     all_given : (more : List ℕ) → Gave s b c more → Gave s a c (has.bytes ++ more)
     all_given more gave = Gave-Gave s a b c has.bytes more has.gave gave
 
-    writes_same : (more : List ℕ) → volume_acts words places has.bytes ≡ input_writes words entries None ((has.bytes ++ more) ++ left_of (s.left c))
+    writes_same : (more : List ℕ) → volume_acts words places has.bytes ≡ input_writes words entries None ((has.bytes ++ more) ++ input_of (s.left c))
     writes_same more =
-        let rest : List ℕ = left_of (s.left c) in
+        let rest : List ℕ = input_of (s.left c) in
         ap (volume_acts words places)
         (sym (ap (take had) (append_assoc has.bytes more rest) ∙ front_of has.bytes (more ++ rest) had long_all))
         ∙ sym (writes_none t s words entries (reading x a) (reading y c) ((has.bytes ++ more) ++ rest) some)
@@ -353,10 +353,10 @@ module _ {T S : Type 0} (t : tapes.Meaning T) (s : sources.Meaning S) (words : L
         let got = skipped_as (s.left b) (s.left c) skipped.1.0 n skipped.0 skipped.1.1 skipped.1.2 in
         let one : n ≡ 1 = (let few : n ≤ 1 = skipped.0 in omega arith) in
         let all : length (has.bytes ++ got.0) ≡ had + 1 = length-append has.bytes got.0 ∙ ap (λ (k : ℕ). length has.bytes + k) (got.1 ∙ one) ∙ ap (λ (k : ℕ). k + 1) long_all in
-        let beyond : had < length ((has.bytes ++ got.0) ++ left_of (s.left c)) = omega (arith, length-append (has.bytes ++ got.0) (left_of (s.left c))) in
+        let beyond : had < length ((has.bytes ++ got.0) ++ input_of (s.left c)) = omega (arith, length-append (has.bytes ++ got.0) (input_of (s.left c))) in
         went_with t s words entries (reading x a) (reading y c) None (has.bytes ++ got.0) (TooLong (had + 1) had) (all_given got.0 got.2)
         (content_both (s.left a) (s.left b) (s.left c) has.bytes got.0 has.gave has.content got.3)
-        (too_long had ((has.bytes ++ got.0) ++ left_of (s.left c)) beyond) (sym all)
+        (too_long had ((has.bytes ++ got.0) ++ input_of (s.left c)) beyond) (sym all)
         (subst (Went t s no_sink (reading x a) (reading y c)) (writes_same got.0) behind)
 
     pub more_fails : Rose (s.faults b) (s.faults c) → Skips {E = Unit {0}} s b c 1 (Err tt) → InputBroke t s words entries None (reading x a) (reading y c) SourceFails

@@ -19,7 +19,7 @@ use host_driver::Host;
 use qic_base::{Name, Source, SourceFailed, Tape};
 use segment_io::Workspace;
 use tape_script::skip;
-use volume_input::{InputFault, Length, Written, take_volume};
+use volume_input::{InputFault, Length, Wanted, Written, take_volume};
 use volume_table::{SLOTS, TABLE_SEGMENT, Table};
 
 /// The last segment that is taken: that of the volume table, where there is no volume.
@@ -59,7 +59,6 @@ fn take_promised<T: Tape, S: Source>(
     unit: &mut Unit<T>,
     map: &BadMap,
     table: &Table,
-    have: u32,
     count: u32,
     work: &mut Workspace,
     source: &mut S,
@@ -68,13 +67,14 @@ fn take_promised<T: Tape, S: Source>(
     requires referenced { is_referenced unit.old.drive.deck ≡ true }
     requires writable { MayWrite unit.old.drive.deck }
     requires map { length map.now ≡ 28 * segments_of host.old }
-    requires have { have ≡ room map.now table.now }
+    requires list { IsSoundList (length map.now - 1) table.now }
     ensures ends { InputIs T.means S.means map.now table.now (Some count)
         (reading unit.old.tape source.old) (reading unit.new.tape source.new) result }
     ensures asked { AskedFor map.now table.now count source.old source.new result }
     ensures kept { S.means.keeps source.old source.new }
     ensures keeps { Keeps T.means host.new unit.old unit.new }
 {
+    let have = free_room(map, table, host.geometry().segments());
     if have == 0 || count > have {
         return Err(StoreFault::Full {
             need: u64::from(count),
@@ -86,8 +86,10 @@ fn take_promised<T: Tape, S: Source>(
         unit,
         map,
         first_free(table),
-        count,
-        Length::Exact,
+        Wanted {
+            most: count,
+            length: Length::Exact,
+        },
         work,
         source,
     ) {
@@ -127,8 +129,10 @@ fn take_all<T: Tape, S: Source>(
         unit,
         map,
         first_free(table),
-        have,
-        Length::AtMost,
+        Wanted {
+            most: have,
+            length: Length::AtMost,
+        },
         work,
         source,
     ) {
@@ -185,12 +189,14 @@ pub(crate) fn take_input<T: Tape, S: Source>(
     ensures kept { S.means.keeps source.old source.new }
     ensures keeps { Keeps T.means host.new unit.old unit.new }
 {
-    let have = free_room(map, table, host.geometry().segments());
-    match promised {
-        Some(count) => take_promised(host, unit, map, table, have, count, work, source),
-        None if have == 0 => Err(take_none(source)),
-        None => take_all(host, unit, map, table, have, work, source),
+    if let Some(count) = promised {
+        return take_promised(host, unit, map, table, count, work, source);
     }
+    let have = free_room(map, table, host.geometry().segments());
+    if have == 0 {
+        return Err(take_none(source));
+    }
+    take_all(host, unit, map, table, have, work, source)
 }
 
 /// States that a name is 44 bytes, and does nothing.

@@ -31,7 +31,7 @@ use qic_base::{Name, Sector, Sink, Source, Tape};
 use segment_io::Workspace;
 use segment_mending::{ScrubFault, ScrubReport, scrub_segments};
 use std::marker::Model;
-use volume_output::{Form, OutputFault, give_volume, read_part};
+use volume_output::{Extent, Form, OutputFault, give_volume, read_part};
 use volume_table::{Entry, Table};
 
 /// A mounted cartridge's volumes: its header in force, its map of bad sectors and the list of its volumes. It doesn't
@@ -214,14 +214,16 @@ impl Store {
         }
         let length = self.length(number - 1);
         let entry = self.entry(number - 1);
-        let (start, end) = (entry.start, entry.end);
+        let volume = Extent {
+            start: entry.start,
+            end: entry.end,
+            bytes: length,
+        };
         match give_volume(
             &mut self.host,
             unit,
             &self.map,
-            start,
-            end,
-            length,
+            volume,
             form,
             &mut self.work,
             sink,
@@ -255,14 +257,16 @@ impl Store {
         }
         let length = self.length(number - 1);
         let entry = self.entry(number - 1);
-        let (start, end) = (entry.start, entry.end);
+        let volume = Extent {
+            start: entry.start,
+            end: entry.end,
+            bytes: length,
+        };
         match read_part(
             &mut self.host,
             unit,
             &self.map,
-            start,
-            end,
-            length,
+            volume,
             part,
             &mut self.work,
         ) {

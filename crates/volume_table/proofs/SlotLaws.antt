@@ -1,5 +1,5 @@
 -- What one slot tells, and what the slots before it have told.
-use Rattle.std.proofs.Common.{◌≡◌, ℕ, ◌-◌, ◌*◌, ◌/◌, ◌%◌, List, [], take, drop, get_or, refl, true, sym, ap, ◌∙◌, eq-eqb, false, codes, Some, ◌||◌, Bool, nat_lt, nat_le}
+use Rattle.std.proofs.Common.{◌≡◌, ℕ, ◌*◌, ◌/◌, ◌%◌, List, [], take, drop, get_or, refl, true, sym, ap, ◌∙◌, eq-eqb, false, codes, Some, ◌||◌, Bool, nat_lt, nat_le}
 use Rattle.std.proofs.lemmas.Option.{unwrap_or-slice_get}
 use Rattle.std.proofs.lemmas.Bool.{ne_eqb}
 use Rattle.cartridge_laws.proofs.TableSlotLaws.{used_not_free, has_bad_range-taken}

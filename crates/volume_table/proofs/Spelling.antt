@@ -1,9 +1,8 @@
 -- The bytes of a slot are spelled field by field over zeros.
-use Rattle.std.proofs.Common.{◌≡◌, ℕ, suc, ◌+◌, List, [], ◌∷◌, ◌++◌, length, take, drop, set, replicate, sym, ap, ◌∙◌, arith, length-append}
+use Rattle.std.proofs.Common.{◌≡◌, ℕ, suc, ◌+◌, List, [], ◌∷◌, ◌++◌, length, drop, set, replicate, sym, ap, ◌∙◌, arith, length-append}
 use Rattle.std.proofs.Math.Seq.{set-append_seam}
-use Rattle.std.proofs.lemmas.List.{append_assoc, take_at, drop_at, drop-drop, length-replicate, replicate-append-replicate}
+use Rattle.std.proofs.lemmas.List.{append_assoc, take_at, drop_at, length-replicate, replicate-append-replicate}
 use Rattle.qic_base.specs.Field.{overwritten}
-use borrow.Rule.Slice.PartMut.{put_mid}
 
 -- the bytes begin with a front that ends at a place, and all others are zero
 pub record IsSpelled (bytes front : List ℕ) (at left : ℕ) : Type 0 where
@@ -62,10 +61,3 @@ skip_zeros {front = front} n left before = record {
   is = before.is ∙ more_zeros front n left;
   long = omega (arith, length-append front (replicate n 0), length-replicate {A = ℕ} n 0, before.long);
 }
-
--- bytes that were copied to a place
-pub put_mid-overwritten : (bytes part : List ℕ) (at k : ℕ) → length part ≡ k → put_mid at k bytes part ≡ overwritten bytes at part
-unfolding overwritten
-put_mid-overwritten bytes part at k long =
-    sym (append_assoc (take at bytes) part (drop k (drop at bytes)))
-    ∙ ap (λ (xs : List ℕ). take at bytes ++ part ++ xs) (drop-drop k at bytes ∙ ap (λ (n : ℕ). drop (at + n) bytes) (sym long))

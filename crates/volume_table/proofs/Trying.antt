@@ -7,13 +7,13 @@ use Rattle.std.proofs.lemmas.Bool.Decides.{nat_tests}
 use Rattle.std.proofs.lemmas.List.{length-append}
 use Rattle.std.proofs.lemmas.Nat.{or_comm}
 use Rattle.std.proofs.lemmas.Nat.Bits.{bit_at-zero, bit_at-lt, bit_at_or, bit_at-pow_same, bit_at-pow_other, bit_at_above, same_from_bits}
-use Rattle.qic_base.specs.CartridgeTerms.{IsLost}
+use Rattle.qic_base.specs.CartridgeTerms.{IsLost, with_place}
 use Rattle.qic_base.specs.Cartridge.{lost_places}
 use Rattle.qic_base.proofs.LostSetLaws.{lost_places-lost, lost_places-kept}
 use Rattle.cartridge_laws.specs.Says.{LosesData}
 use Rattle.cartridge_spec.specs.Says.{set_of, with_used, sets_by}
 use Rattle.cartridge_laws.specs.TableCells.{sets_by_one}
-use Rattle.volume_table.specs.Trials.{with_place, with_last_used, tried}
+use Rattle.volume_table.specs.Trials.{with_last_used, tried}
 use Rattle.cartridge_laws.proofs.MountSeen.{sets_of_two}
 
 -- ---- sets of places

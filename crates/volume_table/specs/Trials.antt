@@ -1,7 +1,7 @@
 -- The sets of sectors that the reading of the table's segment leaves out of account, by the sectors that are lost (this
 -- project's profile).
-use Rattle.std.specs.Prelude.{◌≡◌, ℕ, ◌-◌, ◌^◌, ◌<◌, ◌++◌, true, List, [], ◌∷◌, Option, None, Some, length, replicate, bit_or}
-use Rattle.qic_base.specs.CartridgeTerms.{IsLost}
+use Rattle.std.specs.Prelude.{◌≡◌, ℕ, ◌-◌, ◌<◌, ◌++◌, true, List, [], ◌∷◌, Option, None, Some, length, replicate}
+use Rattle.qic_base.specs.CartridgeTerms.{IsLost, with_place}
 use Rattle.qic_base.specs.Cartridge.{lost_places}
 use Rattle.cartridge_spec.specs.Shape.{sector_at}
 use Rattle.cartridge_laws.specs.Slots.{has_used_slot}
@@ -22,10 +22,6 @@ pub record IsLastUsed (area : List (List ℕ)) (lost place : ℕ) : Type 0 where
   pub behind : (i : ℕ) → place < i → ¬ (ShowsUsed area lost i)
 
 -- ---- the sets
-
--- a set with one place more
-abbrev pub with_place : (set place : ℕ) → ℕ
-with_place set place = bit_or set (2 ^ place)
 
 -- a set with the last used sector, where there is one
 abbrev pub with_last_used : (set : ℕ) → (used : Option ℕ) → List ℕ

@@ -3,6 +3,7 @@
 
 ghost use Rattle.std.specs.Prelude.{◌≡◌, ◌<◌, ◌≤◌, ◌↔◌, ◌+◌, ◌++◌, ℕ, List, length, map, slice_get, unwrap_or, IfSome};
 ghost use Rattle.qic_base.specs.Cartridge.{lost_places};
+ghost use Rattle.qic_base.specs.CartridgeTerms.{with_place};
 ghost use Rattle.qic_base.specs.declared.tape.SectorView.TheVariants.{Holds, Lost};
 ghost use Rattle.cartridge_laws.specs.TableCells.{last_used};
 ghost use Rattle.cartridge_laws.specs.Slots.{has_used_slot};
@@ -10,7 +11,7 @@ ghost use Rattle.cartridge_laws.specs.Segment.{hidden};
 ghost use Rattle.cartridge_laws.specs.Says.{LosesData};
 ghost use Rattle.cartridge_spec.specs.Shape.{sector_at};
 ghost use Rattle.cartridge_spec.specs.Says.{shows_used_slot};
-ghost use Rattle.volume_table.specs.Trials.{AreTrials, IsLastUsed, ShowsUsed, tried, with_last_used, with_place};
+ghost use Rattle.volume_table.specs.Trials.{AreTrials, IsLastUsed, ShowsUsed, tried, with_last_used};
 
 use crate::reading::DATA_SECTORS;
 use crate::sets_tried::Trials;

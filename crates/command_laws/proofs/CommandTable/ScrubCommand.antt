@@ -33,7 +33,6 @@ abbrev pub scrub_reading : Reading
 scrub_reading = record { name = codes "scrub"; reads = read_form }
 
 -- its words are read as it
-
 pub scrub_read : (ws : List (List ℕ)) → HasForm ws scrub_command.forms → IsRead scrub_reading ws words.Scrub
 scrub_read ws h = let s = one_word ws _ (only ws _ h) in record { behind = []; are = named s.are s.one; is = refl }
 

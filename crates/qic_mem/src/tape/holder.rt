@@ -1,8 +1,8 @@
 //! What a tape in memory holds, without its failures and its record.
 
 ghost use Rattle.std.specs.Prelude.{◌≡◌, ◌≢◌, ◌*◌, false, true, None, length, IfOk, IfSome, IsSomeAnd};
-ghost use Rattle.std.specs.Option.{option_map, ForSome};
-ghost use Rattle.qic_base.specs.Cartridge.{IsLength, IsPlace, view_at, new_version};
+ghost use Rattle.std.specs.Option.{ForSome};
+ghost use Rattle.qic_base.specs.Cartridge.{IsLength, IsPlace, view_at, new_version, info_of};
 ghost use Rattle.qic_base.specs.CartridgeTerms.{place_of};
 ghost use Rattle.qic_base.specs.Step.{WriteSector, FormatSegment, SetReferenced, SetProtected, Renew, Wear, Spoil, Upgrade};
 ghost use Rattle.qic_base.specs.TapeCalls.{Reads, write_answer};
@@ -63,7 +63,7 @@ impl Holder {
 
     /// Tells what the cartridge is.
     pub(crate) fn info(&mut self) -> Option<TapeInfo>
-        ensures info { result ≡ option_map (λ c. c.info) (holder_state self.old).cartridge }
+        ensures info { result ≡ info_of (holder_state self.old).cartridge }
         ensures state { holder_state self.new ≡ looked_at (holder_state self.old) }
     {
         self.told = true;

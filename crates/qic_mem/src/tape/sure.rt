@@ -2,7 +2,7 @@
 
 ghost use Rattle.std.specs.Prelude.{◌≡◌, ◌≢◌, [], ◌∷◌, Some, None, IsOk, IsSome, IfOk, IfSome, OnOk, OnErr};
 ghost use Rattle.std.specs.Option.{option_map};
-ghost use Rattle.qic_base.specs.Cartridge.{IsLength, view_at, new_version};
+ghost use Rattle.qic_base.specs.Cartridge.{IsLength, view_at, new_version, info_of};
 ghost use Rattle.qic_base.specs.CartridgeTerms.{IsVersion};
 ghost use Rattle.qic_base.specs.Step.{WriteSector, FormatSegment, SetReferenced, SetProtected, Renew, Wear, Spoil, Upgrade};
 ghost use Rattle.qic_base.specs.TapeCalls.{Does, Tells, IsPlaceOf, Reads, write_answer};
@@ -65,7 +65,7 @@ impl Tape for SureTape {
     fn info(&mut self) -> Result<Option<TapeInfo>, TapeFailed>
         ensures did { Does sure_means self.old self.new [] result }
         ensures info { IfOk result (λ info.
-            IfSome (sure_means.told self.old) (λ held. info ≡ option_map (λ c. c.info) held)) }
+            IfSome (sure_means.told self.old) (λ held. info ≡ info_of held)) }
         ensures size { IfOk result (λ info.
             sure_means.size self.new ≡ option_map (λ i. i.segments_per_track) info) }
         ensures failed { OnErr result (sure_means.size self.new ≡ sure_means.size self.old) }

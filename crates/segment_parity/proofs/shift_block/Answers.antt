@@ -1,7 +1,7 @@
 use Rattle.std.proofs.Common.{ℕ, ◌∙◌, bit_xor, List, get_or, ◌+◌}
 use Rattle.std.proofs.Math.ListN.{length-set}
-use Rattle.segment_parity.proofs.Rows.{sector_from}
 use Rattle.segment_parity.proofs.Blocks.{block_more, untouched_more}
+use Rattle.qic_base.proofs.Arrays.{sector_from}
 use Rattle.segment_parity.proofs.shift_block.Goals as goal
 
 pub loop-j-preserved : goal.loop-j-preserved

@@ -2,7 +2,7 @@
 
 ghost use Rattle.std.specs.Prelude.{◌≡◌, ◌≤◌};
 ghost use Rattle.command_spec.specs.declared.words.Words.TheVariants.{Make};
-ghost use Rattle.tape_cmd.specs.Make.{made_status};
+ghost use Rattle.tape_cmd.specs.Make.{status_of_making};
 ghost use Rattle.command_laws.specs.RunTerms.{EndsBlind};
 
 use crate::Status;
@@ -34,7 +34,7 @@ pub fn make<T: Tape, K: Sink>(
 
 /// The answer that the end of a run makes.
 fn answered(ended: Result<(), MakeFault>) -> Status
-    ensures { result ≡ made_status ended }
+    ensures { result ≡ status_of_making ended }
 {
     match ended {
         Ok(()) => Status::Done,

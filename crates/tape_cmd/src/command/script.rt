@@ -3,7 +3,7 @@
 ghost use Rattle.std.specs.Prelude.{◌≡◌};
 ghost use Rattle.command_spec.specs.declared.words.Words.TheVariants.{Script};
 ghost use Rattle.command_spec.specs.Machine.{CommandEnds};
-ghost use Rattle.tape_cmd.specs.Script.{scripted_status};
+ghost use Rattle.tape_cmd.specs.Script.{status_of_script};
 
 use crate::Status;
 use drive_states::Unit;
@@ -33,7 +33,7 @@ pub fn script<T: Tape, S: Source, K: Sink>(
 
 /// The answer that the end of a script makes.
 fn answered(ended: Result<(), ScriptFault>) -> Status
-    ensures { result ≡ scripted_status ended }
+    ensures { result ≡ status_of_script ended }
 {
     match ended {
         Ok(()) => Status::Done,

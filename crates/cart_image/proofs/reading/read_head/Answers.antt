@@ -1,5 +1,5 @@
 use Rattle.cart_image.proofs.Infos.{head-told, head-short, head-fits}
-use Rattle.cart_image.proofs.Exits.{told-look}
+use Rattle.qic_base.proofs.Disks.{told-look}
 use Rattle.cart_image.proofs.reading.read_head.Goals as goal
 
 pub returns-then-count-eq24-clause-head : goal.returns-then-count-eq24-clause-head

@@ -1,7 +1,7 @@
 use Rattle.std.proofs.Common.{◌≡◌, ◌≢◌, ℕ, ◌-◌, ◌*◌, List, [], Result, Err, sym, ap, ◌∙◌, subst}
 use Rattle.qic_base.specs.Tape.{Done}
 use Rattle.qic_base.specs.TapeCalls.{Tells}
-use Rattle.qic_base.proofs.Steps.{Done-after_reads, Tells-read}
+use Rattle.qic_base.proofs.Steps.{Done-after_reads, Tells-read, tells_two}
 use Rattle.cartridge_spec.specs.Table.{Entry}
 use Rattle.header_segments.specs.declared.header.Header.{Header}
 use Rattle.host_driver.specs.declared.host.Host.{Host}
@@ -12,7 +12,7 @@ use Rattle.cartridge_front.specs.declared.fault.StoreFault.TheVariants.{Tape}
 use Rattle.cartridge_front.specs.declared.learning.Learnt.{Learnt}
 use Rattle.cartridge_front.specs.Finding.{HasFormat, FindsVolumes}
 use Rattle.cartridge_front.specs.Learning.{Learns}
-use Rattle.cartridge_front.proofs.Copies.{leaves_after, leaves_on, tells_two, IsLearnt, told_learnt}
+use Rattle.cartridge_front.proofs.Copies.{leaves_after, leaves_on, IsLearnt, told_learnt}
 use Rattle.cartridge_front.proofs.Mounts.{refuses_table}
 use Rattle.cartridge_front.proofs.Passing.{passed}
 use Rattle.cartridge_front.proofs.learning.learn.Goals as goal

@@ -1,4 +1,4 @@
-use Rattle.erasure_solve.proofs.Columns.{sector_from}
+use Rattle.qic_base.proofs.Arrays.{sector_from}
 use Rattle.erasure_solve.proofs.values.is_sector.Goals as goal
 
 pub returns : goal.returns

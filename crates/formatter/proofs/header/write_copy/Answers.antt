@@ -3,12 +3,11 @@ use Rattle.std.proofs.lemmas.Result.{err_from_is_err_and}
 use Rattle.qic_base.specs.Step.{Step}
 use Rattle.qic_base.specs.Tape.{Done, Broke}
 use Rattle.qic_base.specs.TapeCalls.{Does}
-use Rattle.qic_base.proofs.Steps.{Broke-front}
+use Rattle.qic_base.proofs.Steps.{Broke-front, Done-Does}
 use Rattle.cartridge_spec.specs.Formatting.{copy_writes}
 use Rattle.cartridge_laws.specs.Writes.{named_writes}
 use Rattle.host_driver.proofs.Keeping.{cartridge_kept}
 use Rattle.segment_io.proofs.Going.{front_segment}
-use Rattle.formatter.proofs.Parts.{does_after}
 use Rattle.formatter.proofs.Copies.{all_count, copy_is}
 use Rattle.formatter.proofs.header.write_copy.Goals as goal
 
@@ -53,4 +52,4 @@ returns-clause-did g c =
     c.write_sectors-2.ensures.did in
     subst (λ (steps : List Step). Does g.T.Tape.means c.args.unit.now.tape c.write_sectors-2.new.unit.tape steps c.write_sectors-2.result)
     (copy_is c.args.copy c.args.work.now c.requires.room)
-    (does_after g.T.Tape.means c.args.unit.now.tape c.write_sectors.new.unit.tape c.write_sectors-2.new.unit.tape (named_writes c.args.copy 4294967295 4294967294 c.args.work.now) (named_writes c.args.copy 4294967295 1 c.args.work.now) c.write_sectors-2.result first next)
+    (Done-Does g.T.Tape.means c.args.unit.now.tape c.write_sectors.new.unit.tape c.write_sectors-2.new.unit.tape (named_writes c.args.copy 4294967295 4294967294 c.args.work.now) (named_writes c.args.copy 4294967295 1 c.args.work.now) c.write_sectors-2.result first next)

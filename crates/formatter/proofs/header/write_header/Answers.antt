@@ -10,8 +10,9 @@ use Rattle.cartridge_spec.specs.Formatting.{copy_writes}
 use Rattle.cartridge_spec.specs.Says.{with_parity}
 use Rattle.cartridge_laws.specs.HeaderTerms.{IsFreshArea}
 use Rattle.formatter.specs.Formats.{header_writes}
-use Rattle.formatter.proofs.Copies.{lent, lent_room}
+use Rattle.formatter.proofs.Copies.{lent_room}
 use Rattle.formatter.proofs.Places.{length_known}
+use Rattle.qic_base.proofs.Arrays.{lent}
 use Rattle.formatter.proofs.header.write_header.Goals as goal
 
 -- copy 0 was broken off

@@ -1,4 +1,4 @@
-use Rattle.std.proofs.Common.{◌≡◌, ◌*◌, ◌<◌, ap, subst, ◌∙◌, arith}
+use Rattle.std.proofs.Common.{◌≡◌, ◌*◌, ◌<◌, subst, ◌∙◌, arith}
 use Rattle.drive_spec.specs.Deck.{segments_per_track}
 use Rattle.host_driver.specs.Place.{StreamsAt}
 use Rattle.formatter.proofs.Places.{length_known, first_within, none_before}

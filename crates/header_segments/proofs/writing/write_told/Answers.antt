@@ -4,9 +4,9 @@ use Rattle.std.proofs.lemmas.List.Elements.{All-from_recursion}
 use Rattle.qic_base.specs.Field.{overwritten}
 use Rattle.header_segments.specs.Header.{header_of}
 use Rattle.cartridge_laws.specs.HeaderWriting.{FieldFits, told_fields}
-use Rattle.header_segments.proofs.SpellingLaws.{put_mid-overwritten}
 use Rattle.header_segments.proofs.writing.write_told.Goals as goal
 use borrow.Rule.Slice.PartMut.{put_mid}
+use Rattle.qic_base.proofs.FieldLaws.{put_mid-overwritten}
 
 pub returns-clause-whole : goal.returns-clause-whole
 returns-clause-whole c =

@@ -1,4 +1,4 @@
-use Rattle.read_ahead.proofs.Looking.{settled-told}
+use Rattle.qic_base.proofs.Disks.{settled-told}
 use Rattle.read_ahead.proofs.ReadAhead.new.Goals as goal
 
 pub invariant_of-result-clause-rests : goal.invariant_of-result-clause-rests

@@ -4,11 +4,12 @@ use Rattle.qic_base.specs.Cartridge.{lost_places}
 use Rattle.qic_base.specs.Step.{Step, WriteSector}
 use Rattle.qic_base.specs.TapeCalls.{Does}
 use Rattle.cartridge_spec.specs.Shape.{sector_at}
-use Rattle.cartridge_laws.proofs.Places.{count_below, count_more, count_same}
+use Rattle.cartridge_laws.proofs.Places.{count_below}
 use Rattle.segment_io.specs.Register.{completed}
 use Rattle.segment_io.specs.Writes.{next_write}
 use Rattle.segment_io.proofs.ByRegister.{next_is_written}
 use Rattle.segment_io.proofs.Going.{OnOk-always}
+use Rattle.qic_base.proofs.LostSetLaws.{count_more, count_same}
 use Rattle.segment_io.proofs.writing.write_next.Goals as goal
 
 pub returns-then-not-contains-clause-place : goal.returns-then-not-contains-clause-place

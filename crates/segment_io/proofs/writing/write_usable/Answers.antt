@@ -2,7 +2,7 @@ use Rattle.std.proofs.Common.{◌≡◌, ℕ, ◌+◌, length, refl, ap, subst, 
 use Rattle.qic_base.specs.CartridgeTerms.{IsLost}
 use Rattle.qic_base.specs.Cartridge.{lost_places}
 use Rattle.segment_io.proofs.Going.{OnOk-always}
-use Rattle.cartridge_laws.proofs.Places.{count_more, count_same}
+use Rattle.qic_base.proofs.LostSetLaws.{count_more, count_same}
 use Rattle.segment_io.proofs.writing.write_usable.Goals as goal
 
 pub returns-then-not-contains-clause-place : goal.returns-then-not-contains-clause-place

@@ -6,11 +6,12 @@ use Rattle.cartridge_spec.specs.Table.{Entry}
 use Rattle.command_spec.specs.Scrub.{whole_segment, looked_volumes, looked_at}
 use Rattle.segment_mending.specs.declared.fault.ScrubFault.{ScrubFault}
 use Rattle.segment_mending.specs.declared.report.ScrubReport.{ScrubReport}
-use Rattle.segment_mending.specs.Looking.{HasLooked}
+use Rattle.segment_mending.specs.Looking.{HasLooked, Looks}
 use Rattle.segment_mending.specs.Mending.{reported}
-use Rattle.segment_mending.proofs.Joining.{looked_both, looks_then, looks_longer}
+use Rattle.segment_mending.proofs.Joining.{looks_then, looks_longer}
 use Rattle.segment_mending.proofs.Passing.{passed}
-use Rattle.segment_mending.proofs.Scrubbed.{none_counted, line_written, line_cut, ends_cut}
+use Rattle.segment_mending.proofs.Scrubbed.{none_counted, all_looked, line_written, line_cut, ends_cut}
+use Rattle.command_spec.specs.declared.depth.Depth.{Depth}
 use Rattle.segment_mending.proofs.scrubbing.scrub_segments.Goals as goal
 
 pub returns-in_err-look_at_front-clause-ends : goal.returns-in_err-look_at_front-clause-ends
@@ -19,7 +20,7 @@ returns-in_err-look_at_front-clause-ends g c =
     let entries : List Entry = c.args.table.now in
     let a = around c.args.unit.now.tape c.args.sink.now in
     let b = around c.look_at_front.new.unit.tape c.look_at_front.new.sink in
-    let after = reported c.look_at_front.new.report in
+    let after = reported c.look_at_front.new.progress.report in
     let fault : ScrubFault = c.in_err-look_at_front.field-0.0 in
     let is : c.from_residual.result ≡ Err fault = passed c.from_residual.result fault c.from_residual.ensures.1 in
     rw is (ends_cut g.T.Tape.means g.K.Sink.means c.args.depth words entries a b none_counted after fault
@@ -33,12 +34,14 @@ returns-in_err-look_at_volumes-clause-ends g c =
     let a = around c.args.unit.now.tape c.args.sink.now in
     let b = around c.look_at_front.new.unit.tape c.look_at_front.new.sink in
     let d = around c.look_at_volumes.new.unit.tape c.look_at_volumes.new.sink in
-    let after = reported c.look_at_volumes.new.report in
+    let after = reported c.look_at_volumes.new.progress.report in
     let fault : ScrubFault = c.in_err-look_at_volumes.field-0.0 in
     let is : c.from_residual-in_err-look_at_volumes.result ≡ Err fault = passed c.from_residual-in_err-look_at_volumes.result fault c.from_residual-in_err-look_at_volumes.ensures.1 in
     rw is (ends_cut g.T.Tape.means g.K.Sink.means c.args.depth words entries a d none_counted after fault
     (looks_then g.T.Tape.means g.K.Sink.means c.args.depth g.met.K.Sink.took_both (whole_segment 0 ∷ whole_segment 1 ∷ whole_segment 2 ∷ []) (looked_volumes words entries) a b d
-    none_counted (reported c.look_at_front.new.report) after (Err fault) c.in_ok-look_at_front.ensures.looks c.in_err-look_at_volumes.ensures.looks))
+    none_counted (reported c.look_at_front.new.progress.report) after (Err fault) c.in_ok-look_at_front.ensures.looks
+    (subst (λ (form : Depth). Looks g.T.Tape.means g.K.Sink.means form (looked_volumes words entries) b d (reported c.look_at_front.new.progress.report) after (Err fault))
+    c.in_ok-look_at_front.ensures.depth c.in_err-look_at_volumes.ensures.looks)))
 
 pub returns-in-Ok-clause-ends : goal.returns-in-Ok-clause-ends
 returns-in-Ok-clause-ends g c =
@@ -47,10 +50,10 @@ returns-in-Ok-clause-ends g c =
     let a = around c.args.unit.now.tape c.args.sink.now in
     let b = around c.look_at_front.new.unit.tape c.look_at_front.new.sink in
     let d = around c.look_at_volumes.new.unit.tape c.look_at_volumes.new.sink in
-    let report : ScrubReport = c.look_at_volumes.new.report in
+    let report : ScrubReport = c.look_at_volumes.new.progress.report in
     let looked : HasLooked g.T.Tape.means g.K.Sink.means c.args.depth (looked_at words entries) a d none_counted (reported report) =
-    looked_both c.args.depth g.met.K.Sink.took_both (whole_segment 0 ∷ whole_segment 1 ∷ whole_segment 2 ∷ []) (looked_volumes words entries) a b d none_counted
-    (reported c.look_at_front.new.report) (reported report) c.in_ok-look_at_front.ensures.looks c.in_ok-look_at_volumes.ensures.looks in
+    all_looked g.met.K.Sink.took_both c.args.depth c.look_at_front.new.progress.depth words entries a b d (reported c.look_at_front.new.progress.report) (reported report)
+    c.in_ok-look_at_front.ensures.depth c.in_ok-look_at_front.ensures.looks c.in_ok-look_at_volumes.ensures.looks in
     line_written g.T.Tape.means g.K.Sink.means c.args.depth words entries a d report looked g.met.K.Sink.took_both c.write_text.new.sink
     (subst (sinks.Wrote g.K.Sink.means c.look_at_volumes.new.sink c.write_text.new.sink) (c.bytes.ensures ∙ c.counts_text.ensures) c.in-Ok.ensures)
 
@@ -61,9 +64,9 @@ returns-in-Err-clause-ends g c =
     let a = around c.args.unit.now.tape c.args.sink.now in
     let b = around c.look_at_front.new.unit.tape c.look_at_front.new.sink in
     let d = around c.look_at_volumes.new.unit.tape c.look_at_volumes.new.sink in
-    let report : ScrubReport = c.look_at_volumes.new.report in
+    let report : ScrubReport = c.look_at_volumes.new.progress.report in
     let looked : HasLooked g.T.Tape.means g.K.Sink.means c.args.depth (looked_at words entries) a d none_counted (reported report) =
-    looked_both c.args.depth g.met.K.Sink.took_both (whole_segment 0 ∷ whole_segment 1 ∷ whole_segment 2 ∷ []) (looked_volumes words entries) a b d none_counted
-    (reported c.look_at_front.new.report) (reported report) c.in_ok-look_at_front.ensures.looks c.in_ok-look_at_volumes.ensures.looks in
+    all_looked g.met.K.Sink.took_both c.args.depth c.look_at_front.new.progress.depth words entries a b d (reported c.look_at_front.new.progress.report) (reported report)
+    c.in_ok-look_at_front.ensures.depth c.in_ok-look_at_front.ensures.looks c.in_ok-look_at_volumes.ensures.looks in
     line_cut g.T.Tape.means g.K.Sink.means c.args.depth words entries a d report looked g.met.K.Sink.took_both c.write_text.new.sink
     (subst (sink_calls.BrokeOff g.K.Sink.means c.look_at_volumes.new.sink c.write_text.new.sink) (c.bytes.ensures ∙ c.counts_text.ensures) c.in-Err.ensures)

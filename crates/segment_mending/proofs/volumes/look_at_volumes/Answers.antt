@@ -1,4 +1,4 @@
-use Rattle.std.proofs.Common.{◌≡◌, ℕ, ◌+◌, ◌-◌, ◌++◌, List, take, drop, length, sym, ap, subst, ◌∙◌, arith, Err}
+use Rattle.std.proofs.Common.{◌≡◌, ℕ, ◌+◌, ◌-◌, ◌++◌, List, take, drop, length, sym, ap, subst, ◌∙◌, arith, Err, refl}
 use Rattle.qic_base.specs.Alone.{around}
 use Rattle.cartridge_spec.specs.Table.{Entry}
 use Rattle.cartridge_spec.specs.Volumes.{carrying_segments}
@@ -12,12 +12,14 @@ use Rattle.segment_mending.specs.Mending.{reported}
 use Rattle.segment_mending.proofs.Joining.{looked_none, looked_both, looks_then, looks_longer, few_after}
 use Rattle.segment_mending.proofs.Looked.{volumes_more, volumes_part, LiesOn, lies_on}
 use Rattle.segment_mending.proofs.Passing.{passed}
+use Rattle.command_spec.specs.declared.depth.Depth.{Depth}
 use Rattle.segment_mending.proofs.volumes.look_at_volumes.Goals as goal
 
 pub loop-index-init : goal.loop-index-init
 loop-index-init g c = record {
-  looked = looked_none c.args.depth g.met.K.Sink.took_nothing (around c.args.unit.now.tape c.args.sink.now) (reported c.args.report.now);
+  looked = looked_none c.args.progress.now.depth g.met.K.Sink.took_nothing (around c.args.unit.now.tape c.args.sink.now) (reported c.args.progress.now.report);
   few = c.requires.few.segments;
+  depth = refl;
   keeps = keeps_none c.requires.ready;
 }
 
@@ -39,8 +41,8 @@ pub look_at_volume-requires-clause-few : goal.look_at_volume-requires-clause-few
 look_at_volume-requires-clause-few g c =
     let before = c.loop-index.invariant.looked in
     let looked : List Looked = looked_volumes c.args.map.now (take c.loop-index.index c.args.table.now) in
-    let few : HasFew (3 + length looked) (reported c.loop-index.report) =
-    few_after looked before.findings before.acts 3 (reported c.args.report.now) (reported c.loop-index.report) before.counted c.requires.few in
+    let few : HasFew (3 + length looked) (reported c.loop-index.progress.report) =
+    few_after looked before.findings before.acts 3 (reported c.args.progress.now.report) (reported c.loop-index.progress.report) before.counted c.requires.few in
     record {
       segments = (let most = c.loop-index.invariant.few in omega arith);
       mended = few.mended;
@@ -57,7 +59,7 @@ returns-in_err-look_at_volume-clause-looks g c =
     let a = around c.args.unit.now.tape c.args.sink.now in
     let b = around c.loop-index.unit.tape c.loop-index.sink in
     let d = around c.look_at_volume.new.unit.tape c.look_at_volume.new.sink in
-    let after = reported c.look_at_volume.new.report in
+    let after = reported c.look_at_volume.new.progress.report in
     let fault : ScrubFault = c.in_err-look_at_volume.field-0.0 in
     let is : c.from_residual.result ≡ Err fault = passed c.from_residual.result fault c.from_residual.ensures.1 in
     let xs : List Looked = looked_volumes words (take i entries) in
@@ -65,12 +67,13 @@ returns-in_err-look_at_volume-clause-looks g c =
     let zs : List Looked = looked_volumes words (drop (i + 1) entries) in
     let whole : (xs ++ ys) ++ zs ≡ looked_volumes words entries =
     ap (λ (ls : List Looked). ls ++ zs) (sym (volumes_more words entries i e c.entry-entry.ensures)) ∙ volumes_part words entries (i + 1) in
-    let front : Looks g.T.Tape.means g.K.Sink.means c.args.depth (xs ++ ys) a d (reported c.args.report.now) after (Err fault) =
-    looks_then g.T.Tape.means g.K.Sink.means c.args.depth g.met.K.Sink.took_both xs ys a b d (reported c.args.report.now) (reported c.loop-index.report) after (Err fault)
-    c.loop-index.invariant.looked c.in_err-look_at_volume.ensures.looks in
-    let all : Looks g.T.Tape.means g.K.Sink.means c.args.depth ((xs ++ ys) ++ zs) a d (reported c.args.report.now) after (Err fault) =
-    looks_longer g.T.Tape.means g.K.Sink.means c.args.depth (xs ++ ys) zs a d (reported c.args.report.now) after after fault front in
-    rw is (subst (λ (ls : List Looked). Looks g.T.Tape.means g.K.Sink.means c.args.depth ls a d (reported c.args.report.now) after (Err fault)) whole all)
+    let front : Looks g.T.Tape.means g.K.Sink.means c.args.progress.now.depth (xs ++ ys) a d (reported c.args.progress.now.report) after (Err fault) =
+    looks_then g.T.Tape.means g.K.Sink.means c.args.progress.now.depth g.met.K.Sink.took_both xs ys a b d (reported c.args.progress.now.report) (reported c.loop-index.progress.report) after (Err fault)
+    c.loop-index.invariant.looked (subst (λ (form : Depth). Looks g.T.Tape.means g.K.Sink.means form ys b d (reported c.loop-index.progress.report) after (Err fault))
+    c.loop-index.invariant.depth c.in_err-look_at_volume.ensures.looks) in
+    let all : Looks g.T.Tape.means g.K.Sink.means c.args.progress.now.depth ((xs ++ ys) ++ zs) a d (reported c.args.progress.now.report) after (Err fault) =
+    looks_longer g.T.Tape.means g.K.Sink.means c.args.progress.now.depth (xs ++ ys) zs a d (reported c.args.progress.now.report) after after fault front in
+    rw is (subst (λ (ls : List Looked). Looks g.T.Tape.means g.K.Sink.means c.args.progress.now.depth ls a d (reported c.args.progress.now.report) after (Err fault)) whole all)
 
 pub loop-index-preserved : goal.loop-index-preserved
 loop-index-preserved g c =
@@ -81,15 +84,17 @@ loop-index-preserved g c =
     let a = around c.args.unit.now.tape c.args.sink.now in
     let b = around c.loop-index.unit.tape c.loop-index.sink in
     let d = around c.look_at_volume.new.unit.tape c.look_at_volume.new.sink in
-    let after = reported c.look_at_volume.new.report in
+    let after = reported c.look_at_volume.new.progress.report in
     let xs : List Looked = looked_volumes words (take i entries) in
     let ys : List Looked = looked_segments words (carrying_segments words e) in
-    let all : HasLooked g.T.Tape.means g.K.Sink.means c.args.depth (xs ++ ys) a d (reported c.args.report.now) after =
-    looked_both c.args.depth g.met.K.Sink.took_both xs ys a b d (reported c.args.report.now) (reported c.loop-index.report) after c.loop-index.invariant.looked
-    c.in_ok-look_at_volume.ensures.looks in
+    let all : HasLooked g.T.Tape.means g.K.Sink.means c.args.progress.now.depth (xs ++ ys) a d (reported c.args.progress.now.report) after =
+    looked_both c.args.progress.now.depth g.met.K.Sink.took_both xs ys a b d (reported c.args.progress.now.report) (reported c.loop-index.progress.report) after c.loop-index.invariant.looked
+    (subst (λ (form : Depth). HasLooked g.T.Tape.means g.K.Sink.means form ys b d (reported c.loop-index.progress.report) after)
+    c.loop-index.invariant.depth c.in_ok-look_at_volume.ensures.looks) in
     record {
-      looked = subst (λ (ls : List Looked). HasLooked g.T.Tape.means g.K.Sink.means c.args.depth ls a d (reported c.args.report.now) after)
+      looked = subst (λ (ls : List Looked). HasLooked g.T.Tape.means g.K.Sink.means c.args.progress.now.depth ls a d (reported c.args.progress.now.report) after)
           (sym (volumes_more words entries i e c.entry-entry.ensures)) all;
       few = (let most = c.loop-index.invariant.few in let more = c.in_ok-look_at_volume.ensures.few in omega arith);
+      depth = c.in_ok-look_at_volume.ensures.depth ∙ c.loop-index.invariant.depth;
       keeps = keeps_both c.loop-index.invariant.keeps c.in_ok-look_at_volume.ensures.keeps;
     }

@@ -1,4 +1,5 @@
-use Rattle.segment_parity.proofs.Rows.{holds_more, sector_from}
+use Rattle.segment_parity.proofs.Rows.{holds_more}
+use Rattle.qic_base.proofs.Arrays.{sector_from}
 use Rattle.segment_parity.proofs.Parity.push.Goals as goal
 
 pub returns-clause-sectors : goal.returns-clause-sectors

@@ -3,7 +3,7 @@ use Rattle.std.proofs.lemmas.List.{take-append-drop}
 use Rattle.qic_base.specs.Sink.{Wrote}
 use Rattle.qic_base.specs.SinkCalls.{BrokeOff}
 use Rattle.qic_base.proofs.Writing.{Wrote-Wrote, Wrote-BrokeOff}
-use Rattle.tape_script.proofs.Texts.{front_more, front_within, some_left}
+use Rattle.qic_base.proofs.Arrays.{front_more, front_within, some_left}
 use Rattle.tape_script.proofs.write.write_text.Goals as goal
 
 pub loop-at-preserved : goal.loop-at-preserved

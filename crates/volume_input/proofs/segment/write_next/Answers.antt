@@ -23,31 +23,31 @@ fill_work-requires g c =
 pub returns-in-Err-clause-ends : goal.returns-in-Err-clause-ends
 returns-in-Err-clause-ends g c =
     source_fault g.T.Tape.means g.S.Source.means c.args.unit.now.tape c.args.unit.now.tape c.args.source.now c.fill_work.new.source c.in-Err.ensures.cause.later
-    c.args.map.now c.args.segment c.args.before c.args.most c.capacity-capacity.result (is_exact c.args.asked) c.requires.segment.carries c.capacity-capacity.ensures
+    c.args.map.now c.args.segment c.args.before c.args.wanted.most c.capacity-capacity.result (is_exact c.args.wanted.length) c.requires.segment.carries c.capacity-capacity.ensures
     c.in-Err.ensures.cause.failed c.in-Err.ensures.filled
 
 pub returns-in-Err-Tape-clause-ends : goal.returns-in-Err-Tape-clause-ends
 returns-in-Err-Tape-clause-ends g c =
-    let enough : (is_exact c.args.asked) ≡ true → min c.capacity-capacity.result (c.args.most - c.args.before) ≤ c.in-Ok.read =
-    elim c.else-eq.branch [ else-eq-via-then-eq+else-read-min w ↦ λ asked. omega arith | else-eq-via-else-eq w ↦ λ asked. absurd (let other : c.args.asked ≢ Exact = search rules in other (only_exact c.args.asked asked)) ] in
+    let enough : (is_exact c.args.wanted.length) ≡ true → min c.capacity-capacity.result (c.args.wanted.most - c.args.before) ≤ c.in-Ok.read =
+    elim c.else-eq.branch [ else-eq-via-then-eq+else-read-min w ↦ λ asked. omega arith | else-eq-via-else-eq w ↦ λ asked. absurd (let other : c.args.wanted.length ≢ Exact = search rules in other (only_exact c.args.wanted.length asked)) ] in
     let some : (c.args.before ≡ 0) ⊎ (1 ≤ c.in-Ok.read) =
     elim c.else-read-eq0.branch [ else-read-eq0-via-then-read-eq0+else-before-gt0 w ↦ inl (omega arith) | else-read-eq0-via-else-read-eq0 w ↦ inr (omega arith) ] in
     next_broken g.T.Tape.means g.S.Source.means c.args.unit.now.tape c.write_segment.new.unit.tape c.args.source.now c.fill_work.new.source c.in-Ok.ensures.cause.later
-    c.args.map.now c.args.segment c.args.before c.args.most c.capacity-capacity.result (is_exact c.args.asked) c.requires.segment.carries c.capacity-capacity.ensures
+    c.args.map.now c.args.segment c.args.before c.args.wanted.most c.capacity-capacity.result (is_exact c.args.wanted.length) c.requires.segment.carries c.capacity-capacity.ensures
     c.in-Ok.read c.fill_work.new.work (subst (All IsSector) c.sectors.ensures.value c.are_sectors.ensures) c.in-Ok.ensures.filled enough c.usable.result c.usable.ensures some c.in-Err-Tape.ensures.did
 
 pub returns-in-Ok-write_segment-clause-ends : goal.returns-in-Ok-write_segment-clause-ends
 returns-in-Ok-write_segment-clause-ends g c =
-    let enough : (is_exact c.args.asked) ≡ true → min c.capacity-capacity.result (c.args.most - c.args.before) ≤ c.in-Ok.read =
-    elim c.else-eq.branch [ else-eq-via-then-eq+else-read-min w ↦ λ asked. omega arith | else-eq-via-else-eq w ↦ λ asked. absurd (let other : c.args.asked ≢ Exact = search rules in other (only_exact c.args.asked asked)) ] in
+    let enough : (is_exact c.args.wanted.length) ≡ true → min c.capacity-capacity.result (c.args.wanted.most - c.args.before) ≤ c.in-Ok.read =
+    elim c.else-eq.branch [ else-eq-via-then-eq+else-read-min w ↦ λ asked. omega arith | else-eq-via-else-eq w ↦ λ asked. absurd (let other : c.args.wanted.length ≢ Exact = search rules in other (only_exact c.args.wanted.length asked)) ] in
     let some : (c.args.before ≡ 0) ⊎ (1 ≤ c.in-Ok.read) =
     elim c.else-read-eq0.branch [ else-read-eq0-via-then-read-eq0+else-before-gt0 w ↦ inl (omega arith) | else-read-eq0-via-else-read-eq0 w ↦ inr (omega arith) ] in
     next_written g.T.Tape.means g.S.Source.means c.args.unit.now.tape c.write_segment.new.unit.tape c.args.source.now c.fill_work.new.source c.in-Ok.ensures.cause.later
-    c.args.map.now c.args.segment c.args.before c.args.most c.capacity-capacity.result (is_exact c.args.asked) c.requires.segment.carries c.capacity-capacity.ensures
+    c.args.map.now c.args.segment c.args.before c.args.wanted.most c.capacity-capacity.result (is_exact c.args.wanted.length) c.requires.segment.carries c.capacity-capacity.ensures
     c.in-Ok.read c.fill_work.new.work (subst (All IsSector) c.sectors.ensures.value c.are_sectors.ensures) c.in-Ok.ensures.filled enough c.usable.result c.usable.ensures some c.in-Ok-write_segment.ensures.did
 
 pub returns-then-read-min-clause-ends : goal.returns-then-read-min-clause-ends
 returns-then-read-min-clause-ends g c =
     came_short g.T.Tape.means g.S.Source.means c.args.unit.now.tape c.args.unit.now.tape c.args.source.now c.fill_work.new.source c.in-Ok.ensures.cause.later
-    c.args.map.now c.args.segment c.args.before c.args.most c.capacity-capacity.result (is_exact c.args.asked) c.requires.segment.carries c.capacity-capacity.ensures
-    c.in-Ok.read c.fill_work.new.work (subst (All IsSector) c.sectors.ensures.value c.are_sectors.ensures) c.in-Ok.ensures.filled (let exact : c.args.asked ≡ Exact = search rules in ap is_exact exact) (omega arith)
+    c.args.map.now c.args.segment c.args.before c.args.wanted.most c.capacity-capacity.result (is_exact c.args.wanted.length) c.requires.segment.carries c.capacity-capacity.ensures
+    c.in-Ok.read c.fill_work.new.work (subst (All IsSector) c.sectors.ensures.value c.are_sectors.ensures) c.in-Ok.ensures.filled (let exact : c.args.wanted.length ≡ Exact = search rules in ap is_exact exact) (omega arith)

@@ -5,6 +5,6 @@ use Rattle.volume_output.proofs.part.find_part.Given as goal
 
 abbrev pub invariant-loop-segment : goal.invariant-loop-segment
 invariant-loop-segment l = record {
-  among : IsAmongLeft l.map l.start l.end l.bytes l.number l.segment l.left l.before;
-  counted : l.number + l.start ≤ l.before + l.segment;
+  among : IsAmongLeft l.map l.fn.volume.start l.fn.volume.end l.fn.volume.bytes l.number l.segment l.left l.before;
+  counted : l.number + l.fn.volume.start ≤ l.before + l.segment;
 }

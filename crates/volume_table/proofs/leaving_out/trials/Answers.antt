@@ -1,8 +1,9 @@
 use Rattle.std.proofs.lemmas.Bool.{false≢true}
 use Rattle.std.proofs.Common.{◌≡◌, ◌<◌, ◌^◌, ◌∷◌, [], ℕ, length, refl, sym, ◌∙◌, ap, subst, arith}
 use Rattle.qic_base.specs.Cartridge.{lost_places}
-use Rattle.volume_table.specs.Trials.{AreTrials, tried, with_place}
+use Rattle.volume_table.specs.Trials.{AreTrials, tried}
 use Rattle.volume_table.proofs.Trying.{tried_one, tried_with_29, tried_with_30, tried_no_more}
+use Rattle.qic_base.specs.CartridgeTerms.{with_place}
 use Rattle.volume_table.proofs.leaving_out.trials.Goals as goal
 
 pub returns-in-1 : goal.returns-in-1

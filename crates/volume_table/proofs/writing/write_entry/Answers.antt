@@ -1,8 +1,8 @@
 use Rattle.std.proofs.Common.{◌≡◌, ℕ, [], codes, length, replicate, refl, sym, ap, ◌∙◌, arith}
 use Rattle.std.proofs.lemmas.List.Edits.{length-between}
 use Rattle.qic_base.specs.Field.{little_endian_bytes, overwritten}
-use Rattle.qic_base.proofs.FieldLaws.{length-little_endian_bytes}
-use Rattle.volume_table.proofs.Spelling.{IsSpelled, next_part, next_bytes, skip_zeros, put_mid-overwritten}
+use Rattle.qic_base.proofs.FieldLaws.{length-little_endian_bytes, put_mid-overwritten}
+use Rattle.volume_table.proofs.Spelling.{IsSpelled, next_part, next_bytes, skip_zeros}
 use Rattle.volume_table.proofs.writing.write_entry.Goals as goal
 use borrow.Rule.Slice.PartMut.{put_mid}
 

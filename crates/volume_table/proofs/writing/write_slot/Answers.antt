@@ -4,9 +4,9 @@ use Rattle.qic_base.specs.Field.{overwritten}
 use Rattle.cartridge_laws.proofs.SlotBytes.{length-slot_bytes}
 use Rattle.cartridge_spec.specs.Table.{slot_bytes}
 use Rattle.volume_table.specs.Entry.{entry_of}
-use Rattle.volume_table.proofs.Spelling.{put_mid-overwritten}
 use Rattle.volume_table.proofs.writing.write_slot.Goals as goal
 use borrow.Rule.Slice.PartMut.{put_mid}
+use Rattle.qic_base.proofs.FieldLaws.{put_mid-overwritten}
 
 pub returns-clause-written : goal.returns-clause-written
 returns-clause-written c =

@@ -1,4 +1,5 @@
-use Rattle.erasure_solve.proofs.Columns.{zeros_are_zero, strip_none, strip_next}
+use Rattle.erasure_solve.proofs.Columns.{strip_none, strip_next}
+use Rattle.qic_base.proofs.Arrays.{zeros_are_zero}
 use Rattle.erasure_solve.proofs.values.Strip.of.Goals as goal
 
 pub loop-i-init : goal.loop-i-init

@@ -7,7 +7,7 @@ use Rattle.qic_base.proofs.Steps.{Tells-map}
 use Rattle.segment_io.specs.Gathered.{Gathered, cells_below}
 use Rattle.segment_io.proofs.GatheredCells.{cells_below-usable, cells_below-other, length-cells_below}
 use Rattle.segment_io.proofs.Going.{tells_always, OnOk-then}
-use Rattle.cartridge_laws.proofs.Places.{count_more, count_same}
+use Rattle.qic_base.proofs.LostSetLaws.{count_more, count_same}
 use Rattle.segment_io.proofs.reading.Found.read.Goals as goal
 
 -- ---- the sector isn't usable

@@ -8,7 +8,7 @@ use Rattle.qic_base.specs.declared.tape.SectorView.{SectorView}
 use Rattle.qic_base.proofs.Steps.{Tells-map}
 use Rattle.segment_io.specs.declared.reading.Found.{Found}
 use Rattle.segment_io.specs.Gathered.{Gathered}
-use Rattle.segment_io.proofs.GatheredCells.{gathered_good, gathered_bad, with_place-below}
+use Rattle.segment_io.proofs.GatheredCells.{gathered_good, gathered_bad, with_unread-below}
 use Rattle.segment_io.proofs.reading.Found.read_next.Goals as goal
 use Rattle.segment_io.proofs.reading.Found.read_next.Goals.{in-Good, in-Lost}
 
@@ -44,5 +44,5 @@ returns-clause-within g c below =
     let wider : 2 ^ place < 2 ^ (place + 1) = pow-lt {i = place} {j = place + 1} (omega arith) in
     elim c.match-branch-2.branch [
       | in-Good w ↦ subst (λ (f : Found). f.lost < 2 ^ (f.places + 1)) (sym w.self-is) (omega arith)
-      | in-Lost w ↦ subst (λ (f : Found). f.lost < 2 ^ (f.places + 1)) (sym w.self-is) (with_place-below c.args.self.now.lost place below c.requires.few)
+      | in-Lost w ↦ subst (λ (f : Found). f.lost < 2 ^ (f.places + 1)) (sym w.self-is) (with_unread-below c.args.self.now.lost place below c.requires.few)
     ]
