@@ -19,7 +19,7 @@ if [ -n "${TAPE:-}" ]; then
     program=$(realpath "$TAPE")
 else
     "$top/tape" < /dev/null > /dev/null || [ $? = 2 ]
-    program=$top/crates/tape/out/tape
+    program=$top/out/bin/tape
 fi
 gcc -O2 -shared -fPIC -o "$room/allocations.so" "$top/bench/allocations.c"
 cd "$room"

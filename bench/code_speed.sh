@@ -2,21 +2,16 @@
 # Times crates/code_speed side by side with ISA-L's ec_encode_data (the Debian package libisal-dev), nine
 # runs of each in turn, and prints ISA-L's time over ours, the median of the nine, for encoding all sectors at
 # once, for encoding them one by one, and for solving: 1 is ISA-L's own speed. The words: how many segments a
-# run goes through, and the processor that the program is built for: as ./tape builds it, where it is not given.
+# run goes through, and the processor that the program is built for: as make builds programs, where it is not given.
 set -eu
 times=${1:-100000}
 top=$(cd "$(dirname "$0")/.." && pwd)
-processor=${2:-$("$top/bench/processor")}
 room=$(mktemp -d)
 trap 'rm -r "$room"' EXIT
 
 cc -O2 -o "$room/isal_speed" "$top/bench/isal_speed.c" -lisal
-echo "building code_speed for $processor" >&2
-if ! (cd "$top/crates/code_speed" && rt run "--cpu=$processor" -- 1) >"$room/log" 2>&1; then
-    tail -n 20 "$room/log" >&2
-    exit 1
-fi
-cp "$top/crates/code_speed/out/code_speed" "$room/code_speed"
+make -C "$top" code_speed ${2:+"PROCESSOR=$2"} >&2
+cp "$top/out/bin/code_speed" "$room/code_speed"
 
 for run in 1 2 3 4 5 6 7 8 9; do
     "$room/code_speed" "$times" 2>"$room/ours" >/dev/null

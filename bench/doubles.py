@@ -3,6 +3,7 @@
 
     bench/doubles.py            of all crates
     bench/doubles.py CRATE ..   those of which one is in such a crate
+    bench/doubles.py --check    of all crates; ends with status 1 where there is one
 
 Two lemmas say the same where their types are one text once bound names are left out of account, and each name that the
 types cite is imported from one file. One could cite the other where its crate stands on the other's, or where both are of one
@@ -81,6 +82,7 @@ class File:
 
 
 def main():
+    wanted = {*sys.argv[1:]} - {"--check"}
     stands_on = {}
     for line in (TOP / "crates.txt").read_text().split("\n"):
         crate, _, names = line.partition(":")
@@ -118,7 +120,7 @@ def main():
     for group in same.values():
         for at, (one, name, text) in enumerate(group):
             for other, its_name, _ in group[at + 1:]:
-                if sys.argv[1:] and not {one.crate, other.crate} & set(sys.argv[1:]):
+                if wanted and not {one.crate, other.crate} & wanted:
                     continue
                 words = {word.split(".")[0] for word in re.findall(r"[^\s(){},;:\[\]\"λ]+", text)}
                 if any(one.source(word) != other.source(word) for word in words if one.source(word) and other.source(word)):
@@ -132,6 +134,7 @@ def main():
                 count += 1
                 print(f"{one.module} {name}: {other.module} {its_name}{where}")
     print(f"{count} pairs")
+    sys.exit(1 if count and "--check" in sys.argv[1:] else 0)
 
 
 if __name__ == "__main__":

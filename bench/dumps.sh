@@ -37,10 +37,9 @@ make_room() {
 if [ -w /dev/shm ]; then make_room /dev/shm; else make_room "${TMPDIR:-/tmp}"; fi
 base=$made
 
+make -C "$top" tape_import tape_export >&2
 for name in tape_import tape_export; do
-    (cd "$top/crates/$name" && rt run "--cpu=$("$top/bench/processor")" < /dev/null) > /dev/null 2>&1 || true
-    ln -s "$top/crates/$name/out/$name" "$base/$name"
-    [ -x "$base/$name" ] || { echo "dumps.sh: $name could not be built" >&2; exit 1; }
+    ln -s "$top/out/bin/$name" "$base/$name"
 done
 gcc -O2 -o "$base/volumes" "$top/bench/volumes.c"
 

@@ -45,7 +45,7 @@ if [ -n "${TAPE:-}" ]; then
     program=$TAPE
 else
     "$top/tape" </dev/null >/dev/null || [ $? = 2 ]
-    program=$top/crates/tape/out/tape
+    program=$top/out/bin/tape
 fi
 gcc -O2 -o "$base/volumes" "$top/bench/volumes.c"
 

@@ -12,10 +12,7 @@ A cartridge is made and formatted, and gets a volume.
 
 Three lost sectors of a segment are found again by its parity, and a scrub writes them again.
 
-  $ for sector in 0 1 2; do tape cart.img lose 3 $sector; done
-  lost 3 0
-  lost 3 1
-  lost 3 2
+  $ for sector in 0 1 2; do tape cart.img lose 3 $sector; done > lost
   $ tape cart.img restore 1
   a page of text
   $ tape cart.img scrub

@@ -1,194 +1,373 @@
-The script at the top
-=====================
+The build
+=========
 
-`./tape` of a checkout: its help, a machine without `rt`, and what it tells while it builds. `TOP` is the checkout. The page
-tries the script in a small one of its own, with stubs in place of the kit, so nothing is proved here.
-
-  $ mkdir -p small/bench small/docs small/crates/{first,second,kept,tape,rows}/src
-  $ cp "$TOP/tape" small/
-  $ cp "$TOP/bench/processor" small/bench/
-  $ cp "$TOP/docs/COMMANDS.md" small/docs/
-  $ printf '%s\n' first: 'second: first' kept: 'tape: first second kept' 'rows: tape' > small/crates.txt
-  $ echo 'Handles allowed: none.' > small/HANDLES
-  $ seq 5 > small/crates/first/src/lib.rt
-  $ seq 15 > small/crates/second/src/lib.rt
-  $ seq 900 > small/crates/kept/src/lib.rt
-  $ seq 80 > small/crates/tape/src/main.rt
-  $ seq 9000 > small/crates/rows/src/lib.rt
-
-What it keeps goes into a folder of the page's. `tools` has what the script calls before it builds, and no `rt`.
+`make`, and the script `./tape`, which calls it: what is proved, and when, what is told of it, and what is installed. `TOP` is the
+checkout. The page tries them in a small one of its own, whose path has a space, over a kit that is a script, so nothing is proved here.
+`check` is a library of the kit there, as it is one.
 
   $ export XDG_CACHE_HOME=$PWD/cache
-  $ mkdir -p tools stub kit/bin
-  $ for tool in awk bash cat cksum cut dirname find tr; do ln -s "$(command -v $tool)" tools/; done
+  $ mkdir -p 'small one'/{docs,man} 'small one'/crates/{first,second,kept,tape,spare,rows}/src tools kit/bin
+  $ cp "$TOP"/{tape,Makefile,prove} 'small one/'
+  $ cp "$TOP/docs/COMMANDS.md" 'small one/docs/'
+  $ cp "$TOP/man/tape.1" 'small one/man/'
+  $ cd 'small one'
+  $ printf '%s\n' first: 'second: first check' 'kept: first' 'tape: first second kept check' 'spare: first' 'rows: tape' > crates.txt
+  $ seq 300 > crates/first/src/lib.rt
+  $ seq 50 > crates/second/src/lib.rt
+  $ seq 20000 > crates/kept/src/lib.rt
+  $ seq 80 | tee crates/tape/src/main.rt > crates/spare/src/main.rt
+  $ seq 9000 > crates/rows/src/lib.rt
+
+`tools` has what is called where no program is built, and neither `make` nor `rt`.
+
+  $ for tool in awk bash cat cksum dirname find fold readlink sed tr; do ln -s "$(command -v $tool)" ../tools/; done
 
 Help
 ----
 
 Each of three words is answered by the commands, as the table of COMMANDS.md has them, and where they are described.
 
-  $ PATH=$PWD/tools small/tape --help > help
-  $ PATH=$PWD/tools small/tape -h > short
-  $ PATH=$PWD/tools small/tape help > word
-  $ cmp help short
-  $ cmp help word
-  $ head -n 1 help
+  $ PATH=$PWD/../tools ./tape --help > ../help
+  $ PATH=$PWD/../tools ./tape -h | cmp - ../help
+  $ PATH=$PWD/../tools ./tape help | cmp - ../help
+  $ head -n 1 ../help
   usage: tape IMAGE COMMAND
-  $ tail -n 2 help | sed "s|$PWD|WHERE|"
-  The manual page: man WHERE/small/man/tape.1
-  All of it, with what is printed and the exit statuses: WHERE/small/docs/COMMANDS.md
+  $ tail -n 2 ../help | sed "s|$PWD|WHERE|"
+  The manual page: man WHERE/man/tape.1
+  All of it, with what is printed and the exit statuses: WHERE/docs/COMMANDS.md
 
 The commands are those of the manual page, in its order, with their words.
 
-  $ sed -n '/^\.Sh SYNOPSIS/,/^\.Sh DESCRIPTION/ s/^\.Cm \([a-z]*\).*/\1/p' "$TOP/man/tape.1" > manual
-  $ sed -n 's/^    \([a-z][a-z]*\) .*/\1/p' help | diff - manual
+  $ sed -n '/^\.Sh SYNOPSIS/,/^\.Sh DESCRIPTION/ s/^\.Cm \([a-z]*\).*/\1/p' man/tape.1 > ../manual
+  $ sed -n 's/^    \([a-z][a-z]*\) .*/\1/p' ../help | diff - ../manual
 
-No file was made, and nothing was built or kept.
+Nothing was built or kept.
 
   $ ls
-  help
-  kit
-  manual
-  short
-  small
-  stub
-  tools
-  word
-  $ ls small/crates/tape
+  Makefile
+  crates
+  crates.txt
+  docs
+  man
+  prove
+  tape
+  $ ls crates/tape
   src
 
-Without rt
-----------
+Without make, and without rt
+----------------------------
 
-The first line tells what is wanting, and which kit has it: the one that the README names.
+The first line tells what is wanting.
 
-  $ PATH=$PWD/tools small/tape cart.img new 3 > said 2>&1
+  $ PATH=$PWD/../tools ./tape cart.img new 3 2>&1 | sed "s|$PWD|WHERE|"
+  tape: there is no make on the path: WHERE/README.md names what it takes
+  $ ln -s "$(command -v make)" ../tools/
+  $ PATH=$PWD/../tools ./tape cart.img new 3
+  tape: make builds the program first, which takes long; it may be broken off and started again
+  Makefile:[0-9]+: [*]{3} there is no rt on the path: the Rattle kit that README.md names has it in its folder bin.  Stop. (re)
+  tape: the program could not be built
   [1]
-  $ sed "s|$PWD|WHERE|" said
-  tape: there is no rt on the path: it comes with the Rattle kit (rattle-kit-13f), in the kit's folder bin
-  tape: rt proves and builds the program; WHERE/small/README.md tells what that takes
-  $ kit=$(sed -n 's/.*the Rattle kit (\(.*\)), in.*/\1/p' said)
-  $ grep -c "^.*Proved with .$kit " "$TOP/README.md"
-  1
-  $ ls cache cart.img
-  ls: cannot access 'cache': No such file or directory
+  $ ls out cart.img
+  ls: cannot access 'out': No such file or directory
   ls: cannot access 'cart.img': No such file or directory
   [2]
 
 A build
 -------
 
-The stubs say what the kit does. `rt` tells where it is. The prover proves each crate but the one that `fails` names, says over
-which libraries, and makes its sources of it; it takes longer for all but `kept`. What is linked prints its words.
+The stubs say what the kit does. `rt` tells where it is, and its version. The prover puts down each crate with the libraries that
+it is given, and makes its code of it; what `does` has for the crate is done first. What is linked prints its words.
 
-  $ export KIT=$PWD/kit
-  $ cat > stub/rt << 'END'
+  $ cat > ../kit/bin/rt << 'END'
   > #!/usr/bin/env bash
   > case $1 in
-  > doc) echo "$KIT/START-HERE.md" ;;
-  > version) echo a kit ;;
+  > doc) echo "$KITS/START-HERE.md" ;;
+  > version) cat "$KITS/KIT-ID" ;;
   > esac
   > END
-  $ cat > kit/bin/rattle << 'END'
+  $ cat > ../kit/bin/rattle << 'END'
   > #!/usr/bin/env bash
-  > crate=$(basename "$PWD")
-  > [ "$crate" = kept ] || sleep 0.5
-  > echo "$crate over $(printf '%s\n' "$@" | sed -n 's|^\([a-z]*\)=.*/made/.*|\1|p' | xargs)."
-  > [ "$crate" != "$(cat "$KIT/fails")" ] || { echo 'logic=not-proved'; exit 1; }
-  > echo 'logic=proved functions=1'
-  > cat src/* > "${!#}"
+  > crate=$(basename "$PWD") libraries=$(printf '%s\n' "$@" | sed -n 's/^\([a-z]*\)=.*rlib$/\1/p' | xargs)
+  > [ ! -e "$KITS/does/$crate" ] || . "$KITS/does/$crate"
+  > echo "$crate over $libraries" | tee -a "$KITS/calls"
+  > while [ "$1" != -o ]; do shift; done
+  > case $2 in
+  > *.rlib) rm -rf "$2"; mkdir "$2"; cp src/* "$2" ;;
+  > *) cat src/* > "$2" ;;
+  > esac
   > END
-  $ cat > kit/bin/rattle-link << 'END'
+  $ cat > ../kit/bin/rattle-link << 'END'
   > #!/usr/bin/env bash
   > while [ "$1" != -o ]; do shift; done
   > printf '%s\n' '#!/usr/bin/env bash' 'echo "words: $*"' > "$2"
   > chmod +x "$2"
   > END
-  $ chmod +x stub/rt kit/bin/*
+  $ chmod +x ../kit/bin/*
+  $ mkdir ../kit/does
+  $ echo 'a kit' > ../kit/KIT-ID
+  $ export KITS=$(dirname "$PWD")/kit PATH=$(dirname "$PWD")/kit/bin:$PATH
 
-Where a proof fails nothing is made, and a file tells why.
+What was proved since this was asked last:
 
-  $ echo first > kit/fails
-  $ PATH=$PWD/stub:$PATH small/tape cart.img new 3 2> said
-  [1]
-  $ tail -n 1 said | sed "s|$PWD/cache/tape/[-0-9]*/|WHERE/|"
-  tape: the program could not be built; WHERE/log tells why
-  $ tail -n 2 cache/tape/*/log
-  first over .
+  $ calls() { sort "$KITS/calls" 2> /dev/null; rm -f "$KITS/calls"; }
+
+A line a crate tells how many of how many are done, and how long it takes still, once a tenth of the costs is behind it: these
+are lines of code, and 300 for each crate. So `first` is too little, of 600 in 21,630. A crate that nothing asked for is left alone.
+Where a proof fails no program is made, and a file tells why.
+
+  $ echo 'echo logic=not-proved; exit 1' > ../kit/does/second
+  $ make -j 1 tape
+  1 of 4: first, [0-9]+ s (re)
+  2 of 4: kept, [0-9]+ s, about 1 min to go (re)
+  second is not proved: out/build/second.log tells why
+  make: *** [Makefile:*: second] Error 1 (glob)
+  make: *** [Makefile:*: tape] Error 2 (glob)
+  [2]
+  $ cat out/build/second.log
   logic=not-proved
+  $ calls
+  first over std
+  kept over first std
+  $ ls out/bin
 
-The next build goes on from what was proved. How long it takes is not told before a tenth of the lines that were to be proved
-is: behind `first` 5 of 100 are, and behind `second` 20. The 900 lines of the crate that is kept count for nothing, and so do
-the crates that the program doesn't need.
+The next build goes on from what was proved. It breaks off here: the prover ends all processes of the build, its own too.
 
-  $ echo none > kit/fails
-  $ PATH=$PWD/stub:$PATH small/tape cart.img new 3 2> said
+  $ echo 'kill -TERM 0; sleep 60' > ../kit/does/tape
+  $ rm ../kit/does/second
+  $ (timeout 60 ./tape cart.img new 3; true) > ../said 2>&1
+  $ grep -v '^make\|Terminated' ../said
+  tape: make builds the program first, which takes long; it may be broken off and started again
+  3 of 4: second, [0-9]+ s, about 1 min to go (re)
+  $ calls
+  second over first std check
+
+And the one behind it goes on where that was.
+
+  $ rm ../kit/does/tape
+  $ ./tape cart.img new 3
+  tape: make builds the program first, which takes long; it may be broken off and started again
+  4 of 4: tape, [0-9]+ s (re)
   words: cart.img new 3
-  $ sed 's/ *$//' said
-  tape: proving and building, which takes long the first time; it may be broken off and started again
-  tape: proved 0 of 4 crates
-  tape: proved 1 of 4 crates
-  tape: proved 2 of 4 crates
-  tape: proved 3 of 4 crates, (less than a minute|about [0-9]+ minutes) to go (re)
-  tape: proved 4 of 4 crates, less than a minute to go
-  $ ls cache/tape/*/crates
-  first
-  kept
-  second
-  tape
+  $ calls
+  tape over first second kept std check
 
-Each crate was proved over those that its line names, and `kept` was proved before.
+Built, it is just called, also without `make` and `rt`. The word `help` with others behind it is an image's path.
 
-  $ cat cache/tape/*/log
-  first over .
-  logic=proved functions=1
-  second over first.
-  logic=proved functions=1
-  tape over first second kept.
-  logic=proved functions=1
-
-Built, it is just called, also without `rt`. The word `help` with others behind it is an image's path.
-
-  $ PATH=$PWD/tools small/tape help info
+  $ rm ../tools/make
+  $ PATH=$PWD/../tools ./tape help info
   words: help info
-  $ PATH=$PWD/tools small/tape
+  $ PATH=$PWD/../tools ./tape
   words: 
+  $ calls
 
-Where proofs alone changed, they are checked, and what stands on their crate stays as it was.
+What has changed
+----------------
 
-  $ mkdir small/crates/second/proofs
-  $ echo '-- a proof' > small/crates/second/proofs/One.antt
-  $ PATH=$PWD/stub:$PATH small/tape cart.img info 2> said
-  words: cart.img info
-  $ cat cache/tape/*/log
-  second over first.
-  logic=proved functions=1
+Where something changed just what stands on it is proved again, and a file that is only younger is no change.
 
-Of two calls at once the one that comes first builds, and the other waits for what it makes.
+  $ touch crates/first/src/lib.rt
+  $ ./tape
+  words: 
+  $ calls
 
-  $ seq 16 > small/crates/second/src/lib.rt
-  $ (PATH=$PWD/stub:$PATH small/tape cart.img list > one 2> /dev/null &
-  >   PATH=$PWD/stub:$PATH small/tape cart.img info > other 2> /dev/null; wait)
-  $ cat one other
-  words: cart.img list
-  words: cart.img info
-  $ cat cache/tape/*/log
-  second over first.
-  logic=proved functions=1
-  tape over first second kept.
-  logic=proved functions=1
+A file of proofs, of which nothing is in what other crates read: its own crate.
 
-What stands on a crate that changed is proved once more, as here. Nothing is run where a proof fails then, though a program
-was built before.
+  $ mkdir crates/first/proofs
+  $ echo '-- a proof' > crates/first/proofs/One.antt
+  $ ./tape > ../said 2>&1
+  $ calls
+  first over std
 
-  $ echo tape > kit/fails
-  $ seq 17 > small/crates/second/src/lib.rt
-  $ PATH=$PWD/stub:$PATH small/tape cart.img new 3 2> said
+The file is gone: its own crate, too.
+
+  $ rm crates/first/proofs/One.antt
+  $ ./tape > ../said 2>&1
+  $ calls
+  first over std
+
+A line of code, and a file of code that is gone.
+
+  $ seq 51 | tee crates/second/src/more.rt > crates/second/src/lib.rt
+  $ ./tape > ../said 2>&1
+  $ calls
+  second over first std check
+  tape over first second kept std check
+  $ rm crates/second/src/more.rt
+  $ ./tape > ../said 2>&1
+  $ calls
+  second over first std check
+  tape over first second kept std check
+
+A line of `crates.txt`.
+
+  $ sed -i 's/^kept: first/kept: first check/' crates.txt
+  $ ./tape > ../said 2>&1
+  $ calls
+  kept over first std check
+
+The kit.
+
+  $ echo 'another kit' > ../kit/KIT-ID
+  $ ./tape
+  1 of 4: first, * (glob)
+  2 of 4: * (glob)
+  3 of 4: * (glob)
+  4 of 4: tape, * (glob)
+  words: 
+  $ calls
+  first over std
+  kept over first std check
+  second over first std check
+  tape over first second kept std check
+
+The program itself is gone, which is kept, too; or it is wanted for another processor.
+
+  $ rm out/bin/tape
+  $ ./tape 2> ../said
+  words: 
+  $ calls
+  $ make PROCESSOR=another tape
+  4 of 4: tape, [0-9]+ s (re)
+  $ calls
+  tape over first second kept std check
+
+Nothing is run where a proof fails then, though a program was built before.
+
+  $ echo 'exit 1' > ../kit/does/tape
+  $ seq 52 > crates/second/src/lib.rt
+  $ ./tape cart.img new 3
+  3 of 4: second, * (glob)
+  tape is not proved: out/build/tape.log tells why
+  make: *** [Makefile:*: tape] Error 1 (glob)
+  make: *** [Makefile:*: tape] Error 2 (glob)
+  tape: the program could not be built
   [1]
-  $ tail -n 1 said | sed "s|$PWD/cache/tape/[-0-9]*/|WHERE/|"
-  tape: the program could not be built; WHERE/log tells why
-  $ cat cache/tape/*/log
-  second over first.
-  logic=proved functions=1
-  tape over first second kept.
-  logic=not-proved
+  $ rm ../kit/does/tape
+  $ calls
+  second over first std check
+
+Nor where nothing is said to be needed: an order of the crates that is empty, or an empty `crates.txt`.
+
+  $ mkdir ../broken
+  $ printf '#!/bin/sh\ncat > /dev/null\n' > ../broken/sort
+  $ chmod +x ../broken/sort
+  $ PATH=$PWD/../broken:$PATH ./tape
+  crates.txt has no crate for: tape
+  make: *** [Makefile:*: tape] Error 1 (glob)
+  tape: the program could not be built
+  [1]
+  $ mv crates.txt ../
+  $ touch crates.txt
+  $ ./tape
+  crates.txt has no crate for: tape
+  make: *** [Makefile:*: tape] Error 1 (glob)
+  tape: the program could not be built
+  [1]
+  $ make
+  Makefile:*: *** crates.txt has no program.  Stop. (glob)
+  [2]
+  $ mv ../crates.txt .
+
+Side by side
+------------
+
+Of two builds at once the one that comes second waits, and finds what the first made. Here the prover is at `tape` until the second
+one waits.
+
+  $ cat > ../kit/does/tape << 'END'
+  > touch "$KITS/begun"
+  > while [ ! -s "$KITS/../said" ]; do sleep 0.1; done
+  > END
+  $ rm ../said
+  $ make tape > ../one 2>&1 & while [ ! -e ../kit/begun ]; do sleep 0.1; done
+  $ ./tape cart.img list 2> ../said
+  words: cart.img list
+  $ cat ../said
+  another build is under way here, and this one waits for it
+  $ wait
+  $ cat ../one
+  4 of 4: tape, [0-9]+ s (re)
+  $ calls
+  tape over first second kept std check
+  $ rm ../kit/does/*
+
+Crates that don't stand on each other are proved side by side, also where both are asked for: each of two waits for the other one
+here.
+
+  $ for crate in kept second; do seq 60 > crates/$crate/src/lib.rt; done
+  $ echo 'touch "$KITS/kept"; while [ ! -e "$KITS/second" ]; do sleep 0.1; done' > ../kit/does/kept
+  $ echo 'touch "$KITS/second"; while [ ! -e "$KITS/kept" ]; do sleep 0.1; done' > ../kit/does/second
+  $ timeout 60 make -j 2 kept second > ../said
+  $ calls
+  kept over first std check
+  second over first std check
+  $ make tape > ../said
+  $ calls
+  tape over first second kept std check
+  $ rm ../kit/does/*
+
+All programs, and what else
+---------------------------
+
+`make` builds each crate of `crates.txt` that has a program. What each proof took is logged: when it began, the crate, its seconds on
+the wall, those of a processor in the prover and in the system, and how many processors it could have.
+
+  $ make
+  * of 5: spare, * (glob)
+  $ make programs
+  tape spare
+  $ ls out/bin
+  spare
+  tape
+  $ tail -n 1 out/build/times
+  20[-0-9]+ [0-9:]+ spare [0-9.]+ [0-9.]+ [0-9.]+ 1 (re)
+  $ make
+  $ rm ../kit/calls
+
+They are installed with their manual pages, and removed again. Without `rt` what was built is installed.
+
+  $ umask 077
+  $ make -s install DESTDIR=../'a root' PREFIX=/usr
+  $ cd '../a root'
+  $ find . -type f -printf '%m %p\n' | sort
+  644 ./usr/share/man/man1/tape.1
+  755 ./usr/bin/spare
+  755 ./usr/bin/tape
+  $ touch usr/bin/other
+  $ usr/bin/tape info
+  words: info
+  $ cd - > ../said
+  $ make -s uninstall DESTDIR=../'a root' PREFIX=/usr
+  $ find ../'a root' -type f
+  ../a root/usr/bin/other
+  $ for tool in install make; do ln -s "$(command -v $tool)" ../tools/; done
+  $ PATH=$PWD/../tools make -s install DESTDIR=../'a root'
+  $ ls ../'a root'/usr/local/bin
+  spare
+  tape
+  $ ls ../cache/tape/*
+  first.made
+  first.rlib
+  first.sum
+  kept.made
+  kept.rlib
+  kept.sum
+  second.made
+  second.rlib
+  second.sum
+  spare
+  spare.o
+  spare.sum
+  tape
+  tape.o
+  tape.sum
+  $ make -s clean
+  $ ls ../cache/tape
+  $ ls
+  Makefile
+  crates
+  crates.txt
+  docs
+  man
+  prove
+  tape
