@@ -1,0 +1,45 @@
+use Rattle.std.proofs.Common.{refl}
+use Rattle.cartridge_spec.specs.Table.{slot}
+use Rattle.qic_base.specs.Cartridge.{lost_places}
+use Rattle.qic_base.specs.Field.{number_at, little_endian_bytes, filled}
+use Rattle.dump_laws.proofs.worked_values.volumes.Goals as goal
+
+pub returns-clause-passed : goal.returns-clause-passed
+unfolding number_at little_endian_bytes filled lost_places slot
+returns-clause-passed c = refl
+
+pub returns-clause-ended : goal.returns-clause-ended
+unfolding number_at little_endian_bytes filled lost_places slot
+returns-clause-ended c = refl
+
+pub returns-clause-counted : goal.returns-clause-counted
+unfolding number_at little_endian_bytes filled lost_places slot
+returns-clause-counted c = refl
+
+pub returns-clause-empty : goal.returns-clause-empty
+unfolding number_at little_endian_bytes filled lost_places slot
+returns-clause-empty c = refl
+
+pub returns-clause-in_front : goal.returns-clause-in_front
+unfolding number_at little_endian_bytes filled lost_places slot
+returns-clause-in_front c = refl
+
+pub returns-clause-good : goal.returns-clause-good
+unfolding number_at little_endian_bytes filled lost_places slot
+returns-clause-good c = refl
+
+pub returns-clause-size : goal.returns-clause-size
+unfolding number_at little_endian_bytes filled lost_places slot
+returns-clause-size c = refl
+
+pub returns-clause-compressed : goal.returns-clause-compressed
+unfolding number_at little_endian_bytes filled lost_places slot
+returns-clause-compressed c = refl
+
+pub returns-clause-too_large : goal.returns-clause-too_large
+unfolding number_at little_endian_bytes filled lost_places slot
+returns-clause-too_large c = refl
+
+pub returns-clause-bad : goal.returns-clause-bad
+unfolding number_at little_endian_bytes filled lost_places slot
+returns-clause-bad c = refl

@@ -1,0 +1,29 @@
+//! What is told of a segment depends on its cells alone.
+
+ghost use Rattle.dump_laws.specs.CellsAlone.{OneCounting, OneCase, OneGiving, OneFinding, SureIsTheBlock};
+
+/// Which cells count is told by the cells.
+pub fn one_counting()
+    ensures { OneCounting }
+{}
+
+/// So is their case.
+pub fn one_case()
+    ensures { OneCase }
+{}
+
+/// So are the data sectors that a segment gives, and their marks.
+pub fn one_giving()
+    ensures { OneGiving }
+{}
+
+/// So is what a check finds.
+pub fn one_finding()
+    ensures { OneFinding }
+{}
+
+/// Where at most two cells that count are lost and a code block agrees with the others, each sector that is given is sure, and
+/// is that of the one such block (QIC-80-MC).
+pub fn sure_is_the_block()
+    ensures { SureIsTheBlock }
+{}

@@ -1,0 +1,14 @@
+pub mod Answers
+pub mod Cells
+pub mod Check
+pub mod Dump
+pub mod Given
+pub mod Header
+pub mod HeaderPlace
+pub mod Lines
+pub mod Lists
+pub mod Masks
+pub mod Output
+pub mod Pieces
+pub mod Table
+pub mod Volumes

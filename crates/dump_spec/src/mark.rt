@@ -1,0 +1,12 @@
+//! How sure a byte is.
+
+/// How sure a byte of the output is.
+#[derive(Clone, Copy, Debug, Drop, PartialEq, Eq)]
+pub enum Mark {
+    /// It was read, and nothing speaks against it, or it was computed and checked.
+    Sure,
+    /// It was computed, and nothing was left to check it, or it was read where its segment contradicts itself.
+    Unchecked,
+    /// It is a zero byte in the place of one that is lost.
+    Filled,
+}
