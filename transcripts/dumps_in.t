@@ -124,6 +124,27 @@ A dump is damaged: three sectors of each segment of a volume are overwritten, an
 Maps
 ----
 
+A long map, of more bytes than are read at a time: every eighth sector of 25 segments is lost. It is written run by run, and
+each run is read again.
+
+  $ tape many.img new 3
+  blank 3
+  $ tape many.img format evening
+  formatted 84 0
+  $ lost() { for segment in $(seq 10 34); do for sector in 0 8 16 24; do "$@" $segment $sector; done; done; }
+  $ lost echo lose | tape many.img script | tail -n 1
+  end
+  $ tape_export --map many.map many.img > many.dump
+  $ wc -c < many.map
+  5368
+  $ run() { printf '0x%08X  0x%08X  %s\n' $1 $(($2 - $1)) $3; }
+  $ one() { run $at $((1024 * (32 * $1 + $2))) +; at=$((1024 * (32 * $1 + $2 + 1))); run $((at - 1024)) $at -; }
+  $ { head -n 4 page.map; at=0; lost one; run $at 2752512 +; } | cmp - many.map
+  $ tape_import --map many.map again.img < many.dump
+  imported 84 100
+  $ tape_export --map more.map again.img | cmp - many.dump
+  $ cmp more.map many.map
+
 Two blocks that meet inside sector 1 rescue it together, and 02000 is an octal number.
 
   $ printf '0 ?\n0 0x600 +\n0x600 0x200 +\n0x800 02000 -\n' > meet.map

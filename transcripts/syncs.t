@@ -2,9 +2,9 @@ What is put on the disk
 =======================
 
 The calls by which the program has the system put an image on the disk, and what comes of their failures. They are seen, and
-made to fail, by `strace`; where there is none, or it may trace nothing, this page is skipped.
+made to fail, by `strace`; where there is none, or it may trace nothing, this page fails.
 
-  $ strace -o probe -e inject=fsync:error=EIO true 2> probe.errors || exit 80
+  $ strace -o probe -e inject=fsync:error=EIO true
   $ . "$TESTDIR/syncs.sh"
   $ mkdir tapes
   $ cd tapes
@@ -50,6 +50,20 @@ The length stays as it is when a mark is set, so that asks for the data alone; a
   $ syncs cart.img protect on
   protected on
   fsync cart.img 0
+
+A file is opened as one that is there, and made only where there is none: by a call that takes no other for it. It gets the
+mode 0666 less the mask of the run. So its folder, and no other, is opened by the name that the path has for it.
+
+  $ strace --quiet=all -o ../calls -P made.img -P . -e trace=openat,readlink tape made.img list
+  tape: no cartridge
+  [4]
+  $ sed -n 's/AT_FDCWD, //; s/, 0x[0-9a-f]*, [0-9]*)/)/; s/ *= .*//p' ../calls
+  openat("made.img", O_RDWR|O_NOCTTY|O_CLOEXEC)
+  readlink("made.img")
+  openat("made.img", O_RDWR|O_CREAT|O_EXCL|O_NOCTTY|O_CLOEXEC, 0666)
+  readlink("made.img")
+  openat(".", O_RDONLY|O_NOCTTY|O_CLOEXEC)
+  $ rm made.img
 
 The entry of a file is in the folder of what a link to it names.
 
@@ -117,6 +131,7 @@ An image whose sync fails is not opened, and nothing of it is written.
 Nor is an empty one whose folder can't be synced, or can't be opened for that.
 
   $ rm cart.img
+  $ : > cart.img
   $ for fault in fsync:error=EIO:when=1 fsync:error=EINVAL:when=1 openat:error=EACCES:when=2 readlink:error=EIO; do
   >     faulty $fault cart.img new 3
   >     wc -c < cart.img
@@ -166,6 +181,20 @@ One of which the system tells neither kind nor length is none.
   $ faulty statx:error=EIO:when=2 cart.img info
   tape: cannot open the image
   [20]
+
+Nor is one whose name tells nothing, or another file, once it is locked; and a file that is there by the time that a new one
+is made is not taken for that.
+
+  $ faulty statx:error=EIO:when=3 cart.img info
+  tape: cannot open the image
+  [20]
+  $ faulty statx:error=ENOENT:when=3 cart.img info
+  tape: cannot open the image
+  [20]
+  $ faulty openat:error=ENOENT:when=1 cart.img info
+  tape: cannot open the image
+  [20]
+  $ cmp cart.img before.img
 
 A pipe is not opened, since its name tells its kind; and where the name told nothing, not locked, since the open pipe does.
 
@@ -273,3 +302,20 @@ So it is where a call fails.
   12 1 3 3 10 1970-01-01T00:00:00 a
   6 tape: the tape failed
   12 volumes 1
+
+The map of a dump
+-----------------
+
+The file of a map is put on the disk as it is opened, and once it is written.
+
+  $ strace --quiet=all -y -o ../calls -e trace=fsync,fdatasync tape_export --map cart.map cart.img > dump
+  $ show_syncs
+  fsync cart.img 0
+  fsync tapes 0
+  fsync cart.map 0
+  fsync cart.map 0
+  $ rm cart.map
+  $ strace --quiet=all -o ../calls -P cart.map -P "$PWD/cart.map" -e inject=fsync:error=EIO:when=2 \
+  >     tape_export --map cart.map cart.img > dump
+  tape_export: output failed
+  [17]

@@ -30,7 +30,8 @@ OnlyIn-torn place count old new torn = record {
   above = λ k h. same_at old new k (torn.above k h);
 }
 
-pub OnlyIn-written : (place : ℕ) (old part : List ℕ) → place + length part ≤ length old → OnlyIn place (length part) old (overwritten old place part)
+pub OnlyIn-written : (place : ℕ) (old part : List ℕ) → place + length part ≤ length old →
+    OnlyIn place (length part) old (overwritten old place part)
 OnlyIn-written place old part h = record {
   size = length-overwritten old part place h;
   below = λ k l. get_or-overwritten_below old part place k 0 (omega arith) l;
@@ -41,7 +42,8 @@ pub OnlyIn-all : (place count : ℕ) (bytes : List ℕ) → OnlyIn place count b
 OnlyIn-all place count bytes = record { size = refl; below = λ k h. refl; above = λ k h. refl }
 
 -- parts of two lists whose bytes are the same there
-pub range-same : (old new : List ℕ) (i j : ℕ) → j ≤ length new → j ≤ length old → i ≤ j → ((k : ℕ) → i ≤ k → k < j → get_or new k 0 ≡ get_or old k 0) → slice_range new i j ≡ slice_range old i j
+pub range-same : (old new : List ℕ) (i j : ℕ) → j ≤ length new → j ≤ length old → i ≤ j →
+    ((k : ℕ) → i ≤ k → k < j → get_or new k 0 ≡ get_or old k 0) → slice_range new i j ≡ slice_range old i j
 range-same old new i j there within order same =
     let a = length-between new i j there in
     let b = length-between old i j within in
@@ -54,7 +56,9 @@ range-same old new i j there within order same =
     ∙ sym (get_or-between old i j k d (omega arith)))
 
 -- A sector's state bytes and its own.
-pub view_in-is : (l : Layout) (bytes : List ℕ) (sector : ℕ) → view_in l bytes sector ≡ view_by (slice_index bytes (place l DefectByte sector)) (slice_index bytes (place l FormedByte sector)) (slice_index bytes (place l GateByte sector)) (sector_bytes l bytes sector)
+pub view_in-is : (l : Layout) (bytes : List ℕ) (sector : ℕ) →
+    view_in l bytes sector ≡ view_by (slice_index bytes (place l DefectByte sector)) (slice_index bytes (place l FormedByte sector))
+    (slice_index bytes (place l GateByte sector)) (sector_bytes l bytes sector)
 unfolding view_in
 view_in-is l bytes sector = refl
 
@@ -62,13 +66,16 @@ pub cell-is : (d d' f f' g g' : ℕ) (b b' : List ℕ) → d ≡ d' → f ≡ f'
 cell-is d d' f f' g g' b b' p q r s = rw (p, q, r, s) refl
 
 -- the view of a sector whose parts are all kept
-pub view-same : (l : Layout) (old new : List ℕ) (k : ℕ) → ((r : Part) → slice_index new (place l r k) ≡ slice_index old (place l r k)) → sector_bytes l new k ≡ sector_bytes l old k → view_in l new k ≡ view_in l old k
+pub view-same : (l : Layout) (old new : List ℕ) (k : ℕ) → ((r : Part) → slice_index new (place l r k) ≡ slice_index old (place l r k)) →
+    sector_bytes l new k ≡ sector_bytes l old k → view_in l new k ≡ view_in l old k
 view-same l old new k bytes whole =
     view_in-is l new k ∙ cell-is _ _ _ _ _ _ _ _ (bytes DefectByte) (bytes FormedByte) (bytes GateByte) whole ∙ sym (view_in-is l old k)
 
 -- a change in a part of one sector leaves all other parts as they were
-module _ (l : Layout) (p : Part) (q : ℕ) (old new : List ℕ) (only : OnlyIn (place l p q) (width p) old new) (whole : end_of l ≤ length old) (on : q < sectors l.segments_per_track) where
-  pub byte-kept : (r : Part) (k : ℕ) → k < sectors l.segments_per_track → (p ≢ r) ⊎ (q ≢ k) → slice_index new (place l r k) ≡ slice_index old (place l r k)
+module _ (l : Layout) (p : Part) (q : ℕ) (old new : List ℕ) (only : OnlyIn (place l p q) (width p) old new) (whole : end_of l ≤ length old)
+    (on : q < sectors l.segments_per_track) where
+  pub byte-kept : (r : Part) (k : ℕ) → k < sectors l.segments_per_track → (p ≢ r) ⊎ (q ≢ k) →
+      slice_index new (place l r k) ≡ slice_index old (place l r k)
   byte-kept r k there ne =
       let out = laid_out l in
       let some = width-some r in
@@ -86,30 +93,41 @@ module _ (l : Layout) (p : Part) (q : ℕ) (old new : List ℕ) (only : OnlyIn (
   view-kept k there ne = view-same l old new k (λ r. byte-kept r k there (inr ne)) (data-kept k there (inr ne))
 
 -- .. so that it is seen in that part alone
-pub gate-view : (l : Layout) (q : ℕ) (old new : List ℕ) → OnlyIn (place l GateByte q) 1 old new → end_of l ≤ length old → q < sectors l.segments_per_track
-    → view_in l new q ≡ view_by (slice_index old (place l DefectByte q)) (slice_index old (place l FormedByte q)) (slice_index new (place l GateByte q)) (sector_bytes l old q)
+pub gate-view : (l : Layout) (q : ℕ) (old new : List ℕ) → OnlyIn (place l GateByte q) 1 old new → end_of l ≤ length old →
+    q < sectors l.segments_per_track
+    → view_in l new q ≡ view_by (slice_index old (place l DefectByte q)) (slice_index old (place l FormedByte q))
+    (slice_index new (place l GateByte q)) (sector_bytes l old q)
 gate-view l q old new only whole on =
     view_in-is l new q
-    ∙ cell-is _ _ _ _ _ _ _ _ (byte-kept l GateByte q old new only whole on DefectByte q on (inl (λ e. cc))) (byte-kept l GateByte q old new only whole on FormedByte q on (inl (λ e. cc))) refl
+    ∙ cell-is _ _ _ _ _ _ _ _ (byte-kept l GateByte q old new only whole on DefectByte q on (inl (λ e. cc)))
+    (byte-kept l GateByte q old new only whole on FormedByte q on (inl (λ e. cc))) refl
     (data-kept l GateByte q old new only whole on q on (inl (λ e. cc)))
 
-pub defect-view : (l : Layout) (q : ℕ) (old new : List ℕ) → OnlyIn (place l DefectByte q) 1 old new → end_of l ≤ length old → q < sectors l.segments_per_track
-    → view_in l new q ≡ view_by (slice_index new (place l DefectByte q)) (slice_index old (place l FormedByte q)) (slice_index old (place l GateByte q)) (sector_bytes l old q)
+pub defect-view : (l : Layout) (q : ℕ) (old new : List ℕ) → OnlyIn (place l DefectByte q) 1 old new → end_of l ≤ length old →
+    q < sectors l.segments_per_track
+    → view_in l new q ≡ view_by (slice_index new (place l DefectByte q)) (slice_index old (place l FormedByte q))
+    (slice_index old (place l GateByte q)) (sector_bytes l old q)
 defect-view l q old new only whole on =
     view_in-is l new q
-    ∙ cell-is _ _ _ _ _ _ _ _ refl (byte-kept l DefectByte q old new only whole on FormedByte q on (inl (λ e. cc))) (byte-kept l DefectByte q old new only whole on GateByte q on (inl (λ e. cc)))
+    ∙ cell-is _ _ _ _ _ _ _ _ refl (byte-kept l DefectByte q old new only whole on FormedByte q on (inl (λ e. cc)))
+    (byte-kept l DefectByte q old new only whole on GateByte q on (inl (λ e. cc)))
     (data-kept l DefectByte q old new only whole on q on (inl (λ e. cc)))
 
-pub bytes-view : (l : Layout) (q : ℕ) (old new : List ℕ) → OnlyIn (place l Data q) 1024 old new → end_of l ≤ length old → q < sectors l.segments_per_track
-    → view_in l new q ≡ view_by (slice_index old (place l DefectByte q)) (slice_index old (place l FormedByte q)) (slice_index old (place l GateByte q)) (sector_bytes l new q)
+pub bytes-view : (l : Layout) (q : ℕ) (old new : List ℕ) → OnlyIn (place l Data q) 1024 old new → end_of l ≤ length old →
+    q < sectors l.segments_per_track
+    → view_in l new q ≡ view_by (slice_index old (place l DefectByte q)) (slice_index old (place l FormedByte q))
+    (slice_index old (place l GateByte q)) (sector_bytes l new q)
 bytes-view l q old new only whole on =
     view_in-is l new q
-    ∙ cell-is _ _ _ _ _ _ _ _ (byte-kept l Data q old new only whole on DefectByte q on (inl (λ e. cc))) (byte-kept l Data q old new only whole on FormedByte q on (inl (λ e. cc))) (byte-kept l Data q old new only whole on GateByte q on (inl (λ e. cc))) refl
+    ∙ cell-is _ _ _ _ _ _ _ _ (byte-kept l Data q old new only whole on DefectByte q on (inl (λ e. cc)))
+    (byte-kept l Data q old new only whole on FormedByte q on (inl (λ e. cc)))
+    (byte-kept l Data q old new only whole on GateByte q on (inl (λ e. cc))) refl
 
 -- the head
 
 -- bytes that keep their head and their length are an image as before
-pub head-same : (old new : List ℕ) → length new ≡ length old → 24 ≤ length old → ((k : ℕ) → k < 24 → get_or new k 0 ≡ get_or old k 0) → head_of new ≡ head_of old
+pub head-same : (old new : List ℕ) → length new ≡ length old → 24 ≤ length old → ((k : ℕ) → k < 24 → get_or new k 0 ≡ get_or old k 0) →
+    head_of new ≡ head_of old
 unfolding head_of
 head-same old new size long same =
     ap (λ len. head_by len (slice_range new 0 read_len)) size

@@ -1,20 +1,38 @@
 -- From what a call does to the disk to what it does to the cartridge that the disk's bytes are read as.
-use Rattle.std.proofs.Common.{◌≡◌, ℕ, ◌≤◌, ◌⊎◌, inl, inr, List, refl, sym, ◌∙◌, ap, arith, Option, Some, None, is_some, subst, Result, Ok, Err}
+use Rattle.std.proofs.Common.{◌≡◌, ℕ, ◌≤◌, ◌⊎◌, inl, inr, List, refl, sym, ◌∙◌, ap, arith, Option, Some, None, is_some, subst, Result, Ok}
+use Rattle.std.proofs.Common.{Err}
 use Rattle.std.specs.Option.{option_map}
 use Rattle.qic_base.specs.Cartridge.{Cartridge}
 use Rattle.qic_base.specs.Step.{Step, effects, Torn}
-use Rattle.qic_base.specs.TapeCalls.{Does}
-use Rattle.qic_base.specs.Tape.{Done, Broke, Stops}
+use Rattle.qic_base.specs.Tape.{Meaning as TapeMeaning, Stops}
 use Rattle.qic_base.specs.Disk.{Meaning, DiskStep, Look, IsSettled, Failed}
 use Rattle.cart_image.specs.Image.{cartridge_of}
 use Rattle.cart_image.specs.Run.{Looks, Ran, Halted, Carried, after_steps, Crashed}
 use Rattle.cart_image.specs.Tape.{disk_means}
-use Rattle.cart_image.proofs.Runs.{Passes, Passes-Passes, Looks-Passes, Failed-Passes, Ran-Passes, Halted-Passes, Halted-cause, Ran-told, Ran-since, Halted-since, Halted-told}
-use Rattle.qic_base.proofs.Steps.{Rose-after, Torn-nothing}
+use Rattle.cart_image.proofs.Runs.{Passes, Passes-Passes, Looks-Passes, Failed-Passes, Ran-Passes, Halted-Passes, Ran-told, Ran-since}
+use Rattle.cart_image.proofs.Runs.{Halted-since, Halted-told}
+use Rattle.qic_base.proofs.Steps.{Torn-nothing}
 
-some_bytes : (told : Option (List ℕ)) (held : Option Cartridge) → option_map cartridge_of told ≡ Some held → (bytes : List ℕ) × (told ≡ Some bytes) × (cartridge_of bytes ≡ held)
+some_bytes : (told : Option (List ℕ)) (held : Option Cartridge) → option_map cartridge_of told ≡ Some held → (bytes : List ℕ)
+    × (told ≡ Some bytes) × (cartridge_of bytes ≡ held)
 some_bytes None held is = cc
 some_bytes (Some bytes) held is = (bytes, refl, (let e : Some (cartridge_of bytes) ≡ Some held = is in cc))
+
+-- What came of a call, apart from the counts of faults. All of its steps were done, ..
+pub record Finished {S : Type 0} (m : TapeMeaning S) (old new : S) (steps : List Step) : Type 0 where
+  pub told : m.told new ≡ option_map (effects steps) (m.told old)
+  pub stops : Stops m old new steps
+
+-- .. or they were broken off, ..
+pub record CutShort {S : Type 0} (m : TapeMeaning S) (old new : S) (steps : List Step) : Type 0 where
+  pub tells : is_some (m.told new) ≡ is_some (m.told old)
+  pub torn : (held left : Option Cartridge) → m.told old ≡ Some held → m.told new ≡ Some left → Torn steps held left
+  pub stops : Stops m old new steps
+
+-- .. by its answer.
+abbrev pub Outcome : {S T E : Type 0} (m : TapeMeaning S) (old new : S) (steps : List Step) (result : Result T E) → Type 0
+Outcome m old new steps (Ok x) = Finished m old new steps
+Outcome m old new steps (Err e) = CutShort m old new steps
 
 -- What a run makes of the cartridge: at the end this, and in a crash one of the stops of these steps.
 pub record Means (run : List DiskStep) (steps : List Step) (bytes : List ℕ) : Type 0 where
@@ -26,7 +44,8 @@ abbrev LeavesTorn : {D : Type 0} (m : Meaning D) (old new : D) (steps : List Ste
 LeavesTorn m old new steps = (bytes left : List ℕ) (t : ℕ) → m.told old ≡ Some bytes → t ≤ m.moment old → m.left_since new t left →
     m.left_since old t left ⊎ Torn steps (cartridge_of bytes) (cartridge_of left)
 
-Stops-carried : {D : Type 0} {m : Meaning D} {old new : D} (steps : List Step) → Passes m old new → LeavesTorn m old new steps → Stops (disk_means m) old new steps
+Stops-carried : {D : Type 0} {m : Meaning D} {old new : D} (steps : List Step) → Passes m old new → LeavesTorn m old new steps →
+    Stops (disk_means m) old new steps
 Stops-carried {m = m} {old = old} {new = new} steps passes torn = record {
   telling = passes.telling;
   clock = passes.clock;
@@ -48,7 +67,8 @@ Stops-carried {m = m} {old = old} {new = new} steps passes torn = record {
 }
 
 -- a crash in the looks at a settled disk leaves what was there
-Looks-torn : {D : Type 0} {m : Meaning D} {old : D} (steps : List Step) (bytes left : List ℕ) → IsSettled m old → m.told old ≡ Some bytes → m.may_leave old left → Torn steps (cartridge_of bytes) (cartridge_of left)
+Looks-torn : {D : Type 0} {m : Meaning D} {old : D} (steps : List Step) (bytes left : List ℕ) → IsSettled m old → m.told old ≡ Some bytes →
+    m.may_leave old left → Torn steps (cartridge_of bytes) (cartridge_of left)
 Looks-torn steps bytes left settled told is =
     let same : left ≡ bytes = settled.only bytes left told is in
     let Q : List ℕ → Type 0 = λ l. Torn steps (cartridge_of bytes) (cartridge_of l) in
@@ -60,7 +80,8 @@ is_some-both None (Some b) same = cc
 is_some-both (Some a) None same = cc
 is_some-both (Some a) (Some b) same = refl
 
-ends : (steps : List Step) (bytes after : List ℕ) (held left : Option Cartridge) → cartridge_of bytes ≡ held → cartridge_of after ≡ left → Torn steps (cartridge_of bytes) (cartridge_of after) → Torn steps held left
+ends : (steps : List Step) (bytes after : List ℕ) (held left : Option Cartridge) → cartridge_of bytes ≡ held → cartridge_of after ≡ left →
+    Torn steps (cartridge_of bytes) (cartridge_of after) → Torn steps held left
 ends steps bytes after held left reads now torn =
     let P : Option Cartridge → Type 0 = λ h. Torn steps h left in
     let Q : Option Cartridge → Type 0 = λ l. Torn steps (cartridge_of bytes) l in
@@ -75,7 +96,8 @@ told_by steps (Some bytes) now same told = let w = told bytes refl in rw w.1 (ap
 
 -- the calls went on from the looks
 module _ {D : Type 0} (m : Meaning D) (old : D) (settled : IsSettled m old) where
-  may_only : (bytes : List ℕ) → m.told old ≡ Some bytes → (mid : D) → Looks m old mid → (left : List ℕ) → m.may_leave mid left → left ≡ bytes
+  may_only : (bytes : List ℕ) → m.told old ≡ Some bytes → (mid : D) → Looks m old mid → (left : List ℕ) → m.may_leave mid left →
+      left ≡ bytes
   may_only bytes told mid looks left is = settled.only bytes left told (looks.leaves left is)
 
   looked_since : (steps : List Step) (mid : D) → Looks m old mid → LeavesTorn m old mid steps
@@ -86,7 +108,8 @@ module _ {D : Type 0} (m : Meaning D) (old : D) (settled : IsSettled m old) wher
 
   then_since : (steps : List Step) (mid new : D) (Inner : List ℕ → List ℕ → Type 0) → Looks m old mid
       → ((bytes left : List ℕ) → m.told old ≡ Some bytes → Inner bytes left → Torn steps (cartridge_of bytes) (cartridge_of left))
-      → ((bytes left : List ℕ) (t : ℕ) → m.told old ≡ Some bytes → t ≤ m.moment mid → m.left_since new t left → m.left_since mid t left ⊎ Inner bytes left)
+      → ((bytes left : List ℕ) (t : ℕ) → m.told old ≡ Some bytes → t ≤ m.moment mid → m.left_since new t left → m.left_since mid t left
+      ⊎ Inner bytes left)
       → LeavesTorn m old new steps
   then_since steps mid new Inner looks torn inner bytes left t told early is =
       elim (inner bytes left t told (let e = looks.clock in omega arith) is) [
@@ -94,11 +117,12 @@ module _ {D : Type 0} (m : Meaning D) (old : D) (settled : IsSettled m old) wher
         | inr crashed ↦ inr (torn bytes left told crashed)
       ]
 
-  pub Ran-Done : (mid new : D) (ran : List DiskStep) (plan : List ℕ → List DiskStep) (steps : List Step) → Looks m old mid → Ran m mid new ran
+  pub Ran-finished : (mid new : D) (ran : List DiskStep) (plan : List ℕ → List DiskStep) (steps : List Step) → Looks m old mid →
+      Ran m mid new ran
       → ((bytes : List ℕ) → m.told old ≡ Some bytes → ran ≡ plan bytes)
       → ((bytes : List ℕ) → m.told old ≡ Some bytes → Means (plan bytes) steps bytes)
-      → Done (disk_means m) old new steps
-  Ran-Done mid new ran plan steps looks runs planned means =
+      → Finished (disk_means m) old new steps
+  Ran-finished mid new ran plan steps looks runs planned means =
       let passes : Passes m old new = Passes-Passes (Looks-Passes looks) (Ran-Passes m mid new ran runs) in
       record {
         told = told_by steps (m.told old) (m.told new) passes.tells (λ bytes told. (
@@ -106,18 +130,17 @@ module _ {D : Type 0} (m : Meaning D) (old : D) (settled : IsSettled m old) wher
           Ran-told m mid new ran bytes (looks.told ∙ told) runs ∙ ap (λ ss. Some (after_steps ss bytes)) (planned bytes told),
           (means bytes told).done,
         ));
-        later = passes.later;
         stops = Stops-carried steps passes (then_since steps mid new (λ bytes left. Crashed (λ b. b ≡ bytes) bytes ran left) looks
-            (λ bytes left told crashed. (means bytes told).torn left (let P : List DiskStep → Type 0 = λ ss. Crashed (λ b. b ≡ bytes) bytes ss left in subst P (planned bytes told) crashed))
-            (λ bytes left t told early is. Ran-since m mid new ran bytes (λ b. b ≡ bytes) (looks.told ∙ told) (may_only bytes told mid looks) runs t left early is));
+            (λ bytes left told crashed. (means bytes told).torn left
+            (let P : List DiskStep → Type 0 = λ ss. Crashed (λ b. b ≡ bytes) bytes ss left in subst P (planned bytes told) crashed))
+            (λ bytes left t told early is. Ran-since m mid new ran bytes (λ b. b ≡ bytes) (looks.told ∙ told)
+            (may_only bytes told mid looks) runs t left early is));
       }
 
-  pub Failed-Broke : (mid new : D) (steps : List Step) → Looks m old mid → Failed m mid new Look → Broke (disk_means m) old new steps
-  Failed-Broke mid new steps looks failed =
+  pub Failed-cut : (mid new : D) (steps : List Step) → Looks m old mid → Failed m mid new Look → CutShort (disk_means m) old new steps
+  Failed-cut mid new steps looks failed =
       let passes : Passes m old new = Passes-Passes (Looks-Passes looks) (Failed-Passes failed) in
       record {
-        cause = Rose-after (m.faults old) (m.faults mid) (m.faults new) looks.later failed.cause;
-        later = passes.later;
         tells = is_some-both (m.told new) (m.told old) passes.tells;
         torn = λ held left before after.
             let was = some_bytes (m.told old) held before in
@@ -126,40 +149,47 @@ module _ {D : Type 0} (m : Meaning D) (old : D) (settled : IsSettled m old) wher
             let may : m.may_leave old now.0 = looks.leaves now.0 (subst (m.may_leave mid) (sym inside.2) inside.1) in
             ends steps was.0 now.0 held left was.2 now.2 (Looks-torn steps was.0 now.0 settled was.1 may);
         stops = Stops-carried steps passes (then_since steps mid new (λ bytes left. left ≡ bytes) looks
-            (λ bytes left told same. let Q : List ℕ → Type 0 = λ l. Torn steps (cartridge_of bytes) (cartridge_of l) in subst Q (sym same) (Torn-nothing steps (cartridge_of bytes)))
+            (λ bytes left told same. let Q : List ℕ → Type 0 = λ l. Torn steps (cartridge_of bytes) (cartridge_of l) in
+            subst Q (sym same) (Torn-nothing steps (cartridge_of bytes)))
             (λ bytes left t told early is. elim (failed.crashes.since t left early is) [
               | inl was ↦ inl was
               | inr inside ↦ inr (may_only bytes told mid looks left (subst (m.may_leave mid) (sym inside.2) inside.1))
             ]));
       }
 
-  pub Halted-Broke : (mid new : D) (ran : List DiskStep) (plan : List ℕ → List DiskStep) (steps : List Step) → Looks m old mid → Halted m mid new ran
+  pub Halted-cut : (mid new : D) (ran : List DiskStep) (plan : List ℕ → List DiskStep) (steps : List Step) → Looks m old mid →
+      Halted m mid new ran
       → ((bytes : List ℕ) → m.told old ≡ Some bytes → ran ≡ plan bytes)
       → ((bytes : List ℕ) → m.told old ≡ Some bytes → Means (plan bytes) steps bytes)
-      → Broke (disk_means m) old new steps
-  Halted-Broke mid new ran plan steps looks halted planned means =
+      → CutShort (disk_means m) old new steps
+  Halted-cut mid new ran plan steps looks halted planned means =
       let passes : Passes m old new = Passes-Passes (Looks-Passes looks) (Halted-Passes m mid new ran halted) in
-      let at_plan : (bytes left : List ℕ) → m.told old ≡ Some bytes → Crashed (λ b. b ≡ bytes) bytes ran left → Torn steps (cartridge_of bytes) (cartridge_of left) =
-      λ bytes left told crashed. (means bytes told).torn left (let P : List DiskStep → Type 0 = λ ss. Crashed (λ b. b ≡ bytes) bytes ss left in subst P (planned bytes told) crashed) in
+      let at_plan : (bytes left : List ℕ) → m.told old ≡ Some bytes → Crashed (λ b. b ≡ bytes) bytes ran left →
+      Torn steps (cartridge_of bytes) (cartridge_of left) =
+      λ bytes left told crashed. (means bytes told).torn left
+      (let P : List DiskStep → Type 0 = λ ss. Crashed (λ b. b ≡ bytes) bytes ss left in subst P (planned bytes told) crashed) in
       record {
-        cause = Rose-after (m.faults old) (m.faults mid) (m.faults new) looks.later (Halted-cause m mid new ran halted);
-        later = passes.later;
         tells = is_some-both (m.told new) (m.told old) passes.tells;
         torn = λ held left before after.
             let was = some_bytes (m.told old) held before in
             let now = some_bytes (m.told new) left after in
-            ends steps was.0 now.0 held left was.2 now.2 (at_plan was.0 now.0 was.1 (Halted-told m mid new ran was.0 now.0 (λ b. b ≡ was.0) (looks.told ∙ was.1) (may_only was.0 was.1 mid looks) halted now.1));
+            ends steps was.0 now.0 held left was.2 now.2
+            (at_plan was.0 now.0 was.1
+            (Halted-told m mid new ran was.0 now.0 (λ b. b ≡ was.0) (looks.told ∙ was.1)
+            (may_only was.0 was.1 mid looks) halted now.1));
         stops = Stops-carried steps passes (then_since steps mid new (λ bytes left. Crashed (λ b. b ≡ bytes) bytes ran left) looks at_plan
-            (λ bytes left t told early is. Halted-since m mid new ran bytes (λ b. b ≡ bytes) (looks.told ∙ told) (may_only bytes told mid looks) halted t left early is));
+            (λ bytes left t told early is. Halted-since m mid new ran bytes (λ b. b ≡ bytes) (looks.told ∙ told)
+            (may_only bytes told mid looks) halted t left early is));
       }
 
 -- what a call did to the cartridge, by its answer
-pub Does-carried : {D T E : Type 0} (m : Meaning D) (old new : D) (plan : List ℕ → List DiskStep) (steps : List Step) (result : Result T E) → IsSettled m old → Carried m old new plan result
-    → ((bytes : List ℕ) → m.told old ≡ Some bytes → Means (plan bytes) steps bytes) → Does (disk_means m) old new steps result
-Does-carried m old new plan steps (Ok x) settled carried means =
-    Ran-Done m old settled carried.went.0 new carried.steps plan steps carried.went.1 carried.went.2 carried.planned means
-Does-carried m old new plan steps (Err e) settled carried means =
+pub Outcome-carried : {D T E : Type 0} (m : Meaning D) (old new : D) (plan : List ℕ → List DiskStep) (steps : List Step)
+    (result : Result T E) → IsSettled m old → Carried m old new plan result
+    → ((bytes : List ℕ) → m.told old ≡ Some bytes → Means (plan bytes) steps bytes) → Outcome (disk_means m) old new steps result
+Outcome-carried m old new plan steps (Ok x) settled carried means =
+    Ran-finished m old settled carried.went.0 new carried.steps plan steps carried.went.1 carried.went.2 carried.planned means
+Outcome-carried m old new plan steps (Err e) settled carried means =
     elim carried.went.2 [
-      | inl failed ↦ Failed-Broke m old settled carried.went.0 new steps carried.went.1 failed
-      | inr halted ↦ Halted-Broke m old settled carried.went.0 new carried.steps plan steps carried.went.1 halted carried.planned means
+      | inl failed ↦ Failed-cut m old settled carried.went.0 new steps carried.went.1 failed
+      | inr halted ↦ Halted-cut m old settled carried.went.0 new carried.steps plan steps carried.went.1 halted carried.planned means
     ]

@@ -1,8 +1,11 @@
 -- What the writes of a segment's formatting make of the cartridge, at the end and in a crash.
-use Rattle.std.proofs.Common.{◌≡◌, ◌≢◌, ℕ, ◌+◌, ◌*◌, ◌-◌, ◌<◌, ◌≤◌, ◌⊎◌, inl, inr, ⊎_elim, Bool, true, false, List, [], ◌∷◌, ◌++◌, length, get_or, take, drop, map, refl, sym, ◌∙◌, ap, arith, Option, Some, subst}
+use Rattle.std.proofs.Common.{◌≡◌, ◌≢◌, ℕ, ◌+◌, ◌*◌, ◌-◌, ◌<◌, ◌≤◌, ◌⊎◌, inl, inr, ⊎_elim, Bool, true, false, List, [], ◌∷◌, ◌++◌, length}
+use Rattle.std.proofs.Common.{get_or, take, drop, map, refl, sym, ◌∙◌, ap, arith, Option, Some, subst}
 use Rattle.std.specs.Prelude.{slice_get, slice_index, ◌==◌, ◌&&◌, not, if◌then◌else◌}
 use Rattle.std.proofs.lemmas.Bool.{cases_lt}
-use Rattle.std.proofs.lemmas.List.{same_lists, length-replicate, get_or-replicate, get_or-map, length-map, get_or_default, get_or_past, length-take-le, length-drop, length-append, get_or-take, get_or-drop, get_or_append_left, get_or-append_right}
+use Rattle.std.proofs.lemmas.List.{same_lists, length-replicate, get_or-replicate, get_or-map, length-map, get_or_default, get_or_past}
+use Rattle.std.proofs.lemmas.List.{length-take-le, length-drop, length-append, get_or-take, get_or-drop, get_or_append_left}
+use Rattle.std.proofs.lemmas.List.{get_or-append_right}
 use Rattle.std.proofs.lemmas.List.Edits.{length-between, get_or-between}
 use Rattle.std.proofs.lemmas.List.FromFn.{length-map-range_with_len, get_or-map-range_with_len}
 use Rattle.std.proofs.lemmas.Option.{slice_get-get_or, slice_get_past}
@@ -16,7 +19,8 @@ use Rattle.cart_image.specs.declared.layout.Head.{Head}
 use Rattle.cart_image.specs.declared.layout.Layout.{Layout}
 use Rattle.cart_image.specs.declared.layout.Part.{Part}
 use Rattle.cart_image.specs.declared.layout.Part.TheVariants.{GateByte, FormedByte, DefectByte, Data}
-use Rattle.cart_image.specs.Layout.{version_of, sectors, width, place, end_of, open_gate, closed_gate, formed_byte, defect_byte, synced, fill_writes, those, is_usable, is_open, is_unformed, format_segment_steps}
+use Rattle.cart_image.specs.Layout.{version_of, sectors, width, place, end_of, open_gate, closed_gate, formed_byte, defect_byte, synced}
+use Rattle.cart_image.specs.Layout.{fill_writes, those, is_usable, is_open, is_unformed, format_segment_steps}
 use Rattle.cart_image.specs.Image.{head_of, info_by, view_in, views_in, sector_bytes, read_as, cartridge_of}
 use Rattle.cart_image.specs.Run.{after_steps, Crashed}
 use Rattle.cart_image.specs.Whole.{cartridge_of-read, length-views}
@@ -32,7 +36,8 @@ abbrev shown : (bad formed open_is : Bool) (bytes : List ℕ) → SectorView
 shown bad formed open_is bytes = if bad then Defect else (if formed then (if open_is then Holds bytes else Lost) else Blank)
 
 -- gates closed, or torn while they are closed
-closing : (bad formed was now : Bool) (s t : List ℕ) → (was ≡ false → now ≡ false) → t ≡ s → ClosingView (shown bad formed was s) (shown bad formed now t)
+closing : (bad formed was now : Bool) (s t : List ℕ) → (was ≡ false → now ≡ false) → t ≡ s → ClosingView (shown bad formed was s)
+    (shown bad formed now t)
 closing true formed was now s t kept same = refl
 closing false false was now s t kept same = refl
 closing false true true true s t kept same = inl (ap Holds same)
@@ -41,7 +46,8 @@ closing false true false true s t kept same = let e = kept refl in cc
 closing false true false false s t kept same = refl
 
 -- bytes written behind closed gates
-closed : (bad formed was now : Bool) (s t : List ℕ) → (bad ≡ false → now ≡ false) → ClosingView (shown bad formed was s) (shown bad formed now t)
+closed : (bad formed was now : Bool) (s t : List ℕ) → (bad ≡ false → now ≡ false) → ClosingView (shown bad formed was s)
+    (shown bad formed now t)
 closed true formed was now s t shut = refl
 closed false false was now s t shut = refl
 closed false true was true s t shut = let e = shut refl in cc
@@ -49,7 +55,8 @@ closed false true true false s t shut = inr refl
 closed false true false false s t shut = refl
 
 -- formed bytes torn behind closed gates
-forming : (bad formed was formed_now now : Bool) (s t : List ℕ) → (bad ≡ false → now ≡ false) → (formed ≡ true → formed_now ≡ true) → OpeningView (shown bad formed was s) (shown bad formed_now now t)
+forming : (bad formed was formed_now now : Bool) (s t : List ℕ) → (bad ≡ false → now ≡ false) → (formed ≡ true → formed_now ≡ true) →
+    OpeningView (shown bad formed was s) (shown bad formed_now now t)
 forming true formed was formed_now now s t shut kept = refl
 forming false formed was formed_now true s t shut kept = let e = shut refl in cc
 forming false false was true false s t shut kept = inr (inl refl)
@@ -59,7 +66,8 @@ forming false true true true false s t shut kept = inl refl
 forming false true false true false s t shut kept = inl refl
 
 -- gates of zero sectors torn while they are opened
-opening : (bad formed was formed_now now : Bool) (s t : List ℕ) → (bad ≡ false → formed_now ≡ true) → (bad ≡ false → t ≡ zero_sector) → OpeningView (shown bad formed was s) (shown bad formed_now now t)
+opening : (bad formed was formed_now now : Bool) (s t : List ℕ) → (bad ≡ false → formed_now ≡ true) → (bad ≡ false → t ≡ zero_sector) →
+    OpeningView (shown bad formed was s) (shown bad formed_now now t)
 opening true formed was formed_now now s t are zero = refl
 opening false formed was false now s t are zero = let e = are refl in cc
 opening false false was true true s t are zero = inr (inr (ap Holds (zero refl)))
@@ -69,7 +77,8 @@ opening false true true true false s t are zero = inl refl
 opening false true false true true s t are zero = inr (ap Holds (zero refl))
 opening false true false true false s t are zero = inl refl
 
-formatted : (bad formed was formed_now now : Bool) (s t : List ℕ) → (bad ≡ false → formed_now ≡ true) → (bad ≡ false → now ≡ true) → (bad ≡ false → t ≡ zero_sector) → shown bad formed_now now t ≡ formatted_view (shown bad formed was s)
+formatted : (bad formed was formed_now now : Bool) (s t : List ℕ) → (bad ≡ false → formed_now ≡ true) → (bad ≡ false → now ≡ true) →
+    (bad ≡ false → t ≡ zero_sector) → shown bad formed_now now t ≡ formatted_view (shown bad formed was s)
 formatted true formed was formed_now now s t are opened zero = refl
 formatted false formed was false now s t are opened zero = let e = are refl in cc
 formatted false formed was true false s t are opened zero = let e = opened refl in cc
@@ -101,46 +110,52 @@ Stage-all : (l : Layout) (first : ℕ) (bytes : List ℕ) → Stage l first byte
 Stage-all l first bytes = record { size = refl; head = refl; others = λ j on out. refl; defects = λ j on. refl }
 
 -- what a change in a part of chosen sectors of a segment keeps
-module _ (l : Layout) (p : Part) (first : ℕ) (chosen : List Bool) (a b : List ℕ) (long : length chosen ≡ 32) (within : first + 32 ≤ sectors l.segments_per_track) (whole : end_of l ≤ length a)
-    (kept : SameAt (λ k. (i : ℕ) → get_or chosen i false ≡ true → (k < place l p (first + i)) ⊎ (place l p (first + i) + width p ≤ k)) a b) where
-  -- parts of another kind or of sectors that are not chosen
-  abbrev NotChosen : (r : Part) (j : ℕ) → Type 0
-  NotChosen r j = (p ≢ r) ⊎ ((i : ℕ) → get_or chosen i false ≡ true → first + i ≢ j)
+module _ (l : Layout) (p : Part) (first : ℕ) (chosen : List Bool) (a b : List ℕ) (long : length chosen ≡ 32)
+    (within : first + 32 ≤ sectors l.segments_per_track) (whole : end_of l ≤ length a)
+    (kept : SameAt (λ k. (i : ℕ) → get_or chosen i false ≡ true → (k < place l p (first + i)) ⊎ (place l p (first + i) + width p ≤ k)) a b)
+  where
+    -- parts of another kind or of sectors that are not chosen
+    abbrev NotChosen : (r : Part) (j : ℕ) → Type 0
+    NotChosen r j = (p ≢ r) ⊎ ((i : ℕ) → get_or chosen i false ≡ true → first + i ≢ j)
 
-  off : (r : Part) (j : ℕ) → j < sectors l.segments_per_track → NotChosen r j → (k : ℕ) → place l r j ≤ k → k < place l r j + width r
-      → (i : ℕ) → get_or chosen i false ≡ true → (k < place l p (first + i)) ⊎ (place l p (first + i) + width p ≤ k)
-  off r j on none k at_least less i is =
-      let inside = within-chosen chosen long i is in
-      let out = laid_out l in
-      ⊎_elim (λ later. inr (omega arith)) (λ earlier. inl (omega arith))
-      (out.apart p r (first + i) j (omega arith) on (⊎_elim (λ ne. inl ne) (λ ne. inr (ne i is)) none))
+    off : (r : Part) (j : ℕ) → j < sectors l.segments_per_track → NotChosen r j → (k : ℕ) → place l r j ≤ k → k < place l r j + width r
+        → (i : ℕ) → get_or chosen i false ≡ true → (k < place l p (first + i)) ⊎ (place l p (first + i) + width p ≤ k)
+    off r j on none k at_least less i is =
+        let inside = within-chosen chosen long i is in
+        let out = laid_out l in
+        ⊎_elim (λ later. inr (omega arith)) (λ earlier. inl (omega arith))
+        (out.apart p r (first + i) j (omega arith) on (⊎_elim (λ ne. inl ne) (λ ne. inr (ne i is)) none))
 
-  byte-spared : (r : Part) (j : ℕ) → j < sectors l.segments_per_track → NotChosen r j → slice_index b (place l r j) ≡ slice_index a (place l r j)
-  byte-spared r j on none = kept.same (place l r j) (off r j on none (place l r j) (omega arith) (let w = width-some r in omega arith))
+    byte-spared : (r : Part) (j : ℕ) → j < sectors l.segments_per_track → NotChosen r j → slice_index b (place l r j) ≡ slice_index a
+        (place l r j)
+    byte-spared r j on none = kept.same (place l r j) (off r j on none (place l r j) (omega arith) (let w = width-some r in omega arith))
 
-  data-spared : (j : ℕ) → j < sectors l.segments_per_track → NotChosen Data j → sector_bytes l b j ≡ sector_bytes l a j
-  data-spared j on none =
-      let end = (laid_out l).before Data j on in
-      let size = kept.size in
-      range-same a b (place l Data j) (place l Data j + 1024) (omega arith) (omega arith) (omega arith) (λ k at_least less. kept.same k (off Data j on none k at_least (omega arith)))
+    data-spared : (j : ℕ) → j < sectors l.segments_per_track → NotChosen Data j → sector_bytes l b j ≡ sector_bytes l a j
+    data-spared j on none =
+        let end = (laid_out l).before Data j on in
+        let size = kept.size in
+        range-same a b (place l Data j) (place l Data j + 1024) (omega arith) (omega arith) (omega arith)
+        (λ k at_least less. kept.same k (off Data j on none k at_least (omega arith)))
 
-  next-stage : (bytes : List ℕ) → p ≢ DefectByte → Stage l first bytes a → Stage l first bytes b
-  next-stage bytes other stage = record {
-    size = kept.size ∙ stage.size;
-    head =
-        (let e : end_of l ≤ length a = whole in
-        let far = (laid_out l).behind GateByte first (omega arith) in
-        let end = (laid_out l).before GateByte first (omega arith) in
-        head-same a b kept.size (omega arith) (λ k less. kept.same k (λ i is. let inside = within-chosen chosen long i is in let behind = (laid_out l).behind p (first + i) (omega arith) in inl (omega arith)))) ∙ stage.head;
-    others = λ j on out.
-        let none : (i : ℕ) → get_or chosen i false ≡ true → first + i ≢ j = λ i is e. outside j out i is e in
-        view-same l a b j (λ r. byte-spared r j on (inr none)) (data-spared j on (inr none)) ∙ stage.others j on out;
-    defects = λ j on. byte-spared DefectByte j on (inl other) ∙ stage.defects j on;
-  }
-    where
-      outside : (j : ℕ) → (j < first) ⊎ (first + 32 ≤ j) → (i : ℕ) → get_or chosen i false ≡ true → first + i ≡ j → ⊥
-      outside j (inl below) i is e = omega arith
-      outside j (inr above) i is e = let inside = within-chosen chosen long i is in omega arith
+    next-stage : (bytes : List ℕ) → p ≢ DefectByte → Stage l first bytes a → Stage l first bytes b
+    next-stage bytes other stage = record {
+      size = kept.size ∙ stage.size;
+      head =
+          (let e : end_of l ≤ length a = whole in
+          let far = (laid_out l).behind GateByte first (omega arith) in
+          let end = (laid_out l).before GateByte first (omega arith) in
+          head-same a b kept.size (omega arith)
+          (λ k less. kept.same k (λ i is. let inside = within-chosen chosen long i is in
+          let behind = (laid_out l).behind p (first + i) (omega arith) in inl (omega arith)))) ∙ stage.head;
+      others = λ j on out.
+          let none : (i : ℕ) → get_or chosen i false ≡ true → first + i ≢ j = λ i is e. outside j out i is e in
+          view-same l a b j (λ r. byte-spared r j on (inr none)) (data-spared j on (inr none)) ∙ stage.others j on out;
+      defects = λ j on. byte-spared DefectByte j on (inl other) ∙ stage.defects j on;
+    }
+      where
+        outside : (j : ℕ) → (j < first) ⊎ (first + 32 ≤ j) → (i : ℕ) → get_or chosen i false ≡ true → first + i ≡ j → ⊥
+        outside j (inl below) i is e = omega arith
+        outside j (inr above) i is e = let inside = within-chosen chosen long i is in omega arith
 
 -- lists of views that agree outside a segment, where the new ones are the old ones formatted in it
 formatted-views : (old new : List SectorView) (segment : ℕ) → 32 * segment + 32 ≤ length old → length new ≡ length old
@@ -155,48 +170,62 @@ formatted-views old new segment within size below above inside =
     front-length = length-take-le (32 * segment) old (omega arith)
 
     middle-length : length (map formatted_view (take 32 (drop (32 * segment) old))) ≡ 32
-    middle-length = length-map (take 32 (drop (32 * segment) old)) formatted_view ∙ length-take-le 32 (drop (32 * segment) old) (let l = length-drop (32 * segment) old in omega arith)
+    middle-length = length-map (take 32 (drop (32 * segment) old)) formatted_view ∙ length-take-le 32 (drop (32 * segment) old)
+        (let l = length-drop (32 * segment) old in omega arith)
 
     both-length : length (take (32 * segment) old ++ map formatted_view (take 32 (drop (32 * segment) old))) ≡ 32 * segment + 32
-    both-length = let e = length-append (take (32 * segment) old) (map formatted_view (take 32 (drop (32 * segment) old))) in let f = front-length in let g = middle-length in omega arith
+    both-length = let e = length-append (take (32 * segment) old) (map formatted_view (take 32 (drop (32 * segment) old))) in
+        let f = front-length in let g = middle-length in omega arith
 
-    whole : length (take (32 * segment) old ++ map formatted_view (take 32 (drop (32 * segment) old)) ++ drop (32 * (segment + 1)) old) ≡ length old
+    whole : length (take (32 * segment) old ++ map formatted_view (take 32 (drop (32 * segment) old)) ++ drop
+        (32 * (segment + 1)) old) ≡ length old
     whole =
-        let e = length-append (take (32 * segment) old ++ map formatted_view (take 32 (drop (32 * segment) old))) (drop (32 * (segment + 1)) old) in
+        let e = length-append (take (32 * segment) old ++ map formatted_view (take 32 (drop (32 * segment) old)))
+        (drop (32 * (segment + 1)) old) in
         let f = both-length in
         let g = length-drop (32 * (segment + 1)) old in
         omega arith
 
-    in_middle : (i : ℕ) (d : SectorView) → i < 32 → get_or (map formatted_view (take 32 (drop (32 * segment) old))) i d ≡ formatted_view (get_or old (32 * segment + i) d)
+    in_middle : (i : ℕ) (d : SectorView) → i < 32 → get_or (map formatted_view (take 32 (drop (32 * segment) old))) i d ≡ formatted_view
+        (get_or old (32 * segment + i) d)
     in_middle i d less =
-        get_or-map formatted_view (take 32 (drop (32 * segment) old)) i d d (let l = length-take-le 32 (drop (32 * segment) old) (let l = length-drop (32 * segment) old in omega arith) in omega arith)
+        get_or-map formatted_view (take 32 (drop (32 * segment) old)) i d d
+        (let l = length-take-le 32 (drop (32 * segment) old) (let l = length-drop (32 * segment) old in omega arith) in omega arith)
         ∙ ap formatted_view (get_or-take 32 (drop (32 * segment) old) i d less ∙ get_or-drop (32 * segment) old i d)
 
-    at : (k : ℕ) (d : SectorView) → k < length old → get_or new k d ≡ get_or (take (32 * segment) old ++ map formatted_view (take 32 (drop (32 * segment) old)) ++ drop (32 * (segment + 1)) old) k d
+    at : (k : ℕ) (d : SectorView) → k < length old →
+        get_or new k d ≡ get_or (take (32 * segment) old ++ map formatted_view (take 32 (drop (32 * segment) old)) ++ drop
+        (32 * (segment + 1)) old) k d
     at k d less = ⊎_elim
         (λ first.
         below k d first
-        ∙ sym (get_or_append_left (take (32 * segment) old ++ map formatted_view (take 32 (drop (32 * segment) old))) (drop (32 * (segment + 1)) old) d k (let b = both-length in omega arith)
-        ∙ get_or_append_left (take (32 * segment) old) (map formatted_view (take 32 (drop (32 * segment) old))) d k (let b = front-length in omega arith)
+        ∙ sym (get_or_append_left (take (32 * segment) old ++ map formatted_view (take 32 (drop (32 * segment) old)))
+        (drop (32 * (segment + 1)) old) d k (let b = both-length in omega arith)
+        ∙ get_or_append_left (take (32 * segment) old) (map formatted_view (take 32 (drop (32 * segment) old))) d k
+        (let b = front-length in omega arith)
         ∙ get_or-take (32 * segment) old k d first))
         (λ later. ⊎_elim
         (λ mid.
         let i : ℕ = k - 32 * segment in
         let there : k ≡ 32 * segment + (k - 32 * segment) = omega arith in
         ap (λ j. get_or new j d) there ∙ inside (k - 32 * segment) d (omega arith)
-        ∙ sym (get_or_append_left (take (32 * segment) old ++ map formatted_view (take 32 (drop (32 * segment) old))) (drop (32 * (segment + 1)) old) d k (let b = both-length in omega arith)
-        ∙ get_or-append_right (take (32 * segment) old) (map formatted_view (take 32 (drop (32 * segment) old))) (32 * segment) k d front-length later
+        ∙ sym (get_or_append_left (take (32 * segment) old ++ map formatted_view (take 32 (drop (32 * segment) old)))
+        (drop (32 * (segment + 1)) old) d k (let b = both-length in omega arith)
+        ∙ get_or-append_right (take (32 * segment) old) (map formatted_view (take 32 (drop (32 * segment) old)))
+        (32 * segment) k d front-length later
         ∙ in_middle (k - 32 * segment) d (omega arith)))
         (λ last.
         let there : 32 * (segment + 1) + (k - (32 * segment + 32)) ≡ k = omega arith in
         above k d last less
-        ∙ sym (get_or-append_right (take (32 * segment) old ++ map formatted_view (take 32 (drop (32 * segment) old))) (drop (32 * (segment + 1)) old) (32 * segment + 32) k d both-length last
+        ∙ sym (get_or-append_right (take (32 * segment) old ++ map formatted_view (take 32 (drop (32 * segment) old)))
+        (drop (32 * (segment + 1)) old) (32 * segment + 32) k d both-length last
         ∙ get_or-drop (32 * (segment + 1)) old (k - (32 * segment + 32)) d
         ∙ ap (λ j. get_or old j d) there))
         (cases_lt k (32 * segment + 32)))
         (cases_lt k (32 * segment))
 
-module _ (h : Head) (bytes : List ℕ) (segment : ℕ) (is : head_of bytes ≡ Some h) (whole : end_of h.layout ≤ length bytes) (on : segment < 28 * h.layout.segments_per_track) where
+module _ (h : Head) (bytes : List ℕ) (segment : ℕ) (is : head_of bytes ≡ Some h) (whole : end_of h.layout ≤ length bytes)
+    (on : segment < 28 * h.layout.segments_per_track) where
   abbrev l : Layout
   l = h.layout
 
@@ -221,16 +250,20 @@ module _ (h : Head) (bytes : List ℕ) (segment : ℕ) (is : head_of bytes ≡ S
         subst P (sym (view_at-read h bytes segment i there)) (subst Q (sym (view_at-read h left segment i there)) (each i less));
     below = λ place less. at place (omega arith) (inl less);
     above = λ place more. ⊎_elim (λ there. at place there (inr (omega arith)))
-        (λ past. slice_get_past (views_in l left) place (let n = length-views l left in omega arith) ∙ sym (slice_get_past (views_in l bytes) place (let n = length-views l bytes in omega arith))) (cases_lt place (sectors l.segments_per_track));
+        (λ past. slice_get_past (views_in l left) place (let n = length-views l left in omega arith)
+        ∙ sym (slice_get_past (views_in l bytes) place (let n = length-views l bytes in omega arith)))
+        (cases_lt place (sectors l.segments_per_track));
   }
     where
-      at : (place : ℕ) → place < sectors l.segments_per_track → (place < first) ⊎ (first + 32 ≤ place) → slice_get (views_in l left) place ≡ slice_get (views_in l bytes) place
+      at : (place : ℕ) → place < sectors l.segments_per_track → (place < first) ⊎ (first + 32 ≤ place) →
+          slice_get (views_in l left) place ≡ slice_get (views_in l bytes) place
       at place there out =
           slice_get-get_or (views_in l left) place Blank (let n = length-views l left in omega arith)
           ∙ ap Some (get_or-views l left place Blank there ∙ stage.others place there out ∙ sym (get_or-views l bytes place Blank there))
           ∙ sym (slice_get-get_or (views_in l bytes) place Blank (let n = length-views l bytes in omega arith))
 
-  half : (left : List ℕ) → Stage l first bytes left → SegmentBecame ClosingView segment (read_as h bytes) (read_as h left) ⊎ SegmentBecame OpeningView segment (read_as h bytes) (read_as h left)
+  half : (left : List ℕ) → Stage l first bytes left → SegmentBecame ClosingView segment (read_as h bytes) (read_as h left)
+      ⊎ SegmentBecame OpeningView segment (read_as h bytes) (read_as h left)
       → HalfFormatted segment (cartridge_of bytes) (cartridge_of left)
   half left stage halves =
       let P : Option Cartridge → Type 0 = λ c. HalfFormatted segment c (cartridge_of left) in
@@ -249,11 +282,14 @@ module _ (h : Head) (bytes : List ℕ) (segment : ℕ) (is : head_of bytes ≡ S
       lengths : length (views_in l bytes) ≡ sectors l.segments_per_track
       lengths = length-views l bytes
 
-      outside : (k : ℕ) (d : SectorView) → k < sectors l.segments_per_track → (k < first) ⊎ (first + 32 ≤ k) → get_or (views_in l left) k d ≡ get_or (views_in l bytes) k d
+      outside : (k : ℕ) (d : SectorView) → k < sectors l.segments_per_track → (k < first) ⊎ (first + 32 ≤ k) →
+          get_or (views_in l left) k d ≡ get_or (views_in l bytes) k d
       outside k d there out = get_or-views l left k d there ∙ stage.others k there out ∙ sym (get_or-views l bytes k d there)
 
-      views : views_in l left ≡ take first (views_in l bytes) ++ map formatted_view (take 32 (drop first (views_in l bytes))) ++ drop (32 * (segment + 1)) (views_in l bytes)
-      views = formatted-views (views_in l bytes) (views_in l left) segment (let n = lengths in omega arith) (length-views l left ∙ sym lengths)
+      views : views_in l left ≡ take first (views_in l bytes) ++ map formatted_view (take 32 (drop first (views_in l bytes))) ++ drop
+          (32 * (segment + 1)) (views_in l bytes)
+      views = formatted-views (views_in l bytes) (views_in l left) segment (let n = lengths in omega arith)
+          (length-views l left ∙ sym lengths)
           (λ k d less. outside k d (let n = lengths in omega arith) (inl less))
           (λ k d more less. outside k d (let n = lengths in omega arith) (inr (omega arith)))
           (λ i d less.
@@ -277,7 +313,8 @@ module _ (h : Head) (bytes : List ℕ) (segment : ℕ) (is : head_of bytes ≡ S
   fits f = those-fit segment f l.segments_per_track on
 
   -- a sector that is not chosen keeps its part
-  not-chosen : (f : ℕ → Bool) (i : ℕ) → i < 32 → f (first + i) ≡ false → (j : ℕ) → get_or (those segment f) j false ≡ true → first + j ≢ first + i
+  not-chosen : (f : ℕ → Bool) (i : ℕ) → i < 32 → f (first + i) ≡ false → (j : ℕ) → get_or (those segment f) j false ≡ true →
+      first + j ≢ first + i
   not-chosen f i less out j picked e =
       let same : j ≡ i = omega arith in
       let a : get_or (those segment f) i false ≡ true = ap (λ k. get_or (those segment f) k false) (sym same) ∙ picked in
@@ -296,8 +333,10 @@ module _ (h : Head) (bytes : List ℕ) (segment : ℕ) (is : head_of bytes ≡ S
   held s i = sector_bytes l s (first + i)
 
   -- what a sector shows in a stage
-  shows : (s : List ℕ) → Stage l first bytes s → (i : ℕ) → i < 32 → view_in l s (first + i) ≡ shown (bad i) (formed s i) (opened s i) (held s i)
-  shows s stage i less = view_in-is l s (first + i) ∙ ap (λ d. shown (d == defect_byte) (formed s i) (opened s i) (held s i)) (stage.defects (first + i) (omega arith))
+  shows : (s : List ℕ) → Stage l first bytes s → (i : ℕ) → i < 32 → view_in l s (first + i) ≡ shown (bad i) (formed s i) (opened s i)
+      (held s i)
+  shows s stage i less = view_in-is l s (first + i) ∙ ap (λ d. shown (d == defect_byte) (formed s i) (opened s i) (held s i))
+      (stage.defects (first + i) (omega arith))
 
   all-stage : Stage l first bytes bytes
   all-stage = Stage-all l first bytes
@@ -305,14 +344,18 @@ module _ (h : Head) (bytes : List ℕ) (segment : ℕ) (is : head_of bytes ≡ S
   end-at : (s : List ℕ) → Stage l first bytes s → end_of l ≤ length s
   end-at s stage = let size = stage.size in omega arith
 
-  closing-half : (left : List ℕ) → Stage l first bytes left → ((i : ℕ) → i < 32 → ClosingView (shown (bad i) (formed bytes i) (opened bytes i) (held bytes i)) (shown (bad i) (formed left i) (opened left i) (held left i)))
+  closing-half : (left : List ℕ) → Stage l first bytes left →
+      ((i : ℕ) → i < 32 → ClosingView (shown (bad i) (formed bytes i) (opened bytes i) (held bytes i))
+      (shown (bad i) (formed left i) (opened left i) (held left i)))
       → HalfFormatted segment (cartridge_of bytes) (cartridge_of left)
   closing-half left stage each = half left stage (inl (became ClosingView left stage (λ i less.
       let P : SectorView → Type 0 = λ u. ClosingView u (view_in l left (first + i)) in
       let Q : SectorView → Type 0 = λ u. ClosingView (shown (bad i) (formed bytes i) (opened bytes i) (held bytes i)) u in
       subst P (sym (shows bytes all-stage i less)) (subst Q (sym (shows left stage i less)) (each i less)))))
 
-  opening-half : (left : List ℕ) → Stage l first bytes left → ((i : ℕ) → i < 32 → OpeningView (shown (bad i) (formed bytes i) (opened bytes i) (held bytes i)) (shown (bad i) (formed left i) (opened left i) (held left i)))
+  opening-half : (left : List ℕ) → Stage l first bytes left →
+      ((i : ℕ) → i < 32 → OpeningView (shown (bad i) (formed bytes i) (opened bytes i) (held bytes i))
+      (shown (bad i) (formed left i) (opened left i) (held left i)))
       → HalfFormatted segment (cartridge_of bytes) (cartridge_of left)
   opening-half left stage each = half left stage (inr (became OpeningView left stage (λ i less.
       let P : SectorView → Type 0 = λ u. OpeningView u (view_in l left (first + i)) in
@@ -332,11 +375,14 @@ module _ (h : Head) (bytes : List ℕ) (segment : ℕ) (is : head_of bytes ≡ S
   not-no false is = cc
 
   -- what a fill of a byte leaves of it
-  filled : (p : Part) (value : ℕ) (f : ℕ → Bool) (s : List ℕ) → end_of l ≤ length s → (i : ℕ) → i < 32 → f (first + i) ≡ true → width p ≡ 1 → slice_index (after_steps (fill_writes l p value first (those segment f) 0) s) (place l p (first + i)) ≡ value
+  filled : (p : Part) (value : ℕ) (f : ℕ → Bool) (s : List ℕ) → end_of l ≤ length s → (i : ℕ) → i < 32 → f (first + i) ≡ true →
+      width p ≡ 1 → slice_index (after_steps (fill_writes l p value first (those segment f) 0) s) (place l p (first + i)) ≡ value
   filled p value f s there i less picked one =
-      fill-value l p value (length s) there first (those segment f) (fits f) s refl i (those-at f i less ∙ picked) (place l p (first + i)) (omega arith) (omega arith)
+      fill-value l p value (length s) there first (those segment f) (fits f) s refl i (those-at f i less ∙ picked) (place l p (first + i))
+      (omega arith) (omega arith)
 
-  keeps : (p : Part) (value : ℕ) (f : ℕ → Bool) (s : List ℕ) → end_of l ≤ length s → SameAt (OffChosen l p first (those segment f)) s (after_steps (fill_writes l p value first (those segment f) 0) s)
+  keeps : (p : Part) (value : ℕ) (f : ℕ → Bool) (s : List ℕ) → end_of l ≤ length s → SameAt (OffChosen l p first (those segment f)) s
+      (after_steps (fill_writes l p value first (those segment f) 0) s)
   keeps p value f s there = fill-kept l p value (length s) there first (those segment f) (fits f) s refl
 
   -- the gates are closed
@@ -345,23 +391,31 @@ module _ (h : Head) (bytes : List ℕ) (segment : ℕ) (is : head_of bytes ≡ S
 
   module _ (left : List ℕ) (kept : SameAt (OffChosen l GateByte first readable) bytes left) where
     gates-stage : Stage l first bytes left
-    gates-stage = next-stage l GateByte first readable bytes left (those-length segment (is_open l bytes)) within whole kept bytes (λ e. cc) all-stage
+    gates-stage = next-stage l GateByte first readable bytes left (those-length segment (is_open l bytes)) within whole kept bytes
+        (λ e. cc) all-stage
 
     gates-formed : (i : ℕ) → i < 32 → formed left i ≡ formed bytes i
-    gates-formed i less = ap (λ b. b == formed_byte) (byte-spared l GateByte first readable bytes left (those-length segment (is_open l bytes)) within whole kept FormedByte (first + i) (omega arith) (inl (λ e. cc)))
+    gates-formed i less = ap (λ b. b == formed_byte)
+        (byte-spared l GateByte first readable bytes left (those-length segment (is_open l bytes)) within whole kept FormedByte (first + i)
+        (omega arith) (inl (λ e. cc)))
 
     gates-data : (i : ℕ) → i < 32 → held left i ≡ held bytes i
-    gates-data i less = data-spared l GateByte first readable bytes left (those-length segment (is_open l bytes)) within whole kept (first + i) (omega arith) (inl (λ e. cc))
+    gates-data i less = data-spared l GateByte first readable bytes left (those-length segment (is_open l bytes)) within whole kept
+        (first + i) (omega arith) (inl (λ e. cc))
 
     gates-shut : (i : ℕ) → i < 32 → opened bytes i ≡ false → opened left i ≡ false
     gates-shut i less shut =
-        ap (λ b. b == open_gate) (byte-spared l GateByte first readable bytes left (those-length segment (is_open l bytes)) within whole kept GateByte (first + i) (omega arith)
+        ap (λ b. b == open_gate) (byte-spared l GateByte first readable bytes left
+        (those-length segment (is_open l bytes)) within whole kept GateByte (first + i) (omega arith)
         (inr (not-chosen (is_open l bytes) i less (and-no (not (bad i)) (opened bytes i) shut)))) ∙ shut
 
     gates-torn : HalfFormatted segment (cartridge_of bytes) (cartridge_of left)
     gates-torn = closing-half left gates-stage (λ i less.
-        let P : Bool → Type 0 = λ f. ClosingView (shown (bad i) (formed bytes i) (opened bytes i) (held bytes i)) (shown (bad i) f (opened left i) (held left i)) in
-        subst P (sym (gates-formed i less)) (closing (bad i) (formed bytes i) (opened bytes i) (opened left i) (held bytes i) (held left i) (gates-shut i less) (gates-data i less)))
+        let P : Bool → Type 0 = λ f. ClosingView (shown (bad i) (formed bytes i) (opened bytes i) (held bytes i))
+        (shown (bad i) f (opened left i) (held left i)) in
+        subst P (sym (gates-formed i less))
+        (closing (bad i) (formed bytes i) (opened bytes i) (opened left i) (held bytes i) (held left i) (gates-shut i less)
+        (gates-data i less)))
 
   kept1 : SameAt (OffChosen l GateByte first readable) bytes b1
   kept1 = keeps GateByte closed_gate (is_open l bytes) bytes whole
@@ -376,7 +430,8 @@ module _ (h : Head) (bytes : List ℕ) (segment : ℕ) (is : head_of bytes ≡ S
   shut1 i less good = by_gate (opened bytes i) refl
     where
       by_gate : (o : Bool) → opened bytes i ≡ o → opened b1 i ≡ false
-      by_gate true was = ap (λ b. b == open_gate) (filled GateByte closed_gate (is_open l bytes) bytes whole i less (not-both (bad i) (opened bytes i) good ∙ was) refl)
+      by_gate true was = ap (λ b. b == open_gate)
+          (filled GateByte closed_gate (is_open l bytes) bytes whole i less (not-both (bad i) (opened bytes i) good ∙ was) refl)
       by_gate false was = gates-shut b1 kept1 i less was
 
   -- the sectors are zeroed
@@ -388,15 +443,21 @@ module _ (h : Head) (bytes : List ℕ) (segment : ℕ) (is : head_of bytes ≡ S
     zeroed-stage = next-stage l Data first usable b1 left (those-length segment (is_usable l bytes)) within end1 kept bytes (λ e. cc) stage1
 
     zeroed-formed : (i : ℕ) → i < 32 → formed left i ≡ formed bytes i
-    zeroed-formed i less = ap (λ b. b == formed_byte) (byte-spared l Data first usable b1 left (those-length segment (is_usable l bytes)) within end1 kept FormedByte (first + i) (omega arith) (inl (λ e. cc))) ∙ gates-formed b1 kept1 i less
+    zeroed-formed i less = ap (λ b. b == formed_byte)
+        (byte-spared l Data first usable b1 left (those-length segment (is_usable l bytes)) within end1 kept FormedByte (first + i)
+        (omega arith) (inl (λ e. cc))) ∙ gates-formed b1 kept1 i less
 
     zeroed-shut : (i : ℕ) → i < 32 → bad i ≡ false → opened left i ≡ false
-    zeroed-shut i less good = ap (λ b. b == open_gate) (byte-spared l Data first usable b1 left (those-length segment (is_usable l bytes)) within end1 kept GateByte (first + i) (omega arith) (inl (λ e. cc))) ∙ shut1 i less good
+    zeroed-shut i less good = ap (λ b. b == open_gate)
+        (byte-spared l Data first usable b1 left (those-length segment (is_usable l bytes)) within end1 kept GateByte (first + i)
+        (omega arith) (inl (λ e. cc))) ∙ shut1 i less good
 
     zeroed-torn : HalfFormatted segment (cartridge_of bytes) (cartridge_of left)
     zeroed-torn = closing-half left zeroed-stage (λ i less.
-        let P : Bool → Type 0 = λ f. ClosingView (shown (bad i) (formed bytes i) (opened bytes i) (held bytes i)) (shown (bad i) f (opened left i) (held left i)) in
-        subst P (sym (zeroed-formed i less)) (closed (bad i) (formed bytes i) (opened bytes i) (opened left i) (held bytes i) (held left i) (zeroed-shut i less)))
+        let P : Bool → Type 0 = λ f. ClosingView (shown (bad i) (formed bytes i) (opened bytes i) (held bytes i))
+        (shown (bad i) f (opened left i) (held left i)) in
+        subst P (sym (zeroed-formed i less))
+        (closed (bad i) (formed bytes i) (opened bytes i) (opened left i) (held bytes i) (held left i) (zeroed-shut i less)))
 
   kept2 : SameAt (OffChosen l Data first usable) b1 b2
   kept2 = keeps Data 0 (is_usable l bytes) b1 end1
@@ -421,11 +482,13 @@ module _ (h : Head) (bytes : List ℕ) (segment : ℕ) (is : head_of bytes ≡ S
       let b = (laid_out l).before Data (first + i) (omega arith) in
       let n = length-between b2 (place l Data (first + i)) (place l Data (first + i) + 1024) (omega arith) in
       let z = zero_sector-length in
-      same_lists _ _ (n ∙ (let e : place l Data (first + i) + 1024 - place l Data (first + i) ≡ 1024 = omega arith in e) ∙ sym zero_sector-length) (λ k d h.
+      same_lists _ _ (n ∙ (let e : place l Data (first + i) + 1024 - place l Data (first + i) ≡ 1024 = omega arith in e)
+      ∙ sym zero_sector-length) (λ k d h.
       let k_less : k < 1024 = omega arith in
       get_or-between b2 (place l Data (first + i)) (place l Data (first + i) + 1024) k d (omega arith)
       ∙ get_or_default b2 (place l Data (first + i) + k) d 0 (omega arith)
-      ∙ fill-value l Data 0 (length b1) end1 first usable (fits (is_usable l bytes)) b1 refl i (those-at (is_usable l bytes) i less ∙ ap not good) (place l Data (first + i) + k) (omega arith) (omega arith)
+      ∙ fill-value l Data 0 (length b1) end1 first usable (fits (is_usable l bytes)) b1 refl i
+      (those-at (is_usable l bytes) i less ∙ ap not good) (place l Data (first + i) + k) (omega arith) (omega arith)
       ∙ sym (zero_sector-zero k k_less)
       ∙ get_or_default zero_sector k 0 d (omega arith))
 
@@ -435,22 +498,29 @@ module _ (h : Head) (bytes : List ℕ) (segment : ℕ) (is : head_of bytes ≡ S
 
   module _ (left : List ℕ) (kept : SameAt (OffChosen l FormedByte first unformed) b2 left) where
     form-stage : Stage l first bytes left
-    form-stage = next-stage l FormedByte first unformed b2 left (those-length segment (is_unformed l bytes)) within end2 kept bytes (λ e. cc) stage2
+    form-stage = next-stage l FormedByte first unformed b2 left (those-length segment (is_unformed l bytes)) within end2 kept bytes
+        (λ e. cc) stage2
 
     form-shut : (i : ℕ) → i < 32 → bad i ≡ false → opened left i ≡ false
-    form-shut i less good = ap (λ b. b == open_gate) (byte-spared l FormedByte first unformed b2 left (those-length segment (is_unformed l bytes)) within end2 kept GateByte (first + i) (omega arith) (inl (λ e. cc))) ∙ zeroed-shut b2 kept2 i less good
+    form-shut i less good = ap (λ b. b == open_gate)
+        (byte-spared l FormedByte first unformed b2 left (those-length segment (is_unformed l bytes)) within end2 kept GateByte (first + i)
+        (omega arith) (inl (λ e. cc))) ∙ zeroed-shut b2 kept2 i less good
 
     form-zero : (i : ℕ) → i < 32 → bad i ≡ false → held left i ≡ zero_sector
-    form-zero i less good = data-spared l FormedByte first unformed b2 left (those-length segment (is_unformed l bytes)) within end2 kept (first + i) (omega arith) (inl (λ e. cc)) ∙ zeros2 i less good
+    form-zero i less good = data-spared l FormedByte first unformed b2 left (those-length segment (is_unformed l bytes)) within end2 kept
+        (first + i) (omega arith) (inl (λ e. cc)) ∙ zeros2 i less good
 
     form-kept : (i : ℕ) → i < 32 → formed bytes i ≡ true → formed left i ≡ true
     form-kept i less is_formed =
-        ap (λ b. b == formed_byte) (byte-spared l FormedByte first unformed b2 left (those-length segment (is_unformed l bytes)) within end2 kept FormedByte (first + i) (omega arith)
+        ap (λ b. b == formed_byte) (byte-spared l FormedByte first unformed b2 left
+        (those-length segment (is_unformed l bytes)) within end2 kept FormedByte (first + i) (omega arith)
         (inr (not-chosen (is_unformed l bytes) i less (and-no (not (bad i)) (not (formed bytes i)) (not-no (formed bytes i) is_formed)))))
         ∙ zeroed-formed b2 kept2 i less ∙ is_formed
 
     form-torn : HalfFormatted segment (cartridge_of bytes) (cartridge_of left)
-    form-torn = opening-half left form-stage (λ i less. forming (bad i) (formed bytes i) (opened bytes i) (formed left i) (opened left i) (held bytes i) (held left i) (form-shut i less) (form-kept i less))
+    form-torn = opening-half left form-stage
+        (λ i less. forming (bad i) (formed bytes i) (opened bytes i) (formed left i) (opened left i) (held bytes i) (held left i)
+        (form-shut i less) (form-kept i less))
 
   kept3 : SameAt (OffChosen l FormedByte first unformed) b2 b3
   kept3 = keeps FormedByte formed_byte (is_unformed l bytes) b2 end2
@@ -466,7 +536,9 @@ module _ (h : Head) (bytes : List ℕ) (segment : ℕ) (is : head_of bytes ≡ S
     where
       by_formed : (f : Bool) → formed bytes i ≡ f → formed b3 i ≡ true
       by_formed true was = form-kept b3 kept3 i less was
-      by_formed false was = ap (λ b. b == formed_byte) (filled FormedByte formed_byte (is_unformed l bytes) b2 end2 i less (not-both (bad i) (not (formed bytes i)) good ∙ ap not was) refl)
+      by_formed false was = ap (λ b. b == formed_byte)
+          (filled FormedByte formed_byte (is_unformed l bytes) b2 end2 i less (not-both (bad i) (not (formed bytes i)) good ∙ ap not was)
+          refl)
 
   -- the gates are opened
   abbrev b4 : List ℕ
@@ -474,16 +546,22 @@ module _ (h : Head) (bytes : List ℕ) (segment : ℕ) (is : head_of bytes ≡ S
 
   module _ (left : List ℕ) (kept : SameAt (OffChosen l GateByte first usable) b3 left) where
     open-stage : Stage l first bytes left
-    open-stage = next-stage l GateByte first usable b3 left (those-length segment (is_usable l bytes)) within end3 kept bytes (λ e. cc) stage3
+    open-stage = next-stage l GateByte first usable b3 left (those-length segment (is_usable l bytes)) within end3 kept bytes
+        (λ e. cc) stage3
 
     open-formed : (i : ℕ) → i < 32 → bad i ≡ false → formed left i ≡ true
-    open-formed i less good = ap (λ b. b == formed_byte) (byte-spared l GateByte first usable b3 left (those-length segment (is_usable l bytes)) within end3 kept FormedByte (first + i) (omega arith) (inl (λ e. cc))) ∙ formed3 i less good
+    open-formed i less good = ap (λ b. b == formed_byte)
+        (byte-spared l GateByte first usable b3 left (those-length segment (is_usable l bytes)) within end3 kept FormedByte (first + i)
+        (omega arith) (inl (λ e. cc))) ∙ formed3 i less good
 
     open-zero : (i : ℕ) → i < 32 → bad i ≡ false → held left i ≡ zero_sector
-    open-zero i less good = data-spared l GateByte first usable b3 left (those-length segment (is_usable l bytes)) within end3 kept (first + i) (omega arith) (inl (λ e. cc)) ∙ form-zero b3 kept3 i less good
+    open-zero i less good = data-spared l GateByte first usable b3 left (those-length segment (is_usable l bytes)) within end3 kept
+        (first + i) (omega arith) (inl (λ e. cc)) ∙ form-zero b3 kept3 i less good
 
     open-torn : HalfFormatted segment (cartridge_of bytes) (cartridge_of left)
-    open-torn = opening-half left open-stage (λ i less. opening (bad i) (formed bytes i) (opened bytes i) (formed left i) (opened left i) (held bytes i) (held left i) (open-formed i less) (open-zero i less))
+    open-torn = opening-half left open-stage
+        (λ i less. opening (bad i) (formed bytes i) (opened bytes i) (formed left i) (opened left i) (held bytes i) (held left i)
+        (open-formed i less) (open-zero i less))
 
   kept4 : SameAt (OffChosen l GateByte first usable) b3 b4
   kept4 = keeps GateByte open_gate (is_usable l bytes) b3 end3
@@ -491,8 +569,10 @@ module _ (h : Head) (bytes : List ℕ) (segment : ℕ) (is : head_of bytes ≡ S
   formatted4 : cartridge_of b4 ≡ effect (FormatSegment segment) (cartridge_of bytes)
   formatted4 = all-formatted b4 (open-stage b4 kept4) (λ i less.
       shows b4 (open-stage b4 kept4) i less
-      ∙ formatted (bad i) (formed bytes i) (opened bytes i) (formed b4 i) (opened b4 i) (held bytes i) (held b4 i) (open-formed b4 kept4 i less)
-      (λ good. ap (λ b. b == open_gate) (filled GateByte open_gate (is_usable l bytes) b3 end3 i less (ap not good) refl)) (open-zero b4 kept4 i less)
+      ∙ formatted (bad i) (formed bytes i) (opened bytes i) (formed b4 i) (opened b4 i) (held bytes i) (held b4 i)
+      (open-formed b4 kept4 i less)
+      (λ good. ap (λ b. b == open_gate) (filled GateByte open_gate (is_usable l bytes) b3 end3 i less (ap not good) refl))
+      (open-zero b4 kept4 i less)
       ∙ ap formatted_view (sym (shows bytes all-stage i less)))
 
   abbrev f1 : List DiskStep
@@ -517,20 +597,26 @@ module _ (h : Head) (bytes : List ℕ) (segment : ℕ) (is : head_of bytes ≡ S
     where
       ran : after_steps run bytes ≡ b4
       ran =
-          after-both (synced f1) (synced f2 ++ (synced f3 ++ synced f4)) bytes ∙ ap (after_steps (synced f2 ++ (synced f3 ++ synced f4))) (after-synced f1 bytes)
+          after-both (synced f1) (synced f2 ++ (synced f3 ++ synced f4)) bytes ∙ ap (after_steps (synced f2 ++ (synced f3 ++ synced f4)))
+          (after-synced f1 bytes)
           ∙ after-both (synced f2) (synced f3 ++ synced f4) b1 ∙ ap (after_steps (synced f3 ++ synced f4)) (after-synced f2 b1)
           ∙ after-both (synced f3) (synced f4) b2 ∙ ap (after_steps (synced f4)) (after-synced f3 b2)
           ∙ after-synced f4 b3
 
-      torn : (left : List ℕ) → Crashed (λ b. b ≡ bytes) bytes run left → Torn (FormatSegment segment ∷ []) (cartridge_of bytes) (cartridge_of left)
+      torn : (left : List ℕ) → Crashed (λ b. b ≡ bytes) bytes run left → Torn (FormatSegment segment ∷ []) (cartridge_of bytes)
+          (cartridge_of left)
       torn left crashed =
           elim (Crashed-synced f1 (synced f2 ++ (synced f3 ++ synced f4)) bytes left crashed) [
-            | inl in1 ↦ inr (inl (gates-torn left (fill-crash l GateByte closed_gate (length bytes) whole first readable (fits (is_open l bytes)) bytes left refl in1)))
+            | inl in1 ↦ inr (inl (gates-torn left
+                (fill-crash l GateByte closed_gate (length bytes) whole first readable (fits (is_open l bytes)) bytes left refl in1)))
             | inr later1 ↦ elim (Crashed-synced f2 (synced f3 ++ synced f4) b1 left later1) [
-              | inl in2 ↦ inr (inl (zeroed-torn left (fill-crash l Data 0 (length b1) end1 first usable (fits (is_usable l bytes)) b1 left refl in2)))
+              | inl in2 ↦ inr (inl (zeroed-torn left
+                  (fill-crash l Data 0 (length b1) end1 first usable (fits (is_usable l bytes)) b1 left refl in2)))
               | inr later2 ↦ elim (Crashed-synced f3 (synced f4) b2 left later2) [
-                | inl in3 ↦ inr (inl (form-torn left (fill-crash l FormedByte formed_byte (length b2) end2 first unformed (fits (is_unformed l bytes)) b2 left refl in3)))
-                | inr in4 ↦ inr (inl (open-torn left (fill-crash l GateByte open_gate (length b3) end3 first usable (fits (is_usable l bytes)) b3 left refl in4)))
+                | inl in3 ↦ inr (inl (form-torn left
+                    (fill-crash l FormedByte formed_byte (length b2) end2 first unformed (fits (is_unformed l bytes)) b2 left refl in3)))
+                | inr in4 ↦ inr (inl (open-torn left
+                    (fill-crash l GateByte open_gate (length b3) end3 first usable (fits (is_usable l bytes)) b3 left refl in4)))
               ]
             ]
           ]

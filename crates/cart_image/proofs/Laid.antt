@@ -1,5 +1,6 @@
 -- Each call but `renew` and `upgrade` leaves the layout of the image as it was.
-use Rattle.std.proofs.Common.{◌≡◌, ℕ, ◌+◌, ◌*◌, ◌<◌, ◌≤◌, inl, inr, ⊎_elim, Bool, true, false, List, [], ◌∷◌, ◌++◌, length, refl, sym, ◌∙◌, ap, arith, Option, Some, None, is_some, subst, Result, Ok, Err}
+use Rattle.std.proofs.Common.{◌≡◌, ℕ, ◌+◌, ◌*◌, ◌<◌, ◌≤◌, inl, inr, ⊎_elim, Bool, true, false, List, [], ◌∷◌, ◌++◌, length, refl, sym, ◌∙◌}
+use Rattle.std.proofs.Common.{ap, arith, Option, Some, None, is_some, subst, Result, Ok, Err}
 use Rattle.std.specs.Prelude.{◌==◌, if◌then◌else◌}
 use Rattle.qic_base.specs.declared.tape.SectorView.{SectorView}
 use Rattle.qic_base.specs.declared.tape.SectorView.TheVariants.{Blank, Defect, Lost, Holds}
@@ -8,7 +9,9 @@ use Rattle.cart_image.specs.declared.layout.Layout.{Layout}
 use Rattle.cart_image.specs.declared.layout.Part.{Part}
 use Rattle.cart_image.specs.declared.layout.Part.TheVariants.{GateByte, FormedByte, DefectByte, Data}
 use Rattle.cart_image.specs.Image.{layout_of}
-use Rattle.cart_image.specs.Layout.{sectors, end_of, width, place, put, mark_byte, open_gate, closed_gate, formed_byte, defect_byte, fill, fill_writes, those, is_open, is_usable, is_unformed, write_sector_steps, wear_steps, spoil_steps, mark_steps, format_plan, format_segment_steps}
+use Rattle.cart_image.specs.Layout.{sectors, end_of, width, place, put, mark_byte, open_gate, closed_gate, formed_byte, defect_byte, fill}
+use Rattle.cart_image.specs.Layout.{fill_writes, those, is_open, is_usable, is_unformed, write_sector_steps, wear_steps, spoil_steps}
+use Rattle.cart_image.specs.Layout.{mark_steps, format_plan, format_segment_steps}
 use Rattle.cart_image.specs.Run.{Carried, Went, after_steps}
 use Rattle.cart_image.proofs.Fills.{OffChosen, fill-spares}
 use Rattle.cart_image.proofs.Formats.{in-segment, those-fit}
@@ -22,7 +25,8 @@ Spares-less P Q len [] less spares = tt
 Spares-less P Q len (Look ∷ steps) less spares = Spares-less P Q len steps less spares
 Spares-less P Q len (Sync ∷ steps) less spares = Spares-less P Q len steps less spares
 Spares-less P Q len (SetLen n ∷ steps) less spares = absurd spares
-Spares-less P Q len (WriteAt place part ∷ steps) less spares = (spares.0, (λ k at. spares.1 k (less k at)), Spares-less P Q len steps less spares.2)
+Spares-less P Q len (WriteAt place part ∷ steps) less spares =
+    (spares.0, (λ k at. spares.1 k (less k at)), Spares-less P Q len steps less spares.2)
 
 low : (k : ℕ) → TellsLayout k → k < 24
 low k (inl below) = omega arith
@@ -33,19 +37,24 @@ put-spares : (len at : ℕ) (part : List ℕ) → 64 ≤ at → at + length part
 put-spares len at part behind fits = (fits, (λ k tells. let b = low k tells in inl (omega arith)), tt)
 
 module _ (l : Layout) (len : ℕ) (room : end_of l ≤ len) where
-  part-spares : (p : Part) (q : ℕ) (part : List ℕ) → q < sectors l.segments_per_track → length part ≡ width p → Spares TellsLayout len (put (place l p q) part)
+  part-spares : (p : Part) (q : ℕ) (part : List ℕ) → q < sectors l.segments_per_track → length part ≡ width p →
+      Spares TellsLayout len (put (place l p q) part)
   part-spares p q part on long =
       let behind = (laid_out l).behind p q on in
       let before = (laid_out l).before p q on in
       put-spares len (place l p q) part behind (omega arith)
 
-  pub write-spares : (q : ℕ) (from : List ℕ) (v : SectorView) → q < sectors l.segments_per_track → length from ≡ 1024 → Spares TellsLayout len (write_sector_steps l q from v)
+  pub write-spares : (q : ℕ) (from : List ℕ) (v : SectorView) → q < sectors l.segments_per_track → length from ≡ 1024 →
+      Spares TellsLayout len (write_sector_steps l q from v)
   write-spares q from Blank on long = tt
   write-spares q from Defect on long = tt
-  write-spares q from Lost on long = Spares-both TellsLayout len (put (place l Data q) from) (put (place l GateByte q) (open_gate ∷ [])) (part-spares Data q from on long) (part-spares GateByte q (open_gate ∷ []) on refl)
+  write-spares q from Lost on long = Spares-both TellsLayout len (put (place l Data q) from) (put (place l GateByte q) (open_gate ∷ []))
+      (part-spares Data q from on long) (part-spares GateByte q (open_gate ∷ []) on refl)
   write-spares q from (Holds old) on long =
-      Spares-both TellsLayout len (put (place l GateByte q) (closed_gate ∷ [])) (put (place l Data q) from ++ put (place l GateByte q) (open_gate ∷ [])) (part-spares GateByte q (closed_gate ∷ []) on refl)
-      (Spares-both TellsLayout len (put (place l Data q) from) (put (place l GateByte q) (open_gate ∷ [])) (part-spares Data q from on long) (part-spares GateByte q (open_gate ∷ []) on refl))
+      Spares-both TellsLayout len (put (place l GateByte q) (closed_gate ∷ []))
+      (put (place l Data q) from ++ put (place l GateByte q) (open_gate ∷ [])) (part-spares GateByte q (closed_gate ∷ []) on refl)
+      (Spares-both TellsLayout len (put (place l Data q) from) (put (place l GateByte q) (open_gate ∷ [])) (part-spares Data q from on long)
+      (part-spares GateByte q (open_gate ∷ []) on refl))
 
   pub wear-spares : (q : ℕ) (v : SectorView) → q < sectors l.segments_per_track → Spares TellsLayout len (wear_steps l q v)
   wear-spares q Blank on = tt
@@ -59,10 +68,12 @@ module _ (l : Layout) (len : ℕ) (room : end_of l ≤ len) where
   spoil-spares q Lost on = tt
   spoil-spares q (Holds old) on = tt
 
-  filling-spares : (p : Part) (value segment : ℕ) (f : ℕ → Bool) → segment < 28 * l.segments_per_track → Spares TellsLayout len (fill l p value (32 * segment) (those segment f))
+  filling-spares : (p : Part) (value segment : ℕ) (f : ℕ → Bool) → segment < 28 * l.segments_per_track →
+      Spares TellsLayout len (fill l p value (32 * segment) (those segment f))
   filling-spares p value segment f on =
       Spares-synced TellsLayout len (fill_writes l p value (32 * segment) (those segment f) 0)
-      (Spares-less TellsLayout (OffChosen l p (32 * segment) (those segment f)) len (fill_writes l p value (32 * segment) (those segment f) 0)
+      (Spares-less TellsLayout (OffChosen l p (32 * segment) (those segment f)) len
+      (fill_writes l p value (32 * segment) (those segment f) 0)
       (λ k tells i is.
       let b = low k tells in
       let inside = in-segment segment f i is in
@@ -70,12 +81,17 @@ module _ (l : Layout) (len : ℕ) (room : end_of l ≤ len) where
       inl (omega arith))
       (fill-spares l p value len room (32 * segment) (those segment f) (those-fit segment f l.segments_per_track on)))
 
-  pub format-spares : (segment : ℕ) (bytes : List ℕ) → segment < 28 * l.segments_per_track → Spares TellsLayout len (format_plan l segment bytes)
+  pub format-spares : (segment : ℕ) (bytes : List ℕ) → segment < 28 * l.segments_per_track →
+      Spares TellsLayout len (format_plan l segment bytes)
   unfolding format_segment_steps
   format-spares segment bytes on =
-      Spares-both TellsLayout len (fill l GateByte closed_gate (32 * segment) (those segment (is_open l bytes))) _ (filling-spares GateByte closed_gate segment (is_open l bytes) on)
-      (Spares-both TellsLayout len (fill l Data 0 (32 * segment) (those segment (is_usable l bytes))) _ (filling-spares Data 0 segment (is_usable l bytes) on)
-      (Spares-both TellsLayout len (fill l FormedByte formed_byte (32 * segment) (those segment (is_unformed l bytes))) (fill l GateByte open_gate (32 * segment) (those segment (is_usable l bytes))) (filling-spares FormedByte formed_byte segment (is_unformed l bytes) on)
+      Spares-both TellsLayout len (fill l GateByte closed_gate (32 * segment) (those segment (is_open l bytes))) _
+      (filling-spares GateByte closed_gate segment (is_open l bytes) on)
+      (Spares-both TellsLayout len (fill l Data 0 (32 * segment) (those segment (is_usable l bytes))) _
+      (filling-spares Data 0 segment (is_usable l bytes) on)
+      (Spares-both TellsLayout len (fill l FormedByte formed_byte (32 * segment) (those segment (is_unformed l bytes)))
+      (fill l GateByte open_gate (32 * segment) (those segment (is_usable l bytes)))
+      (filling-spares FormedByte formed_byte segment (is_unformed l bytes) on)
       (filling-spares GateByte open_gate segment (is_usable l bytes) on)))
 
 -- a mark is no byte that tells the layout
@@ -98,18 +114,21 @@ mark-spares len at on byte late early long = by_mark on (byte == mark_byte)
         by_set false = tt
 
 -- what a call whose plan spares them leaves
-pub some_told : (told now : Option (List ℕ)) (left : List ℕ) → is_some now ≡ is_some told → now ≡ Some left → (bytes : List ℕ) × (told ≡ Some bytes)
+pub some_told : (told now : Option (List ℕ)) (left : List ℕ) → is_some now ≡ is_some told → now ≡ Some left → (bytes : List ℕ)
+    × (told ≡ Some bytes)
 some_told None now left same is = let e : is_some now ≡ true = ap is_some is in cc
 some_told (Some bytes) now left same is = (bytes, refl)
 
-pub carried-passes : {D T E : Type 0} (m : Meaning D) (old new : D) (steps : List DiskStep) (result : Result T E) → Went m old new steps result → Passes m old new
+pub carried-passes : {D T E : Type 0} (m : Meaning D) (old new : D) (steps : List DiskStep) (result : Result T E) →
+    Went m old new steps result → Passes m old new
 carried-passes m old new steps (Ok x) went = Passes-Passes (Looks-Passes went.1) (Ran-Passes m went.0 new steps went.2)
 carried-passes m old new steps (Err e) went = Passes-Passes (Looks-Passes went.1) (elim went.2 [
   | inl failed ↦ Failed-Passes failed
   | inr halted ↦ Halted-Passes m went.0 new steps halted
 ])
 
-went-kept : {D T E : Type 0} (m : Meaning D) (old new : D) (steps : List DiskStep) (result : Result T E) (bytes left : List ℕ) → IsSettled m old → Went m old new steps result → m.told old ≡ Some bytes → m.told new ≡ Some left
+went-kept : {D T E : Type 0} (m : Meaning D) (old new : D) (steps : List DiskStep) (result : Result T E) (bytes left : List ℕ) →
+    IsSettled m old → Went m old new steps result → m.told old ≡ Some bytes → m.told new ≡ Some left
     → Spares TellsLayout (length bytes) steps → SameAt TellsLayout bytes left
 went-kept m old new steps (Ok x) bytes left settled went told now spares =
     let e : Some left ≡ Some (after_steps steps bytes) = sym now ∙ Ran-told m went.0 new steps bytes (went.1.told ∙ told) went.2 in
@@ -120,21 +139,27 @@ went-kept m old new steps (Err e) bytes left settled went told now spares =
     elim went.2 [
       | inl failed ↦
           let inside = failed.torn left now in
-          let same : left ≡ bytes = settled.only bytes left told (went.1.leaves left (subst (m.may_leave went.0) (sym inside.2) inside.1)) in
+          let same : left ≡ bytes = settled.only bytes left told (went.1.leaves left (subst (m.may_leave went.0) (sym inside.2) inside.1))
+          in
           let P : List ℕ → Type 0 = λ b. SameAt TellsLayout bytes b in
           subst P (sym same) (SameAt-all _ bytes)
       | inr halted ↦
-          spared-crash TellsLayout steps bytes bytes left (λ b. b ≡ bytes) spares (SameAt-all _ bytes) (λ b same. let P : List ℕ → Type 0 = λ c. SameAt TellsLayout bytes c in subst P (sym same) (SameAt-all _ bytes))
-          (Halted-told m went.0 new steps bytes left (λ b. b ≡ bytes) (went.1.told ∙ told) (λ b is. settled.only bytes b told (went.1.leaves b is)) halted now)
+          spared-crash TellsLayout steps bytes bytes left (λ b. b ≡ bytes) spares (SameAt-all _ bytes)
+          (λ b same. let P : List ℕ → Type 0 = λ c. SameAt TellsLayout bytes c in subst P (sym same) (SameAt-all _ bytes))
+          (Halted-told m went.0 new steps bytes left (λ b. b ≡ bytes) (went.1.told ∙ told)
+          (λ b is. settled.only bytes b told (went.1.leaves b is)) halted now)
     ]
 
-pub carried-laid : {D T E : Type 0} (m : Meaning D) (old new : D) (plan : List ℕ → List DiskStep) (result : Result T E) (l : Layout) → IsSettled m old → Carried m old new plan result
-    → ((bytes : List ℕ) → m.told old ≡ Some bytes → (layout_of bytes ≡ Some l) × (64 ≤ length bytes) × Spares TellsLayout (length bytes) (plan bytes))
+pub carried-laid : {D T E : Type 0} (m : Meaning D) (old new : D) (plan : List ℕ → List DiskStep) (result : Result T E) (l : Layout) →
+    IsSettled m old → Carried m old new plan result
+    → ((bytes : List ℕ) → m.told old ≡ Some bytes → (layout_of bytes ≡ Some l) × (64 ≤ length bytes) × Spares TellsLayout (length bytes)
+    (plan bytes))
     → (left : List ℕ) → m.told new ≡ Some left → layout_of left ≡ Some l
 carried-laid m old new plan result l settled carried was left now =
     let passes = carried-passes m old new carried.steps result carried.went in
     let b = some_told (m.told old) (m.told new) left passes.tells now in
     let w = was b.0 b.1 in
     let P : List DiskStep → Type 0 = λ ss. Spares TellsLayout (length b.0) ss in
-    let kept = went-kept m old new carried.steps result b.0 left settled carried.went b.1 now (subst P (sym (carried.planned b.0 b.1)) w.2) in
+    let kept = went-kept m old new carried.steps result b.0 left settled carried.went b.1 now
+    (subst P (sym (carried.planned b.0 b.1)) w.2) in
     layout-same b.0 left (let long = w.1 in omega arith) kept.size kept.same ∙ w.0

@@ -35,7 +35,8 @@ module _ (n : ℕ) where
   planes-before DefectByte q on = omega arith
   planes-before Data q on = omega arith
 
-  planes-apart : (p r : Part) (q k : ℕ) → q < sectors n → k < sectors n → (p ≢ r) ⊎ (q ≢ k) → Apart (plane_place n p q) (width p) (plane_place n r k) (width r)
+  planes-apart : (p r : Part) (q k : ℕ) → q < sectors n → k < sectors n → (p ≢ r) ⊎ (q ≢ k) → Apart (plane_place n p q) (width p)
+      (plane_place n r k) (width r)
   planes-apart GateByte FormedByte q k a b ne = inl (omega arith)
   planes-apart GateByte DefectByte q k a b ne = inl (omega arith)
   planes-apart GateByte Data q k a b ne = inl (omega arith)
@@ -120,7 +121,8 @@ width-some Data = omega arith
 pub in-row : (l : Layout) (p : Part) (q i : ℕ) → touches l.kind ≡ true → place l p (q + i) ≡ place l p q + width p * i
 in-row l p q i is = by_kind l.kind p is
   where
-    by_kind : (kind : Kind) (p : Part) → touches kind ≡ true → place_in kind l.segments_per_track p (q + i) ≡ place_in kind l.segments_per_track p q + width p * i
+    by_kind : (kind : Kind) (p : Part) → touches kind ≡ true → place_in kind l.segments_per_track p
+        (q + i) ≡ place_in kind l.segments_per_track p q + width p * i
     by_kind Planes GateByte is = omega arith
     by_kind Planes FormedByte is = omega arith
     by_kind Planes DefectByte is = omega arith

@@ -1,9 +1,11 @@
 -- What the writes of a new image make of the cartridge, at the end and in a crash.
-use Rattle.std.proofs.Common.{◌≡◌, ℕ, zero, suc, ◌+◌, ◌*◌, ◌-◌, ◌/◌, ◌%◌, ◌<◌, ◌≤◌, ◌⊎◌, inl, inr, ⊎_elim, Bool, true, false, List, [], ◌∷◌, ◌++◌, length, get_or, take, drop, replicate, refl, sym, ◌∙◌, ap, arith, Option, Some, None, subst}
+use Rattle.std.proofs.Common.{◌≡◌, ℕ, zero, suc, ◌+◌, ◌*◌, ◌-◌, ◌/◌, ◌%◌, ◌<◌, ◌≤◌, ◌⊎◌, inl, inr, ⊎_elim, Bool, true, false, List, [], ◌∷◌}
+use Rattle.std.proofs.Common.{◌++◌, length, get_or, take, drop, replicate, refl, sym, ◌∙◌, ap, arith, Option, Some, None, subst}
 use Rattle.std.specs.Prelude.{slice_index, slice_range, ◌==◌, if◌then◌else◌, unwrap_or}
 use Rattle.std.proofs.lemmas.Slice.Eq.{bytes_eq-Decides}
 use Rattle.std.proofs.lemmas.Bool.{cases_lt, eqb-true, eq-eqb, le-leb}
-use Rattle.std.proofs.lemmas.List.{same_lists, length-replicate, get_or-replicate, get_or_past, length-take, length-append, length-drop, get_or-take, get_or-drop, get_or_append_left, get_or-append_right, get_or_default}
+use Rattle.std.proofs.lemmas.List.{same_lists, length-replicate, get_or-replicate, get_or_past, length-take, length-append, length-drop}
+use Rattle.std.proofs.lemmas.List.{get_or-take, get_or-drop, get_or_append_left, get_or-append_right, get_or_default}
 use Rattle.std.proofs.lemmas.List.Edits.{length-between, get_or-between}
 use Rattle.std.proofs.lemmas.Option.{unwrap_or-slice_get}
 use Rattle.qic_base.specs.declared.tape.SectorView.{SectorView}
@@ -39,7 +41,8 @@ none-by-first bytes other = by_head (head_of bytes) refl
         let f = p.fits in
         let long = f.long in
         let short = f.shortest in
-        let e : slice_range (slice_range bytes 0 read_len) 0 8 ≡ signature = (bytes_eq-Decides (slice_range (slice_range bytes 0 read_len) 0 8) signature).0 p.signed in
+        let e : slice_range (slice_range bytes 0 read_len) 0 8 ≡ signature =
+        (bytes_eq-Decides (slice_range (slice_range bytes 0 read_len) 0 8) signature).0 p.signed in
         let n = length-between bytes 0 24 (omega arith) in
         let q : slice_index bytes 0 ≡ first_letter =
         sym (get_or-between (slice_range bytes 0 read_len) 0 8 0 0 (omega arith) ∙ get_or-between bytes 0 24 0 0 (omega arith))
@@ -81,12 +84,14 @@ pub Crashed-resize : (n : ℕ) (bytes left : List ℕ) (rest : List DiskStep) �
     → (left ≡ bytes) ⊎ TornLength n bytes left ⊎ Crashed (λ b. b ≡ resized n bytes) (resized n bytes) rest left
 Crashed-resize n bytes left rest (inl inside) = by_torn inside.0 inside.1 inside.2
   where
-    by_torn : (before : List ℕ) → before ≡ bytes → (left ≡ before) ⊎ TornLength n before left → (left ≡ bytes) ⊎ TornLength n bytes left ⊎ Crashed (λ b. b ≡ resized n bytes) (resized n bytes) rest left
+    by_torn : (before : List ℕ) → before ≡ bytes → (left ≡ before) ⊎ TornLength n before left → (left ≡ bytes) ⊎ TornLength n bytes left
+        ⊎ Crashed (λ b. b ≡ resized n bytes) (resized n bytes) rest left
     by_torn before same (inl old) = inl (old ∙ same)
     by_torn before same (inr torn) = inr (inl (subst (λ b. TornLength n b left) same torn))
 Crashed-resize n bytes left rest (inr (inl synced)) = by_torn synced.0 synced.1.0 synced.1.1 synced.1.2 synced.2
   where
-    by_torn : (at before : List ℕ) → before ≡ bytes → (at ≡ before) ⊎ TornLength n before at → left ≡ at → (left ≡ bytes) ⊎ TornLength n bytes left ⊎ Crashed (λ b. b ≡ resized n bytes) (resized n bytes) rest left
+    by_torn : (at before : List ℕ) → before ≡ bytes → (at ≡ before) ⊎ TornLength n before at → left ≡ at → (left ≡ bytes)
+        ⊎ TornLength n bytes left ⊎ Crashed (λ b. b ≡ resized n bytes) (resized n bytes) rest left
     by_torn at before same (inl old) is = inl (is ∙ old ∙ same)
     by_torn at before same (inr torn) is =
         let P : List ℕ → Type 0 = λ l. TornLength n bytes l in
@@ -154,7 +159,8 @@ module _ (n : ℕ) (long : IsLength n) where
       by_bytes d f g s p q = rw (p, q) refl
 
       blank : (k : ℕ) → k < sectors n → view_in new_layout bytes k ≡ Blank
-      blank k there = view_in-is new_layout bytes k ∙ by_bytes _ _ _ _ (new.behind (place new_layout DefectByte k) (omega arith)) (new.behind (place new_layout FormedByte k) (omega arith))
+      blank k there = view_in-is new_layout bytes k ∙ by_bytes _ _ _ _ (new.behind (place new_layout DefectByte k) (omega arith))
+          (new.behind (place new_layout FormedByte k) (omega arith))
 
   head-new : (bytes : List ℕ) → IsNew bytes → head_of bytes ≡ Some new_told
   unfolding head_of
@@ -163,7 +169,9 @@ module _ (n : ℕ) (long : IsLength n) where
   reads-new : (bytes : List ℕ) → IsNew bytes → cartridge_of bytes ≡ Some (new_cartridge n)
   reads-new bytes new =
       cartridge_of-read bytes new_told (head-new bytes new)
-      ∙ ap (λ (vs : List SectorView). Some (record { info = record { segments_per_track = n; protected = false; referenced = false }; version = 2; views = vs })) (new-views bytes new)
+      ∙ ap (λ (vs : List SectorView). Some
+      (record { info = record { segments_per_track = n; protected = false; referenced = false }; version = 2; views = vs }))
+      (new-views bytes new)
 
   module _ (b0 : List ℕ) (other : (slice_index b0 0 == first_letter) ≡ false) where
     abbrev b5 : List ℕ
@@ -203,7 +211,8 @@ module _ (n : ℕ) (long : IsLength n) where
     zero6 k more =
         let l5 = length5 in
         let l6 = length6 in
-        ⊎_elim (λ less. get_or-resized whole b5 k less ∙ get_or_past b5 k 0 (omega arith)) (λ past. get_or_past b6 k 0 (omega arith)) (cases_lt k whole)
+        ⊎_elim (λ less. get_or-resized whole b5 k less ∙ get_or_past b5 k 0 (omega arith)) (λ past. get_or_past b6 k 0 (omega arith))
+        (cases_lt k whole)
 
     only8 : OnlyIn 0 1 b7 b8
     only8 = let l = length7 in OnlyIn-written 0 b7 (first_letter ∷ []) (omega arith)
@@ -227,12 +236,16 @@ module _ (n : ℕ) (long : IsLength n) where
             let p = part-length in
             let o8 = only8 in
             let there : suc k ≡ 1 + k = omega arith in
-            o8.above (suc k) (omega arith) ∙ ap (slice_index b7) there ∙ get_or-overwritten b6 (drop 1 head) 1 k 0 (omega arith) (omega arith)
+            o8.above (suc k) (omega arith) ∙ ap (slice_index b7) there ∙ get_or-overwritten b6 (drop 1 head) 1 k 0 (omega arith)
+            (omega arith)
             ∙ get_or-drop 1 head k 0 ∙ ap (slice_index head) (sym there)
 
-    none-torn : (bytes left : List ℕ) (m : ℕ) → (slice_index bytes 0 == first_letter) ≡ false → 0 < m → 0 < length bytes → TornLength m bytes left → cartridge_of left ≡ None
+    none-torn : (bytes left : List ℕ) (m : ℕ) → (slice_index bytes 0 == first_letter) ≡ false → 0 < m → 0 < length bytes →
+        TornLength m bytes left → cartridge_of left ≡ None
     none-torn bytes left m not_first some there torn =
-        none-by-first left (ap (λ b. b == first_letter) (sym (unwrap_or-slice_get left 0 0) ∙ ap (λ (o : Option ℕ). unwrap_or o 0) (torn.kept 0 some there) ∙ unwrap_or-slice_get bytes 0 0) ∙ not_first)
+        none-by-first left (ap (λ b. b == first_letter)
+        (sym (unwrap_or-slice_get left 0 0) ∙ ap (λ (o : Option ℕ). unwrap_or o 0) (torn.kept 0 some there)
+        ∙ unwrap_or-slice_get bytes 0 0) ∙ not_first)
 
     -- the same bytes, but for the first
     torn-first : (left : List ℕ) → TornRange 0 1 b7 left → (cartridge_of left ≡ None) ⊎ (cartridge_of left ≡ Some (new_cartridge n))
@@ -254,9 +267,11 @@ module _ (n : ℕ) (long : IsLength n) where
           where
             at : (k : ℕ) → k < 64 → slice_index left k ≡ slice_index head k
             at zero less = first
-            at (suc k) less = let o = only in let new = new8 in let o8 = only8 in o.above (suc k) (omega arith) ∙ sym (o8.above (suc k) (omega arith)) ∙ new.at_head (suc k) less
+            at (suc k) less = let o = only in let new = new8 in let o8 = only8 in
+                o.above (suc k) (omega arith) ∙ sym (o8.above (suc k) (omega arith)) ∙ new.at_head (suc k) less
 
-        by_first : (holds : Bool) → (slice_index left 0 == first_letter) ≡ holds → (cartridge_of left ≡ None) ⊎ (cartridge_of left ≡ Some (new_cartridge n))
+        by_first : (holds : Bool) → (slice_index left 0 == first_letter) ≡ holds → (cartridge_of left ≡ None)
+            ⊎ (cartridge_of left ≡ Some (new_cartridge n))
         by_first false is = inl (none-by-first left is)
         by_first true is = inr (reads-new left (is-new (eqb-true (slice_index left 0) first_letter is)))
 
@@ -266,7 +281,8 @@ module _ (n : ℕ) (long : IsLength n) where
     tail-laid : layout_of (after_steps tail_steps b0) ≡ Some new_layout
     tail-laid = layout_of-read b8 new_told (head-new b8 new8)
 
-    tail-torn : (left : List ℕ) → Crashed (λ b. b ≡ b0) b0 tail_steps left → (cartridge_of left ≡ None) ⊎ (cartridge_of left ≡ Some (new_cartridge n))
+    tail-torn : (left : List ℕ) → Crashed (λ b. b ≡ b0) b0 tail_steps left → (cartridge_of left ≡ None)
+        ⊎ (cartridge_of left ≡ Some (new_cartridge n))
     tail-torn left crashed =
         elim (Crashed-resize head_len b0 left (resize whole ++ (put 1 (drop 1 head) ++ put 0 (first_letter ∷ []))) crashed) [
           | inl same ↦ inl (ap cartridge_of same ∙ none-by-first b0 other)
@@ -275,7 +291,8 @@ module _ (n : ℕ) (long : IsLength n) where
             | inl same ↦ inl (ap cartridge_of same ∙ none-by-first b5 first5)
             | inr (inl torn) ↦ inl (let l = length5 in none-torn b5 left whole first5 (omega arith) (omega arith) torn)
             | inr (inr later2) ↦ elim (Crashed-put 1 (drop 1 head) b6 left (put 0 (first_letter ∷ [])) later2) [
-              | inl torn ↦ inl (let o = OnlyIn-torn _ _ _ _ torn in none-by-first left (ap (λ b. b == first_letter) (o.below 0 (omega arith)) ∙ first6))
+              | inl torn ↦ inl (let o = OnlyIn-torn _ _ _ _ torn in
+                  none-by-first left (ap (λ b. b == first_letter) (o.below 0 (omega arith)) ∙ first6))
               | inr later3 ↦ elim (Crashed-put 0 (first_letter ∷ []) b7 left [] later3) [
                 | inl torn ↦ torn-first left torn
                 | inr none ↦ absurd none
@@ -288,24 +305,28 @@ module _ (n : ℕ) (long : IsLength n) where
   effect-renew None = refl
   effect-renew (Some c) = refl
 
-  ends : (bytes left : List ℕ) → (cartridge_of left ≡ None) ⊎ (cartridge_of left ≡ Some (new_cartridge n)) → Torn (Renew n ∷ []) (cartridge_of bytes) (cartridge_of left)
+  ends : (bytes left : List ℕ) → (cartridge_of left ≡ None) ⊎ (cartridge_of left ≡ Some (new_cartridge n)) →
+      Torn (Renew n ∷ []) (cartridge_of bytes) (cartridge_of left)
   ends bytes left (inl none) = inr (inl none)
   ends bytes left (inr new) = inr (inr (new ∙ sym (effect-renew (cartridge_of bytes))))
 
   -- an image's first byte, torn
-  clear-torn : (bytes left : List ℕ) → (slice_index bytes 0 == first_letter) ≡ true → TornRange 0 1 bytes left → Torn (Renew n ∷ []) (cartridge_of bytes) (cartridge_of left)
+  clear-torn : (bytes left : List ℕ) → (slice_index bytes 0 == first_letter) ≡ true → TornRange 0 1 bytes left →
+      Torn (Renew n ∷ []) (cartridge_of bytes) (cartridge_of left)
   clear-torn bytes left first torn = by_first (slice_index left 0 == first_letter) refl
     where
       same : slice_index left 0 ≡ first_letter → left ≡ bytes
       same now =
           let o = OnlyIn-torn 0 1 bytes left torn in
-          same_lists _ _ o.size (λ k d less. get_or_default left k d 0 less ∙ at k ∙ get_or_default bytes k 0 d (let s = o.size in omega arith))
+          same_lists _ _ o.size (λ k d less. get_or_default left k d 0 less ∙ at k
+          ∙ get_or_default bytes k 0 d (let s = o.size in omega arith))
         where
           at : (k : ℕ) → slice_index left k ≡ slice_index bytes k
           at zero = now ∙ sym (eqb-true (slice_index bytes 0) first_letter first)
           at (suc k) = let o = OnlyIn-torn 0 1 bytes left torn in o.above (suc k) (omega arith)
 
-      by_first : (holds : Bool) → (slice_index left 0 == first_letter) ≡ holds → Torn (Renew n ∷ []) (cartridge_of bytes) (cartridge_of left)
+      by_first : (holds : Bool) → (slice_index left 0 == first_letter) ≡ holds → Torn (Renew n ∷ []) (cartridge_of bytes)
+          (cartridge_of left)
       by_first true is = inl (ap cartridge_of (same (eqb-true (slice_index left 0) first_letter is)))
       by_first false is = inr (inl (none-by-first left is))
 
@@ -318,7 +339,8 @@ module _ (n : ℕ) (long : IsLength n) where
     torn = λ left crashed. ends bytes left (tail-torn bytes is left crashed);
   }
   renew-by bytes true is =
-      let zero_first : (slice_index (overwritten bytes 0 (0 ∷ [])) 0 == first_letter) ≡ false = ap (λ b. b == first_letter) (byte-written bytes 0 0 (omega arith)) in
+      let zero_first : (slice_index (overwritten bytes 0 (0 ∷ [])) 0 == first_letter) ≡ false = ap (λ b. b == first_letter)
+      (byte-written bytes 0 0 (omega arith)) in
       record {
         done = tail-done (overwritten bytes 0 (0 ∷ [])) zero_first ∙ sym (effect-renew (cartridge_of bytes));
         torn = λ left crashed.
@@ -334,10 +356,12 @@ module _ (n : ℕ) (long : IsLength n) where
   renew-means bytes = renew-by bytes (slice_index bytes 0 == first_letter) refl
 
   -- .. in the layout of new ones
-  laid-by : (bytes : List ℕ) (q : Bool) → (slice_index bytes 0 == first_letter) ≡ q → layout_of (after_steps (with-first q) bytes) ≡ Some new_layout
+  laid-by : (bytes : List ℕ) (q : Bool) → (slice_index bytes 0 == first_letter) ≡ q →
+      layout_of (after_steps (with-first q) bytes) ≡ Some new_layout
   laid-by bytes false is = tail-laid bytes is
   laid-by bytes true is = tail-laid (overwritten bytes 0 (0 ∷ [])) (ap (λ b. b == first_letter) (byte-written bytes 0 0 (omega arith)))
 
-  pub renew-laid : (bytes : List ℕ) → layout_of (after_steps (renew_steps n (slice_index bytes 0)) bytes) ≡ Some (record { segments_per_track = n; kind = Cells })
+  pub renew-laid : (bytes : List ℕ) → layout_of (after_steps (renew_steps n (slice_index bytes 0)) bytes) ≡ Some
+      (record { segments_per_track = n; kind = Cells })
   unfolding renew_steps
   renew-laid bytes = laid-by bytes (slice_index bytes 0 == first_letter) refl

@@ -1,5 +1,6 @@
 -- What the writes of the calls of one sector make of the cartridge, at the end and in a crash.
-use Rattle.std.proofs.Common.{◌≡◌, ◌≢◌, ℕ, ◌+◌, ◌<◌, ◌≤◌, ◌⊎◌, inl, inr, Bool, true, false, List, [], ◌∷◌, ◌++◌, length, refl, sym, ◌∙◌, ap, arith, Some, subst}
+use Rattle.std.proofs.Common.{◌≡◌, ◌≢◌, ℕ, ◌+◌, ◌<◌, ◌≤◌, ◌⊎◌, inl, inr, Bool, true, false, List, [], ◌∷◌, ◌++◌, length, refl, sym, ◌∙◌, ap}
+use Rattle.std.proofs.Common.{arith, Some, subst}
 use Rattle.std.specs.Prelude.{slice_index, ◌==◌, if◌then◌else◌}
 use Rattle.qic_base.specs.declared.tape.SectorView.{SectorView}
 use Rattle.qic_base.specs.declared.tape.SectorView.TheVariants.{Blank, Defect, Lost, Holds}
@@ -12,21 +13,25 @@ use Rattle.qic_base.proofs.FieldLaws.{get_or-overwritten, slice_range-overwritte
 use Rattle.cart_image.specs.declared.layout.Head.{Head}
 use Rattle.cart_image.specs.declared.layout.Layout.{Layout}
 use Rattle.cart_image.specs.declared.layout.Part.TheVariants.{GateByte, FormedByte, DefectByte, Data}
-use Rattle.cart_image.specs.Layout.{sectors, place, end_of, open_gate, closed_gate, formed_byte, defect_byte, put, write_sector_steps, wear_steps, spoil_steps}
+use Rattle.cart_image.specs.Layout.{sectors, place, end_of, open_gate, closed_gate, formed_byte, defect_byte, put, write_sector_steps}
+use Rattle.cart_image.specs.Layout.{wear_steps, spoil_steps}
 use Rattle.cart_image.specs.Image.{head_of, view_by, view_in, sector_bytes, read_as, cartridge_of}
 use Rattle.cart_image.specs.Run.{Crashed}
 use Rattle.cart_image.specs.Whole.{cartridge_of-read}
 use Rattle.cart_image.proofs.Carries.{Means}
-use Rattle.cart_image.proofs.Bytes.{OnlyIn, OnlyIn-torn, OnlyIn-written, byte-kept, data-kept, gate-view, defect-view, bytes-view, view_in-is}
+use Rattle.cart_image.proofs.Bytes.{OnlyIn, OnlyIn-torn, OnlyIn-written, byte-kept, data-kept, gate-view, defect-view, bytes-view}
+use Rattle.cart_image.proofs.Bytes.{view_in-is}
 use Rattle.cart_image.proofs.Changes.{Beside, Beside-all, Beside-Beside, Beside-part, cartridge-beside, same-view, view_at-read}
 use Rattle.cart_image.proofs.Layouts.{laid_out}
 
 -- a crash in a put, or behind it
-pub Crashed-put : (place : ℕ) (part bytes left : List ℕ) (rest : List DiskStep) → Crashed (λ b. b ≡ bytes) bytes (put place part ++ rest) left
+pub Crashed-put : (place : ℕ) (part bytes left : List ℕ) (rest : List DiskStep) →
+    Crashed (λ b. b ≡ bytes) bytes (put place part ++ rest) left
     → TornRange place (length part) bytes left ⊎ Crashed (λ b. b ≡ overwritten bytes place part) (overwritten bytes place part) rest left
 Crashed-put place part bytes left rest (inl inside) = inl (subst (λ b. TornRange place (length part) b left) inside.1 inside.2)
 Crashed-put place part bytes left rest (inr (inl synced)) =
-    inl (subst (λ (l : List ℕ). TornRange place (length part) bytes l) (sym synced.2) (subst (λ b. TornRange place (length part) b synced.0) synced.1.1 synced.1.2))
+    inl (subst (λ (l : List ℕ). TornRange place (length part) bytes l) (sym synced.2)
+    (subst (λ b. TornRange place (length part) b synced.0) synced.1.1 synced.1.2))
 Crashed-put place part bytes left rest (inr (inr behind)) = inr behind
 
 -- what a formatted sector that is no defect shows, by its gate
@@ -36,10 +41,12 @@ gated gate bytes = if gate == open_gate then Holds bytes else Lost
 view_by-gated : (d f g : ℕ) (bytes : List ℕ) → (d == defect_byte) ≡ false → (f == formed_byte) ≡ true → view_by d f g bytes ≡ gated g bytes
 view_by-gated d f g bytes p q = rw (p, q) refl
 
-pub byte-written : (bytes : List ℕ) (place value : ℕ) → place ≤ length bytes → slice_index (overwritten bytes place (value ∷ [])) place ≡ value
+pub byte-written : (bytes : List ℕ) (place value : ℕ) → place ≤ length bytes →
+    slice_index (overwritten bytes place (value ∷ [])) place ≡ value
 byte-written bytes place value within =
     let here : place ≡ place + 0 = omega arith in
-    ap (λ k. slice_index (overwritten bytes place (value ∷ [])) k) here ∙ get_or-overwritten bytes (value ∷ []) place 0 0 within (omega arith)
+    ap (λ k. slice_index (overwritten bytes place (value ∷ [])) k) here ∙ get_or-overwritten bytes (value ∷ []) place 0 0 within
+    (omega arith)
 
 -- .. with its gate and its bytes
 record Formed (l : Layout) (sector : ℕ) (bytes : List ℕ) (gate : ℕ) (holds : List ℕ) : Type 0 where
@@ -49,13 +56,17 @@ record Formed (l : Layout) (sector : ℕ) (bytes : List ℕ) (gate : ℕ) (holds
   gate_is : slice_index bytes (place l GateByte sector) ≡ gate
   holds_is : sector_bytes l bytes sector ≡ holds
 
-view-gated : {l : Layout} {sector : ℕ} {bytes : List ℕ} {gate : ℕ} {holds : List ℕ} → Formed l sector bytes gate holds → view_in l bytes sector ≡ gated gate holds
+view-gated : {l : Layout} {sector : ℕ} {bytes : List ℕ} {gate : ℕ} {holds : List ℕ} → Formed l sector bytes gate holds →
+    view_in l bytes sector ≡ gated gate holds
 view-gated {l = l} {sector = sector} {bytes = bytes} f =
-    view_in-is l bytes sector ∙ view_by-gated _ _ _ _ f.defect f.formed ∙ ap (λ g. gated g (sector_bytes l bytes sector)) f.gate_is ∙ ap (gated _) f.holds_is
+    view_in-is l bytes sector ∙ view_by-gated _ _ _ _ f.defect f.formed ∙ ap (λ g. gated g (sector_bytes l bytes sector)) f.gate_is
+    ∙ ap (gated _) f.holds_is
 
-module _ (l : Layout) (sector : ℕ) (on : sector < sectors l.segments_per_track) (bytes : List ℕ) (gate : ℕ) (holds : List ℕ) (f : Formed l sector bytes gate holds) where
+module _ (l : Layout) (sector : ℕ) (on : sector < sectors l.segments_per_track) (bytes : List ℕ) (gate : ℕ) (holds : List ℕ)
+    (f : Formed l sector bytes gate holds) where
   gate-onlyin : (value : ℕ) → OnlyIn (place l GateByte sector) 1 bytes (overwritten bytes (place l GateByte sector) (value ∷ []))
-  gate-onlyin value = OnlyIn-written (place l GateByte sector) bytes (value ∷ []) (let w = f.whole in let b = (laid_out l).before GateByte sector on in omega arith)
+  gate-onlyin value = OnlyIn-written (place l GateByte sector) bytes (value ∷ [])
+      (let w = f.whole in let b = (laid_out l).before GateByte sector on in omega arith)
 
   gate-put : (value : ℕ) → Formed l sector (overwritten bytes (place l GateByte sector) (value ∷ [])) value holds
   gate-put value =
@@ -71,21 +82,27 @@ module _ (l : Layout) (sector : ℕ) (on : sector < sectors l.segments_per_track
         holds_is = data-kept l GateByte sector bytes _ only w on sector on (inl (λ e. cc)) ∙ f.holds_is;
       }
 
-  gate-torn : (left : List ℕ) → TornRange (place l GateByte sector) 1 bytes left → (view_in l left sector ≡ Lost) ⊎ (view_in l left sector ≡ Holds holds)
+  gate-torn : (left : List ℕ) → TornRange (place l GateByte sector) 1 bytes left → (view_in l left sector ≡ Lost)
+      ⊎ (view_in l left sector ≡ Holds holds)
   gate-torn left torn =
       let shown : view_in l left sector ≡ gated (slice_index left (place l GateByte sector)) holds =
-      gate-view l sector bytes left (OnlyIn-torn _ _ _ _ torn) f.whole on ∙ view_by-gated _ _ _ _ f.defect f.formed ∙ ap (gated _) f.holds_is in
+      gate-view l sector bytes left (OnlyIn-torn _ _ _ _ torn) f.whole on ∙ view_by-gated _ _ _ _ f.defect f.formed
+      ∙ ap (gated _) f.holds_is in
       by_gate (slice_index left (place l GateByte sector) == open_gate) refl shown
     where
-      by_gate : (opens : Bool) → (slice_index left (place l GateByte sector) == open_gate) ≡ opens → view_in l left sector ≡ gated (slice_index left (place l GateByte sector)) holds → (view_in l left sector ≡ Lost) ⊎ (view_in l left sector ≡ Holds holds)
+      by_gate : (opens : Bool) → (slice_index left (place l GateByte sector) == open_gate) ≡ opens →
+          view_in l left sector ≡ gated (slice_index left (place l GateByte sector)) holds → (view_in l left sector ≡ Lost)
+          ⊎ (view_in l left sector ≡ Holds holds)
       by_gate true is shown = inr (shown ∙ ap (λ b. if b then Holds holds else Lost) is)
       by_gate false is shown = inl (shown ∙ ap (λ b. if b then Holds holds else Lost) is)
 
-  bytes-onlyin : (part : List ℕ) → length part ≡ 1024 → OnlyIn (place l Data sector) 1024 bytes (overwritten bytes (place l Data sector) part)
+  bytes-onlyin : (part : List ℕ) → length part ≡ 1024 → OnlyIn (place l Data sector) 1024 bytes
+      (overwritten bytes (place l Data sector) part)
   bytes-onlyin part long =
       let w = f.whole in
       let b = (laid_out l).before Data sector on in
-      subst (λ (count : ℕ). OnlyIn (place l Data sector) count bytes (overwritten bytes (place l Data sector) part)) long (OnlyIn-written (place l Data sector) bytes part (omega arith))
+      subst (λ (count : ℕ). OnlyIn (place l Data sector) count bytes (overwritten bytes (place l Data sector) part)) long
+      (OnlyIn-written (place l Data sector) bytes part (omega arith))
 
   bytes-put : (part : List ℕ) → length part ≡ 1024 → Formed l sector (overwritten bytes (place l Data sector) part) gate part
   bytes-put part long =
@@ -101,14 +118,16 @@ module _ (l : Layout) (sector : ℕ) (on : sector < sectors l.segments_per_track
         holds_is = slice_range-overwritten bytes part (place l Data sector) (place l Data sector + 1024) (omega arith) (omega arith);
       }
 
-  bytes-torn : (left : List ℕ) → (gate == open_gate) ≡ false → TornRange (place l Data sector) 1024 bytes left → view_in l left sector ≡ Lost
+  bytes-torn : (left : List ℕ) → (gate == open_gate) ≡ false → TornRange (place l Data sector) 1024 bytes left →
+      view_in l left sector ≡ Lost
   bytes-torn left closed torn =
       bytes-view l sector bytes left (OnlyIn-torn _ _ _ _ torn) f.whole on ∙ view_by-gated _ _ _ _ f.defect f.formed
       ∙ ap (λ g. gated g (sector_bytes l left sector)) f.gate_is
       ∙ ap (λ b. if b then Holds (sector_bytes l left sector) else Lost) closed
 
 -- from its view
-formed_by : (bd bf bg : Bool) (s : List ℕ) (v : SectorView) → (if bd then Defect else (if bf then (if bg then Holds s else Lost) else Blank)) ≡ v → v ≢ Blank → v ≢ Defect
+formed_by : (bd bf bg : Bool) (s : List ℕ) (v : SectorView) →
+    (if bd then Defect else (if bf then (if bg then Holds s else Lost) else Blank)) ≡ v → v ≢ Blank → v ≢ Defect
     → (bd ≡ false) × (bf ≡ true) × ((if bg then Holds s else Lost) ≡ v)
 formed_by true bf bg s v is blank defect = absurd (defect (sym is))
 formed_by false false bg s v is blank defect = absurd (blank (sym is))
@@ -122,47 +141,61 @@ opened : (bg : Bool) (s old : List ℕ) → (if bg then Holds s else Lost) ≡ H
 opened true s old is = is
 opened false s old is = cc
 
-blank_by : (bd bf bg : Bool) (s : List ℕ) → (if bd then Defect else (if bf then (if bg then Holds s else Lost) else Blank)) ≡ Blank → (bd ≡ false) × (bf ≡ false)
+blank_by : (bd bf bg : Bool) (s : List ℕ) → (if bd then Defect else (if bf then (if bg then Holds s else Lost) else Blank)) ≡ Blank →
+    (bd ≡ false) × (bf ≡ false)
 blank_by true bf bg s is = cc
 blank_by false true true s is = cc
 blank_by false true false s is = cc
 blank_by false false bg s is = (refl, refl)
 
-view_by-blank : (d f g : ℕ) (bytes : List ℕ) → (f == formed_byte) ≡ false → view_by d f g bytes ≡ (if d == defect_byte then Defect else Blank)
+view_by-blank : (d f g : ℕ) (bytes : List ℕ) → (f == formed_byte) ≡ false →
+    view_by d f g bytes ≡ (if d == defect_byte then Defect else Blank)
 view_by-blank d f g bytes p = rw p refl
 
-module _ (head : Head) (bytes : List ℕ) (segment sector : ℕ) (is : head_of bytes ≡ Some head) (whole : end_of head.layout ≤ length bytes) (on : place_of segment sector < sectors head.layout.segments_per_track) where
+module _ (head : Head) (bytes : List ℕ) (segment sector : ℕ) (is : head_of bytes ≡ Some head) (whole : end_of head.layout ≤ length bytes)
+    (on : place_of segment sector < sectors head.layout.segments_per_track) where
   formed-here : (v : SectorView) → view_in head.layout bytes (place_of segment sector) ≡ v → v ≢ Blank → v ≢ Defect
-      → Formed head.layout (place_of segment sector) bytes (slice_index bytes (place head.layout GateByte (place_of segment sector))) (sector_bytes head.layout bytes (place_of segment sector))
-      × (gated (slice_index bytes (place head.layout GateByte (place_of segment sector))) (sector_bytes head.layout bytes (place_of segment sector)) ≡ v)
+      → Formed head.layout (place_of segment sector) bytes (slice_index bytes (place head.layout GateByte (place_of segment sector)))
+      (sector_bytes head.layout bytes (place_of segment sector))
+      × (gated (slice_index bytes (place head.layout GateByte (place_of segment sector)))
+      (sector_bytes head.layout bytes (place_of segment sector)) ≡ v)
   formed-here v view blank defect =
       let f = formed_by _ _ _ _ v (sym (view_in-is head.layout bytes (place_of segment sector)) ∙ view) blank defect in
       (record { whole = whole; defect = f.0; formed = f.1; gate_is = refl; holds_is = refl }, f.2)
 
   -- what the cartridge is with another view there
-  pub becomes : (left : List ℕ) (view : SectorView) → Beside head.layout (place_of segment sector) bytes left → view_in head.layout left (place_of segment sector) ≡ view → cartridge_of left ≡ Some (with_view (read_as head bytes) segment sector view)
+  pub becomes : (left : List ℕ) (view : SectorView) → Beside head.layout (place_of segment sector) bytes left →
+      view_in head.layout left (place_of segment sector) ≡ view →
+      cartridge_of left ≡ Some (with_view (read_as head bytes) segment sector view)
   becomes left view beside now = cartridge-beside head segment sector bytes left view is on beside now
 
   -- the view there
   pub viewed : (v : SectorView) → view_in head.layout bytes (place_of segment sector) ≡ v → view_at (read_as head bytes) segment sector ≡ v
   viewed v view = view_at-read head bytes segment sector on ∙ view
 
-  pub stays : (v : SectorView) → view_in head.layout bytes (place_of segment sector) ≡ v → Some (with_view (read_as head bytes) segment sector v) ≡ cartridge_of bytes
+  pub stays : (v : SectorView) → view_in head.layout bytes (place_of segment sector) ≡ v →
+      Some (with_view (read_as head bytes) segment sector v) ≡ cartridge_of bytes
   stays v view = ap Some (same-view head bytes segment sector v on view) ∙ sym (cartridge_of-read bytes head is)
 
   -- a step that puts in the view f of the view there
-  pub put-view : (s : Step) (f : SectorView → SectorView) (v : SectorView) → ((c : Cartridge) → effect s (Some c) ≡ Some (with_view c segment sector (f (view_at c segment sector))))
-      → view_in head.layout bytes (place_of segment sector) ≡ v → Some (with_view (read_as head bytes) segment sector (f v)) ≡ effect s (cartridge_of bytes)
+  pub put-view : (s : Step) (f : SectorView → SectorView) (v : SectorView) →
+      ((c : Cartridge) → effect s (Some c) ≡ Some (with_view c segment sector (f (view_at c segment sector))))
+      → view_in head.layout bytes (place_of segment sector) ≡ v → Some (with_view (read_as head bytes) segment sector (f v)) ≡ effect s
+      (cartridge_of bytes)
   put-view s f v puts view =
-      ap (λ w. Some (with_view (read_as head bytes) segment sector (f w))) (sym (viewed v view)) ∙ sym (puts (read_as head bytes)) ∙ ap (effect s) (sym (cartridge_of-read bytes head is))
+      ap (λ w. Some (with_view (read_as head bytes) segment sector (f w))) (sym (viewed v view)) ∙ sym (puts (read_as head bytes))
+      ∙ ap (effect s) (sym (cartridge_of-read bytes head is))
 
   -- writing a sector: it stays, or is lost, or holds the new bytes
   module _ (from : List ℕ) (long : length from ≡ 1024) where
-    write-ends : (left : List ℕ) (v w : SectorView) → view_in head.layout bytes (place_of segment sector) ≡ v → v ≢ Blank → v ≢ Defect → Beside head.layout (place_of segment sector) bytes left
-        → view_in head.layout left (place_of segment sector) ≡ w → (w ≡ v) ⊎ (w ≡ Lost) ⊎ (w ≡ Holds from) → Torn (WriteSector segment sector from ∷ []) (cartridge_of bytes) (cartridge_of left)
+    write-ends : (left : List ℕ) (v w : SectorView) → view_in head.layout bytes (place_of segment sector) ≡ v → v ≢ Blank → v ≢ Defect →
+        Beside head.layout (place_of segment sector) bytes left
+        → view_in head.layout left (place_of segment sector) ≡ w → (w ≡ v) ⊎ (w ≡ Lost) ⊎ (w ≡ Holds from) →
+        Torn (WriteSector segment sector from ∷ []) (cartridge_of bytes) (cartridge_of left)
     write-ends left v w view blank defect beside now (inl old) = inl (becomes left v beside (now ∙ old) ∙ stays v view)
     write-ends left v w view blank defect beside now (inr (inl lost)) =
-        inr (inl (becomes left Lost beside (now ∙ lost) ∙ ap (λ u. Some (with_view (read_as head bytes) segment sector u)) (sym (worn v blank defect)) ∙ put-view (Wear segment sector) worn_view v (λ c. refl) view))
+        inr (inl (becomes left Lost beside (now ∙ lost) ∙ ap (λ u. Some (with_view (read_as head bytes) segment sector u))
+        (sym (worn v blank defect)) ∙ put-view (Wear segment sector) worn_view v (λ c. refl) view))
       where
         worn : (v : SectorView) → v ≢ Blank → v ≢ Defect → worn_view v ≡ Lost
         worn Blank blank defect = absurd (blank refl)
@@ -170,7 +203,8 @@ module _ (head : Head) (bytes : List ℕ) (segment sector : ℕ) (is : head_of b
         worn Lost blank defect = refl
         worn (Holds old) blank defect = refl
     write-ends left v w view blank defect beside now (inr (inr new)) =
-        inr (inr (becomes left (Holds from) beside (now ∙ new) ∙ ap (λ u. Some (with_view (read_as head bytes) segment sector u)) (sym (written v blank defect)) ∙ put-view (WriteSector segment sector from) (written_view from) v (λ c. refl) view))
+        inr (inr (becomes left (Holds from) beside (now ∙ new) ∙ ap (λ u. Some (with_view (read_as head bytes) segment sector u))
+        (sym (written v blank defect)) ∙ put-view (WriteSector segment sector from) (written_view from) v (λ c. refl) view))
       where
         written : (v : SectorView) → v ≢ Blank → v ≢ Defect → written_view from v ≡ Holds from
         written Blank blank defect = absurd (blank refl)
@@ -179,49 +213,80 @@ module _ (head : Head) (bytes : List ℕ) (segment sector : ℕ) (is : head_of b
         written (Holds old) blank defect = refl
 
     -- the writes behind a closed gate
-    write-tail : (s : List ℕ) (g : ℕ) (h : List ℕ) → Formed head.layout (place_of segment sector) s g h → (g == open_gate) ≡ false → Beside head.layout (place_of segment sector) bytes s → (left : List ℕ)
-        → Crashed (λ b. b ≡ s) s (put (place head.layout Data (place_of segment sector)) from ++ put (place head.layout GateByte (place_of segment sector)) (open_gate ∷ [])) left
-        → Beside head.layout (place_of segment sector) bytes left × ((view_in head.layout left (place_of segment sector) ≡ Lost) ⊎ (view_in head.layout left (place_of segment sector) ≡ Holds from))
+    write-tail : (s : List ℕ) (g : ℕ) (h : List ℕ) → Formed head.layout (place_of segment sector) s g h → (g == open_gate) ≡ false →
+        Beside head.layout (place_of segment sector) bytes s → (left : List ℕ)
+        → Crashed (λ b. b ≡ s) s (put (place head.layout Data (place_of segment sector)) from ++ put
+        (place head.layout GateByte (place_of segment sector)) (open_gate ∷ [])) left
+        → Beside head.layout (place_of segment sector) bytes left
+        × ((view_in head.layout left (place_of segment sector) ≡ Lost)
+        ⊎ (view_in head.layout left (place_of segment sector) ≡ Holds from))
     write-tail s g h f closed beside left crashed =
-        elim (Crashed-put (place head.layout Data (place_of segment sector)) from s left (put (place head.layout GateByte (place_of segment sector)) (open_gate ∷ [])) crashed) [
+        elim (Crashed-put (place head.layout Data (place_of segment sector)) from s left
+        (put (place head.layout GateByte (place_of segment sector)) (open_gate ∷ [])) crashed) [
           | inl torn ↦
-              let at_once : TornRange (place head.layout Data (place_of segment sector)) 1024 s left = subst (λ (count : ℕ). TornRange (place head.layout Data (place_of segment sector)) count s left) long torn in (
-                Beside-Beside beside (Beside-part head.layout Data (place_of segment sector) s left f.whole on (OnlyIn-torn _ _ _ _ at_once)),
+              let at_once : TornRange (place head.layout Data (place_of segment sector)) 1024 s left =
+              subst (λ (count : ℕ). TornRange (place head.layout Data (place_of segment sector)) count s left) long torn in (
+                Beside-Beside beside (Beside-part head.layout Data (place_of segment sector) s left f.whole on
+                    (OnlyIn-torn _ _ _ _ at_once)),
                 inl (bytes-torn head.layout (place_of segment sector) on s g h f left closed at_once),
               )
-          | inr behind ↦ elim (Crashed-put (place head.layout GateByte (place_of segment sector)) (open_gate ∷ []) (overwritten s (place head.layout Data (place_of segment sector)) from) left [] behind) [
-            | inl torn ↦
-                let t : Formed head.layout (place_of segment sector) (overwritten s (place head.layout Data (place_of segment sector)) from) g from = bytes-put head.layout (place_of segment sector) on s g h f from long in
-                let there : Beside head.layout (place_of segment sector) s (overwritten s (place head.layout Data (place_of segment sector)) from) =
-                Beside-part head.layout Data (place_of segment sector) s _ f.whole on (bytes-onlyin head.layout (place_of segment sector) on s g h f from long) in (
-                  Beside-Beside beside (Beside-Beside there (Beside-part head.layout GateByte (place_of segment sector) _ left t.whole on (OnlyIn-torn _ _ _ _ torn))),
-                  gate-torn head.layout (place_of segment sector) on _ g from t left torn,
-                )
-            | inr none ↦ absurd none
-          ]
+          | inr behind ↦ elim (Crashed-put (place head.layout GateByte (place_of segment sector)) (open_gate ∷ [])
+              (overwritten s (place head.layout Data (place_of segment sector)) from) left [] behind) [
+                | inl torn ↦
+                    let t : Formed head.layout (place_of segment sector)
+                    (overwritten s (place head.layout Data (place_of segment sector)) from)
+                    g from = bytes-put head.layout (place_of segment sector) on s g h f from long in
+                    let there : Beside head.layout (place_of segment sector) s
+                    (overwritten s (place head.layout Data (place_of segment sector)) from) =
+                    Beside-part head.layout Data (place_of segment sector) s _ f.whole on
+                    (bytes-onlyin head.layout (place_of segment sector) on s g h f from long) in (
+                      Beside-Beside beside (Beside-Beside there
+                          (Beside-part head.layout GateByte (place_of segment sector) _ left t.whole on (OnlyIn-torn _ _ _ _ torn))),
+                      gate-torn head.layout (place_of segment sector) on _ g from t left torn,
+                    )
+                | inr none ↦ absurd none
+              ]
         ]
 
-    write-tail-done : (s : List ℕ) (g : ℕ) (h : List ℕ) → Formed head.layout (place_of segment sector) s g h → Beside head.layout (place_of segment sector) bytes s
-        → Beside head.layout (place_of segment sector) bytes (overwritten (overwritten s (place head.layout Data (place_of segment sector)) from) (place head.layout GateByte (place_of segment sector)) (open_gate ∷ []))
-        × (view_in head.layout (overwritten (overwritten s (place head.layout Data (place_of segment sector)) from) (place head.layout GateByte (place_of segment sector)) (open_gate ∷ [])) (place_of segment sector) ≡ Holds from)
+    write-tail-done : (s : List ℕ) (g : ℕ) (h : List ℕ) → Formed head.layout (place_of segment sector) s g h →
+        Beside head.layout (place_of segment sector) bytes s
+        → Beside head.layout (place_of segment sector) bytes
+        (overwritten (overwritten s (place head.layout Data (place_of segment sector)) from)
+        (place head.layout GateByte (place_of segment sector)) (open_gate ∷ []))
+        × (view_in head.layout (overwritten (overwritten s (place head.layout Data (place_of segment sector)) from)
+        (place head.layout GateByte (place_of segment sector)) (open_gate ∷ [])) (place_of segment sector) ≡ Holds from)
     write-tail-done s g h f beside =
-        let t : Formed head.layout (place_of segment sector) (overwritten s (place head.layout Data (place_of segment sector)) from) g from = bytes-put head.layout (place_of segment sector) on s g h f from long in
+        let t : Formed head.layout (place_of segment sector) (overwritten s (place head.layout Data (place_of segment sector)) from) g
+        from = bytes-put head.layout (place_of segment sector) on s g h f from long in
         let there : Beside head.layout (place_of segment sector) s (overwritten s (place head.layout Data (place_of segment sector)) from) =
-        Beside-part head.layout Data (place_of segment sector) s _ f.whole on (bytes-onlyin head.layout (place_of segment sector) on s g h f from long) in (
-          Beside-Beside beside (Beside-Beside there (Beside-part head.layout GateByte (place_of segment sector) _ _ t.whole on (gate-onlyin head.layout (place_of segment sector) on _ g from t open_gate))),
+        Beside-part head.layout Data (place_of segment sector) s _ f.whole on
+        (bytes-onlyin head.layout (place_of segment sector) on s g h f from long) in (
+          Beside-Beside beside (Beside-Beside there
+              (Beside-part head.layout GateByte (place_of segment sector) _ _ t.whole on
+              (gate-onlyin head.layout (place_of segment sector) on _ g from t open_gate))),
           view-gated (gate-put head.layout (place_of segment sector) on _ g from t open_gate),
         )
 
     -- the call leaves the effect of its step, and a crash in it leaves a stop of it
-    pub write-means : (v : SectorView) → view_in head.layout bytes (place_of segment sector) ≡ v → Means (write_sector_steps head.layout (place_of segment sector) from v) (WriteSector segment sector from ∷ []) bytes
-    write-means Blank view = record { done = sym (stays Blank view) ∙ put-view (WriteSector segment sector from) (written_view from) Blank (λ c. refl) view; torn = λ left crashed. absurd crashed }
-    write-means Defect view = record { done = sym (stays Defect view) ∙ put-view (WriteSector segment sector from) (written_view from) Defect (λ c. refl) view; torn = λ left crashed. absurd crashed }
+    pub write-means : (v : SectorView) → view_in head.layout bytes (place_of segment sector) ≡ v →
+        Means (write_sector_steps head.layout (place_of segment sector) from v) (WriteSector segment sector from ∷ []) bytes
+    write-means Blank view = record {
+      done = sym (stays Blank view) ∙ put-view (WriteSector segment sector from) (written_view from) Blank
+          (λ c. refl) view;
+      torn = λ left crashed. absurd crashed;
+    }
+    write-means Defect view = record {
+      done = sym (stays Defect view) ∙ put-view (WriteSector segment sector from)
+          (written_view from) Defect (λ c. refl) view;
+      torn = λ left crashed. absurd crashed;
+    }
     write-means Lost view =
         let f = formed-here Lost view (λ e. cc) (λ e. cc) in
         let closed = not_open _ _ f.1 in
         let done = write-tail-done bytes _ _ f.0 (Beside-all _ _ _) in
         record {
-          done = becomes _ (Holds from) done.0 done.1 ∙ put-view (WriteSector segment sector from) (written_view from) Lost (λ c. refl) view;
+          done = becomes _ (Holds from) done.0 done.1 ∙ put-view (WriteSector segment sector from) (written_view from) Lost
+              (λ c. refl) view;
           torn = λ left crashed.
               let t = write-tail bytes _ _ f.0 closed (Beside-all _ _ _) left crashed in
               elim t.1 [
@@ -232,18 +297,24 @@ module _ (head : Head) (bytes : List ℕ) (segment sector : ℕ) (is : head_of b
     write-means (Holds old) view =
         let f = formed-here (Holds old) view (λ e. cc) (λ e. cc) in
         let shut = gate-put head.layout (place_of segment sector) on bytes _ _ f.0 closed_gate in
-        let there : Beside head.layout (place_of segment sector) bytes (overwritten bytes (place head.layout GateByte (place_of segment sector)) (closed_gate ∷ [])) =
-        Beside-part head.layout GateByte (place_of segment sector) bytes _ whole on (gate-onlyin head.layout (place_of segment sector) on bytes _ _ f.0 closed_gate) in
+        let there : Beside head.layout (place_of segment sector) bytes
+        (overwritten bytes (place head.layout GateByte (place_of segment sector)) (closed_gate ∷ [])) =
+        Beside-part head.layout GateByte (place_of segment sector) bytes _ whole on
+        (gate-onlyin head.layout (place_of segment sector) on bytes _ _ f.0 closed_gate) in
         let done = write-tail-done _ _ _ shut there in
         record {
-          done = becomes _ (Holds from) done.0 done.1 ∙ put-view (WriteSector segment sector from) (written_view from) (Holds old) (λ c. refl) view;
+          done = becomes _ (Holds from) done.0 done.1 ∙ put-view (WriteSector segment sector from) (written_view from) (Holds old)
+              (λ c. refl) view;
           torn = λ left crashed.
-              elim (Crashed-put (place head.layout GateByte (place_of segment sector)) (closed_gate ∷ []) bytes left (put (place head.layout Data (place_of segment sector)) from ++ put (place head.layout GateByte (place_of segment sector)) (open_gate ∷ [])) crashed) [
+              elim (Crashed-put (place head.layout GateByte (place_of segment sector)) (closed_gate ∷ []) bytes left
+              (put (place head.layout Data (place_of segment sector)) from ++ put (place head.layout GateByte (place_of segment sector))
+              (open_gate ∷ [])) crashed) [
                 | inl torn ↦
                     let near = Beside-part head.layout GateByte (place_of segment sector) bytes left whole on (OnlyIn-torn _ _ _ _ torn) in
                     elim (gate-torn head.layout (place_of segment sector) on bytes _ _ f.0 left torn) [
                       | inl lost ↦ write-ends left (Holds old) Lost view (λ e. cc) (λ e. cc) near lost (inr (inl refl))
-                      | inr same ↦ write-ends left (Holds old) (Holds old) view (λ e. cc) (λ e. cc) near (same ∙ opened _ _ old f.1) (inl refl)
+                      | inr same ↦ write-ends left (Holds old) (Holds old) view (λ e. cc) (λ e. cc) near (same ∙ opened _ _ old f.1)
+                          (inl refl)
                     ]
                 | inr behind ↦
                     let t = write-tail _ _ _ shut refl there left behind in
@@ -255,15 +326,27 @@ module _ (head : Head) (bytes : List ℕ) (segment sector : ℕ) (is : head_of b
         }
 
   -- making a sector unreadable: it stays or is lost
-  pub wear-means : (v : SectorView) → view_in head.layout bytes (place_of segment sector) ≡ v → Means (wear_steps head.layout (place_of segment sector) v) (Wear segment sector ∷ []) bytes
-  wear-means Blank view = record { done = sym (stays Blank view) ∙ put-view (Wear segment sector) worn_view Blank (λ c. refl) view; torn = λ left crashed. absurd crashed }
-  wear-means Defect view = record { done = sym (stays Defect view) ∙ put-view (Wear segment sector) worn_view Defect (λ c. refl) view; torn = λ left crashed. absurd crashed }
-  wear-means Lost view = record { done = sym (stays Lost view) ∙ put-view (Wear segment sector) worn_view Lost (λ c. refl) view; torn = λ left crashed. absurd crashed }
+  pub wear-means : (v : SectorView) → view_in head.layout bytes (place_of segment sector) ≡ v →
+      Means (wear_steps head.layout (place_of segment sector) v) (Wear segment sector ∷ []) bytes
+  wear-means Blank view = record {
+    done = sym (stays Blank view) ∙ put-view (Wear segment sector) worn_view Blank (λ c. refl) view;
+    torn = λ left crashed. absurd crashed;
+  }
+  wear-means Defect view = record {
+    done = sym (stays Defect view) ∙ put-view (Wear segment sector) worn_view Defect (λ c. refl) view;
+    torn = λ left crashed. absurd crashed;
+  }
+  wear-means Lost view = record {
+    done = sym (stays Lost view) ∙ put-view (Wear segment sector) worn_view Lost (λ c. refl) view;
+    torn = λ left crashed. absurd crashed;
+  }
   wear-means (Holds old) view =
       let f = formed-here (Holds old) view (λ e. cc) (λ e. cc) in
       let shut = gate-put head.layout (place_of segment sector) on bytes _ _ f.0 closed_gate in
-      let there : Beside head.layout (place_of segment sector) bytes (overwritten bytes (place head.layout GateByte (place_of segment sector)) (closed_gate ∷ [])) =
-      Beside-part head.layout GateByte (place_of segment sector) bytes _ whole on (gate-onlyin head.layout (place_of segment sector) on bytes _ _ f.0 closed_gate) in
+      let there : Beside head.layout (place_of segment sector) bytes
+      (overwritten bytes (place head.layout GateByte (place_of segment sector)) (closed_gate ∷ [])) =
+      Beside-part head.layout GateByte (place_of segment sector) bytes _ whole on
+      (gate-onlyin head.layout (place_of segment sector) on bytes _ _ f.0 closed_gate) in
       record {
         done = becomes _ Lost there (view-gated shut) ∙ put-view (Wear segment sector) worn_view (Holds old) (λ c. refl) view;
         torn = λ left crashed.
@@ -271,7 +354,8 @@ module _ (head : Head) (bytes : List ℕ) (segment sector : ℕ) (is : head_of b
               | inl torn ↦
                   let near = Beside-part head.layout GateByte (place_of segment sector) bytes left whole on (OnlyIn-torn _ _ _ _ torn) in
                   elim (gate-torn head.layout (place_of segment sector) on bytes _ _ f.0 left torn) [
-                    | inl lost ↦ inr (inr (becomes left Lost near lost ∙ put-view (Wear segment sector) worn_view (Holds old) (λ c. refl) view))
+                    | inl lost ↦ inr (inr
+                        (becomes left Lost near lost ∙ put-view (Wear segment sector) worn_view (Holds old) (λ c. refl) view))
                     | inr same ↦ inl (becomes left (Holds old) near (same ∙ opened _ _ old f.1) ∙ stays (Holds old) view)
                   ]
               | inr none ↦ absurd none
@@ -279,30 +363,52 @@ module _ (head : Head) (bytes : List ℕ) (segment sector : ℕ) (is : head_of b
       }
 
   -- making a defect of a blank sector: it stays or is one
-  pub spoil-means : (v : SectorView) → view_in head.layout bytes (place_of segment sector) ≡ v → Means (spoil_steps head.layout (place_of segment sector) v) (Spoil segment sector ∷ []) bytes
-  spoil-means Defect view = record { done = sym (stays Defect view) ∙ put-view (Spoil segment sector) spoiled_view Defect (λ c. refl) view; torn = λ left crashed. absurd crashed }
-  spoil-means Lost view = record { done = sym (stays Lost view) ∙ put-view (Spoil segment sector) spoiled_view Lost (λ c. refl) view; torn = λ left crashed. absurd crashed }
-  spoil-means (Holds old) view = record { done = sym (stays (Holds old) view) ∙ put-view (Spoil segment sector) spoiled_view (Holds old) (λ c. refl) view; torn = λ left crashed. absurd crashed }
+  pub spoil-means : (v : SectorView) → view_in head.layout bytes (place_of segment sector) ≡ v →
+      Means (spoil_steps head.layout (place_of segment sector) v) (Spoil segment sector ∷ []) bytes
+  spoil-means Defect view = record {
+    done = sym (stays Defect view) ∙ put-view (Spoil segment sector) spoiled_view Defect (λ c. refl) view;
+    torn = λ left crashed. absurd crashed;
+  }
+  spoil-means Lost view = record {
+    done = sym (stays Lost view) ∙ put-view (Spoil segment sector) spoiled_view Lost (λ c. refl) view;
+    torn = λ left crashed. absurd crashed;
+  }
+  spoil-means (Holds old) view = record {
+    done = sym (stays (Holds old) view) ∙ put-view (Spoil segment sector) spoiled_view (Holds old)
+        (λ c. refl) view;
+    torn = λ left crashed. absurd crashed;
+  }
   spoil-means Blank view =
       let q : ℕ = place_of segment sector in
       let l : Layout = head.layout in
-      let b = blank_by (slice_index bytes (place l DefectByte q) == defect_byte) (slice_index bytes (place l FormedByte q) == formed_byte) (slice_index bytes (place l GateByte q) == open_gate) (sector_bytes l bytes q) (sym (view_in-is l bytes q) ∙ view) in
-      let shown : (left : List ℕ) → OnlyIn (place l DefectByte q) 1 bytes left → view_in l left q ≡ (if slice_index left (place l DefectByte q) == defect_byte then Defect else Blank) =
-      λ left only. defect-view l q bytes left only whole on ∙ view_by-blank (slice_index left (place l DefectByte q)) (slice_index bytes (place l FormedByte q)) (slice_index bytes (place l GateByte q)) (sector_bytes l bytes q) b.1 in
-      let only = OnlyIn-written (place l DefectByte q) bytes (defect_byte ∷ []) (let b = (laid_out l).before DefectByte q on in omega arith) in
+      let b = blank_by (slice_index bytes (place l DefectByte q) == defect_byte) (slice_index bytes (place l FormedByte q) == formed_byte)
+      (slice_index bytes (place l GateByte q) == open_gate) (sector_bytes l bytes q) (sym (view_in-is l bytes q) ∙ view) in
+      let shown : (left : List ℕ) → OnlyIn (place l DefectByte q) 1 bytes left →
+      view_in l left q ≡ (if slice_index left (place l DefectByte q) == defect_byte then Defect else Blank) =
+      λ left only. defect-view l q bytes left only whole on ∙ view_by-blank (slice_index left (place l DefectByte q))
+      (slice_index bytes (place l FormedByte q)) (slice_index bytes (place l GateByte q)) (sector_bytes l bytes q) b.1 in
+      let only = OnlyIn-written (place l DefectByte q) bytes (defect_byte ∷ []) (let b = (laid_out l).before DefectByte q on in omega arith)
+      in
       let put_there = byte-written bytes (place l DefectByte q) defect_byte (let b = (laid_out l).before DefectByte q on in omega arith) in
-      let by_byte : (left : List ℕ) (bad : Bool) → Beside l q bytes left → view_in l left q ≡ (if bad then Defect else Blank) → Torn (Spoil segment sector ∷ []) (cartridge_of bytes) (cartridge_of left) =
+      let by_byte : (left : List ℕ) (bad : Bool) → Beside l q bytes left → view_in l left q ≡ (if bad then Defect else Blank) →
+      Torn (Spoil segment sector ∷ []) (cartridge_of bytes) (cartridge_of left) =
       λ left bad near now. spoiled left bad near now view in
       record {
-        done = becomes _ Defect (Beside-part l DefectByte q bytes _ whole on only) (shown _ only ∙ ap (λ d. if d == defect_byte then Defect else Blank) put_there) ∙ put-view (Spoil segment sector) spoiled_view Blank (λ c. refl) view;
+        done = becomes _ Defect (Beside-part l DefectByte q bytes _ whole on only)
+            (shown _ only ∙ ap (λ d. if d == defect_byte then Defect else Blank) put_there)
+            ∙ put-view (Spoil segment sector) spoiled_view Blank (λ c. refl) view;
         torn = λ left crashed.
             elim (Crashed-put (place l DefectByte q) (defect_byte ∷ []) bytes left [] crashed) [
-              | inl torn ↦ by_byte left (slice_index left (place l DefectByte q) == defect_byte) (Beside-part l DefectByte q bytes left whole on (OnlyIn-torn _ _ _ _ torn)) (shown left (OnlyIn-torn _ _ _ _ torn))
+              | inl torn ↦ by_byte left (slice_index left (place l DefectByte q) == defect_byte)
+                  (Beside-part l DefectByte q bytes left whole on (OnlyIn-torn _ _ _ _ torn)) (shown left (OnlyIn-torn _ _ _ _ torn))
               | inr none ↦ absurd none
             ];
       }
     where
-      spoiled : (left : List ℕ) (bad : Bool) → Beside head.layout (place_of segment sector) bytes left → view_in head.layout left (place_of segment sector) ≡ (if bad then Defect else Blank)
-          → view_in head.layout bytes (place_of segment sector) ≡ Blank → Torn (Spoil segment sector ∷ []) (cartridge_of bytes) (cartridge_of left)
-      spoiled left true near now view = inr (inr (becomes left Defect near now ∙ put-view (Spoil segment sector) spoiled_view Blank (λ c. refl) view))
+      spoiled : (left : List ℕ) (bad : Bool) → Beside head.layout (place_of segment sector) bytes left →
+          view_in head.layout left (place_of segment sector) ≡ (if bad then Defect else Blank)
+          → view_in head.layout bytes (place_of segment sector) ≡ Blank → Torn (Spoil segment sector ∷ []) (cartridge_of bytes)
+          (cartridge_of left)
+      spoiled left true near now view = inr
+          (inr (becomes left Defect near now ∙ put-view (Spoil segment sector) spoiled_view Blank (λ c. refl) view))
       spoiled left false near now view = inl (becomes left Blank near now ∙ stays Blank view)

@@ -1,5 +1,6 @@
 -- From what a call does to the disk under a tape to what it does to the tape.
-use Rattle.std.proofs.Common.{◌≡◌, ℕ, ◌<◌, ◌≤◌, Bool, true, false, List, [], ◌∷◌, length, refl, sym, ◌∙◌, ap, arith, Option, Some, None, IfSome, IsSome, IsSomeAnd, subst, Result, Ok, Err}
+use Rattle.std.proofs.Common.{◌≡◌, ℕ, ◌^◌, ◌<◌, ◌≤◌, Bool, true, false, List, [], ◌∷◌, length, refl, sym, ◌∙◌, ap, arith, Option, Some}
+use Rattle.std.proofs.Common.{None, IfSome, IsSome, IsSomeAnd, subst, Result, Ok, Err}
 use Rattle.std.proofs.lemmas.Option.{IfSome_then, same_Some}
 use Rattle.std.specs.Prelude.{slice_index}
 use Rattle.std.specs.Option.{option_map}
@@ -12,8 +13,8 @@ use Rattle.qic_base.specs.CartridgeTerms.{place_of}
 use Rattle.qic_base.specs.Disk as disk
 use Rattle.qic_base.specs.Disk.{DiskStep, Look, Failed, IsSettled}
 use Rattle.qic_base.specs.Step.{Step, WriteSector, FormatSegment, SetReferenced, SetProtected, Renew, Wear, Spoil, Upgrade, effect}
-use Rattle.qic_base.specs.TapeCalls.{Does, Tells}
-use Rattle.qic_base.specs.Tape.{Done, Broke, Stops}
+use Rattle.qic_base.specs.TapeCalls.{Tells}
+use Rattle.qic_base.specs.Tape.{Rose, Done, Broke, Stops}
 use Rattle.cart_image.specs.declared.layout.Head.{Head}
 use Rattle.cart_image.specs.declared.layout.Kind.TheVariants.{Planes, Cells, CellsBehind}
 use Rattle.cart_image.specs.declared.layout.Kind.{Kind}
@@ -22,77 +23,104 @@ use Rattle.cart_image.specs.declared.segment.SegmentStates.{SegmentStates}
 use Rattle.cart_image.specs.declared.tape.ImageTape.{ImageTape}
 use Rattle.cart_image.specs.Image.{cartridge_of, head_of, layout_of, info_by, view_in, read_as}
 use Rattle.cart_image.specs.ImageTape.{image_means, size_by}
-use Rattle.cart_image.specs.Layout.{sectors, end_of, image_len, protected_place, referenced_place, write_sector_steps, wear_steps, spoil_steps, mark_steps, format_plan, renew_steps, touches, upgrade_plan, upgrade_steps, upgraded_len, version_of}
+use Rattle.cart_image.specs.Layout.{sectors, end_of, image_len, protected_place, referenced_place, write_sector_steps, wear_steps}
+use Rattle.cart_image.specs.Layout.{spoil_steps, mark_steps, format_plan, renew_steps, touches, upgrade_plan, upgrade_steps, upgraded_len}
+use Rattle.cart_image.specs.Layout.{version_of}
 use Rattle.cart_image.specs.Run.{Looks, Looked, Ran, Carried, CarriedBy, Planned, after_steps}
 use Rattle.cart_image.specs.State.{AreStates}
 use Rattle.cart_image.specs.Tape.{disk_means}
 use Rattle.cart_image.specs.Whole.{IsHeadIn, some_head, head_of-parts, cartridge_of-read, info_of-cartridge, layout_of-read}
-use Rattle.cart_image.proofs.Carries.{Means, Does-carried}
+use Rattle.cart_image.proofs.Carries.{Finished, CutShort, Outcome, Means, Outcome-carried}
 use Rattle.cart_image.proofs.Changes.{view_at-read}
 use Rattle.cart_image.proofs.Exits.{Carried-looked, Carried-runs, told-fact}
 use Rattle.cart_image.proofs.Formats.{format-means}
 use Rattle.cart_image.proofs.Heads.{protected-means, referenced-means, TellsLayout}
 use Rattle.cart_image.proofs.Known.{on-tape, on-segment, head-under, long-under}
-use Rattle.cart_image.proofs.Laid.{carried-laid, carried-passes, some_told, write-spares, wear-spares, spoil-spares, format-spares, mark-spares}
+use Rattle.cart_image.proofs.Laid.{carried-laid, carried-passes, some_told, write-spares, wear-spares, spoil-spares, format-spares}
+use Rattle.cart_image.proofs.Laid.{mark-spares}
 use Rattle.cart_image.proofs.Renews.{renew-means, renew-laid}
 use Rattle.cart_image.proofs.Upgrades.{upgrade-means, upgrade-laid}
 use Rattle.cart_image.proofs.Runs.{Looks-settled, Looks-nothing, Ran-told}
 use Rattle.cart_image.proofs.Sectors.{write-means, wear-means, spoil-means}
 use Rattle.cart_image.proofs.Writes.{Spares}
+use Rattle.qic_base.proofs.Steps.{Rose-some}
 
-Tape-stops : {D : Type 0} {g : Ghosts D} (old new : ImageTape D g) (steps : List Step) → Stops (disk_means g.means) old.disk new.disk steps → Stops (image_means {g = g}) old new steps
+Tape-stops : {D : Type 0} {g : Ghosts D} (old new : ImageTape D g) (steps : List Step) →
+    Stops (disk_means g.means) old.disk new.disk steps → Stops (image_means {g = g}) old new steps
 Tape-stops old new steps s = record { telling = s.telling; clock = s.clock; kept = s.kept; parted = s.parted; since = s.since }
 
-pub Tape-done : {D : Type 0} {g : Ghosts D} (old new : ImageTape D g) (steps : List Step) → Done (disk_means g.means) old.disk new.disk steps → Done (image_means {g = g}) old new steps
-Tape-done old new steps d = record { told = d.told; later = d.later; stops = Tape-stops old new steps d.stops }
+pub Tape-done : {D : Type 0} {g : Ghosts D} (old new : ImageTape D g) (steps : List Step) →
+    Finished (disk_means g.means) old.disk new.disk steps → new.faults ≡ old.faults → Done (image_means {g = g}) old new steps
+Tape-done old new steps d stood = record { told = d.told; later = stood; stops = Tape-stops old new steps d.stops }
 
-pub Tape-broke : {D : Type 0} {g : Ghosts D} (old new : ImageTape D g) (steps : List Step) → Broke (disk_means g.means) old.disk new.disk steps → Broke (image_means {g = g}) old new steps
-Tape-broke old new steps b = record { cause = b.cause; later = b.later; tells = b.tells; torn = b.torn; stops = Tape-stops old new steps b.stops }
+pub Tape-broke : {D : Type 0} {g : Ghosts D} (old new : ImageTape D g) (steps : List Step) →
+    CutShort (disk_means g.means) old.disk new.disk steps → Rose old.faults new.faults → old.faults < 2 ^ 64 →
+    Broke (image_means {g = g}) old new steps
+Tape-broke old new steps b rose fits = record {
+  cause = rose;
+  later = omega arith;
+  last = Rose-some old.faults new.faults rose;
+  tells = b.tells;
+  torn = b.torn;
+  stops = Tape-stops old new steps b.stops;
+}
 
 -- nothing is pending under a tape
 pub tape-settled : {D : Type 0} {g : Ghosts D} (s : ImageTape D g) → IsSettled g.means s.disk
 tape-settled s = record { only = s.settled }
 
 -- a call that only looked
-looked-does : {D T E : Type 0} (m : disk.Meaning D) (old new : D) (result : Result T E) → IsSettled m old → Looked m old new result → Does (disk_means m) old new [] result
-looked-does m old new result settled looked =
-    Does-carried m old new (λ bytes. []) [] result settled (Carried-looked m old new result looked) (λ bytes told. record { done = refl; torn = λ left crashed. absurd crashed })
+looked-outcome : {D T E : Type 0} (m : disk.Meaning D) (old new : D) (result : Result T E) → IsSettled m old → Looked m old new result →
+    Outcome (disk_means m) old new [] result
+looked-outcome m old new result settled looked =
+    Outcome-carried m old new (λ bytes. []) [] result settled (Carried-looked m old new result looked)
+    (λ bytes told. record { done = refl; torn = λ left crashed. absurd crashed })
 
 -- a plan that keeps the layout of the bytes under a tape
 abbrev Plans : {D : Type 0} {g : Ghosts D} (s : ImageTape D g) (plan : List ℕ → List DiskStep) → Type 0
-Plans {g = g} s plan = (bytes : List ℕ) → g.means.told s.disk ≡ Some bytes → (64 ≤ length bytes) × Spares TellsLayout (length bytes) (plan bytes)
+Plans {g = g} s plan = (bytes : List ℕ) → g.means.told s.disk ≡ Some bytes → (64 ≤ length bytes) × Spares TellsLayout (length bytes)
+    (plan bytes)
 
 far : (l : Layout) (len : ℕ) → 3 ≤ l.segments_per_track → end_of l ≤ len → 64 ≤ len
 far l len least long = omega arith
 
 -- the bytes under a tape of this layout, where the disk tells them
-module _ {D : Type 0} {g : Ghosts D} (s : ImageTape D g) (l : Layout) (segment sector : ℕ) (layout : s.layout ≡ Some l) (place : IsSomeAnd (size_by s.layout) (λ k. IsPlace k segment sector)) where
+module _ {D : Type 0} {g : Ghosts D} (s : ImageTape D g) (l : Layout) (segment sector : ℕ) (layout : s.layout ≡ Some l)
+    (place : IsSomeAnd (size_by s.layout) (λ k. IsPlace k segment sector)) where
   on : place_of segment sector < sectors l.segments_per_track
   on = on-tape s l segment sector layout place
 
   -- what holds of bytes with a head holds of the bytes under the tape
   at-head : (P : Layout → List ℕ → Type 0)
-      → ((h : Head) (bytes : List ℕ) → head_of bytes ≡ Some h → end_of h.layout ≤ length bytes → place_of segment sector < sectors h.layout.segments_per_track → P h.layout bytes)
+      → ((h : Head) (bytes : List ℕ) → head_of bytes ≡ Some h → end_of h.layout ≤ length bytes →
+      place_of segment sector < sectors h.layout.segments_per_track → P h.layout bytes)
       → (bytes : List ℕ) → g.means.told s.disk ≡ Some bytes → P l bytes
   at-head P holds bytes told =
       let h = head-under s l segment sector layout place bytes told in
       let Q : Layout → Type 0 = λ y. P y bytes in
-      subst Q h.2 (holds h.0 bytes h.1 (head_of-parts bytes h.0 h.1).fits.long (let o = on in let e = ap (λ (y : Layout). y.segments_per_track) h.2 in omega arith))
+      subst Q h.2 (holds h.0 bytes h.1 (head_of-parts bytes h.0 h.1).fits.long
+      (let o = on in let e = ap (λ (y : Layout). y.segments_per_track) h.2 in omega arith))
 
   pub write-at : (from : List ℕ) → length from ≡ 1024 → (bytes : List ℕ) → g.means.told s.disk ≡ Some bytes
-      → Means (write_sector_steps l (place_of segment sector) from (view_in l bytes (place_of segment sector))) (WriteSector segment sector from ∷ []) bytes
+      → Means (write_sector_steps l (place_of segment sector) from (view_in l bytes (place_of segment sector)))
+      (WriteSector segment sector from ∷ []) bytes
   write-at from long =
-      at-head (λ y bytes. Means (write_sector_steps y (place_of segment sector) from (view_in y bytes (place_of segment sector))) (WriteSector segment sector from ∷ []) bytes)
+      at-head (λ y bytes. Means (write_sector_steps y (place_of segment sector) from (view_in y bytes (place_of segment sector)))
+      (WriteSector segment sector from ∷ []) bytes)
       (λ h bytes is whole there. write-means h bytes segment sector is whole there from long _ refl)
 
-  pub wear-at : (bytes : List ℕ) → g.means.told s.disk ≡ Some bytes → Means (wear_steps l (place_of segment sector) (view_in l bytes (place_of segment sector))) (Wear segment sector ∷ []) bytes
+  pub wear-at : (bytes : List ℕ) → g.means.told s.disk ≡ Some bytes →
+      Means (wear_steps l (place_of segment sector) (view_in l bytes (place_of segment sector))) (Wear segment sector ∷ []) bytes
   wear-at =
-      at-head (λ y bytes. Means (wear_steps y (place_of segment sector) (view_in y bytes (place_of segment sector))) (Wear segment sector ∷ []) bytes)
+      at-head (λ y bytes. Means (wear_steps y (place_of segment sector) (view_in y bytes (place_of segment sector)))
+      (Wear segment sector ∷ []) bytes)
       (λ h bytes is whole there. wear-means h bytes segment sector is whole there _ refl)
 
-  pub spoil-at : (bytes : List ℕ) → g.means.told s.disk ≡ Some bytes → Means (spoil_steps l (place_of segment sector) (view_in l bytes (place_of segment sector))) (Spoil segment sector ∷ []) bytes
+  pub spoil-at : (bytes : List ℕ) → g.means.told s.disk ≡ Some bytes →
+      Means (spoil_steps l (place_of segment sector) (view_in l bytes (place_of segment sector))) (Spoil segment sector ∷ []) bytes
   spoil-at =
-      at-head (λ y bytes. Means (spoil_steps y (place_of segment sector) (view_in y bytes (place_of segment sector))) (Spoil segment sector ∷ []) bytes)
+      at-head (λ y bytes. Means (spoil_steps y (place_of segment sector) (view_in y bytes (place_of segment sector)))
+      (Spoil segment sector ∷ []) bytes)
       (λ h bytes is whole there. spoil-means h bytes segment sector is whole there _ refl)
 
   least : 3 ≤ l.segments_per_track
@@ -101,71 +129,105 @@ module _ {D : Type 0} {g : Ghosts D} (s : ImageTape D g) (l : Layout) (segment s
   long-at : (bytes : List ℕ) → g.means.told s.disk ≡ Some bytes → end_of l ≤ length bytes
   long-at bytes told = long-under s l segment sector layout place bytes told
 
-  pub write-plans : (q : ℕ) → q ≡ place_of segment sector → (from : List ℕ) → length from ≡ 1024 → Plans s (λ bytes. write_sector_steps l q from (view_in l bytes q))
+  pub write-plans : (q : ℕ) → q ≡ place_of segment sector → (from : List ℕ) → length from ≡ 1024 →
+      Plans s (λ bytes. write_sector_steps l q from (view_in l bytes q))
   write-plans q is-q from long bytes told =
-      let e = long-at bytes told in (far l (length bytes) least e, write-spares l (length bytes) e q from (view_in l bytes q) (let o = on in omega arith) long)
+      let e = long-at bytes told in (
+        far l (length bytes) least e,
+        write-spares l (length bytes) e q from (view_in l bytes q)
+            (let o = on in omega arith) long,
+      )
 
   pub wear-plans : (q : ℕ) → q ≡ place_of segment sector → Plans s (λ bytes. wear_steps l q (view_in l bytes q))
   wear-plans q is-q bytes told =
-      let e = long-at bytes told in (far l (length bytes) least e, wear-spares l (length bytes) e q (view_in l bytes q) (let o = on in omega arith))
+      let e = long-at bytes told in (
+        far l (length bytes) least e,
+        wear-spares l (length bytes) e q (view_in l bytes q)
+            (let o = on in omega arith),
+      )
 
   pub spoil-plans : (q : ℕ) → q ≡ place_of segment sector → Plans s (λ bytes. spoil_steps l q (view_in l bytes q))
   spoil-plans q is-q bytes told =
-      let e = long-at bytes told in (far l (length bytes) least e, spoil-spares l (length bytes) e q (view_in l bytes q) (let o = on in omega arith))
+      let e = long-at bytes told in (
+        far l (length bytes) least e,
+        spoil-spares l (length bytes) e q (view_in l bytes q)
+            (let o = on in omega arith),
+      )
 
   pub format-plans : Plans s (λ bytes. format_plan l segment bytes)
   format-plans bytes told =
-      let e = long-at bytes told in (far l (length bytes) least e, format-spares l (length bytes) e segment bytes (on-segment s l segment sector layout place))
+      let e = long-at bytes told in (
+        far l (length bytes) least e,
+        format-spares l (length bytes) e segment bytes
+            (on-segment s l segment sector layout place),
+      )
 
   -- a fact of the view that the bytes have is one of the cartridge's view
-  pub view-fact : (P : SectorView → Type 0) → IfSome (g.means.told s.disk) (λ bytes. end_of l ≤ length bytes → P (view_in l bytes (place_of segment sector)))
+  pub view-fact : (P : SectorView → Type 0) →
+      IfSome (g.means.told s.disk) (λ bytes. end_of l ≤ length bytes → P (view_in l bytes (place_of segment sector)))
       → Tells (image_means {g = g}) s (λ c. P (view_at c segment sector))
   view-fact P fact = by_told (g.means.told s.disk) refl fact
     where
-      by_told : (told : Option (List ℕ)) → g.means.told s.disk ≡ told → IfSome told (λ bytes. end_of l ≤ length bytes → P (view_in l bytes (place_of segment sector))) → IfSome (option_map cartridge_of told) (λ h. IfSome h (λ c. P (view_at c segment sector)))
+      by_told : (told : Option (List ℕ)) → g.means.told s.disk ≡ told →
+          IfSome told (λ bytes. end_of l ≤ length bytes → P (view_in l bytes (place_of segment sector))) →
+          IfSome (option_map cartridge_of told) (λ h. IfSome h (λ c. P (view_at c segment sector)))
       by_told None told fact = tt
       by_told (Some bytes) told fact =
-          at-head (λ y b. (end_of y ≤ length b → P (view_in y b (place_of segment sector))) → IfSome (cartridge_of b) (λ c. P (view_at c segment sector)))
+          at-head (λ y b. (end_of y ≤ length b → P (view_in y b (place_of segment sector))) →
+          IfSome (cartridge_of b) (λ c. P (view_at c segment sector)))
           (λ h b is whole there f.
           let Q : Option Cartridge → Type 0 = λ c. IfSome c (λ c. P (view_at c segment sector)) in
           subst Q (sym (cartridge_of-read b h is)) (subst P (sym (view_at-read h b segment sector there)) (f whole))) bytes told fact
 
   -- what each call of a sector did to the disk's cartridge, by its answer; q is the sector's number
   module _ {T E : Type 0} (new : D) (result : Result T E) (q : ℕ) (is-q : q ≡ place_of segment sector) where
-    pub write-does : (from : List ℕ) → length from ≡ 1024 → Carried g.means s.disk new (λ bytes. write_sector_steps l q from (view_in l bytes q)) result → Does (disk_means g.means) s.disk new (WriteSector segment sector from ∷ []) result
-    write-does from long carried =
+    pub write-outcome : (from : List ℕ) → length from ≡ 1024 →
+        Carried g.means s.disk new (λ bytes. write_sector_steps l q from (view_in l bytes q)) result →
+        Outcome (disk_means g.means) s.disk new (WriteSector segment sector from ∷ []) result
+    write-outcome from long carried =
         let C : ℕ → Type 0 = λ k. Carried g.means s.disk new (λ bytes. write_sector_steps l k from (view_in l bytes k)) result in
-        Does-carried g.means s.disk new (λ bytes. write_sector_steps l (place_of segment sector) from (view_in l bytes (place_of segment sector))) (WriteSector segment sector from ∷ []) result (tape-settled s) (subst C is-q carried) (write-at from long)
+        Outcome-carried g.means s.disk new
+        (λ bytes. write_sector_steps l (place_of segment sector) from (view_in l bytes (place_of segment sector)))
+        (WriteSector segment sector from ∷ []) result (tape-settled s) (subst C is-q carried) (write-at from long)
 
-    pub wear-does : Carried g.means s.disk new (λ bytes. wear_steps l q (view_in l bytes q)) result → Does (disk_means g.means) s.disk new (Wear segment sector ∷ []) result
-    wear-does carried =
+    pub wear-outcome : Carried g.means s.disk new (λ bytes. wear_steps l q (view_in l bytes q)) result →
+        Outcome (disk_means g.means) s.disk new (Wear segment sector ∷ []) result
+    wear-outcome carried =
         let C : ℕ → Type 0 = λ k. Carried g.means s.disk new (λ bytes. wear_steps l k (view_in l bytes k)) result in
-        Does-carried g.means s.disk new (λ bytes. wear_steps l (place_of segment sector) (view_in l bytes (place_of segment sector))) (Wear segment sector ∷ []) result (tape-settled s) (subst C is-q carried) wear-at
+        Outcome-carried g.means s.disk new (λ bytes. wear_steps l (place_of segment sector) (view_in l bytes (place_of segment sector)))
+        (Wear segment sector ∷ []) result (tape-settled s) (subst C is-q carried) wear-at
 
-    pub spoil-does : Carried g.means s.disk new (λ bytes. spoil_steps l q (view_in l bytes q)) result → Does (disk_means g.means) s.disk new (Spoil segment sector ∷ []) result
-    spoil-does carried =
+    pub spoil-outcome : Carried g.means s.disk new (λ bytes. spoil_steps l q (view_in l bytes q)) result →
+        Outcome (disk_means g.means) s.disk new (Spoil segment sector ∷ []) result
+    spoil-outcome carried =
         let C : ℕ → Type 0 = λ k. Carried g.means s.disk new (λ bytes. spoil_steps l k (view_in l bytes k)) result in
-        Does-carried g.means s.disk new (λ bytes. spoil_steps l (place_of segment sector) (view_in l bytes (place_of segment sector))) (Spoil segment sector ∷ []) result (tape-settled s) (subst C is-q carried) spoil-at
+        Outcome-carried g.means s.disk new (λ bytes. spoil_steps l (place_of segment sector) (view_in l bytes (place_of segment sector)))
+        (Spoil segment sector ∷ []) result (tape-settled s) (subst C is-q carried) spoil-at
 
   -- a fact of the view that a call saw is one of the cartridge's view
-  pub seen-fact : (q : ℕ) → q ≡ place_of segment sector → (P : SectorView → Type 0) → IfSome (g.means.told s.disk) (λ bytes. P (view_in l bytes q)) → Tells (image_means {g = g}) s (λ c. P (view_at c segment sector))
+  pub seen-fact : (q : ℕ) → q ≡ place_of segment sector → (P : SectorView → Type 0) →
+      IfSome (g.means.told s.disk) (λ bytes. P (view_in l bytes q)) → Tells (image_means {g = g}) s (λ c. P (view_at c segment sector))
   seen-fact q is-q P fact =
       view-fact P (IfSome_then (g.means.told s.disk) fact (λ bytes p. λ whole. subst (λ (k : ℕ). P (view_in l bytes k)) is-q p))
 
   pub q-on-tape : (q : ℕ) → q ≡ place_of segment sector → q < sectors l.segments_per_track
   q-on-tape q is-q = let o = on in omega arith
 
-  pub format-does : {T E : Type 0} (new : D) (result : Result T E) → Carried g.means s.disk new (λ bytes. format_plan l segment bytes) result → Does (disk_means g.means) s.disk new (FormatSegment segment ∷ []) result
-  format-does new result carried =
-      Does-carried g.means s.disk new (λ bytes. format_plan l segment bytes) (FormatSegment segment ∷ []) result (tape-settled s) carried
+  pub format-outcome : {T E : Type 0} (new : D) (result : Result T E) →
+      Carried g.means s.disk new (λ bytes. format_plan l segment bytes) result → Outcome (disk_means g.means) s.disk new
+      (FormatSegment segment ∷ []) result
+  format-outcome new result carried =
+      Outcome-carried g.means s.disk new (λ bytes. format_plan l segment bytes) (FormatSegment segment ∷ []) result (tape-settled s) carried
       (λ bytes told.
       let h = head-under s l segment sector layout place bytes told in
       let P : Layout → Type 0 = λ y. Means (format_plan y segment bytes) (FormatSegment segment ∷ []) bytes in
-      subst P h.2 (format-means h.0 bytes segment h.1 (head_of-parts bytes h.0 h.1).fits.long (let o = on-segment s l segment sector layout place in let e = ap (λ (y : Layout). y.segments_per_track) h.2 in omega arith)))
+      subst P h.2 (format-means h.0 bytes segment h.1 (head_of-parts bytes h.0 h.1).fits.long
+      (let o = on-segment s l segment sector layout place in let e = ap (λ (y : Layout). y.segments_per_track) h.2 in omega arith)))
 
 -- what is known of a segment is right of the disk's bytes
 abbrev pub IsRight : {D : Type 0} → disk.Meaning D → D → Option SegmentStates → Type 0
-IsRight m d known = (states : SegmentStates) (bytes : List ℕ) → known ≡ Some states → m.told d ≡ Some bytes → AreStates states (cartridge_of bytes)
+IsRight m d known = (states : SegmentStates) (bytes : List ℕ) → known ≡ Some states → m.told d ≡ Some bytes →
+    AreStates states (cartridge_of bytes)
 
 -- the invariants of a tape over this disk, of this layout, of which this is known
 abbrev IsTape : {D : Type 0} → disk.Meaning D → D → Option Layout → Option SegmentStates → Type 0
@@ -185,7 +247,8 @@ some_layout (Some l) is = (l, refl)
 
 -- what the calls of the marks, and looks, plan
 module _ {D : Type 0} {g : Ghosts D} (s : ImageTape D g) where
-  mark-plans : (at : ℕ) (on : Bool) → 12 ≤ at → at < 14 → IsSome (size_by s.layout) → Plans s (λ bytes. mark_steps at on (slice_index bytes at))
+  mark-plans : (at : ℕ) (on : Bool) → 12 ≤ at → at < 14 → IsSome (size_by s.layout) →
+      Plans s (λ bytes. mark_steps at on (slice_index bytes at))
   mark-plans at on late early has bytes told =
       let l = some_layout s.layout has in
       let h = some_head bytes l.0 (s.laid l.0 bytes l.1 told) in
@@ -194,10 +257,12 @@ module _ {D : Type 0} {g : Ghosts D} (s : ImageTape D g) where
       let k = far h.0.layout (length bytes) f.shortest n in
       (k, mark-spares (length bytes) at on (slice_index bytes at) late early (omega arith))
 
-  pub protected-plans : (on : Bool) → IsSome (size_by s.layout) → Plans s (λ bytes. mark_steps protected_place on (slice_index bytes protected_place))
+  pub protected-plans : (on : Bool) → IsSome (size_by s.layout) →
+      Plans s (λ bytes. mark_steps protected_place on (slice_index bytes protected_place))
   protected-plans on = mark-plans 12 on (omega arith) (omega arith)
 
-  pub referenced-plans : IsSome (size_by s.layout) → Plans s (λ bytes. mark_steps referenced_place true (slice_index bytes referenced_place))
+  pub referenced-plans : IsSome (size_by s.layout) →
+      Plans s (λ bytes. mark_steps referenced_place true (slice_index bytes referenced_place))
   referenced-plans = mark-plans 13 true (omega arith) (omega arith)
 
   pub no-plans : IsSome (size_by s.layout) → Plans s (λ bytes. [])
@@ -222,8 +287,10 @@ module _ {D : Type 0} {g : Ghosts D} (s : ImageTape D g) {T E : Type 0} (new : D
       by_result (Err e) looked = looked.2.settled
 
   -- a tape of the same layout, over the disk that the call left
-  module _ (t : ImageTape D g) (layout : t.layout ≡ s.layout) (seen : g.means.seen_len new ≡ g.means.seen_len t.disk) (settled : IsSettled g.means new)
-      (plan : List ℕ → List DiskStep) (plans : IsSome (size_by s.layout) → Plans s plan) (carried : Carried g.means s.disk new plan result) where
+  module _ (t : ImageTape D g) (layout : t.layout ≡ s.layout) (seen : g.means.seen_len new ≡ g.means.seen_len t.disk)
+      (settled : IsSettled g.means new)
+      (plan : List ℕ → List DiskStep) (plans : IsSome (size_by s.layout) → Plans s plan)
+      (carried : Carried g.means s.disk new plan result) where
     -- .. of which this is known
     pub known-tape : (known : Option SegmentStates) → IsRight g.means new known → IsTape g.means new t.layout known
     known-tape known right = record {
@@ -234,7 +301,8 @@ module _ {D : Type 0} {g : Ghosts D} (s : ImageTape D g) {T E : Type 0} (new : D
       laid = λ l bytes is told.
           let was : s.layout ≡ Some l = sym layout ∙ is in
           let has : IsSome (size_by s.layout) = (let P : Option Layout → Type 0 = λ o. IsSome (size_by o) in subst P (sym was) refl) in
-          carried-laid g.means s.disk new plan result l (tape-settled s) carried (λ b now. (s.laid l b was now, (plans has b now).0, (plans has b now).1)) bytes told;
+          carried-laid g.means s.disk new plan result l (tape-settled s) carried
+          (λ b now. (s.laid l b was now, (plans has b now).0, (plans has b now).1)) bytes told;
       right = right;
     }
 
@@ -242,19 +310,26 @@ module _ {D : Type 0} {g : Ghosts D} (s : ImageTape D g) {T E : Type 0} (new : D
     pub unknown-tape : IsTape g.means new t.layout None
     unknown-tape = known-tape None (λ states bytes none told. cc)
 
-  pub protected-does : (size : IsSome (size_by s.layout)) (on : Bool) → Carried g.means s.disk new (λ bytes. mark_steps protected_place on (slice_index bytes protected_place)) result → Does (disk_means g.means) s.disk new (SetProtected on ∷ []) result
-  protected-does size on carried =
-      Does-carried g.means s.disk new (λ bytes. mark_steps protected_place on (slice_index bytes protected_place)) (SetProtected on ∷ []) result (tape-settled s) carried
+  pub protected-outcome : (size : IsSome (size_by s.layout)) (on : Bool) →
+      Carried g.means s.disk new (λ bytes. mark_steps protected_place on (slice_index bytes protected_place)) result →
+      Outcome (disk_means g.means) s.disk new (SetProtected on ∷ []) result
+  protected-outcome size on carried =
+      Outcome-carried g.means s.disk new (λ bytes. mark_steps protected_place on (slice_index bytes protected_place))
+      (SetProtected on ∷ []) result (tape-settled s) carried
       (λ bytes told.
       let l = some_layout s.layout size in
       let laid = s.laid l.0 bytes l.1 told in
       let h = some_head bytes l.0 laid in
       let f = (head_of-parts bytes h.0 h.1).fits in
-      protected-means h.0.layout bytes (layout_of-read bytes h.0 h.1) f.long (far h.0.layout (end_of h.0.layout) f.shortest (omega arith)) on)
+      protected-means h.0.layout bytes (layout_of-read bytes h.0 h.1) f.long (far h.0.layout (end_of h.0.layout) f.shortest (omega arith))
+      on)
 
-  pub referenced-does : (size : IsSome (size_by s.layout)) → Carried g.means s.disk new (λ bytes. mark_steps referenced_place true (slice_index bytes referenced_place)) result → Does (disk_means g.means) s.disk new (SetReferenced ∷ []) result
-  referenced-does size carried =
-      Does-carried g.means s.disk new (λ bytes. mark_steps referenced_place true (slice_index bytes referenced_place)) (SetReferenced ∷ []) result (tape-settled s) carried
+  pub referenced-outcome : (size : IsSome (size_by s.layout)) →
+      Carried g.means s.disk new (λ bytes. mark_steps referenced_place true (slice_index bytes referenced_place)) result →
+      Outcome (disk_means g.means) s.disk new (SetReferenced ∷ []) result
+  referenced-outcome size carried =
+      Outcome-carried g.means s.disk new (λ bytes. mark_steps referenced_place true (slice_index bytes referenced_place))
+      (SetReferenced ∷ []) result (tape-settled s) carried
       (λ bytes told.
       let l = some_layout s.layout size in
       let laid = s.laid l.0 bytes l.1 told in
@@ -262,22 +337,28 @@ module _ {D : Type 0} {g : Ghosts D} (s : ImageTape D g) {T E : Type 0} (new : D
       let f = (head_of-parts bytes h.0 h.1).fits in
       referenced-means h.0.layout bytes (layout_of-read bytes h.0 h.1) f.long (far h.0.layout (end_of h.0.layout) f.shortest (omega arith)))
 
-  pub renew-does : (n : ℕ) → IsLength n → Carried g.means s.disk new (λ bytes. renew_steps n (slice_index bytes 0)) result → Does (disk_means g.means) s.disk new (Renew n ∷ []) result
-  renew-does n long carried =
-      Does-carried g.means s.disk new (λ bytes. renew_steps n (slice_index bytes 0)) (Renew n ∷ []) result (tape-settled s) carried (λ bytes told. renew-means n long bytes)
+  pub renew-outcome : (n : ℕ) → IsLength n → Carried g.means s.disk new (λ bytes. renew_steps n (slice_index bytes 0)) result →
+      Outcome (disk_means g.means) s.disk new (Renew n ∷ []) result
+  renew-outcome n long carried =
+      Outcome-carried g.means s.disk new (λ bytes. renew_steps n (slice_index bytes 0)) (Renew n ∷ []) result (tape-settled s) carried
+      (λ bytes told. renew-means n long bytes)
 
 -- what a look at the head told
-pub info-fact : (told : Option (List ℕ)) (head : Option Head) (info : Option TapeInfo) → info ≡ option_map info_by head → IfSome told (λ b. head ≡ head_of b) → IfSome (option_map cartridge_of told) (λ held. info ≡ option_map (λ (c : Cartridge). c.info) held)
+pub info-fact : (told : Option (List ℕ)) (head : Option Head) (info : Option TapeInfo) → info ≡ option_map info_by head →
+    IfSome told (λ b. head ≡ head_of b) → IfSome (option_map cartridge_of told) (λ held. info ≡ option_map (λ (c : Cartridge). c.info) held)
 info-fact None head info is fact = tt
 info-fact (Some b) head info is fact = is ∙ ap (option_map info_by) fact ∙ sym (info_of-cartridge b)
 
-pub looked-laid : {D : Type 0} (m : disk.Meaning D) (old new : D) (head : Option Head) (layout : Option Layout) → Looks m old new → IfSome (m.told old) (λ b. head ≡ head_of b) → layout ≡ option_map (λ (h : Head). h.layout) head
+pub looked-laid : {D : Type 0} (m : disk.Meaning D) (old new : D) (head : Option Head) (layout : Option Layout) → Looks m old new →
+    IfSome (m.told old) (λ b. head ≡ head_of b) → layout ≡ option_map (λ (h : Head). h.layout) head
     → (l : Layout) (bytes : List ℕ) → layout ≡ Some l → m.told new ≡ Some bytes → layout_of bytes ≡ Some l
 unfolding layout_of
 looked-laid m old new head layout looks fact is l bytes same told =
-    ap (option_map (λ (h : Head). h.layout)) (sym (told-fact (m.told old) (λ b. head ≡ head_of b) bytes (sym looks.told ∙ told) fact)) ∙ sym is ∙ same
+    ap (option_map (λ (h : Head). h.layout)) (sym (told-fact (m.told old) (λ b. head ≡ head_of b) bytes (sym looks.told ∙ told) fact))
+    ∙ sym is ∙ same
 
-pub head-laid-in : (head : Option Head) (seen : ℕ) (layout : Option Layout) → layout ≡ option_map (λ (h : Head). h.layout) head → IfSome head (λ h. IsHeadIn seen h)
+pub head-laid-in : (head : Option Head) (seen : ℕ) (layout : Option Layout) → layout ≡ option_map (λ (h : Head). h.layout) head →
+    IfSome head (λ h. IsHeadIn seen h)
     → (l : Layout) → layout ≡ Some l → (3 ≤ l.segments_per_track) × (l.segments_per_track ≤ LONGEST) × (end_of l ≤ seen)
 head-laid-in None seen layout is fits l same = cc
 head-laid-in (Some h) seen layout is fits l same =
@@ -289,14 +370,16 @@ head-laid-in (Some h) seen layout is fits l same =
 pub size-same : (a b : Option Layout) → a ≡ b → size_by a ≡ size_by b
 size-same a b e = ap size_by e
 
-pub looks-done : {D : Type 0} (m : disk.Meaning D) (old new : D) → IsSettled m old → Looks m old new → Done (disk_means m) old new []
-looks-done m old new settled looks = looked-does {T = ℕ} {E = ℕ} m old new (Ok 0) settled looks
+pub looks-done : {D : Type 0} (m : disk.Meaning D) (old new : D) → IsSettled m old → Looks m old new → Finished (disk_means m) old new []
+looks-done m old new settled looks = looked-outcome {T = ℕ} {E = ℕ} m old new (Ok 0) settled looks
 
-pub looks-broke : {D : Type 0} (m : disk.Meaning D) (old new : D) → IsSettled m old → ((mid : D) × Looks m old mid × Failed m mid new Look) → Broke (disk_means m) old new []
-looks-broke m old new settled looked = looked-does {T = ℕ} {E = ℕ} m old new (Err 0) settled looked
+pub looks-broke : {D : Type 0} (m : disk.Meaning D) (old new : D) → IsSettled m old →
+    ((mid : D) × Looks m old mid × Failed m mid new Look) → CutShort (disk_means m) old new []
+looks-broke m old new settled looked = looked-outcome {T = ℕ} {E = ℕ} m old new (Err 0) settled looked
 
 -- a disk that a tape is opened on
-pub open-settled : {D : Type 0} (m : disk.Meaning D) (d : D) → disk.IsToldRight m d → (m.tells_stops d ≡ true → IsSettled m d) → IsSettled m d
+pub open-settled : {D : Type 0} (m : disk.Meaning D) (d : D) → disk.IsToldRight m d → (m.tells_stops d ≡ true → IsSettled m d) →
+    IsSettled m d
 open-settled m d right settled = by_telling (m.tells_stops d) refl
   where
     by_telling : (tells : Bool) → m.tells_stops d ≡ tells → IsSettled m d
@@ -304,35 +387,47 @@ open-settled m d right settled = by_telling (m.tells_stops d) refl
     by_telling false is = right.untold is
 
 -- a run of a plan made this layout
-made-laid : {D : Type 0} (m : disk.Meaning D) (old mid new : D) (steps : List DiskStep) (plan : List ℕ → List DiskStep) (l : Layout) → Looks m old mid → Ran m mid new steps → ((bytes : List ℕ) → m.told old ≡ Some bytes → steps ≡ plan bytes)
-    → ((bytes : List ℕ) → m.told old ≡ Some bytes → layout_of (after_steps (plan bytes) bytes) ≡ Some l) → ((left : List ℕ) → m.told new ≡ Some left → (bytes : List ℕ) × (m.told old ≡ Some bytes))
+made-laid : {D : Type 0} (m : disk.Meaning D) (old mid new : D) (steps : List DiskStep) (plan : List ℕ → List DiskStep) (l : Layout) →
+    Looks m old mid → Ran m mid new steps → ((bytes : List ℕ) → m.told old ≡ Some bytes → steps ≡ plan bytes)
+    → ((bytes : List ℕ) → m.told old ≡ Some bytes → layout_of (after_steps (plan bytes) bytes) ≡ Some l) →
+    ((left : List ℕ) → m.told new ≡ Some left → (bytes : List ℕ) × (m.told old ≡ Some bytes))
     → (k : Layout) (left : List ℕ) → Some l ≡ Some k → m.told new ≡ Some left → layout_of left ≡ Some k
 made-laid m old mid new steps plan l looks ran planned makes some k left same now =
     let b = some left now in
-    let e : Some left ≡ Some (after_steps (plan b.0) b.0) = sym now ∙ Ran-told m mid new steps b.0 (looks.told ∙ b.1) ran ∙ ap (λ ss. Some (after_steps ss b.0)) (planned b.0 b.1) in
+    let e : Some left ≡ Some (after_steps (plan b.0) b.0) = sym now ∙ Ran-told m mid new steps b.0 (looks.told ∙ b.1) ran
+    ∙ ap (λ ss. Some (after_steps ss b.0)) (planned b.0 b.1) in
     ap layout_of (same_Some _ _ e) ∙ makes b.0 b.1 ∙ same
 
-pub info-size : (head : Option Head) (layout : Option Layout) (info : Option TapeInfo) → layout ≡ option_map (λ (h : Head). h.layout) head → info ≡ option_map info_by head → size_by layout ≡ option_map (λ (i : TapeInfo). i.segments_per_track) info
+pub info-size : (head : Option Head) (layout : Option Layout) (info : Option TapeInfo) → layout ≡ option_map (λ (h : Head). h.layout) head →
+    info ≡ option_map info_by head → size_by layout ≡ option_map (λ (i : TapeInfo). i.segments_per_track) info
 info-size None layout info a b = rw (a, b) refl
 info-size (Some h) layout info a b = rw (a, b) refl
 
-pub same-layout : (n : ℕ) (l : Layout) (seen : ℕ) → IsLength n → seen ≡ image_len n → Some (record { segments_per_track = n; kind = Cells }) ≡ Some l → (3 ≤ l.segments_per_track) × (l.segments_per_track ≤ LONGEST) × (end_of l ≤ seen)
+pub same-layout : (n : ℕ) (l : Layout) (seen : ℕ) → IsLength n → seen ≡ image_len n →
+    Some (record { segments_per_track = n; kind = Cells }) ≡ Some l → (3 ≤ l.segments_per_track) × (l.segments_per_track ≤ LONGEST)
+    × (end_of l ≤ seen)
 same-layout n l seen long is same =
     let e : record { segments_per_track = n; kind = Cells } ≡ l = same_Some _ _ same in
     let P : Layout → Type 0 = λ y. (3 ≤ y.segments_per_track) × (y.segments_per_track ≤ LONGEST) × (end_of y ≤ seen) in
     subst P e (long.shortest, long.longest, omega arith)
 
 -- a new image has its layout
-carried-laid-ok : {D T E : Type 0} (m : disk.Meaning D) (old new : D) (plan : List ℕ → List DiskStep) (l : Layout) (r : Result T E) (x : T) → r ≡ Ok x → Carried m old new plan r → ((bytes : List ℕ) → m.told old ≡ Some bytes → layout_of (after_steps (plan bytes) bytes) ≡ Some l)
+carried-laid-ok : {D T E : Type 0} (m : disk.Meaning D) (old new : D) (plan : List ℕ → List DiskStep) (l : Layout) (r : Result T E)
+    (x : T) → r ≡ Ok x → Carried m old new plan r →
+    ((bytes : List ℕ) → m.told old ≡ Some bytes → layout_of (after_steps (plan bytes) bytes) ≡ Some l)
     → (k : Layout) (left : List ℕ) → Some l ≡ Some k → m.told new ≡ Some left → layout_of left ≡ Some k
 carried-laid-ok {T = T} {E = E} m old new plan l (Ok y) x is carried makes k left same now =
     let passes = carried-passes {T = T} {E = E} m old new carried.steps (Ok y) carried.went in
-    made-laid m old carried.went.0 new carried.steps plan l carried.went.1 carried.went.2 carried.planned makes (λ b told. some_told (m.told old) (m.told new) b passes.tells told) k left same now
+    made-laid m old carried.went.0 new carried.steps plan l carried.went.1 carried.went.2 carried.planned makes
+    (λ b told. some_told (m.told old) (m.told new) b passes.tells told) k left same now
 carried-laid-ok m old new plan l (Err e) x is carried makes k left same now = cc
 
-pub new-laid : {D T E : Type 0} (m : disk.Meaning D) (old new : D) (n : ℕ) → IsLength n → (r : Result T E) (x : T) → r ≡ Ok x → Carried m old new (λ bytes. renew_steps n (slice_index bytes 0)) r
-    → (k : Layout) (left : List ℕ) → Some (record { segments_per_track = n; kind = Cells }) ≡ Some k → m.told new ≡ Some left → layout_of left ≡ Some k
-new-laid m old new n long r x is carried = carried-laid-ok m old new _ (record { segments_per_track = n; kind = Cells }) r x is carried (λ bytes told. renew-laid n long bytes)
+pub new-laid : {D T E : Type 0} (m : disk.Meaning D) (old new : D) (n : ℕ) → IsLength n → (r : Result T E) (x : T) → r ≡ Ok x →
+    Carried m old new (λ bytes. renew_steps n (slice_index bytes 0)) r
+    → (k : Layout) (left : List ℕ) → Some (record { segments_per_track = n; kind = Cells }) ≡ Some k → m.told new ≡ Some left →
+    layout_of left ≡ Some k
+new-laid m old new n long r x is carried = carried-laid-ok m old new _ (record { segments_per_track = n; kind = Cells }) r x is carried
+    (λ bytes told. renew-laid n long bytes)
 
 -- a layout of the same length
 abbrev with_kind : Layout → Kind → Layout
@@ -348,7 +443,8 @@ module _ {D : Type 0} {g : Ghosts D} (s : ImageTape D g) (l : Layout) (layout : 
       by_kind Cells is = cc
       by_kind CellsBehind is = cc
 
-  layout-under : (bytes : List ℕ) → g.means.told s.disk ≡ Some bytes → layout_of bytes ≡ Some (record { segments_per_track = l.segments_per_track; kind = Planes })
+  layout-under : (bytes : List ℕ) → g.means.told s.disk ≡ Some bytes →
+      layout_of bytes ≡ Some (record { segments_per_track = l.segments_per_track; kind = Planes })
   layout-under bytes told = s.laid l bytes layout told ∙ ap Some in-planes
 
   image-under : (bytes : List ℕ) → g.means.told s.disk ≡ Some bytes → image_len l.segments_per_track ≤ length bytes
@@ -366,33 +462,44 @@ module _ {D : Type 0} {g : Ghosts D} (s : ImageTape D g) (l : Layout) (layout : 
   planned-is bytes = ap (λ y. upgrade_plan y bytes) (sym in-planes)
 
   module _ {T E : Type 0} (new : D) (r : Result T E) where
-    pub upgrade-carried : Planned g.means s.disk new (λ bytes. upgrade_steps l.segments_per_track bytes) r → Carried g.means s.disk new (λ bytes. upgrade_plan l bytes) r
-    upgrade-carried p = Carried-runs g.means s.disk s.disk new (λ bytes. upgrade_plan l bytes) p.steps r (Looks-nothing g.means s.disk) p.runs (λ bytes told. p.planned bytes told ∙ planned-is bytes)
+    pub upgrade-carried : Planned g.means s.disk new (λ bytes. upgrade_steps l.segments_per_track bytes) r →
+        Carried g.means s.disk new (λ bytes. upgrade_plan l bytes) r
+    upgrade-carried p = Carried-runs g.means s.disk s.disk new (λ bytes. upgrade_plan l bytes) p.steps r
+        (Looks-nothing g.means s.disk) p.runs (λ bytes told. p.planned bytes told ∙ planned-is bytes)
 
-    pub upgrade-does : Planned g.means s.disk new (λ bytes. upgrade_steps l.segments_per_track bytes) r → Does (disk_means g.means) s.disk new (Upgrade ∷ []) r
-    upgrade-does p =
-        Does-carried g.means s.disk new (λ bytes. upgrade_plan l bytes) (Upgrade ∷ []) r (tape-settled s) (upgrade-carried p)
+    pub upgrade-outcome : Planned g.means s.disk new (λ bytes. upgrade_steps l.segments_per_track bytes) r →
+        Outcome (disk_means g.means) s.disk new (Upgrade ∷ []) r
+    upgrade-outcome p =
+        Outcome-carried g.means s.disk new (λ bytes. upgrade_plan l bytes) (Upgrade ∷ []) r (tape-settled s) (upgrade-carried p)
         (λ bytes told.
         let M : List DiskStep → Type 0 = λ ss. Means ss (Upgrade ∷ []) bytes in
-        subst M (planned-is bytes) (upgrade-means l.segments_per_track (s.shortest l layout) (s.longest l layout) bytes (layout-under bytes told) (image-under bytes told)))
+        subst M (planned-is bytes) (upgrade-means l.segments_per_track (s.shortest l layout) (s.longest l layout) bytes
+        (layout-under bytes told) (image-under bytes told)))
 
     pub upgraded-laid : (x : T) → r ≡ Ok x → Planned g.means s.disk new (λ bytes. upgrade_steps l.segments_per_track bytes) r
-        → (k : Layout) (left : List ℕ) → Some (record { segments_per_track = l.segments_per_track; kind = CellsBehind }) ≡ Some k → g.means.told new ≡ Some left → layout_of left ≡ Some k
+        → (k : Layout) (left : List ℕ) → Some (record { segments_per_track = l.segments_per_track; kind = CellsBehind }) ≡ Some k →
+        g.means.told new ≡ Some left → layout_of left ≡ Some k
     upgraded-laid x is p =
-        carried-laid-ok g.means s.disk new (λ bytes. upgrade_plan l bytes) (record { segments_per_track = l.segments_per_track; kind = CellsBehind }) r x is (upgrade-carried p)
-        (λ bytes told. ap (λ ss. layout_of (after_steps ss bytes)) (sym (planned-is bytes)) ∙ upgrade-laid l.segments_per_track (s.shortest l layout) (s.longest l layout) bytes (layout-under bytes told) (image-under bytes told))
+        carried-laid-ok g.means s.disk new (λ bytes. upgrade_plan l bytes)
+        (record { segments_per_track = l.segments_per_track; kind = CellsBehind }) r x is (upgrade-carried p)
+        (λ bytes told. ap (λ ss. layout_of (after_steps ss bytes)) (sym (planned-is bytes)) ∙ upgrade-laid l.segments_per_track
+        (s.shortest l layout) (s.longest l layout) bytes (layout-under bytes told) (image-under bytes told))
 
-  pub upgraded-fits : (k : Layout) (seen : ℕ) → seen ≡ upgraded_len l.segments_per_track → Some (record { segments_per_track = l.segments_per_track; kind = CellsBehind }) ≡ Some k → (3 ≤ k.segments_per_track) × (k.segments_per_track ≤ LONGEST) × (end_of k ≤ seen)
+  pub upgraded-fits : (k : Layout) (seen : ℕ) → seen ≡ upgraded_len l.segments_per_track →
+      Some (record { segments_per_track = l.segments_per_track; kind = CellsBehind }) ≡ Some k → (3 ≤ k.segments_per_track)
+      × (k.segments_per_track ≤ LONGEST) × (end_of k ≤ seen)
   upgraded-fits k seen is same =
       let e : record { segments_per_track = l.segments_per_track; kind = CellsBehind } ≡ k = same_Some _ _ same in
       let P : Layout → Type 0 = λ y. (3 ≤ y.segments_per_track) × (y.segments_per_track ≤ LONGEST) × (end_of y ≤ seen) in
       subst P e (s.shortest l layout, s.longest l layout, omega arith)
 
 -- the same of another answer
-pub carried-ok : {D T E U F : Type 0} (m : disk.Meaning D) (old new : D) (plan : List ℕ → List DiskStep) (x : T) (y : U) → Carried {T = T} {E = E} m old new plan (Ok x) → Carried {T = U} {E = F} m old new plan (Ok y)
+pub carried-ok : {D T E U F : Type 0} (m : disk.Meaning D) (old new : D) (plan : List ℕ → List DiskStep) (x : T) (y : U) →
+    Carried {T = T} {E = E} m old new plan (Ok x) → Carried {T = U} {E = F} m old new plan (Ok y)
 carried-ok m old new plan x y c = record { steps = c.steps; planned = c.planned; went = c.went }
 
-pub carried-err : {D T E U F : Type 0} (m : disk.Meaning D) (old new : D) (plan : List ℕ → List DiskStep) (e : E) (f : F) → Carried {T = T} {E = E} m old new plan (Err e) → Carried {T = U} {E = F} m old new plan (Err f)
+pub carried-err : {D T E U F : Type 0} (m : disk.Meaning D) (old new : D) (plan : List ℕ → List DiskStep) (e : E) (f : F) →
+    Carried {T = T} {E = E} m old new plan (Err e) → Carried {T = U} {E = F} m old new plan (Err f)
 carried-err m old new plan e f c = record { steps = c.steps; planned = c.planned; went = c.went }
 
 -- one of version 2 stays
@@ -400,7 +507,8 @@ module _ {D : Type 0} {g : Ghosts D} (s : ImageTape D g) (l : Layout) (layout : 
   pub version-fact : Tells (image_means {g = g}) s (λ c. version_of l.kind ≡ c.version)
   version-fact = by_told (g.means.told s.disk) refl
     where
-      by_told : (told : Option (List ℕ)) → g.means.told s.disk ≡ told → IfSome (option_map cartridge_of told) (λ h. IfSome h (λ c. version_of l.kind ≡ c.version))
+      by_told : (told : Option (List ℕ)) → g.means.told s.disk ≡ told → IfSome (option_map cartridge_of told)
+          (λ h. IfSome h (λ c. version_of l.kind ≡ c.version))
       by_told None told = tt
       by_told (Some bytes) told =
           let h = some_head bytes l (s.laid l bytes layout told) in
@@ -410,7 +518,8 @@ module _ {D : Type 0} {g : Ghosts D} (s : ImageTape D g) (l : Layout) (layout : 
   stays-new : touches l.kind ≡ false → (bytes : List ℕ) → upgrade_plan l bytes ≡ []
   stays-new cells bytes = by_kind l.kind cells
     where
-      by_kind : (kind : Kind) → touches kind ≡ false → upgrade_plan (record { segments_per_track = l.segments_per_track; kind = kind }) bytes ≡ []
+      by_kind : (kind : Kind) → touches kind ≡ false →
+          upgrade_plan (record { segments_per_track = l.segments_per_track; kind = kind }) bytes ≡ []
       by_kind Planes is = cc
       by_kind Cells is = refl
       by_kind CellsBehind is = refl
@@ -423,12 +532,18 @@ module _ {D : Type 0} {g : Ghosts D} (s : ImageTape D g) (l : Layout) (layout : 
       by_kind Cells is = refl
       by_kind CellsBehind is = refl
 
-  pub stays-carried : {T E : Type 0} (x : T) → touches l.kind ≡ false → Carried {T = T} {E = E} g.means s.disk s.disk (λ bytes. upgrade_plan l bytes) (Ok x)
-  stays-carried x cells = record { steps = []; planned = λ bytes told. sym (stays-new cells bytes); went = (s.disk, Looks-nothing g.means s.disk, refl) }
+  pub stays-carried : {T E : Type 0} (x : T) → touches l.kind ≡ false → Carried {T = T} {E = E} g.means s.disk s.disk
+      (λ bytes. upgrade_plan l bytes) (Ok x)
+  stays-carried x cells = record {
+    steps = [];
+    planned = λ bytes told. sym (stays-new cells bytes);
+    went = (s.disk, Looks-nothing g.means s.disk, refl);
+  }
 
-  pub stays-done : touches l.kind ≡ false → Done (disk_means g.means) s.disk s.disk (Upgrade ∷ [])
+  pub stays-done : touches l.kind ≡ false → Finished (disk_means g.means) s.disk s.disk (Upgrade ∷ [])
   stays-done cells =
-      Does-carried {T = ℕ} {E = ℕ} g.means s.disk s.disk (λ bytes. upgrade_plan l bytes) (Upgrade ∷ []) (Ok 0) (tape-settled s) (stays-carried 0 cells) (λ bytes told.
+      Outcome-carried {T = ℕ} {E = ℕ} g.means s.disk s.disk (λ bytes. upgrade_plan l bytes) (Upgrade ∷ []) (Ok 0) (tape-settled s)
+      (stays-carried 0 cells) (λ bytes told.
       let M : List DiskStep → Type 0 = λ ss. Means ss (Upgrade ∷ []) bytes in
       subst M (sym (stays-new cells bytes)) (record { done = same bytes told; torn = λ left crashed. absurd crashed }))
     where
@@ -445,5 +560,7 @@ module _ {D : Type 0} {g : Ghosts D} (s : ImageTape D g) (l : Layout) (layout : 
   pub size-upgraded : (k : Layout) → k.segments_per_track ≡ l.segments_per_track → size_by (Some k) ≡ size_by s.layout
   size-upgraded k same = ap Some same ∙ sym (ap size_by layout)
 
-  pub carried-by : {T E : Type 0} (new : D) (r : Result T E) → Carried g.means s.disk new (λ bytes. upgrade_plan l bytes) r → CarriedBy g.means s.disk new s.layout (λ k bytes. upgrade_plan k bytes) r
-  carried-by new r carried = let P : Option Layout → Type 0 = λ o. CarriedBy g.means s.disk new o (λ k bytes. upgrade_plan k bytes) r in subst P (sym layout) carried
+  pub carried-by : {T E : Type 0} (new : D) (r : Result T E) → Carried g.means s.disk new (λ bytes. upgrade_plan l bytes) r →
+      CarriedBy g.means s.disk new s.layout (λ k bytes. upgrade_plan k bytes) r
+  carried-by new r carried = let P : Option Layout → Type 0 = λ o. CarriedBy g.means s.disk new o (λ k bytes. upgrade_plan k bytes) r in
+      subst P (sym layout) carried

@@ -1,5 +1,6 @@
 -- What writes leave of places that they spare, told and in a crash, and what stands where they write one value.
-use Rattle.std.proofs.Common.{◌≡◌, ℕ, ◌+◌, ◌-◌, ◌<◌, ◌≤◌, ◌⊎◌, inl, inr, ⊎_elim, List, [], ◌∷◌, ◌++◌, length, get_or, refl, sym, ◌∙◌, ap, arith, subst}
+use Rattle.std.proofs.Common.{◌≡◌, ℕ, ◌+◌, ◌-◌, ◌<◌, ◌≤◌, ◌⊎◌, inl, inr, ⊎_elim, List, [], ◌∷◌, ◌++◌, length, get_or, refl, sym, ◌∙◌, ap}
+use Rattle.std.proofs.Common.{arith, subst}
 use Rattle.std.proofs.lemmas.Bool.{cases_lt}
 use Rattle.qic_base.specs.Disk.{DiskStep, Look, WriteAt, SetLen, Sync, stored}
 use Rattle.qic_base.specs.Field.{overwritten}
@@ -16,7 +17,8 @@ pub record SameAt (P : ℕ → Type 0) (old new : List ℕ) : Type 0 where
 pub SameAt-all : (P : ℕ → Type 0) (bytes : List ℕ) → SameAt P bytes bytes
 SameAt-all P bytes = record { size = refl; same = λ k at. refl }
 
-SameAt-only : (P : ℕ → Type 0) (place count : ℕ) (a b c : List ℕ) → ((k : ℕ) → P k → (k < place) ⊎ (place + count ≤ k)) → SameAt P a b → OnlyIn place count b c → SameAt P a c
+SameAt-only : (P : ℕ → Type 0) (place count : ℕ) (a b c : List ℕ) → ((k : ℕ) → P k → (k < place) ⊎ (place + count ≤ k)) → SameAt P a b →
+    OnlyIn place count b c → SameAt P a c
 SameAt-only P place count a b c off kept only = record {
   size = only.size ∙ kept.size;
   same = λ k at. ⊎_elim (λ below. only.below k below ∙ kept.same k at) (λ above. only.above k above ∙ kept.same k at) (off k at);
@@ -28,7 +30,8 @@ Spares P len [] = Unit {0}
 Spares P len (Look ∷ steps) = Spares P len steps
 Spares P len (Sync ∷ steps) = Spares P len steps
 Spares P len (SetLen n ∷ steps) = ⊥
-Spares P len (WriteAt place part ∷ steps) = (place + length part ≤ len) × ((k : ℕ) → P k → (k < place) ⊎ (place + length part ≤ k)) × Spares P len steps
+Spares P len (WriteAt place part ∷ steps) = (place + length part ≤ len) × ((k : ℕ) → P k → (k < place) ⊎ (place + length part ≤ k))
+    × Spares P len steps
 
 pub Spares-both : (P : ℕ → Type 0) (len : ℕ) (xs ys : List DiskStep) → Spares P len xs → Spares P len ys → Spares P len (xs ++ ys)
 Spares-both P len [] ys a b = b
@@ -42,34 +45,42 @@ pub Spares-synced : (P : ℕ → Type 0) (len : ℕ) (writes : List DiskStep) �
 Spares-synced P len [] spares = tt
 Spares-synced P len (w ∷ ws) spares = Spares-both P len (w ∷ ws) (Sync ∷ []) spares tt
 
-pub spared : (P : ℕ → Type 0) (steps : List DiskStep) (origin bytes : List ℕ) → Spares P (length bytes) steps → SameAt P origin bytes → SameAt P origin (after_steps steps bytes)
+pub spared : (P : ℕ → Type 0) (steps : List DiskStep) (origin bytes : List ℕ) → Spares P (length bytes) steps → SameAt P origin bytes →
+    SameAt P origin (after_steps steps bytes)
 spared P [] origin bytes spares kept = kept
 spared P (Look ∷ steps) origin bytes spares kept = spared P steps origin bytes spares kept
 spared P (Sync ∷ steps) origin bytes spares kept = spared P steps origin bytes spares kept
 spared P (SetLen n ∷ steps) origin bytes spares kept = absurd spares
 spared P (WriteAt place part ∷ steps) origin bytes spares kept =
     let only = OnlyIn-written place bytes part spares.0 in
-    spared P steps origin (overwritten bytes place part) (subst (λ (len : ℕ). Spares P len steps) (sym only.size) spares.2) (SameAt-only P place (length part) origin bytes _ spares.1 kept only)
+    spared P steps origin (overwritten bytes place part) (subst (λ (len : ℕ). Spares P len steps) (sym only.size) spares.2)
+    (SameAt-only P place (length part) origin bytes _ spares.1 kept only)
 
-pub spared-crash : (P : ℕ → Type 0) (steps : List DiskStep) (origin bytes left : List ℕ) (may : List ℕ → Type 0) → Spares P (length bytes) steps → SameAt P origin bytes → ((b : List ℕ) → may b → SameAt P origin b)
+pub spared-crash : (P : ℕ → Type 0) (steps : List DiskStep) (origin bytes left : List ℕ) (may : List ℕ → Type 0) →
+    Spares P (length bytes) steps → SameAt P origin bytes → ((b : List ℕ) → may b → SameAt P origin b)
     → Crashed may bytes steps left → SameAt P origin left
 spared-crash P [] origin bytes left may spares kept only crashed = absurd crashed
 spared-crash P (Look ∷ steps) origin bytes left may spares kept only (inl inside) = only left (subst may (sym inside.2) inside.1)
-spared-crash P (Look ∷ steps) origin bytes left may spares kept only (inr behind) = spared-crash P steps origin bytes left may spares kept only behind
+spared-crash P (Look ∷ steps) origin bytes left may spares kept only (inr behind) =
+    spared-crash P steps origin bytes left may spares kept only behind
 spared-crash P (Sync ∷ steps) origin bytes left may spares kept only (inl inside) = only left (subst may (sym inside.2) inside.1)
 spared-crash P (Sync ∷ steps) origin bytes left may spares kept only (inr behind) =
-    spared-crash P steps origin bytes left (λ b. b ≡ bytes) spares kept (λ b same. let Q : List ℕ → Type 0 = λ c. SameAt P origin c in subst Q (sym same) kept) behind
+    spared-crash P steps origin bytes left (λ b. b ≡ bytes) spares kept (λ b same. let Q : List ℕ → Type 0 = λ c. SameAt P origin c in
+    subst Q (sym same) kept) behind
 spared-crash P (SetLen n ∷ steps) origin bytes left may spares kept only crashed = absurd spares
 spared-crash P (WriteAt place part ∷ steps) origin bytes left may spares kept only (inl inside) =
     SameAt-only P place (length part) origin inside.0 left spares.1 (only inside.0 inside.1) (OnlyIn-torn _ _ _ _ inside.2)
 spared-crash P (WriteAt place part ∷ steps) origin bytes left may spares kept only (inr behind) =
     let written = OnlyIn-written place bytes part spares.0 in
-    spared-crash P steps origin (overwritten bytes place part) left (Pending (WriteAt place part) bytes may) (subst (λ (len : ℕ). Spares P len steps) (sym written.size) spares.2)
+    spared-crash P steps origin (overwritten bytes place part) left (Pending (WriteAt place part) bytes may)
+    (subst (λ (len : ℕ). Spares P len steps) (sym written.size) spares.2)
     (SameAt-only P place (length part) origin bytes _ spares.1 kept written)
-    (λ b pending. SameAt-only P place (length part) origin pending.0 b spares.1 (only pending.0 pending.1) (OnlyIn-torn _ _ _ _ pending.2)) behind
+    (λ b pending. SameAt-only P place (length part) origin pending.0 b spares.1 (only pending.0 pending.1) (OnlyIn-torn _ _ _ _ pending.2))
+    behind
 
 -- a crash in steps that end in a sync, or behind them
-pub Crashed-front : (may : List ℕ → Type 0) (steps rest : List DiskStep) (bytes left : List ℕ) → Crashed may bytes ((steps ++ Sync ∷ []) ++ rest) left
+pub Crashed-front : (may : List ℕ → Type 0) (steps rest : List DiskStep) (bytes left : List ℕ) →
+    Crashed may bytes ((steps ++ Sync ∷ []) ++ rest) left
     → Crashed may bytes (steps ++ Sync ∷ []) left ⊎ Crashed (λ b. b ≡ after_steps steps bytes) (after_steps steps bytes) rest left
 Crashed-front may [] rest bytes left (inl inside) = inl (inl inside)
 Crashed-front may [] rest bytes left (inr behind) = inr behind
@@ -100,7 +111,8 @@ Even value len [] = Unit {0}
 Even value len (Look ∷ steps) = Even value len steps
 Even value len (Sync ∷ steps) = Even value len steps
 Even value len (SetLen n ∷ steps) = ⊥
-Even value len (WriteAt place part ∷ steps) = (place + length part ≤ len) × ((i : ℕ) → i < length part → get_or part i 0 ≡ value (place + i)) × Even value len steps
+Even value len (WriteAt place part ∷ steps) = (place + length part ≤ len)
+    × ((i : ℕ) → i < length part → get_or part i 0 ≡ value (place + i)) × Even value len steps
 
 pub Even-both : (value : ℕ → ℕ) (len : ℕ) (xs ys : List DiskStep) → Even value len xs → Even value len ys → Even value len (xs ++ ys)
 Even-both value len [] ys a b = b
@@ -133,7 +145,8 @@ Reached-later k (SetLen n ∷ xs) ys reached = Reached-later k xs ys reached
 Reached-later k (WriteAt place part ∷ xs) ys reached = inr (Reached-later k xs ys reached)
 
 -- .. has its byte in the end, as has one that had it before
-pub has-value : (value : ℕ → ℕ) (k : ℕ) (steps : List DiskStep) (bytes : List ℕ) → Even value (length bytes) steps → (get_or bytes k 0 ≡ value k) ⊎ Reached k steps → get_or (after_steps steps bytes) k 0 ≡ value k
+pub has-value : (value : ℕ → ℕ) (k : ℕ) (steps : List DiskStep) (bytes : List ℕ) → Even value (length bytes) steps →
+    (get_or bytes k 0 ≡ value k) ⊎ Reached k steps → get_or (after_steps steps bytes) k 0 ≡ value k
 has-value value k [] bytes even (inl has) = has
 has-value value k [] bytes even (inr reached) = absurd reached
 has-value value k (Look ∷ steps) bytes even has = has-value value k steps bytes even has
@@ -147,11 +160,15 @@ has-value value k (WriteAt place part ∷ steps) bytes even has =
     here at_least less =
         let at : k ≡ place + (k - place) = omega arith in
         let fits = even.0 in
-        ap (λ j. get_or (overwritten bytes place part) j 0) at ∙ get_or-overwritten bytes part place (k - place) 0 (omega arith) (omega arith) ∙ even.1 (k - place) (omega arith) ∙ ap value (sym at)
+        ap (λ j. get_or (overwritten bytes place part) j 0) at ∙ get_or-overwritten bytes part place (k - place) 0 (omega arith)
+        (omega arith) ∙ even.1 (k - place) (omega arith) ∙ ap value (sym at)
 
-    now : (get_or bytes k 0 ≡ value k) ⊎ Reached k (WriteAt place part ∷ steps) → (get_or (overwritten bytes place part) k 0 ≡ value k) ⊎ Reached k steps
+    now : (get_or bytes k 0 ≡ value k) ⊎ Reached k (WriteAt place part ∷ steps) → (get_or (overwritten bytes place part) k 0 ≡ value k)
+        ⊎ Reached k steps
     now (inl had) =
         let only = OnlyIn-written place bytes part even.0 in
-        ⊎_elim (λ below. inl (only.below k below ∙ had)) (λ at_least. ⊎_elim (λ less. inl (here at_least less)) (λ above. inl (only.above k above ∙ had)) (cases_lt k (place + length part))) (cases_lt k place)
+        ⊎_elim (λ below. inl (only.below k below ∙ had))
+        (λ at_least. ⊎_elim (λ less. inl (here at_least less)) (λ above. inl (only.above k above ∙ had))
+        (cases_lt k (place + length part))) (cases_lt k place)
     now (inr (inl there)) = inl (here there.0 there.1)
     now (inr (inr later)) = inr later

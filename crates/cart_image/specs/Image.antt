@@ -1,5 +1,6 @@
 -- The bytes of an image file, read as a cartridge (this project's profile, versions 1 and 2).
-use Rattle.std.specs.Prelude.{ℕ, ◌+◌, Bool, ◌&&◌, ◌==◌, nat_le, if◌then◌else◌, List, length, map, slice_index, slice_range, Option, Some, None}
+use Rattle.std.specs.Prelude.{ℕ, ◌+◌, Bool, ◌&&◌, ◌==◌, nat_le, if◌then◌else◌, List, length, map, slice_index, slice_range, Option, Some}
+use Rattle.std.specs.Prelude.{None}
 use Rattle.std.specs.Option.{option_map}
 use Rattle.std.specs.List.{range_with_len}
 use Rattle.std.specs.Str.{bytes_eq}
@@ -14,7 +15,8 @@ use Rattle.cart_image.specs.declared.layout.Kind.{Kind}
 use Rattle.cart_image.specs.declared.layout.Kind.TheVariants.{Planes, Cells, CellsBehind}
 use Rattle.cart_image.specs.declared.layout.Layout.{Layout}
 use Rattle.cart_image.specs.declared.layout.Part.TheVariants.{GateByte, FormedByte, DefectByte, Data}
-use Rattle.cart_image.specs.Layout.{signature, version_place, length_place, protected_place, referenced_place, layout_place, base_place, head_len, mark_byte, open_gate, formed_byte, defect_byte, sectors, image_len, version_of, end_of, place}
+use Rattle.cart_image.specs.Layout.{signature, version_place, length_place, protected_place, referenced_place, layout_place, base_place}
+use Rattle.cart_image.specs.Layout.{head_len, mark_byte, open_gate, formed_byte, defect_byte, sectors, image_len, version_of, end_of, place}
 
 -- the first bytes, up to and with the base
 abbrev pub read_len : ℕ

@@ -1,5 +1,5 @@
 -- What a tape in an image file means, by the disk under it (this project's profile).
-use Rattle.std.specs.Prelude.{◌≡◌, ℕ, ◌≤◌, List, Option, Some, None, IfSome, IsSome}
+use Rattle.std.specs.Prelude.{◌≡◌, nat_lt, ℕ, ◌≤◌, List, Option, Some, None, IfSome, IsSome}
 use Rattle.std.specs.Option.{option_map}
 use Rattle.std.proofs.Common.{refl, sym, ◌∙◌, ap}
 use Rattle.qic_base.specs.declared.disk.Disk.{Ghosts}
@@ -26,42 +26,64 @@ layout_at tape = tape.layout
 abbrev pub known_of : {D : Type 0} {g : Ghosts D} → ImageTape D g → Option SegmentStates
 known_of tape = tape.known
 
+-- how many of its calls failed
+abbrev pub faults_of : {D : Type 0} {g : Ghosts D} → ImageTape D g → ℕ
+faults_of tape = tape.faults
+
 abbrev pub size_by : Option Layout → Option ℕ
 size_by layout = option_map (λ (l : Layout). l.segments_per_track) layout
 
--- It holds what the disk's bytes are read as.
+-- It holds what the disk's bytes are read as. It counts its own calls that failed: in one that succeeded a look at the
+-- disk may have failed.
 abbrev pub image_means : {D : Type 0} {g : Ghosts D} → Meaning (ImageTape D g)
-image_means {g = g} = record { told = λ s. option_map cartridge_of (g.means.told s.disk); size = λ s. size_by s.layout; faults = λ s. g.means.faults s.disk; tells_stops = λ s. g.means.tells_stops s.disk; moment = λ s. g.means.moment s.disk; left_since = λ s. LeftBy g.means s.disk }
+image_means {g = g} = record {
+  told = λ s. option_map cartridge_of (g.means.told s.disk);
+  size = λ s. size_by s.layout;
+  faults = λ s. s.faults;
+  failed_last = λ s. nat_lt 0 s.faults;
+  tells_stops = λ s. g.means.tells_stops s.disk;
+  moment = λ s. g.means.moment s.disk;
+  left_since = λ s. LeftBy g.means s.disk;
+}
 
 pub image-size_fits : {D : Type 0} {g : Ghosts D} (s : ImageTape D g) → IfSome (size_by s.layout) IsLength
 image-size_fits s = by_layout s.layout s.shortest s.longest
   where
-    by_layout : (layout : Option Layout) → ((l : Layout) → layout ≡ Some l → 3 ≤ l.segments_per_track) → ((l : Layout) → layout ≡ Some l → l.segments_per_track ≤ LONGEST) → IfSome (size_by layout) IsLength
+    by_layout : (layout : Option Layout) → ((l : Layout) → layout ≡ Some l → 3 ≤ l.segments_per_track) →
+        ((l : Layout) → layout ≡ Some l → l.segments_per_track ≤ LONGEST) → IfSome (size_by layout) IsLength
     by_layout None shortest longest = tt
     by_layout (Some l) shortest longest = record { shortest = shortest l refl; longest = longest l refl }
 
-pub image-told_right : {D : Type 0} {g : Ghosts D} → ((d : D) → disk.IsToldRight g.means d) → (s : ImageTape D g) → IsToldRight (option_map cartridge_of (g.means.told s.disk)) (size_by s.layout)
+pub image-told_right : {D : Type 0} {g : Ghosts D} → ((d : D) → disk.IsToldRight g.means d) → (s : ImageTape D g) →
+    IsToldRight (option_map cartridge_of (g.means.told s.disk)) (size_by s.layout)
 image-told_right {D = D} {g = g} right s = by_told (g.means.told s.disk) refl
   where
-    by_layout : (layout : Option Layout) (bytes : List ℕ) → ((l : Layout) → layout ≡ Some l → layout_of bytes ≡ Some l) → cartridge_of bytes ≡ None → size_by layout ≡ None
+    by_layout : (layout : Option Layout) (bytes : List ℕ) → ((l : Layout) → layout ≡ Some l → layout_of bytes ≡ Some l) →
+        cartridge_of bytes ≡ None → size_by layout ≡ None
     by_layout None bytes laid none = refl
     by_layout (Some l) bytes laid none =
         let e : layout_of bytes ≡ Some l = laid l refl in
         let f : layout_of bytes ≡ None = layout_of-none bytes none in cc
 
-    same_size : (layout : Option Layout) (bytes : List ℕ) (c : Cartridge) → ((l : Layout) → layout ≡ Some l → layout_of bytes ≡ Some l) → cartridge_of bytes ≡ Some c → IfSome (size_by layout) (λ n. c.info.segments_per_track ≡ n)
+    same_size : (layout : Option Layout) (bytes : List ℕ) (c : Cartridge) → ((l : Layout) → layout ≡ Some l → layout_of bytes ≡ Some l) →
+        cartridge_of bytes ≡ Some c → IfSome (size_by layout) (λ n. c.info.segments_per_track ≡ n)
     same_size None bytes c laid is = tt
     same_size (Some l) bytes c laid is = layout_of-cartridge bytes l c (laid l refl) is
 
-    by_read : (bytes : List ℕ) (o : Option Cartridge) → g.means.told s.disk ≡ Some bytes → cartridge_of bytes ≡ o → IsToldRight (Some o) (size_by s.layout)
+    by_read : (bytes : List ℕ) (o : Option Cartridge) → g.means.told s.disk ≡ Some bytes → cartridge_of bytes ≡ o →
+        IsToldRight (Some o) (size_by s.layout)
     by_read bytes None told is = by_layout s.layout bytes (λ l e. s.laid l bytes e told) is
-    by_read bytes (Some c) told is = (reads-whole bytes c ((right s.disk).bytes bytes told) is, same_size s.layout bytes c (λ l e. s.laid l bytes e told) is)
+    by_read bytes (Some c) told is = (
+      reads-whole bytes c ((right s.disk).bytes bytes told) is,
+      same_size s.layout bytes c (λ l e. s.laid l bytes e told) is,
+    )
 
     by_told : (o : Option (List ℕ)) → g.means.told s.disk ≡ o → IsToldRight (option_map cartridge_of o) (size_by s.layout)
     by_told None told = tt
     by_told (Some bytes) told = by_read bytes (cartridge_of bytes) told refl
 
-pub image-left_now : {D : Type 0} {g : Ghosts D} → ((d : D) → disk.IsToldRight g.means d) → ((d : D) → disk.IsLeftNow g.means d) → (s : ImageTape D g) → IsLeftNow (image_means {g = g}) s
+pub image-left_now : {D : Type 0} {g : Ghosts D} → ((d : D) → disk.IsToldRight g.means d) → ((d : D) → disk.IsLeftNow g.means d) →
+    (s : ImageTape D g) → IsLeftNow (image_means {g = g}) s
 image-left_now {D = D} {g = g} right now s = record {
   telling = λ tells. is_some-read (g.means.told s.disk) ((now s.disk).telling tells);
   counts = λ t left tells early told.
@@ -78,7 +100,8 @@ image-left_now {D = D} {g = g} right now s = record {
     is_some-read None is = cc
     is_some-read (Some bytes) is = is
 
-    some_bytes : (told : Option (List ℕ)) (held : Option Cartridge) → option_map cartridge_of told ≡ Some held → (bytes : List ℕ) × (told ≡ Some bytes) × (cartridge_of bytes ≡ held)
+    some_bytes : (told : Option (List ℕ)) (held : Option Cartridge) → option_map cartridge_of told ≡ Some held → (bytes : List ℕ)
+        × (told ≡ Some bytes) × (cartridge_of bytes ≡ held)
     some_bytes None held is = cc
     some_bytes (Some bytes) held is = (bytes, refl, (let e : Some (cartridge_of bytes) ≡ Some held = is in cc))
 

@@ -6,12 +6,15 @@ use Rattle.qic_base.specs.Disk.{Meaning, DiskStep, Look, WriteAt, SetLen, Sync, 
 -- From old on the disk was only looked at.
 pub record Looks {D : Type 0} (m : Meaning D) (old new : D) : Type 0 where
   pub told : m.told new ≡ m.told old
+  -- a look among them may have failed
   pub later : m.faults old ≤ m.faults new
+  pub changes : m.failed_changes new ≡ m.failed_changes old
   pub leaves : (left : List ℕ) → m.may_leave new left → m.may_leave old left
   pub telling : m.tells_stops new ≡ m.tells_stops old
   pub clock : m.moment old ≤ m.moment new
   pub kept : (t : ℕ) (left : List ℕ) → t ≤ m.moment old → m.left_since old t left → m.left_since new t left
-  pub parted : (t u : ℕ) (left : List ℕ) → t ≤ u → u ≤ m.moment old → m.left_since new t left → m.left_since old t left ⊎ m.left_since new u left
+  pub parted : (t u : ℕ) (left : List ℕ) → t ≤ u → u ≤ m.moment old → m.left_since new t left → m.left_since old t left
+      ⊎ m.left_since new u left
   pub since : (t : ℕ) (left : List ℕ) → t ≤ m.moment old → m.left_since new t left → m.left_since old t left ⊎ m.may_leave old left
 
 -- the steps were done, one after the other, and nothing else
@@ -46,7 +49,8 @@ pub record Carried {D T E : Type 0} (m : Meaning D) (old new : D) (plan : List �
   pub went : Went m old new steps result
 
 -- .. where the plan is by the layout
-abbrev pub CarriedBy : {D T E : Type 0} (m : Meaning D) (old new : D) (layout : Option Layout) (plan : Layout → List ℕ → List DiskStep) (result : Result T E) → Type 0
+abbrev pub CarriedBy : {D T E : Type 0} (m : Meaning D) (old new : D) (layout : Option Layout) (plan : Layout → List ℕ → List DiskStep)
+    (result : Result T E) → Type 0
 CarriedBy m old new layout plan result = IfSome layout (λ l. Carried m old new (plan l) result)
 
 -- the steps were run; where the disk tells its bytes, they are those of the plan

@@ -1,5 +1,6 @@
 -- What bytes that are read as a cartridge are: the cartridge is whole.
-use Rattle.std.proofs.Common.{◌≡◌, ℕ, ◌+◌, ◌*◌, ◌<◌, ◌≤◌, Bool, true, false, List, length, refl, sym, ◌∙◌, ap, arith, Option, Some, None, subst, leb-true}
+use Rattle.std.proofs.Common.{◌≡◌, ℕ, ◌+◌, ◌*◌, ◌<◌, ◌≤◌, Bool, true, false, List, length, refl, sym, ◌∙◌, ap, arith, Option, Some, None}
+use Rattle.std.proofs.Common.{subst, leb-true}
 use Rattle.std.specs.Prelude.{slice_index, slice_index_or, slice_range, ◌==◌, ◌&&◌, nat_le, if◌then◌else◌, All}
 use Rattle.std.specs.Option.{option_map}
 use Rattle.std.specs.List.{range_with_len}
@@ -17,8 +18,10 @@ use Rattle.cart_image.specs.declared.layout.Kind.{Kind}
 use Rattle.cart_image.specs.declared.layout.Kind.TheVariants.{Planes, Cells, CellsBehind}
 use Rattle.cart_image.specs.declared.layout.Layout.{Layout}
 use Rattle.cart_image.specs.declared.layout.Part.TheVariants.{GateByte, FormedByte, DefectByte, Data}
-use Rattle.cart_image.specs.Layout.{length_place, defect_byte, formed_byte, open_gate, sectors, version_of, end_of, place, place_in, base_of}
-use Rattle.cart_image.specs.Image.{read_len, is_signed, is_length, kind_by, layout_in, layout_by, marks, head_by, head_of, info_by, view_in, views_in, sector_bytes, read_as, cartridge_of, layout_of}
+use Rattle.cart_image.specs.Layout.{length_place, defect_byte, formed_byte, open_gate, sectors, version_of, end_of, place, place_in}
+use Rattle.cart_image.specs.Layout.{base_of}
+use Rattle.cart_image.specs.Image.{read_len, is_signed, is_length, kind_by, layout_in, layout_by, marks, head_by, head_of, info_by, view_in}
+use Rattle.cart_image.specs.Image.{views_in, sector_bytes, read_as, cartridge_of, layout_of}
 
 pub and_true : (a b : Bool) → (a && b) ≡ true → (a ≡ true) × (b ≡ true)
 and_true true b is = (refl, is)
@@ -50,10 +53,12 @@ pub record IsHead (len : ℕ) (head : List ℕ) (h : Head) : Type 0 where
 abbrev pub IsHeadIn : (len : ℕ) → Head → Type 0
 IsHeadIn len h = IsLayoutIn len h.layout
 
-laid_in : (len n : ℕ) (o : Option Kind) (l : Layout) → layout_in len n o ≡ Some l → (o ≡ Some l.kind) × (n ≡ l.segments_per_track) × (end_of l ≤ len)
+laid_in : (len n : ℕ) (o : Option Kind) (l : Layout) → layout_in len n o ≡ Some l → (o ≡ Some l.kind) × (n ≡ l.segments_per_track)
+    × (end_of l ≤ len)
 laid_in len n None l is = cc
 laid_in len n (Some kind) l is =
-    let s = some_if (nat_le (end_of (record { segments_per_track = n; kind = kind })) len) (Some (record { segments_per_track = n; kind = kind })) l is in
+    let s = some_if (nat_le (end_of (record { segments_per_track = n; kind = kind })) len)
+    (Some (record { segments_per_track = n; kind = kind })) l is in
     let e : Some (record { segments_per_track = n; kind = kind }) ≡ Some l = s.1 in
     let same : record { segments_per_track = n; kind = kind } ≡ l = cc in
     let P : Layout → Type 0 = λ m. (Some kind ≡ Some m.kind) × (n ≡ m.segments_per_track) × (end_of m ≤ len) in
@@ -63,7 +68,8 @@ pub head-parts : (len : ℕ) (head : List ℕ) (h : Head) → head_by len head �
 unfolding layout_by
 head-parts len head h is =
     let m = some_map (marks head) (layout_by len head) h is in
-    let s = some_if (is_signed head && is_length (number_at head length_place 2)) (layout_in len (number_at head length_place 2) (kind_by (number_at head length_place 2) head)) m.0 m.1 in
+    let s = some_if (is_signed head && is_length (number_at head length_place 2))
+    (layout_in len (number_at head length_place 2) (kind_by (number_at head length_place 2) head)) m.0 m.1 in
     let signed = and_true _ _ s.0 in
     let long = and_true _ _ signed.1 in
     let l = laid_in len _ _ m.0 s.1 in
@@ -83,8 +89,10 @@ head-parts len head h is =
     }
 
 -- .. and the other way round
-pub head-made : (len n : ℕ) (kind : Kind) (head : List ℕ) → is_signed head ≡ true → is_length n ≡ true → number_at head length_place 2 ≡ n → kind_by n head ≡ Some kind
-    → nat_le (end_of (record { segments_per_track = n; kind = kind })) len ≡ true → head_by len head ≡ Some (marks head (record { segments_per_track = n; kind = kind }))
+pub head-made : (len n : ℕ) (kind : Kind) (head : List ℕ) → is_signed head ≡ true → is_length n ≡ true → number_at head length_place 2 ≡ n →
+    kind_by n head ≡ Some kind
+    → nat_le (end_of (record { segments_per_track = n; kind = kind })) len ≡ true →
+    head_by len head ≡ Some (marks head (record { segments_per_track = n; kind = kind }))
 unfolding layout_by
 head-made len n kind head signed long number_is kind_is fits =
     ap (option_map (marks head))
@@ -124,7 +132,8 @@ layout_of-none bytes none = by_head (head_of bytes) none
     by_head (Some h) none = cc
 
 -- the layout's length is that of the cartridge
-pub layout_of-cartridge : (bytes : List ℕ) (l : Layout) (c : Cartridge) → layout_of bytes ≡ Some l → cartridge_of bytes ≡ Some c → c.info.segments_per_track ≡ l.segments_per_track
+pub layout_of-cartridge : (bytes : List ℕ) (l : Layout) (c : Cartridge) → layout_of bytes ≡ Some l → cartridge_of bytes ≡ Some c →
+    c.info.segments_per_track ≡ l.segments_per_track
 layout_of-cartridge bytes l c laid reads =
     let h = some_head bytes l laid in
     let e : Some (read_as h.0 bytes) ≡ Some c = sym (cartridge_of-read bytes h.0 h.1) ∙ reads in
@@ -135,7 +144,8 @@ pub info_of-cartridge : (bytes : List ℕ) → option_map (λ (c : Cartridge). c
 unfolding cartridge_of
 info_of-cartridge bytes = by_head (head_of bytes)
   where
-    by_head : (o : Option Head) → option_map (λ (c : Cartridge). c.info) (option_map (λ (i : Head). read_as i bytes) o) ≡ option_map info_by o
+    by_head : (o : Option Head) → option_map (λ (c : Cartridge). c.info) (option_map (λ (i : Head). read_as i bytes) o) ≡ option_map
+        info_by o
     by_head None = refl
     by_head (Some h) = refl
 
@@ -149,10 +159,12 @@ data-end Planes n sector on = omega arith
 data-end Cells n sector on = omega arith
 data-end CellsBehind n sector on = omega arith
 
-view-is : (l : Layout) (bytes : List ℕ) (sector : ℕ) → AreBytes bytes → end_of l ≤ length bytes → sector < sectors l.segments_per_track → IsView (view_in l bytes sector)
+view-is : (l : Layout) (bytes : List ℕ) (sector : ℕ) → AreBytes bytes → end_of l ≤ length bytes → sector < sectors l.segments_per_track →
+    IsView (view_in l bytes sector)
 unfolding view_in
 view-is l bytes sector are long on =
-    by_tests (slice_index bytes (place l DefectByte sector) == defect_byte) (slice_index bytes (place l FormedByte sector) == formed_byte) (slice_index bytes (place l GateByte sector) == open_gate)
+    by_tests (slice_index bytes (place l DefectByte sector) == defect_byte) (slice_index bytes (place l FormedByte sector) == formed_byte)
+    (slice_index bytes (place l GateByte sector) == open_gate)
   where
     whole : IsSector (sector_bytes l bytes sector)
     whole = record {
@@ -162,7 +174,8 @@ view-is l bytes sector are long on =
       each = All-take (λ b. b < 256) _ _ (All-drop (λ b. b < 256) (place l Data sector) bytes are);
     }
 
-    by_tests : (bd bf bg : Bool) → IsView (if bd then Defect else (if bf then (if bg then Holds (sector_bytes l bytes sector) else Lost) else Blank))
+    by_tests : (bd bf bg : Bool) → IsView
+        (if bd then Defect else (if bf then (if bg then Holds (sector_bytes l bytes sector) else Lost) else Blank))
     by_tests true bf bg = tt
     by_tests false false bg = tt
     by_tests false true false = tt
@@ -173,7 +186,8 @@ unfolding views_in
 views-are l bytes are long =
     All-map IsView (view_in l bytes) (range_with_len 0 (sectors l.segments_per_track)) (λ k d h.
     let within : k < sectors l.segments_per_track = omega (arith, length-range_with_len 0 (sectors l.segments_per_track), h) in
-    let at : slice_index_or (range_with_len 0 (sectors l.segments_per_track)) k d ≡ 0 + k = get_or-range_with_len 0 (sectors l.segments_per_track) k d within in
+    let at : slice_index_or (range_with_len 0 (sectors l.segments_per_track)) k d ≡ 0 + k = get_or-range_with_len 0
+    (sectors l.segments_per_track) k d within in
     let same : slice_index_or (range_with_len 0 (sectors l.segments_per_track)) k d ≡ k = omega arith in
     let P : ℕ → Type 0 = λ j. IsView (view_in l bytes j) in
     subst P (sym same) (view-is l bytes k are long within))

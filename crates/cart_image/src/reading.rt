@@ -1,5 +1,6 @@
 //! What an image file tells: its head, and what it holds of its sectors.
 ghost use Rattle.std.specs.Prelude.{◌≡◌, ◌≢◌, ℕ, ◌+◌, ◌*◌, ◌<◌, ◌≤◌, List, length, slice_index, slice_index_or, slice_range, IfOk, IfSome, OnErr, false};
+ghost use Rattle.qic_base.specs.Cause.{HasCause};
 ghost use Rattle.qic_base.specs.Disk.{IsSettled};
 ghost use Rattle.qic_base.specs.TapeCalls.{Reads};
 ghost use Rattle.cart_image.specs.Image.{base_kind, kind_by, layout_by, head_by as head_told, head_of, view_by, view_in, sector_bytes};
@@ -143,6 +144,7 @@ fn state_by(defect: u8, formed: u8, gate: u8) -> SectorState
 /// 32 bytes of a plane.
 fn read_plane<D: Disk>(disk: &mut D, place: u64) -> Result<[u8; 32], DiskFailed>
     ensures looked { Looked D.means disk.old disk.new result }
+    ensures cause { HasCause (D.means.faults disk.old) (D.means.faults disk.new) result }
     ensures bytes { IfOk result (λ part. IfSome (D.means.told disk.old) (λ bytes.
         place + 32 ≤ length bytes → part ≡ slice_range bytes place (place + 32))) }
     ensures seen { D.means.seen_len disk.new ≡ D.means.seen_len disk.old }
@@ -155,6 +157,7 @@ fn read_plane<D: Disk>(disk: &mut D, place: u64) -> Result<[u8; 32], DiskFailed>
 /// The bytes of a segment's sectors, where they stand beside each other.
 pub fn read_block<D: Disk>(disk: &mut D, place: u64) -> Result<[u8; 32768], DiskFailed>
     ensures looked { Looked D.means disk.old disk.new result }
+    ensures cause { HasCause (D.means.faults disk.old) (D.means.faults disk.new) result }
     ensures bytes { IfOk result (λ part. IfSome (D.means.told disk.old) (λ bytes.
         place + 32768 ≤ length bytes → part ≡ slice_range bytes place (place + 32768))) }
     ensures seen { D.means.seen_len disk.new ≡ D.means.seen_len disk.old }
@@ -167,6 +170,7 @@ pub fn read_block<D: Disk>(disk: &mut D, place: u64) -> Result<[u8; 32768], Disk
 /// The three state bytes of a sector that stand beside each other: its gate, its formed byte and its defect byte.
 fn read_flags<D: Disk>(disk: &mut D, place: u64) -> Result<[u8; 3], DiskFailed>
     ensures looked { Looked D.means disk.old disk.new result }
+    ensures cause { HasCause (D.means.faults disk.old) (D.means.faults disk.new) result }
     ensures bytes { IfOk result (λ part. IfSome (D.means.told disk.old) (λ bytes.
         place + 3 ≤ length bytes → part ≡ slice_range bytes place (place + 3))) }
     ensures seen { D.means.seen_len disk.new ≡ D.means.seen_len disk.old }
@@ -197,6 +201,7 @@ pub fn read_planes<D: Disk>(
     requires place { segment < 28 * layout.segments_per_track }
     requires planes { layout.kind ≡ Kind.Planes }
     ensures looked { Looked D.means disk.old disk.new result }
+    ensures cause { HasCause (D.means.faults disk.old) (D.means.faults disk.new) result }
     ensures marks { IfOk result (λ marks. IfSome (D.means.told disk.old) (λ bytes.
         end_of layout ≤ length bytes → AreMarks layout segment bytes marks)) }
     ensures seen { D.means.seen_len disk.new ≡ D.means.seen_len disk.old }
@@ -358,6 +363,7 @@ pub fn read_state<D: Disk>(
     requires place { sector < sectors layout.segments_per_track }
     requires cells { touches layout.kind ≡ false }
     ensures looked { Looked D.means disk.old disk.new result }
+    ensures cause { HasCause (D.means.faults disk.old) (D.means.faults disk.new) result }
     ensures state { IfOk result (λ state. IfSome (D.means.told disk.old) (λ bytes.
         end_of layout ≤ length bytes → state ≡ state_of (view_in layout bytes sector))) }
     ensures seen { D.means.seen_len disk.new ≡ D.means.seen_len disk.old }

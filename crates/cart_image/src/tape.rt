@@ -33,6 +33,8 @@ pub struct ImageTape<D: Disk> {
     layout: Option<Layout>,
     /// What the planes say of the segment that was looked at last; None where that is not known, and in version 2.
     known: Option<SegmentStates>,
+    /// How many of the calls of the tape failed, or the greatest u64 where there were more.
+    faults: u64,
     ghost settled: { (bytes left : List ℕ) →
         D.means.told disk ≡ Some bytes → D.means.may_leave disk left → left ≡ bytes },
     ghost shortest: { (l : Layout) → layout ≡ Some l → 3 ≤ l.segments_per_track },
@@ -45,7 +47,7 @@ pub struct ImageTape<D: Disk> {
 }
 
 impl<D: Disk> ImageTape<D> {
-    ghost use Rattle.cart_image.specs.ImageTape.{disk_of, layout_at, known_of, image_means};
+    ghost use Rattle.cart_image.specs.ImageTape.{disk_of, layout_at, known_of, faults_of, image_means};
     ghost use Rattle.cart_image.specs.Run.{Looked};
 
     /// A tape in this file, of which nothing is known yet. It makes no call of the disk.
@@ -58,6 +60,7 @@ impl<D: Disk> ImageTape<D> {
             disk,
             layout: None,
             known: None,
+            faults: 0,
         }
     }
 
@@ -70,6 +73,7 @@ impl<D: Disk> ImageTape<D> {
             disk,
             layout: _,
             known: _,
+            faults: _,
         } = self;
         disk
     }
@@ -96,6 +100,7 @@ impl<D: Disk> ImageTape<D> {
         ensures looked { Looked D.means (disk_of self.old) (disk_of self.new) result }
         ensures known { IfOk result (λ states. known_of self.new ≡ Some states) }
         ensures layout { layout_at self.new ≡ layout_at self.old }
+        ensures faults { faults_of self.new ≡ faults_of self.old }
     {
         if let Some(states) = self.known {
             if states.segment == segment {
@@ -123,6 +128,7 @@ impl<D: Disk> ImageTape<D> {
             states.segment ≡ segment)) }
         ensures looked { Looked D.means (disk_of self.old) (disk_of self.new) result }
         ensures layout { layout_at self.new ≡ layout_at self.old }
+        ensures faults { faults_of self.new ≡ faults_of self.old }
     {
         if layout.touches() {
             let states = self.look_at_segment(layout, segment)?;
@@ -149,6 +155,7 @@ impl<D: Disk> ImageTape<D> {
             Reads (view_in layout bytes (place_of segment sector)) into.old into.new answer)) }
         ensures unchanged { result ≢ Ok SectorRead.Good → into.new ≡ into.old }
         ensures layout { layout_at self.new ≡ layout_at self.old }
+        ensures faults { faults_of self.new ≡ faults_of self.old }
     {
         let states = self.look_at_segment(layout, segment)?;
         let place = sector_number(segment, sector);
@@ -177,6 +184,7 @@ impl<D: Disk> ImageTape<D> {
             Reads (view_in layout bytes (place_of segment sector)) into.old into.new answer)) }
         ensures unchanged { result ≢ Ok SectorRead.Good → into.new ≡ into.old }
         ensures layout { layout_at self.new ≡ layout_at self.old }
+        ensures faults { faults_of self.new ≡ faults_of self.old }
     {
         if layout.touches() {
             self.read_in_planes(layout, segment, sector, into)
@@ -210,6 +218,8 @@ impl<D: Disk> Tape for ImageTape<D> {
 
         // It only looks at the disk.
         ensures looked { Looked D.means (disk_of self.old) (disk_of self.new) result }
+        ensures changes { OnOk result (D.means.failed_changes (disk_of self.new)
+            ≡ D.means.failed_changes (disk_of self.old)) }
     {
         self.known = None;
         match reading::read_head(&mut self.disk) {
@@ -217,7 +227,10 @@ impl<D: Disk> Tape for ImageTape<D> {
                 self.layout = layout_by(head);
                 Ok(info_by(head))
             }
-            Err(DiskFailed) => Err(TapeFailed),
+            Err(DiskFailed) => {
+                self.faults = self.faults.saturating_add(1);
+                Err(TapeFailed)
+            }
         }
     }
 
@@ -236,11 +249,16 @@ impl<D: Disk> Tape for ImageTape<D> {
 
         // It only looks at the disk.
         ensures looked { Looked D.means (disk_of self.old) (disk_of self.new) result }
+        ensures changes { OnOk result (D.means.failed_changes (disk_of self.new)
+            ≡ D.means.failed_changes (disk_of self.old)) }
     {
         let layout = self.layout();
         match self.read_at(layout, segment, sector, into) {
             Ok(read) => Ok(read),
-            Err(DiskFailed) => Err(TapeFailed),
+            Err(DiskFailed) => {
+                self.faults = self.faults.saturating_add(1);
+                Err(TapeFailed)
+            }
         }
     }
 
@@ -261,11 +279,16 @@ impl<D: Disk> Tape for ImageTape<D> {
         ensures steps { CarriedBy D.means (disk_of self.old) (disk_of self.new)
             (layout_at self.old) (λ l bytes. write_sector_steps l (place_of segment sector)
             from.now (view_in l bytes (place_of segment sector))) result }
+        ensures changes { OnOk result (D.means.failed_changes (disk_of self.new)
+            ≡ D.means.failed_changes (disk_of self.old)) }
     {
         let layout = self.layout();
         let state = match self.look(layout, segment, sector) {
             Ok(state) => state,
-            Err(DiskFailed) => return Err(TapeFailed),
+            Err(DiskFailed) => {
+                self.faults = self.faults.saturating_add(1);
+                return Err(TapeFailed);
+            }
         };
         match writing::write_sector(
             &mut self.disk,
@@ -280,6 +303,7 @@ impl<D: Disk> Tape for ImageTape<D> {
             }
             Err(DiskFailed) => {
                 self.known = None;
+                self.faults = self.faults.saturating_add(1);
                 Err(TapeFailed)
             }
         }
@@ -292,12 +316,17 @@ impl<D: Disk> Tape for ImageTape<D> {
 
         ensures steps { CarriedBy D.means (disk_of self.old) (disk_of self.new)
             (layout_at self.old) (λ l bytes. format_plan l segment bytes) result }
+        ensures changes { OnOk result (D.means.failed_changes (disk_of self.new)
+            ≡ D.means.failed_changes (disk_of self.old)) }
     {
         let layout = self.layout();
         self.known = None;
         match formatting::format_segment(&mut self.disk, layout, segment) {
             Ok(()) => Ok(()),
-            Err(DiskFailed) => Err(TapeFailed),
+            Err(DiskFailed) => {
+                self.faults = self.faults.saturating_add(1);
+                Err(TapeFailed)
+            }
         }
     }
 
@@ -309,11 +338,16 @@ impl<D: Disk> Tape for ImageTape<D> {
         ensures steps { Carried D.means (disk_of self.old) (disk_of self.new)
             (λ bytes. mark_steps referenced_place true (slice_index bytes referenced_place))
             result }
+        ensures changes { OnOk result (D.means.failed_changes (disk_of self.new)
+            ≡ D.means.failed_changes (disk_of self.old)) }
     {
         self.known = None;
         match writing::set_mark(&mut self.disk, REFERENCED_PLACE, true) {
             Ok(()) => Ok(()),
-            Err(DiskFailed) => Err(TapeFailed),
+            Err(DiskFailed) => {
+                self.faults = self.faults.saturating_add(1);
+                Err(TapeFailed)
+            }
         }
     }
 
@@ -324,11 +358,16 @@ impl<D: Disk> Tape for ImageTape<D> {
 
         ensures steps { Carried D.means (disk_of self.old) (disk_of self.new)
             (λ bytes. mark_steps protected_place on (slice_index bytes protected_place)) result }
+        ensures changes { OnOk result (D.means.failed_changes (disk_of self.new)
+            ≡ D.means.failed_changes (disk_of self.old)) }
     {
         self.known = None;
         match writing::set_mark(&mut self.disk, PROTECTED_PLACE, on) {
             Ok(()) => Ok(()),
-            Err(DiskFailed) => Err(TapeFailed),
+            Err(DiskFailed) => {
+                self.faults = self.faults.saturating_add(1);
+                Err(TapeFailed)
+            }
         }
     }
 
@@ -340,6 +379,8 @@ impl<D: Disk> Tape for ImageTape<D> {
 
         ensures steps { Carried D.means (disk_of self.old) (disk_of self.new)
             (λ bytes. renew_steps segments_per_track (slice_index bytes 0)) result }
+        ensures changes { OnOk result (D.means.failed_changes (disk_of self.new)
+            ≡ D.means.failed_changes (disk_of self.old)) }
     {
         self.known = None;
         self.layout = None;
@@ -351,7 +392,10 @@ impl<D: Disk> Tape for ImageTape<D> {
                 });
                 Ok(())
             }
-            Err(DiskFailed) => Err(TapeFailed),
+            Err(DiskFailed) => {
+                self.faults = self.faults.saturating_add(1);
+                Err(TapeFailed)
+            }
         }
     }
 
@@ -363,11 +407,16 @@ impl<D: Disk> Tape for ImageTape<D> {
         ensures steps { CarriedBy D.means (disk_of self.old) (disk_of self.new)
             (layout_at self.old) (λ l bytes. wear_steps l (place_of segment sector)
             (view_in l bytes (place_of segment sector))) result }
+        ensures changes { OnOk result (D.means.failed_changes (disk_of self.new)
+            ≡ D.means.failed_changes (disk_of self.old)) }
     {
         let layout = self.layout();
         let state = match self.look(layout, segment, sector) {
             Ok(state) => state,
-            Err(DiskFailed) => return Err(TapeFailed),
+            Err(DiskFailed) => {
+                self.faults = self.faults.saturating_add(1);
+                return Err(TapeFailed);
+            }
         };
         match writing::wear(
             &mut self.disk,
@@ -381,6 +430,7 @@ impl<D: Disk> Tape for ImageTape<D> {
             }
             Err(DiskFailed) => {
                 self.known = None;
+                self.faults = self.faults.saturating_add(1);
                 Err(TapeFailed)
             }
         }
@@ -396,11 +446,16 @@ impl<D: Disk> Tape for ImageTape<D> {
         ensures steps { CarriedBy D.means (disk_of self.old) (disk_of self.new)
             (layout_at self.old) (λ l bytes. spoil_steps l (place_of segment sector)
             (view_in l bytes (place_of segment sector))) result }
+        ensures changes { OnOk result (D.means.failed_changes (disk_of self.new)
+            ≡ D.means.failed_changes (disk_of self.old)) }
     {
         let layout = self.layout();
         let state = match self.look(layout, segment, sector) {
             Ok(state) => state,
-            Err(DiskFailed) => return Err(TapeFailed),
+            Err(DiskFailed) => {
+                self.faults = self.faults.saturating_add(1);
+                return Err(TapeFailed);
+            }
         };
         match writing::spoil(
             &mut self.disk,
@@ -414,6 +469,7 @@ impl<D: Disk> Tape for ImageTape<D> {
             }
             Err(DiskFailed) => {
                 self.known = None;
+                self.faults = self.faults.saturating_add(1);
                 Err(TapeFailed)
             }
         }
@@ -430,6 +486,8 @@ impl<D: Disk> Tape for ImageTape<D> {
 
         ensures steps { CarriedBy D.means (disk_of self.old) (disk_of self.new)
             (layout_at self.old) (λ l bytes. upgrade_plan l bytes) result }
+        ensures changes { OnOk result (D.means.failed_changes (disk_of self.new)
+            ≡ D.means.failed_changes (disk_of self.old)) }
     {
         let layout = self.layout();
         if !layout.touches() {
@@ -445,7 +503,10 @@ impl<D: Disk> Tape for ImageTape<D> {
                 });
                 Ok(layout.version())
             }
-            Err(DiskFailed) => Err(TapeFailed),
+            Err(DiskFailed) => {
+                self.faults = self.faults.saturating_add(1);
+                Err(TapeFailed)
+            }
         }
     }
 }

@@ -1,5 +1,6 @@
 //! A version 1 image brought to version 2: its sectors are copied behind its planes, and then its head turns to them.
 ghost use Rattle.std.specs.Prelude.{◌≡◌, ℕ, ◌+◌, ◌*◌, ◌<◌, ◌≤◌, length, IfOk, IfSome, OnOk};
+ghost use Rattle.qic_base.specs.Cause.{HasCause};
 ghost use Rattle.qic_base.specs.Disk.{IsSettled};
 ghost use Rattle.qic_base.specs.Field.{little_endian_bytes};
 ghost use Rattle.cart_image.specs.Layout.{image_len as length_of, upgraded_len as upgraded_to, cell, cell_with, cells_by, copy_segment as copy_segment_steps, copy_steps, upgrade_steps};
@@ -29,6 +30,7 @@ fn read_segment<D: Disk>(
 ) -> Result<Segment, DiskFailed>
     requires { segment < 28 * segments_per_track }
     ensures looked { Looked D.means disk.old disk.new result }
+    ensures cause { HasCause (D.means.faults disk.old) (D.means.faults disk.new) result }
     ensures cells { IfOk result (λ found. IfSome (D.means.told disk.old) (λ bytes.
         length_of segments_per_track ≤ length bytes → (i : ℕ) → i < 32 →
         cell_with found.marks.gates found.marks.formed found.marks.defects found.block i

@@ -1,5 +1,6 @@
 -- The writes of an entry into the table's segment, as those of two sets of places.
-use Rattle.std.proofs.Common.{◌≡◌, ◌≢◌, ℕ, zero, suc, ◌*◌, ◌%◌, ◌^◌, ◌<◌, ◌++◌, refl, sym, ◌∙◌, ap, arith, inl, inr, Bool, true, false, List, [], ◌∷◌, map, bit_or, Result, Err, subst}
+use Rattle.std.proofs.Common.{◌≡◌, ◌≢◌, ℕ, zero, suc, ◌*◌, ◌%◌, ◌^◌, ◌<◌, ◌++◌, refl, sym, ◌∙◌, ap, arith, inl, inr, Bool, true, false}
+use Rattle.std.proofs.Common.{List, [], ◌∷◌, map, bit_or, Result, Err, subst}
 use Rattle.std.specs.Prelude.{◌==◌, if◌then◌else◌}
 use Rattle.std.specs.Int.{w32, bit_at}
 use Rattle.std.specs.Int.Bits.{or_zero_l}
@@ -29,7 +30,8 @@ none_below mask (suc n) none =
     ap (λ (l : List ℕ). l ++ (if is_lost mask n then n ∷ [] else [])) (none_below mask n (λ i within. none i (omega arith)))
     ∙ ap (λ (b : Bool). if b then n ∷ [] else []) (none n (omega arith))
 
-one_below : (mask place n : ℕ) → place < n → is_lost mask place ≡ true → ((i : ℕ) → i ≢ place → is_lost mask i ≡ false) → lost_places mask n ≡ place ∷ []
+one_below : (mask place n : ℕ) → place < n → is_lost mask place ≡ true → ((i : ℕ) → i ≢ place → is_lost mask i ≡ false) →
+    lost_places mask n ≡ place ∷ []
 unfolding lost_places
 one_below mask place zero within here others = absurd (omega arith)
 one_below mask place (suc n) within here others =
@@ -88,10 +90,12 @@ both_writes new changed = refl
 -- ---- calls, one after another
 
 -- a call behind one that was done
-pub does_after : {S A E : Type 0} (m : Meaning S) (a b c : S) (xs ys zs : List Step) (r : Result A E) → xs ++ ys ≡ zs → Done m a b xs → Does m b c ys r → Does m a c zs r
+pub does_after : {S A E : Type 0} (m : Meaning S) (a b c : S) (xs ys zs : List Step) (r : Result A E) → xs ++ ys ≡ zs → Done m a b xs →
+    Does m b c ys r → Does m a c zs r
 does_after m a b c xs ys zs r are first next = subst (λ (steps : List Step). Does m a c steps r) are (Done-Does m a b c xs ys r first next)
 
 -- .. and one that broke off, before another
-pub broke_front : {S A E : Type 0} (m : Meaning S) (a b : S) (xs ys zs : List Step) (fault : E) (r : Result A E) → r ≡ Err fault → xs ++ ys ≡ zs → Broke m a b xs → Does m a b zs r
+pub broke_front : {S A E : Type 0} (m : Meaning S) (a b : S) (xs ys zs : List Step) (fault : E) (r : Result A E) → r ≡ Err fault →
+    xs ++ ys ≡ zs → Broke m a b xs → Does m a b zs r
 broke_front {A = A} {E = E} m a b xs ys zs fault r is are broke =
     subst (λ (answer : Result A E). Does m a b zs answer) (sym is) (subst (Broke m a b) are (Broke-front ys broke))

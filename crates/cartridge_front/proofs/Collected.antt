@@ -1,5 +1,7 @@
 -- The calls that solve the table's segment, one by one.
-use Rattle.std.proofs.Common.{◌≡◌, ◌↔◌, ℕ, zero, suc, ◌+◌, ◌-◌, ◌*◌, ◌%◌, ◌^◌, ◌<◌, ◌≤◌, ◌++◌, refl, sym, ◌∙◌, ap, subst, arith, inl, inr, List, [], ◌∷◌, length, take, drop, map, get_or, replicate, Option, Some, None, slice_get, IfSome, Err, Bool, true, false, nat_lt}
+use Rattle.std.proofs.Common.{◌≡◌, ◌↔◌, ℕ, zero, suc, ◌+◌, ◌-◌, ◌*◌, ◌%◌, ◌^◌, ◌<◌, ◌≤◌, ◌++◌, refl, sym, ◌∙◌, ap, subst, arith, inl, inr}
+use Rattle.std.proofs.Common.{List, [], ◌∷◌, length, take, drop, map, get_or, replicate, Option, Some, None, slice_get, IfSome, Err, Bool}
+use Rattle.std.proofs.Common.{true, false, nat_lt}
 use Rattle.std.specs.Prelude.{◌==◌, if◌then◌else◌}
 use Rattle.std.specs.Int.{bit_at}
 use Rattle.std.proofs.lemmas.Bool.{cases_eq}
@@ -33,7 +35,8 @@ use Rattle.segment_io.specs.declared.fault.SegFault.TheVariants as seg
 one_bit : (place i : ℕ) → place < 32 → bit_at (1 * 2 ^ place % 2 ^ 32) i ≡ bit_at (2 ^ place) i
 one_bit place i within = ap (λ (n : ℕ). bit_at n i) (one_shl place 32 within)
 
-pub left_some : (set result place : ℕ) (used : Option ℕ) → used ≡ Some place → IfSome used (λ k. k < 29) → IsLost set place → result ≡ 1 * 2 ^ place % 2 ^ 32 →
+pub left_some : (set result place : ℕ) (used : Option ℕ) → used ≡ Some place → IfSome used (λ k. k < 29) → IsLost set place →
+    result ≡ 1 * 2 ^ place % 2 ^ 32 →
     (i : ℕ) → IsLost result i ↔ ((used ≡ Some i) × IsLost set i)
 left_some set result place used is below there mask i =
     let small : place < 29 = subst (λ (o : Option ℕ). IfSome o (λ k. k < 29)) is below in
@@ -52,7 +55,8 @@ left_some set result place used is below there mask i =
 
 -- ---- the parity sectors
 
-pub last_three : {A : Type 0} (i : ℕ) (xs : List A) (d : A) → length xs ≡ i + 3 → get_or xs i d ∷ get_or xs (suc i) d ∷ get_or xs (suc (suc i)) d ∷ [] ≡ drop i xs
+pub last_three : {A : Type 0} (i : ℕ) (xs : List A) (d : A) → length xs ≡ i + 3 → get_or xs i d ∷ get_or xs (suc i) d ∷ get_or xs
+    (suc (suc i)) d ∷ [] ≡ drop i xs
 last_three zero [] d long = absurd (omega arith)
 last_three zero (a ∷ []) d long = absurd (omega arith)
 last_three zero (a ∷ b ∷ []) d long = absurd (omega arith)
@@ -78,15 +82,18 @@ whole_length cells count = count ∙ sym count_of_whole
 
 -- an answer with a fault
 pub unsolved_fault : (set : ℕ) (old new : List (List ℕ)) (fault : SegFault) →
-    ((cells : List SectorView) → length cells ≡ usable_count 4294967295 → Gathered cells set old → Solves {A = Unit {0}} 2 cells new (Err fault)) → Unsolved set old
+    ((cells : List SectorView) → length cells ≡ usable_count 4294967295 → Gathered cells set old →
+    Solves {A = Unit {0}} 2 cells new (Err fault)) → Unsolved set old
 unsolved_fault set old new (seg.Lost segment n) solves = λ cells count gathered few.
     let says = (solves cells (whole_length cells count) gathered).1 in absurd (omega (arith, says.0, says.1))
-unsolved_fault set old new (seg.Mismatch segment) solves = λ cells count gathered few. (solves cells (whole_length cells count) gathered).1.1
+unsolved_fault set old new (seg.Mismatch segment) solves =
+    λ cells count gathered few. (solves cells (whole_length cells count) gathered).1.1
 unsolved_fault set old new seg.Tape solves = λ cells count gathered few. absurd (solves cells (whole_length cells count) gathered)
 
 -- an answer without one
 pub solved_answer : (set : ℕ) (old new : List (List ℕ)) →
-    ((cells : List SectorView) → length cells ≡ usable_count 4294967295 → Gathered cells set old → HasSolved cells new) → IsSolved set old new
+    ((cells : List SectorView) → length cells ≡ usable_count 4294967295 → Gathered cells set old → HasSolved cells new) →
+    IsSolved set old new
 solved_answer set old new solves = λ cells count gathered. solves cells (whole_length cells count) gathered
 
 pub block_answer : (new : List (List ℕ)) → length new ≡ 32 → IsCodeBlock (take (usable_count 4294967295) new) → IsCodeBlock new
@@ -98,7 +105,8 @@ block_answer new room code =
 abbrev pub NoneBelow : (sets : List ℕ) (index : ℕ) (sectors : List (List ℕ)) → Type 0
 NoneBelow sets index sectors = (i other : ℕ) → i < index → slice_get sets i ≡ Some other → Unsolved other sectors
 
-pub none_so_far : (sets : List ℕ) (index set : ℕ) (sectors : List (List ℕ)) → NoneBelow sets index sectors → slice_get sets index ≡ Some set → Unsolved set sectors →
+pub none_so_far : (sets : List ℕ) (index set : ℕ) (sectors : List (List ℕ)) → NoneBelow sets index sectors →
+    slice_get sets index ≡ Some set → Unsolved set sectors →
     NoneBelow sets (index + 1) sectors
 none_so_far sets index set sectors before at unsolved = λ i other within there.
     elim (cases_eq i index) [
@@ -148,7 +156,8 @@ few_tried trials lost used are =
     let count : trials.count ≡ suc (length (sets_by used (lost_places lost 32))) = are.count in
     omega arith
 
-pub put_room : (old parity new work : List (List ℕ)) → length old ≡ 32 → length work ≡ 32 → parity ≡ drop 29 work → new ≡ take 29 old ++ parity → length new ≡ 32
+pub put_room : (old parity new work : List (List ℕ)) → length old ≡ 32 → length work ≡ 32 → parity ≡ drop 29 work →
+    new ≡ take 29 old ++ parity → length new ≡ 32
 put_room old parity new work room long is put =
     let front : length (take 29 old) ≡ 29 = length-take-le 29 old (omega arith) in
     let back : length parity ≡ 3 = ap (λ (l : List (List ℕ)). length l) is ∙ length-drop 29 work ∙ omega arith in
@@ -164,12 +173,15 @@ pub used_small : (o : Option ℕ) → IfSome o (λ k. k < 29) → IfSome o (λ k
 used_small None below = tt
 used_small (Some k) below = omega (arith, below)
 
-pub last_data : (area : List (List ℕ)) (lost : ℕ) (used : Option ℕ) → ((k : ℕ) → (used ≡ Some k) ↔ IsLastUsed area lost k) → IfSome used (λ k. k < 29)
+pub last_data : (area : List (List ℕ)) (lost : ℕ) (used : Option ℕ) → ((k : ℕ) → (used ≡ Some k) ↔ IsLastUsed area lost k) →
+    IfSome used (λ k. k < 29)
 last_data area lost used greatest = used_data used (λ k is. ((greatest k).0 is).shows.data_sector)
 
-pub collected : (cells : List SectorView) (lost : ℕ) (used : Option ℕ) (area sectors : List (List ℕ)) → length cells ≡ 32 → length sectors ≡ 32 → Gathered cells lost sectors →
+pub collected : (cells : List SectorView) (lost : ℕ) (used : Option ℕ) (area sectors : List (List ℕ)) → length cells ≡ 32 →
+    length sectors ≡ 32 → Gathered cells lost sectors →
     lost < 2 ^ 32 → length (lost_places lost 32) ≤ 3 → LosesData lost → area ≡ take 29 sectors →
-    used ≡ last_used (hidden lost (map Holds area)) → ((k : ℕ) → (used ≡ Some k) ↔ IsLastUsed area lost k) → IsCollected cells lost used sectors
+    used ≡ last_used (hidden lost (map Holds area)) → ((k : ℕ) → (used ≡ Some k) ↔ IsLastUsed area lost k) →
+    IsCollected cells lost used sectors
 collected cells lost used area sectors count room gathered mask few loses is last greatest = record {
   count = count;
   room = room;

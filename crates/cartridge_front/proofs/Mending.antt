@@ -1,5 +1,6 @@
 -- The writes of a settling, as those of a set of places and as those of a cartridge.
-use Rattle.std.proofs.Common.{◌≡◌, ℕ, zero, suc, ◌+◌, ◌<◌, ◌≤◌, ◌++◌, refl, sym, ◌∙◌, ap, arith, Bool, true, false, cond, List, [], ◌∷◌, length, take, map, get_or, filter, zero-add}
+use Rattle.std.proofs.Common.{◌≡◌, ℕ, zero, suc, ◌+◌, ◌<◌, ◌≤◌, ◌++◌, refl, sym, ◌∙◌, ap, arith, Bool, true, false, cond, List, [], ◌∷◌}
+use Rattle.std.proofs.Common.{length, take, map, get_or, filter, zero-add}
 use Rattle.std.specs.Prelude.{slice_index, if◌then◌else◌}
 use Rattle.std.specs.List.{range_with_len}
 use Rattle.std.proofs.lemmas.List.{map-append, length-take-le, take_at}
@@ -19,7 +20,8 @@ use Rattle.qic_base.specs.CartridgeTerms.{is_lost}
 
 -- ---- the places of a set
 
-places_filter : (mask n : ℕ) (test : ℕ → Bool) → ((i : ℕ) → i < n → is_lost mask i ≡ test i) → lost_places mask n ≡ filter test (range_with_len 0 n)
+places_filter : (mask n : ℕ) (test : ℕ → Bool) → ((i : ℕ) → i < n → is_lost mask i ≡ test i) →
+    lost_places mask n ≡ filter test (range_with_len 0 n)
 unfolding lost_places
 places_filter mask zero test same = refl
 places_filter mask (suc n) test same =
@@ -31,7 +33,8 @@ pub places_of_set : (mask : ℕ) (test : ℕ → Bool) → ((i : ℕ) → i < 32
 places_of_set mask test same = places_filter mask 32 test same
 
 -- tests that agree have the same places
-filter_same : (a n : ℕ) (one other : ℕ → Bool) → ((i : ℕ) → i < a + n → one i ≡ other i) → filter one (range_with_len a n) ≡ filter other (range_with_len a n)
+filter_same : (a n : ℕ) (one other : ℕ → Bool) → ((i : ℕ) → i < a + n → one i ≡ other i) → filter one (range_with_len a n) ≡ filter other
+    (range_with_len a n)
 filter_same a zero one other same = refl
 filter_same a (suc n) one other same =
     ap (λ (b : Bool). cond b (a ∷ filter one (range_with_len (a + 1) n)) (filter one (range_with_len (a + 1) n))) (same a (omega arith))
@@ -46,7 +49,8 @@ unfolding lost_places
 index_of mask zero few = refl
 index_of mask (suc n) few =
     map-append (λ place. slice_index (usable_places whole_mask) place) (lost_places mask n) (if is_lost mask n then n ∷ [] else [])
-    ∙ ap (λ (l : List ℕ). l ++ map (λ place. slice_index (usable_places whole_mask) place) (if is_lost mask n then n ∷ [] else [])) (index_of mask n (omega arith))
+    ∙ ap (λ (l : List ℕ). l ++ map (λ place. slice_index (usable_places whole_mask) place) (if is_lost mask n then n ∷ [] else []))
+    (index_of mask n (omega arith))
     ∙ ap (λ (l : List ℕ). lost_places mask n ++ l) (last (is_lost mask n))
   where
     here : slice_index (usable_places whole_mask) n ≡ n
@@ -66,13 +70,17 @@ writes_both : (block : List (List ℕ)) (ps qs : List ℕ) → block_writes bloc
 writes_both block [] qs = refl
 writes_both block (p ∷ ps) qs = ap (λ (steps : List Step). WriteSector 2 p (sector_at block p) ∷ steps) (writes_both block ps qs)
 
-pub mend_both : (unread : Unread) (stale : ℕ) (old new : List (List ℕ)) → new ≡ collected_block old → ((i : ℕ) → i < 32 → is_lost stale i ≡ is_stale unread.lost old new i) →
+pub mend_both : (unread : Unread) (stale : ℕ) (old new : List (List ℕ)) → new ≡ collected_block old →
+    ((i : ℕ) → i < 32 → is_lost stale i ≡ is_stale unread.lost old new i) →
     block_writes new (sectors_of unread.left_out) ++ block_writes new (sectors_of stale) ≡ mending_steps false unread old
 mend_both unread stale old new is same =
     writes_both new (sectors_of unread.left_out) (sectors_of stale)
-    ∙ ap (λ (places : List ℕ). block_writes new (places ++ sectors_of stale)) (places_of_set unread.left_out (is_lost unread.left_out) (λ i within. refl))
-    ∙ ap (λ (places : List ℕ). block_writes new (places_where (is_lost unread.left_out) ++ places)) (places_of_set stale (is_stale unread.lost old new) same)
-    ∙ ap (λ (block : List (List ℕ)). block_writes block (places_where (is_lost unread.left_out) ++ places_where (is_stale unread.lost old block))) is
+    ∙ ap (λ (places : List ℕ). block_writes new (places ++ sectors_of stale))
+    (places_of_set unread.left_out (is_lost unread.left_out) (λ i within. refl))
+    ∙ ap (λ (places : List ℕ). block_writes new (places_where (is_lost unread.left_out) ++ places))
+    (places_of_set stale (is_stale unread.lost old new) same)
+    ∙ ap (λ (block : List (List ℕ)). block_writes block
+    (places_where (is_lost unread.left_out) ++ places_where (is_stale unread.lost old block))) is
 
 pub no_sectors : (block : List (List ℕ)) → block_writes block (sectors_of 0) ≡ []
 unfolding lost_places

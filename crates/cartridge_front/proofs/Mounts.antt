@@ -23,7 +23,8 @@ last_learnt : (host : Host) (c : Cartridge) → IsLearnt host c → 28 * segment
 last_learnt host c learnt = ap (λ (n : ℕ). 28 * n - 1) (sym learnt.length_told)
 
 -- a refusal of the volume table, on a cartridge with a sound header
-pub refuses_table : (host : Host) (c : Cartridge) (words : List ℕ) (header : Header) (sectors : List (List ℕ)) (entries : List Entry) (e : StoreFault) →
+pub refuses_table : (host : Host) (c : Cartridge) (words : List ℕ) (header : Header) (sectors : List (List ℕ)) (entries : List Entry)
+    (e : StoreFault) →
     IsLearnt host c → HasFormat c words header → FindsVolumes c (28 * segments_of host - 1) sectors entries (Err e) → MountRefuses c e
 refuses_table host c words header sectors entries (fault.Foreign field value) learnt has found = inr (record {
   formatted = sound_format c words header has;
@@ -31,7 +32,8 @@ refuses_table host c words header sectors entries (fault.Foreign field value) le
   table = found.table;
   first = subst (λ (last : ℕ). IsFirstFault found.area last (fault_as field value)) (last_learnt host c learnt) found.bad.first;
 })
-refuses_table host c words header sectors entries (fault.Lost segment lost) learnt has found = (found.0, (sound_format c words header has, found.1))
+refuses_table host c words header sectors entries (fault.Lost segment lost) learnt has found =
+    (found.0, (sound_format c words header has, found.1))
 refuses_table host c words header sectors entries fault.TableMismatch learnt has found = (sound_format c words header has, found)
 refuses_table host c words header sectors entries fault.NotFormatted learnt has found = absurd found
 refuses_table host c words header sectors entries (fault.Full need have) learnt has found = found

@@ -1,5 +1,6 @@
 -- The writes of a settling are those of the cartridge, and what they leave.
-use Rattle.std.proofs.Common.{◌≡◌, ◌↔◌, ℕ, refl, ◌<◌, sym, subst, Option, Some, ◌∙◌, ap, Bool, not, List, arith, inl, inr, true, false, [], length, take, ◌++◌, ◌∷◌}
+use Rattle.std.proofs.Common.{◌≡◌, ◌↔◌, ℕ, refl, ◌<◌, sym, subst, Option, Some, ◌∙◌, ap, Bool, not, List, arith, inl, inr, true, false, []}
+use Rattle.std.proofs.Common.{length, take, ◌++◌, ◌∷◌}
 use Rattle.std.proofs.lemmas.Bool.{ne_eqb, false≢true, cases_lt, lt-ltb, le-ltb, cases_Bool}
 use Rattle.std.specs.Prelude.{IsSomeAnd, ◌||◌, if◌then◌else◌, unwrap_or}
 use Rattle.std.specs.List.{slice_get}
@@ -43,7 +44,8 @@ names_view c lost i within names =
       λ bad. (names i).1 (subst (λ (o : Option SectorView). IsSomeAnd o IsUnreadable) (sym there) bad),
     )
 
-stale_parity : (view : SectorView) (lost i : ℕ) (held wanted : List ℕ) → is_lost lost i ≡ is_unreadable view → ((bytes : List ℕ) → view ≡ Holds bytes → held ≡ bytes) →
+stale_parity : (view : SectorView) (lost i : ℕ) (held wanted : List ℕ) → is_lost lost i ≡ is_unreadable view →
+    ((bytes : List ℕ) → view ≡ Holds bytes → held ≡ bytes) →
     (is_lost lost i || not (bytes_eq held wanted)) ≡ not (holds view wanted)
 stale_parity Blank lost i held wanted is shown = ap (λ (b : Bool). b || not (bytes_eq held wanted)) is
 stale_parity Defect lost i held wanted is shown = ap (λ (b : Bool). b || not (bytes_eq held wanted)) is
@@ -56,22 +58,28 @@ abbrev unsettled_by : (b : Bool) (view : SectorView) (bytes : List ℕ) → Bool
 unsettled_by b view bytes = if b then is_unreadable view else not (holds view bytes)
 
 -- no sector of parity was left out
-left_is_data : (cells : List SectorView) (unread : Unread) (sectors : List (List ℕ)) (i : ℕ) → IsReadBut cells unread sectors → IsLost unread.left_out i → i < 29
+left_is_data : (cells : List SectorView) (unread : Unread) (sectors : List (List ℕ)) (i : ℕ) → IsReadBut cells unread sectors →
+    IsLost unread.left_out i → i < 29
 left_is_data cells unread sectors i known is = ((known.left_out i).0 is).data_sector
 
-stale_test : (c : Cartridge) (unread : Unread) (sectors : List (List ℕ)) → length sectors ≡ 32 → IsReadBut (table_cells c) unread sectors → (i : ℕ) → i < 32 →
+stale_test : (c : Cartridge) (unread : Unread) (sectors : List (List ℕ)) → length sectors ≡ 32 → IsReadBut (table_cells c) unread sectors →
+    (i : ℕ) → i < 32 →
     is_stale unread.lost sectors (collected_block sectors) i ≡ is_unsettled c (collected_block sectors) i
 stale_test c unread sectors room known i within =
-    let is : is_lost unread.lost i ≡ is_unreadable (view_at c 2 i) = lost_is (view_at c 2 i) unread.lost i (names_view c unread.lost i within known.lost) in
+    let is : is_lost unread.lost i ≡ is_unreadable (view_at c 2 i) = lost_is (view_at c 2 i) unread.lost i
+    (names_view c unread.lost i within known.lost) in
     elim (cases_lt i 29) [
       | inl lower ↦
-          ap (λ (b : Bool). is_lost unread.lost i || not b) (bytes_same (sector_at sectors i) (sector_at (collected_block sectors) i) (within_data sectors (parity_sectors (take 29 sectors)) i room lower))
+          ap (λ (b : Bool). is_lost unread.lost i || not b)
+          (bytes_same (sector_at sectors i) (sector_at (collected_block sectors) i)
+          (within_data sectors (parity_sectors (take 29 sectors)) i room lower))
           ∙ plain (is_lost unread.lost i) ∙ is
           ∙ sym (ap (λ (b : Bool). unsettled_by b (view_at c 2 i) (sector_at (collected_block sectors) i)) (lt-ltb i 29 lower))
       | inr upper ↦
           stale_parity (view_at c 2 i) unread.lost i (sector_at sectors i) (sector_at (collected_block sectors) i) is
           (λ bytes view. ap (λ (o : Option (List ℕ)). unwrap_or o [])
-          (known.held i bytes (λ left. let lower : i < 29 = left_is_data (table_cells c) unread sectors i known left in absurd (omega arith))
+          (known.held i bytes (λ left. let lower : i < 29 = left_is_data (table_cells c) unread sectors i known left in
+          absurd (omega arith))
           (cells_of_whole c 2 i within ∙ ap Some view)))
           ∙ sym (ap (λ (b : Bool). unsettled_by b (view_at c 2 i) (sector_at (collected_block sectors) i)) (le-ltb i 29 upper))
     ]
@@ -84,11 +92,18 @@ abbrev LeftOutAt : (cells : List SectorView) (sectors : List (List ℕ)) (left i
 LeftOutAt cells sectors left i = IsLost left i ↔ HoldsOther cells sectors i
 
 -- a sector of data was left out exactly where its view holds other bytes than stand in its place
-left_view : (view : SectorView) (cells : List SectorView) (sectors : List (List ℕ)) (left i : ℕ) → i < 29 → i < length sectors → slice_get cells i ≡ Some view → LeftOutAt cells sectors left i →
+left_view : (view : SectorView) (cells : List SectorView) (sectors : List (List ℕ)) (left i : ℕ) → i < 29 → i < length sectors →
+    slice_get cells i ≡ Some view → LeftOutAt cells sectors left i →
     is_lost left i ≡ holds_other view (sector_at sectors i)
-left_view Blank cells sectors left i lower long at is = ne_eqb _ _ (λ there. let held = ((is.0 there).held) in let same : Some Blank ≡ Some (Holds (is.0 there).bytes) = sym at ∙ held in absurd (cc))
-left_view Defect cells sectors left i lower long at is = ne_eqb _ _ (λ there. let held = ((is.0 there).held) in let same : Some Defect ≡ Some (Holds (is.0 there).bytes) = sym at ∙ held in absurd (cc))
-left_view Lost cells sectors left i lower long at is = ne_eqb _ _ (λ there. let held = ((is.0 there).held) in let same : Some Lost ≡ Some (Holds (is.0 there).bytes) = sym at ∙ held in absurd (cc))
+left_view Blank cells sectors left i lower long at is =
+    ne_eqb _ _ (λ there. let held = ((is.0 there).held) in let same : Some Blank ≡ Some (Holds (is.0 there).bytes) = sym at ∙ held in
+    absurd (cc))
+left_view Defect cells sectors left i lower long at is =
+    ne_eqb _ _ (λ there. let held = ((is.0 there).held) in let same : Some Defect ≡ Some (Holds (is.0 there).bytes) = sym at ∙ held in
+    absurd (cc))
+left_view Lost cells sectors left i lower long at is =
+    ne_eqb _ _ (λ there. let held = ((is.0 there).held) in let same : Some Lost ≡ Some (Holds (is.0 there).bytes) = sym at ∙ held in
+    absurd (cc))
 left_view (Holds bytes) cells sectors left i lower long at is =
     elim (cases_Bool (bytes_eq bytes (sector_at sectors i))) [
       | inl same ↦
@@ -112,12 +127,14 @@ left_view (Holds bytes) cells sectors left i lower long at is =
           ∙ sym (ap not differs)
     ]
 
-left_test : (c : Cartridge) (unread : Unread) (sectors : List (List ℕ)) → length sectors ≡ 32 → IsReadBut (table_cells c) unread sectors → (i : ℕ) → i < 32 →
+left_test : (c : Cartridge) (unread : Unread) (sectors : List (List ℕ)) → length sectors ≡ 32 → IsReadBut (table_cells c) unread sectors →
+    (i : ℕ) → i < 32 →
     is_lost unread.left_out i ≡ is_left_out c (collected_block sectors) i
 left_test c unread sectors room known i within =
     elim (cases_lt i 29) [
       | inl lower ↦
-          left_view (view_at c 2 i) (table_cells c) sectors unread.left_out i lower (omega arith) (cells_of_whole c 2 i within) (known.left_out i)
+          left_view (view_at c 2 i) (table_cells c) sectors unread.left_out i lower (omega arith) (cells_of_whole c 2 i within)
+          (known.left_out i)
           ∙ ap (holds_other (view_at c 2 i)) (within_data sectors (parity_sectors (take 29 sectors)) i room lower)
           ∙ sym (left_out_data c (collected_block sectors) i lower)
       | inr upper ↦
@@ -125,7 +142,8 @@ left_test c unread sectors room known i within =
           ∙ sym (left_out_parity c (collected_block sectors) i upper)
     ]
 
-pub mending_settles : (c : Cartridge) (protected : Bool) (unread : Unread) (sectors : List (List ℕ)) → length sectors ≡ 32 → IsReadBut (table_cells c) unread sectors → c.info.protected ≡ protected →
+pub mending_settles : (c : Cartridge) (protected : Bool) (unread : Unread) (sectors : List (List ℕ)) → length sectors ≡ 32 →
+    IsReadBut (table_cells c) unread sectors → c.info.protected ≡ protected →
     mending_steps protected unread sectors ≡ settling_steps (take 29 sectors) c
 mending_settles c protected unread sectors room known mark =
     let block : List (List ℕ) = collected_block sectors in
@@ -136,7 +154,8 @@ mending_settles c protected unread sectors room known mark =
     ∙ ap (λ (b : Bool). if b then [] else block_writes block (settling_places c (take 29 sectors))) (sym mark)
 
 -- writes change no mark
-pub writes_info : (places : List ℕ) (sectors : List (List ℕ)) (c : Cartridge) (segment : ℕ) → (changed_by (writes_of segment places sectors) c).info ≡ c.info
+pub writes_info : (places : List ℕ) (sectors : List (List ℕ)) (c : Cartridge) (segment : ℕ) →
+    (changed_by (writes_of segment places sectors) c).info ≡ c.info
 writes_info [] sectors c segment = refl
 writes_info (p ∷ places) [] c segment = refl
 writes_info (p ∷ places) (bytes ∷ sectors) c segment = writes_info places sectors (changed (WriteSector segment p bytes) c) segment

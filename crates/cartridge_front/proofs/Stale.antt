@@ -1,5 +1,6 @@
 -- The places of the volume table's segment that are to be written, as a set of places, in a workspace and on a cartridge.
-use Rattle.std.proofs.Common.{◌≡◌, ◌≢◌, ℕ, zero, suc, ◌+◌, ◌-◌, ◌*◌, ◌%◌, ◌^◌, ◌<◌, ◌++◌, refl, sym, ◌∙◌, ap, subst, arith, inl, inr, Bool, true, false, not, List, [], ◌∷◌, length, take, get_or, bit_or}
+use Rattle.std.proofs.Common.{◌≡◌, ◌≢◌, ℕ, zero, suc, ◌+◌, ◌-◌, ◌*◌, ◌%◌, ◌^◌, ◌<◌, ◌++◌, refl, sym, ◌∙◌, ap, subst, arith, inl, inr, Bool}
+use Rattle.std.proofs.Common.{true, false, not, List, [], ◌∷◌, length, take, get_or, bit_or}
 use Rattle.std.specs.Prelude.{◌==◌, ◌&&◌, ◌||◌}
 use Rattle.std.specs.Int.{w32}
 use Rattle.std.specs.Str.{bytes_eq}
@@ -17,7 +18,8 @@ use Rattle.cartridge_front.specs.Settling.{is_stale}
 
 -- ---- a set with one place more
 
-is_lost-with_place : (stale place i : ℕ) → place < 32 → is_lost (bit_or stale (1 * 2 ^ place % 2 ^ 32)) i ≡ (is_lost stale i || (i == place))
+is_lost-with_place : (stale place i : ℕ) → place < 32 →
+    is_lost (bit_or stale (1 * 2 ^ place % 2 ^ 32)) i ≡ (is_lost stale i || (i == place))
 is_lost-with_place stale place i within =
     elim (cases_eq i place) [
       | inl same ↦
@@ -62,7 +64,8 @@ look_other before after place i same looked apart =
     none true = refl
     none false = refl
 
-look_same : (before after place : ℕ) (same : Bool) → LookedAt before after place same → is_lost after place ≡ (is_lost before place || not same)
+look_same : (before after place : ℕ) (same : Bool) → LookedAt before after place same →
+    is_lost after place ≡ (is_lost before place || not same)
 look_same before after place same looked =
     looked place ∙ ap (λ (b : Bool). is_lost before place || (b && not same)) (eq-eqb place place refl)
 
@@ -84,7 +87,8 @@ put_stale lost one two three old block first second third kept i within =
           ∙ ap (λ (s : Bool). is_lost lost i || not s) (sym (bytes_same (sector_at old i) (sector_at block i) (kept i lower)))
       | inr upper ↦ elim (cases_eq i 29) [
         | inl at29 ↦ subst Wanted (sym at29)
-            (look_other two three 31 29 same31 third (omega arith) ∙ look_other one two 30 29 same30 second (omega arith) ∙ look_same lost one 29 same29 first)
+            (look_other two three 31 29 same31 third (omega arith) ∙ look_other one two 30 29 same30 second (omega arith)
+            ∙ look_same lost one 29 same29 first)
         | inr above29 ↦ elim (cases_eq i 30) [
           | inl at30 ↦ subst Wanted (sym at30)
               (look_other two three 31 30 same31 third (omega arith) ∙ look_same one two 30 same30 second
@@ -93,7 +97,8 @@ put_stale lost one two three old block first second third kept i within =
               let at31 : i ≡ 31 = omega arith in
               subst Wanted (sym at31)
               (look_same two three 31 same31 third
-              ∙ ap (λ (b : Bool). b || not same31) (look_other one two 30 31 same30 second (omega arith) ∙ look_other lost one 29 31 same29 first (omega arith)))
+              ∙ ap (λ (b : Bool). b || not same31)
+              (look_other one two 30 31 same30 second (omega arith) ∙ look_other lost one 29 31 same29 first (omega arith)))
         ]
       ]
     ]
@@ -146,7 +151,8 @@ put_stale_in lost one two three old parity room first second third =
     (subst (λ (same : Bool). LookedAt two three 31 same) (at_place 2) third)
     (λ i within. within_data old parity i room within)
   where
-    at_place : (k : ℕ) → bytes_eq (get_or old (29 + k) []) (get_or parity k []) ≡ bytes_eq (sector_at old (29 + k)) (sector_at (take 29 old ++ parity) (29 + k))
+    at_place : (k : ℕ) → bytes_eq (get_or old (29 + k) []) (get_or parity k []) ≡ bytes_eq (sector_at old (29 + k))
+        (sector_at (take 29 old ++ parity) (29 + k))
     at_place k =
         ap (λ (s : List ℕ). bytes_eq s (get_or parity k [])) (sym (unwrap_or-slice_get old (29 + k) []))
         ∙ ap (λ (s : List ℕ). bytes_eq (sector_at old (29 + k)) s) (sym (behind_data old parity k room))
@@ -154,6 +160,7 @@ put_stale_in lost one two three old parity room first second third =
 -- the parity is put behind the data
 pub put_end : (old parity : List (List ℕ)) → length old ≡ 32 → put_mid 29 (length old - 29) old parity ≡ take 29 old ++ parity
 put_end old parity room =
-    let none : post_of 29 (length old - 29) old ≡ [] = nil_from_length (post_of 29 (length old - 29) old) (simp length-drop (omega arith)) in
+    let none : post_of 29 (length old - 29) old ≡ [] = nil_from_length (post_of 29 (length old - 29) old)
+    (simp length-drop (omega arith)) in
     ap (λ (l : List (List ℕ)). take 29 old ++ (parity ++ l)) none
     ∙ ap (λ (l : List (List ℕ)). take 29 old ++ l) (append-nil parity)

@@ -1,5 +1,6 @@
 -- The table's segment as it was collected, and what it says.
-use Rattle.std.proofs.Common.{◌≡◌, ℕ, ◌-◌, ◌/◌, ◌%◌, ◌^◌, ◌<◌, ◌≤◌, zero, suc, Bool, cond, List, [], ◌∷◌, length, take, Option, Some, IsSomeAnd, Result, Ok, Err, IfOk, refl, sym, ap, ◌∙◌, subst, inl, inr, arith, get_or, length-take}
+use Rattle.std.proofs.Common.{◌≡◌, ℕ, ◌-◌, ◌/◌, ◌%◌, ◌^◌, ◌<◌, ◌≤◌, zero, suc, Bool, cond, List, [], ◌∷◌, length, take, Option, Some}
+use Rattle.std.proofs.Common.{IsSomeAnd, Result, Ok, Err, IfOk, refl, sym, ap, ◌∙◌, subst, inl, inr, arith, get_or, length-take}
 use Rattle.std.specs.List.{slice_get}
 use Rattle.std.proofs.lemmas.Nat.Bits.{bit_at-zero}
 use Rattle.std.proofs.lemmas.List.{get_or-take, take_all}
@@ -37,7 +38,8 @@ readable_holds Defect none = absurd (none refl)
 readable_holds Lost none = absurd (none refl)
 readable_holds (Holds bytes) none = (bytes, refl)
 
-found-take : (sectors : List (List ℕ)) (n i : ℕ) (bytes : List ℕ) → i < n → slice_get sectors i ≡ Some bytes → slice_get (take n sectors) i ≡ Some bytes
+found-take : (sectors : List (List ℕ)) (n i : ℕ) (bytes : List ℕ) → i < n → slice_get sectors i ≡ Some bytes →
+    slice_get (take n sectors) i ≡ Some bytes
 found-take sectors n i bytes within there =
     let inside : i < length sectors = slice_get_within sectors i bytes there in
     slice_get-get_or (take n sectors) i [] (omega (arith, length-take n sectors))
@@ -74,7 +76,8 @@ counts (cell ∷ cells) (suc n) (suc i) within bad =
     let rest = counts cells n i (omega arith) bad in
     subst (λ (m : ℕ). 0 < m) (sym (unreadable_count-first cell (take n cells))) (omega arith)
 
-pub collected_loses : (cells : List SectorView) (lost : ℕ) (sectors : List (List ℕ)) → Gathered cells lost sectors → LosesData lost → 0 < unreadable_data cells
+pub collected_loses : (cells : List SectorView) (lost : ℕ) (sectors : List (List ℕ)) → Gathered cells lost sectors → LosesData lost →
+    0 < unreadable_data cells
 collected_loses cells lost sectors gathered loses =
     counts cells 29 loses.place loses.data_sector ((gathered.unreadable loses.place).0 loses.is_lost)
 
@@ -88,12 +91,14 @@ data_of-whole sectors n count room =
 -- ---- what was found
 
 -- where all data sectors can be read, they are the table's data
-pub finds_read : (c : Cartridge) (lost : ℕ) (sectors : List (List ℕ)) → length sectors ≡ 32 → Gathered (table_cells c) lost sectors → ¬ (LosesData lost) → TableIs c (take 29 sectors)
+pub finds_read : (c : Cartridge) (lost : ℕ) (sectors : List (List ℕ)) → length sectors ≡ 32 → Gathered (table_cells c) lost sectors →
+    ¬ (LosesData lost) → TableIs c (take 29 sectors)
 finds_read c lost sectors room gathered none =
     inl (collected_reads (table_cells c) lost sectors (length-whole_cells c 2) room gathered none)
 
 -- .. and the other sectors stand as the tape holds them
-pub read_known : (cells : List SectorView) (lost : ℕ) (sectors : List (List ℕ)) (unread : Unread) → unread.lost ≡ lost → unread.left_out ≡ 0 → Gathered cells lost sectors →
+pub read_known : (cells : List SectorView) (lost : ℕ) (sectors : List (List ℕ)) (unread : Unread) → unread.lost ≡ lost →
+    unread.left_out ≡ 0 → Gathered cells lost sectors →
     IsReadBut cells unread sectors
 read_known cells lost sectors unread same none gathered = record {
   lost = subst (NamesUnreadable cells) (sym same) gathered.unreadable;
@@ -108,14 +113,16 @@ read_known cells lost sectors unread same none gathered = record {
     no_bit i there = let bit : 0 / 2 ^ i % 2 ≡ 0 = bit_at-zero i in absurd (omega arith)
 
 -- .. and else those that the code says
-pub finds_solving : (c : Cartridge) (sectors : List (List ℕ)) (r : Result Unread SegFault) → SolvesTable (table_cells c) sectors r → FindsTable c sectors r
+pub finds_solving : (c : Cartridge) (sectors : List (List ℕ)) (r : Result Unread SegFault) → SolvesTable (table_cells c) sectors r →
+    FindsTable c sectors r
 finds_solving c sectors (Ok unread) solves = inr solves.says
 finds_solving c sectors (Err (seg.Lost segment n)) solves = absurd solves
 finds_solving c sectors (Err (seg.Mismatch segment)) solves = solves
 finds_solving c sectors (Err seg.Tape) solves = solves
 
 pub known_solving : {T : Type 0} (m : Meaning T) (tape : T) (lost : ℕ) (old new : List (List ℕ)) (r : Result Unread SegFault) →
-    ((cells : List SectorView) → length cells ≡ 32 → Gathered cells lost old → SolvesTable cells new r) → Tells m tape (λ c. Gathered (table_cells c) lost old) →
+    ((cells : List SectorView) → length cells ≡ 32 → Gathered cells lost old → SolvesTable cells new r) →
+    Tells m tape (λ c. Gathered (table_cells c) lost old) →
     IfOk r (λ unread. Tells m tape (λ c. IsReadBut (table_cells c) unread new))
 known_solving m tape lost old new (Ok unread) solves told =
     Tells-map m tape (λ c. Gathered (table_cells c) lost old) (λ c. IsReadBut (table_cells c) unread new)
@@ -134,11 +141,13 @@ pub carries_whole : Carries 4294967295
 carries_whole = subst (λ (n : ℕ). 4 ≤ n) (sym count_of_whole) (omega arith)
 
 -- a slot at fault in the data is one in the table's
-pub finds_bad : (c : Cartridge) (last n : ℕ) (sectors area : List (List ℕ)) (entries : List Entry) (fault : StoreFault) (r : Result Unread StoreFault) → r ≡ Err fault → n ≡ last → area ≡ take 29 sectors →
+pub finds_bad : (c : Cartridge) (last n : ℕ) (sectors area : List (List ℕ)) (entries : List Entry) (fault : StoreFault)
+    (r : Result Unread StoreFault) → r ≡ Err fault → n ≡ last → area ≡ take 29 sectors →
     TableIs c (take 29 sectors) → DecodesTable area n entries (Err fault) → FindsVolumes c last sectors entries r
 finds_bad c last n sectors area entries fault r is same here table decodes =
     subst (λ (answer : Result Unread StoreFault). FindsVolumes c last sectors entries answer) (sym is)
-    (by_fault fault (subst (λ (k : ℕ). DecodesTable (take 29 sectors) k entries (Err fault)) same (subst (λ (a : List (List ℕ)). DecodesTable a n entries (Err fault)) here decodes)))
+    (by_fault fault (subst (λ (k : ℕ). DecodesTable (take 29 sectors) k entries (Err fault)) same
+    (subst (λ (a : List (List ℕ)). DecodesTable a n entries (Err fault)) here decodes)))
   where
     by_fault : (f : StoreFault) → DecodesTable (take 29 sectors) last entries (Err f) → FindsVolumes c last sectors entries (Err f)
     by_fault (store.Foreign field value) bad = record { area = take 29 sectors; table = table; bad = bad }

@@ -1,5 +1,6 @@
 -- What is found where the collected sectors of the table's segment are solved by one set after the other.
-use Rattle.std.proofs.Common.{◌≡◌, ◌≢◌, ◌↔◌, ℕ, zero, suc, ◌/◌, ◌%◌, ◌^◌, ◌<◌, ◌≤◌, ◌++◌, inl, inr, refl, sym, ◌∙◌, ap, subst, arith, true, List, [], ◌∷◌, length, take, drop, map, Option, Some, slice_get, IfSome, IsSomeAnd}
+use Rattle.std.proofs.Common.{◌≡◌, ◌≢◌, ◌↔◌, ℕ, zero, suc, ◌/◌, ◌%◌, ◌^◌, ◌<◌, ◌≤◌, ◌++◌, inl, inr, refl, sym, ◌∙◌, ap, subst, arith, true}
+use Rattle.std.proofs.Common.{List, [], ◌∷◌, length, take, drop, map, Option, Some, slice_get, IfSome, IsSomeAnd}
 use Rattle.std.proofs.lemmas.Bool.{cases_eq, cases_lt, eqb-true, eq-eqb, false≢true}
 use Rattle.std.proofs.lemmas.List.{length-take-le, take_at, take_all}
 use Rattle.std.proofs.lemmas.List.Elements.{All-nil, All-cons}
@@ -8,7 +9,8 @@ use Rattle.qic_base.specs.Cartridge.{lost_places}
 use Rattle.qic_base.specs.declared.tape.SectorView.{SectorView}
 use Rattle.qic_base.specs.declared.tape.SectorView.TheVariants.{Holds}
 use Rattle.cartridge_laws.specs.Segment.{IsUnreadable, HasNoBlocks, hidden}
-use Rattle.cartridge_spec.specs.Says.{Mismatch, ByCode, TableSays, HasBlock, HasNoBlock, HasFirstBlock, Agrees, unreadable_count, set_of, sets_by}
+use Rattle.cartridge_spec.specs.Says.{Mismatch, ByCode, TableSays, HasBlock, HasNoBlock, HasFirstBlock, Agrees, unreadable_count, set_of}
+use Rattle.cartridge_spec.specs.Says.{sets_by}
 use Rattle.cartridge_laws.specs.TableCells.{unreadable_places, last_used, table_sets}
 use Rattle.cartridge_laws.specs.Says.{LosesData}
 use Rattle.cartridge_laws.proofs.Hiding.{nothing_is_hidden}
@@ -41,9 +43,11 @@ further lost used = sets_by used (lost_places lost 32)
 
 -- ---- the sets by the cells
 
-few_cells : (cells : List SectorView) (lost : ℕ) (used : Option ℕ) (sectors : List (List ℕ)) → IsCollected cells lost used sectors → unreadable_count cells ≤ 3
+few_cells : (cells : List SectorView) (lost : ℕ) (used : Option ℕ) (sectors : List (List ℕ)) → IsCollected cells lost used sectors →
+    unreadable_count cells ≤ 3
 few_cells cells lost used sectors is =
-    let same : length (lost_places lost 32) ≡ unreadable_count cells = count_of_lost cells lost (omega (arith, is.count)) is.gathered.unreadable in
+    let same : length (lost_places lost 32) ≡ unreadable_count cells = count_of_lost cells lost
+    (omega (arith, is.count)) is.gathered.unreadable in
     omega (arith, is.few)
 
 sets_are : (cells : List SectorView) (lost : ℕ) (used : Option ℕ) (sectors : List (List ℕ)) → IsCollected cells lost used sectors →
@@ -55,14 +59,16 @@ sets_are cells lost used sectors is =
     ∙ ap (λ (ps : List ℕ). 0 ∷ sets_by used ps) (places_lost cells lost is.count is.gathered.unreadable)
 
 -- the places are those that are lost
-lost_is_one : (cells : List SectorView) (lost i : ℕ) → length cells ≡ 32 → NamesUnreadable cells lost → IsLost lost i → IsOneOf (lost_places lost 32) i
+lost_is_one : (cells : List SectorView) (lost i : ℕ) → length cells ≡ 32 → NamesUnreadable cells lost → IsLost lost i →
+    IsOneOf (lost_places lost 32) i
 lost_is_one cells lost i count names_them is =
     subst (λ (ps : List ℕ). IsOneOf ps i) (places_lost cells lost count names_them)
     (unreadable_is_named cells i (sym (same_lost cells lost i names_them) ∙ eq-eqb _ 1 is))
 
 one_is_lost : (lost i : ℕ) → lost < 2 ^ 32 → IsOneOf (lost_places lost 32) i → IsLost lost i
 one_is_lost lost i within one =
-    let named : is_lost lost i ≡ true = ap (λ (set : ℕ). is_lost set i) (set_of_places lost within) ∙ one_is_named (lost_places lost 32) i one in
+    let named : is_lost lost i ≡ true = ap (λ (set : ℕ). is_lost set i) (set_of_places lost within)
+    ∙ one_is_named (lost_places lost 32) i one in
     eqb-true _ 1 named
 
 -- ---- the sets outside which the cells were gathered
@@ -74,7 +80,8 @@ pub record IsGood (cells : List SectorView) (sectors : List (List ℕ)) (set : �
 length_outside : (set : ℕ) (cells : List SectorView) → length cells ≡ 32 → length (hidden set cells) ≡ 32
 length_outside set cells count = length-hidden set 0 cells ∙ count
 
-fits_is_good : (cells : List SectorView) (lost : ℕ) (used : Option ℕ) (sectors : List (List ℕ)) (sets : List ℕ) → IsCollected cells lost used sectors →
+fits_is_good : (cells : List SectorView) (lost : ℕ) (used : Option ℕ) (sectors : List (List ℕ)) (sets : List ℕ) →
+    IsCollected cells lost used sectors →
     EachSet (Fits used (lost_places lost 32)) sets → AreSmall cells sets → EachSet (IsGood cells sectors) sets
 fits_is_good cells lost used sectors [] is fits small = tt
 fits_is_good cells lost used sectors (set ∷ sets) is fits small = (
@@ -91,7 +98,8 @@ all_fit : (cells : List SectorView) (lost : ℕ) (used : Option ℕ) (sectors : 
     EachSet (Fits used (lost_places lost 32)) (further lost used)
 all_fit cells lost used sectors is =
     each_fits used (lost_places lost 32) is.data_sector
-    (λ i one. let within = lost_within cells lost i is.gathered.unreadable (one_is_lost lost i is.mask one) in omega (arith, is.count, within))
+    (λ i one. let within = lost_within cells lost i is.gathered.unreadable (one_is_lost lost i is.mask one) in
+    omega (arith, is.count, within))
 
 all_good : (cells : List SectorView) (lost : ℕ) (used : Option ℕ) (sectors : List (List ℕ)) → IsCollected cells lost used sectors →
     EachSet (IsGood cells sectors) (further lost used)
@@ -107,7 +115,8 @@ each_at P (s ∷ sets) (suc place) set each at = each_at P sets place set each.1
 
 -- ---- the first set with a block
 
-no_block_outside : (cells : List SectorView) (sectors : List (List ℕ)) (set : ℕ) → length cells ≡ 32 → IsGood cells sectors set → Unsolved set sectors →
+no_block_outside : (cells : List SectorView) (sectors : List (List ℕ)) (set : ℕ) → length cells ≡ 32 → IsGood cells sectors set →
+    Unsolved set sectors →
     HasNoBlock (hidden set cells)
 no_block_outside cells sectors set count good unsolved = unsolved (hidden set cells) (length_outside set cells count) good.gathered good.few
 
@@ -120,7 +129,8 @@ none_of cells sectors (set ∷ sets) count good each =
 
 first_of : (cells : List SectorView) (sectors : List (List ℕ)) (sets : List ℕ) (place set : ℕ) (area : List (List ℕ)) → length cells ≡ 32 →
     EachSet (IsGood cells sectors) sets → slice_get sets place ≡ Some set →
-    ((i other : ℕ) → i < place → slice_get sets i ≡ Some other → Unsolved other sectors) → HasBlock (hidden set cells) area → HasFirstBlock sets cells area
+    ((i other : ℕ) → i < place → slice_get sets i ≡ Some other → Unsolved other sectors) → HasBlock (hidden set cells) area →
+    HasFirstBlock sets cells area
 first_of cells sectors [] place set area count good at before has = absurd (cc)
 first_of cells sectors (s ∷ sets) zero set area count good at before has =
     let same : set ≡ s = cc in inl (subst (λ (t : ℕ). HasBlock (hidden t cells) area) same has)
@@ -156,7 +166,8 @@ pub record IsChosen (cells : List SectorView) (lost : ℕ) (used : Option ℕ) (
   pub none : (i : ℕ) → IsLost set i → ¬ (IsLost lost i) → HasNoBlock cells
   pub first : (area : List (List ℕ)) → HasBlock (hidden set cells) area → HasFirstBlock (table_sets cells) cells area
 
-block_inside : (cells : List SectorView) (lost : ℕ) (area : List (List ℕ)) → NamesUnreadable cells lost → HasBlock (hidden lost cells) area → HasBlock cells area
+block_inside : (cells : List SectorView) (lost : ℕ) (area : List (List ℕ)) → NamesUnreadable cells lost →
+    HasBlock (hidden lost cells) area → HasBlock cells area
 block_inside cells lost area names_them has = record {
   block = has.block;
   code = has.code;
@@ -173,7 +184,8 @@ block_inside cells lost area names_them has = record {
 
 chosen_at : (cells : List SectorView) (lost : ℕ) (used : Option ℕ) (old : List (List ℕ)) (place set : ℕ) → IsCollected cells lost used old →
     slice_get (lost ∷ further lost used) place ≡ Some set →
-    ((i other : ℕ) → i < place → slice_get (lost ∷ further lost used) i ≡ Some other → Unsolved other old) → IsChosen cells lost used old set
+    ((i other : ℕ) → i < place → slice_get (lost ∷ further lost used) i ≡ Some other → Unsolved other old) →
+    IsChosen cells lost used old set
 chosen_at cells lost used old zero set is at before =
     let same : lost ≡ set = cc in
     subst (IsChosen cells lost used old) same (record {
@@ -184,10 +196,12 @@ chosen_at cells lost used old zero set is at before =
       none = λ i there kept. absurd (kept there);
       first = λ area has.
           subst (λ (sets : List ℕ). HasFirstBlock sets cells area) (sym (sets_are cells lost used old is))
-          (inl (subst (λ (cs : List SectorView). HasBlock cs area) (sym (nothing_is_hidden cells)) (block_inside cells lost area is.gathered.unreadable has)));
+          (inl (subst (λ (cs : List SectorView). HasBlock cs area) (sym (nothing_is_hidden cells))
+          (block_inside cells lost area is.gathered.unreadable has)));
     })
 chosen_at cells lost used old (suc place) set is at before =
-    let fits : Fits used (lost_places lost 32) set = each_at (Fits used (lost_places lost 32)) (further lost used) place set (all_fit cells lost used old is) at in
+    let fits : Fits used (lost_places lost 32) set = each_at (Fits used (lost_places lost 32)) (further lost used) place set
+    (all_fit cells lost used old is) at in
     let good : IsGood cells old set = each_at (IsGood cells old) (further lost used) place set (all_good cells lost used old is) at in
     let none : HasNoBlock cells = before 0 lost (omega arith) refl cells is.count is.gathered (few_cells cells lost used old is) in
     record {
@@ -212,14 +226,16 @@ mixed_front (suc n) [] rest i within long = absurd (omega arith)
 mixed_front (suc n) (x ∷ xs) rest zero within long = refl
 mixed_front (suc n) (x ∷ xs) rest (suc i) within long = mixed_front n xs rest i (omega arith) (omega arith)
 
-mixed_back : {A : Type 0} (n : ℕ) (xs ys : List A) (i : ℕ) → n ≤ i → n ≤ length xs → n ≤ length ys → slice_get (take n xs ++ drop n ys) i ≡ slice_get ys i
+mixed_back : {A : Type 0} (n : ℕ) (xs ys : List A) (i : ℕ) → n ≤ i → n ≤ length xs → n ≤ length ys →
+    slice_get (take n xs ++ drop n ys) i ≡ slice_get ys i
 mixed_back zero xs ys i past long other = refl
 mixed_back (suc n) [] ys i past long other = absurd (omega arith)
 mixed_back (suc n) (x ∷ xs) [] i past long other = absurd (omega arith)
 mixed_back (suc n) (x ∷ xs) (y ∷ ys) zero past long other = absurd (omega arith)
 mixed_back (suc n) (x ∷ xs) (y ∷ ys) (suc i) past long other = mixed_back n xs ys i (omega arith) (omega arith) (omega arith)
 
-pub has_data : (cells : List SectorView) (lost : ℕ) (used : Option ℕ) (old new final : List (List ℕ)) (set : ℕ) (unread : Unread) → IsCollected cells lost used old →
+pub has_data : (cells : List SectorView) (lost : ℕ) (used : Option ℕ) (old new final : List (List ℕ)) (set : ℕ) (unread : Unread) →
+    IsCollected cells lost used old →
     IsSolvedAt (lost ∷ further lost used) old new set → length new ≡ 32 → final ≡ take 29 new ++ drop 29 old → unread.lost ≡ lost →
     ((i : ℕ) → IsLost unread.left_out i ↔ ((used ≡ Some i) × IsLost set i)) → HasTableData cells final unread
 has_data cells lost used old new final set unread is solved size put same out = record {
@@ -249,10 +265,12 @@ has_data cells lost used old new final set unread is solved size put same out = 
     has_solved = solved.solved (hidden set cells) (length_outside set cells is.count) chosen.gathered
 
     agrees : Agrees (hidden set cells) new
-    agrees = subst (Agrees (hidden set cells)) (take_all (length (hidden set cells)) new (omega (arith, length_outside set cells is.count))) has_solved.agrees
+    agrees = subst (Agrees (hidden set cells)) (take_all (length (hidden set cells)) new (omega (arith, length_outside set cells is.count)))
+        has_solved.agrees
 
     block : HasBlock (hidden set cells) (take 29 new)
-    block = subst (HasBlock (hidden set cells)) (data_of-whole new (length (hidden set cells)) (length_outside set cells is.count) size) has_solved.says.1
+    block = subst (HasBlock (hidden set cells)) (data_of-whole new (length (hidden set cells)) (length_outside set cells is.count) size)
+        has_solved.says.1
 
     data_is : take 29 final ≡ take 29 new
     data_is = ap (take 29) put ∙ take_at (take 29 new) (drop 29 old) 29 (length-take-le 29 new (omega arith))
@@ -264,7 +282,8 @@ has_data cells lost used old new final set unread is solved size put same out = 
     back i upper = ap (λ (l : List (List ℕ)). slice_get l i) put ∙ mixed_back 29 new old i upper (omega arith) (omega (arith, is.room))
 
     -- a readable cell outside the set is seen
-    outside : (i : ℕ) (bytes : List ℕ) → slice_get cells i ≡ Some (Holds bytes) → ¬ (IsLost set i) → slice_get (hidden set cells) i ≡ Some (Holds bytes)
+    outside : (i : ℕ) (bytes : List ℕ) → slice_get cells i ≡ Some (Holds bytes) → ¬ (IsLost set i) → slice_get (hidden set cells) i ≡ Some
+        (Holds bytes)
     outside i bytes at kept = hidden_kept set cells i kept ∙ at
 
     -- a readable one is not lost
@@ -287,7 +306,8 @@ has_data cells lost used old new final set unread is solved size put same out = 
     used_below o i at below = subst (λ (q : Option ℕ). IfSome q (λ k. k < 29)) at below
 
     -- with the left out cell as the block has it, the block would agree with all cells
-    all_agree : (i : ℕ) (bytes : List ℕ) → used ≡ Some i → IsLost set i → slice_get cells i ≡ Some (Holds bytes) → slice_get new i ≡ Some bytes → Agrees cells new
+    all_agree : (i : ℕ) (bytes : List ℕ) → used ≡ Some i → IsLost set i → slice_get cells i ≡ Some (Holds bytes) →
+        slice_get new i ≡ Some bytes → Agrees cells new
     all_agree i bytes at there held stands = record {
       size = size ∙ sym is.count;
       each = λ j others seen.
@@ -325,5 +345,6 @@ has_data cells lost used old new final set unread is solved size put same out = 
           bytes = held.0;
           held = held.1;
           other = λ stands.
-              chosen.none i left.1 (is.kept i left.0) new solved.code (all_agree i held.0 left.0 left.1 held.1 (sym (front i lower) ∙ stands));
+              chosen.none i left.1 (is.kept i left.0) new solved.code
+              (all_agree i held.0 left.0 left.1 held.1 (sym (front i lower) ∙ stands));
         }

@@ -1,5 +1,7 @@
 -- The sets that the reading of the table's segment tries, by its cells and by the sectors that were collected.
-use Rattle.std.proofs.Common.{◌≡◌, ◌⊎◌, ℕ, zero, suc, ◌+◌, ◌/◌, ◌%◌, ◌^◌, ◌<◌, ◌≤◌, ◌++◌, inl, inr, refl, sym, ◌∙◌, ap, subst, arith, Bool, true, false, List, [], ◌∷◌, length, map, filter, Option, Some, None, slice_get, unwrap_or, IsSomeAnd, nat_lt, add-one, IfSome, get_or}
+use Rattle.std.proofs.Common.{◌≡◌, ◌⊎◌, ℕ, zero, suc, ◌+◌, ◌/◌, ◌%◌, ◌^◌, ◌<◌, ◌≤◌, ◌++◌, inl, inr, refl, sym, ◌∙◌, ap, subst, arith, Bool}
+use Rattle.std.proofs.Common.{true, false, List, [], ◌∷◌, length, map, filter, Option, Some, None, slice_get, unwrap_or, IsSomeAnd, nat_lt}
+use Rattle.std.proofs.Common.{add-one, IfSome, get_or}
 use Rattle.std.specs.Prelude.{◌==◌, if◌then◌else◌}
 use Rattle.std.specs.List.{range_with_len}
 use Rattle.std.specs.Option.{option_map}
@@ -40,7 +42,8 @@ same_lost cells lost i names =
       ]
     ]
 
-unreadable_filter : (place : ℕ) (cells : List SectorView) (test : ℕ → Bool) → ((i : ℕ) → i < length cells → test (place + i) ≡ unreadable_at cells i) →
+unreadable_filter : (place : ℕ) (cells : List SectorView) (test : ℕ → Bool) →
+    ((i : ℕ) → i < length cells → test (place + i) ≡ unreadable_at cells i) →
     unreadable_from place cells ≡ filter test (range_with_len place (length cells))
 unfolding unreadable_from unreadable_at
 unreadable_filter place [] test same = refl
@@ -55,7 +58,8 @@ unreadable_filter place (cell ∷ cells) test same =
     ∙ ap (λ (l : List ℕ). if test place then place ∷ l else l) rest
 
 -- the unreadable places are those that are lost
-pub places_lost : (cells : List SectorView) (lost : ℕ) → length cells ≡ 32 → NamesUnreadable cells lost → unreadable_places cells ≡ lost_places lost 32
+pub places_lost : (cells : List SectorView) (lost : ℕ) → length cells ≡ 32 → NamesUnreadable cells lost →
+    unreadable_places cells ≡ lost_places lost 32
 places_lost cells lost count names =
     unreadable_filter 0 cells (is_lost lost) (λ i within.
     let same : 0 + i ≡ i = omega arith in ap (is_lost lost) same ∙ same_lost cells lost i names)
@@ -77,7 +81,8 @@ hidden_get set place (cell ∷ cells) (suc i) =
     let same : suc place + i ≡ place + suc i = omega arith in
     hidden_get set (suc place) cells i ∙ ap (λ (p : ℕ). option_map (hidden_cell set p) (slice_get cells i)) same
 
-hidden_at : (set : ℕ) (cells : List SectorView) (i : ℕ) → slice_get (hidden set cells) i ≡ option_map (hidden_cell set i) (slice_get cells i)
+hidden_at : (set : ℕ) (cells : List SectorView) (i : ℕ) → slice_get (hidden set cells) i ≡ option_map (hidden_cell set i)
+    (slice_get cells i)
 hidden_at set cells i =
     let same : 0 + i ≡ i = omega arith in
     hidden_get set 0 cells i ∙ ap (λ (p : ℕ). option_map (hidden_cell set p) (slice_get cells i)) same
@@ -96,7 +101,8 @@ hidden_lost set cells i within is =
     ∙ ap (λ (b : Bool). Some (if b then Lost else get_or cells i Blank)) (eq-eqb (set / 2 ^ i % 2) 1 is)
 
 -- a cell that is seen to hold bytes is outside the set
-held_kept : (set : ℕ) (cells : List SectorView) (i : ℕ) (bytes : List ℕ) → slice_get (hidden set cells) i ≡ Some (Holds bytes) → ¬ (IsLost set i)
+held_kept : (set : ℕ) (cells : List SectorView) (i : ℕ) (bytes : List ℕ) → slice_get (hidden set cells) i ≡ Some (Holds bytes) →
+    ¬ (IsLost set i)
 held_kept set cells i bytes seen = λ is.
     let within : i < length (hidden set cells) = slice_get_within (hidden set cells) i (Holds bytes) seen in
     by_cell (slice_get cells i) is (sym (hidden_at set cells i) ∙ seen)
@@ -104,7 +110,8 @@ held_kept set cells i bytes seen = λ is.
     by_cell : (o : Option SectorView) → IsLost set i → option_map (hidden_cell set i) o ≡ Some (Holds bytes) → ⊥
     by_cell None is at = absurd (cc)
     by_cell (Some cell) is at =
-        let gone : Some Lost ≡ Some (Holds bytes) = sym (ap (λ (b : Bool). Some (if b then Lost else cell)) (eq-eqb (set / 2 ^ i % 2) 1 is)) ∙ at in
+        let gone : Some Lost ≡ Some (Holds bytes) = sym (ap (λ (b : Bool). Some (if b then Lost else cell)) (eq-eqb (set / 2 ^ i % 2) 1 is))
+        ∙ at in
         absurd (cc)
 
 -- what was gathered of the cells was gathered of those outside a set that has the lost places
@@ -116,7 +123,8 @@ gathered_hidden cells lost set sectors count gathered covers within = record {
     λ un.
         elim (cases_eq (set / 2 ^ i % 2) 1) [
           | inl is ↦ is
-          | inr kept ↦ covers i ((gathered.unreadable i).1 (subst (λ (o : Option SectorView). IsSomeAnd o IsUnreadable) (hidden_kept set cells i kept) un))
+          | inr kept ↦ covers i ((gathered.unreadable i).1
+              (subst (λ (o : Option SectorView). IsSomeAnd o IsUnreadable) (hidden_kept set cells i kept) un))
         ],
   );
   readable = λ i bytes at.
@@ -132,7 +140,8 @@ unfolding last_used_below
 last_same one other zero same = refl
 last_same one other (suc n) same =
     ap (λ (b : Bool). if b then Some n else last_used_below one n) (same n (omega arith))
-    ∙ ap (λ (o : Option ℕ). if shows_used_slot (unwrap_or (slice_get other n) Lost) then Some n else o) (last_same one other n (λ i within. same i (omega arith)))
+    ∙ ap (λ (o : Option ℕ). if shows_used_slot (unwrap_or (slice_get other n) Lost) then Some n else o)
+    (last_same one other n (λ i within. same i (omega arith)))
 
 shows_unreadable : (o : Option SectorView) → IsSomeAnd o IsUnreadable → shows_used_slot (unwrap_or o Lost) ≡ false
 shows_unreadable None un = absurd un
@@ -141,7 +150,8 @@ shows_unreadable (Some Defect) un = refl
 shows_unreadable (Some Lost) un = refl
 shows_unreadable (Some (Holds bytes)) un = absurd (false≢true un)
 
-readable_holds : (o : Option SectorView) → IsSomeAnd o (λ cell. Unit {0}) → ¬ (IsSomeAnd o IsUnreadable) → (bytes : List ℕ) × (o ≡ Some (Holds bytes))
+readable_holds : (o : Option SectorView) → IsSomeAnd o (λ cell. Unit {0}) → ¬ (IsSomeAnd o IsUnreadable) → (bytes : List ℕ)
+    × (o ≡ Some (Holds bytes))
 readable_holds None there none = absurd there
 readable_holds (Some Blank) there none = absurd (none refl)
 readable_holds (Some Defect) there none = absurd (none refl)
@@ -152,10 +162,12 @@ readable_holds (Some (Holds bytes)) there none = (bytes, refl)
 pub held_at : (cells : List SectorView) (lost : ℕ) (i : ℕ) → i < length cells → NamesUnreadable cells lost → ¬ (IsLost lost i) →
     (bytes : List ℕ) × (slice_get cells i ≡ Some (Holds bytes))
 held_at cells lost i within names kept =
-    readable_holds (slice_get cells i) (subst (λ (o : Option SectorView). IsSomeAnd o (λ cell. Unit {0})) (sym (slice_get-get_or cells i Blank within)) tt)
+    readable_holds (slice_get cells i) (subst (λ (o : Option SectorView). IsSomeAnd o (λ cell. Unit {0}))
+    (sym (slice_get-get_or cells i Blank within)) tt)
     (λ un. kept ((names i).1 un))
 
-pub last_lost : (cells : List SectorView) (lost : ℕ) (sectors : List (List ℕ)) → length cells ≡ 32 → length sectors ≡ 29 → NamesUnreadable cells lost →
+pub last_lost : (cells : List SectorView) (lost : ℕ) (sectors : List (List ℕ)) → length cells ≡ 32 → length sectors ≡ 29 →
+    NamesUnreadable cells lost →
     ((i : ℕ) (bytes : List ℕ) → i < 29 → slice_get cells i ≡ Some (Holds bytes) → slice_get sectors i ≡ Some bytes) →
     last_used cells ≡ last_used (hidden lost (map Holds sectors))
 last_lost cells lost sectors count size names readable =
@@ -203,7 +215,8 @@ abbrev AreBelow : ℕ → List ℕ → Type 0
 AreBelow n ps = (i : ℕ) → IsOneOf ps i → i < n
 
 -- with places of parity
-fits_parity : (used : Option ℕ) (ps rs : List ℕ) → AreBelow 32 ps → ((i : ℕ) → IsOneOf rs i → (29 ≤ i) × (i < 32)) → Fits used ps (set_of (ps ++ rs))
+fits_parity : (used : Option ℕ) (ps rs : List ℕ) → AreBelow 32 ps → ((i : ℕ) → IsOneOf rs i → (29 ≤ i) × (i < 32)) →
+    Fits used ps (set_of (ps ++ rs))
 fits_parity used ps rs small parity = record {
   covers = λ i one. one_is_named (ps ++ rs) i (one_of_first ps rs i one);
   within = λ i named.
@@ -262,12 +275,14 @@ by_one used m data_sector small = (
   fits_parity used (m ∷ []) (31 ∷ []) small is_31,
   (
     fits_parity used (m ∷ []) (29 ∷ []) small is_29,
-    each_both (Fits used (m ∷ [])) (with_used used (m ∷ [])) (set_of (m ∷ 30 ∷ 31 ∷ []) ∷ []) (each_with_used used (m ∷ []) data_sector small)
+    each_both (Fits used (m ∷ [])) (with_used used (m ∷ [])) (set_of (m ∷ 30 ∷ 31 ∷ []) ∷ [])
+        (each_with_used used (m ∷ []) data_sector small)
         (fits_parity used (m ∷ []) (30 ∷ 31 ∷ []) small is_30_or_31, tt),
   ),
 )
 
-by_tests : (used : Option ℕ) (m other : ℕ) (a b : Bool) → (a ≡ true → other ≡ 29) → (b ≡ true → other ≡ 30) → IfSome used (λ k. k < 29) → AreBelow 32 (m ∷ other ∷ []) →
+by_tests : (used : Option ℕ) (m other : ℕ) (a b : Bool) → (a ≡ true → other ≡ 29) → (b ≡ true → other ≡ 30) → IfSome used (λ k. k < 29) →
+    AreBelow 32 (m ∷ other ∷ []) →
     EachSet (Fits used (m ∷ other ∷ [])) (if a then with_used used (m ∷ 29 ∷ []) else if b then set_of (m ∷ 30 ∷ 31 ∷ []) ∷ [] else [])
 by_tests used m other true b first second data_sector small =
     subst (λ (p : ℕ). EachSet (Fits used (m ∷ p ∷ [])) (with_used used (m ∷ 29 ∷ []))) (sym (first refl))

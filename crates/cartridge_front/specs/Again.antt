@@ -69,9 +69,11 @@ FaultUnread m old new (Err Tape) = BrokeUnread m old new
 FaultUnread m old new answer = Unit {0}
 
 -- what was done, by the answer, where the data are in the first 29 sectors
-abbrev pub SettlesAgain : {T A : Type 0} (m : Meaning T) (old new : T) (entries : List Entry) (sectors : List (List ℕ)) → Result A StoreFault → Type 0
+abbrev pub SettlesAgain : {T A : Type 0} (m : Meaning T) (old new : T) (entries : List Entry) (sectors : List (List ℕ)) →
+    Result A StoreFault → Type 0
 SettlesAgain m old new entries sectors (Ok answer) = IsSettledAgain m old new entries (take 29 sectors)
-SettlesAgain m old new entries sectors (Err (Lost segment lost)) = IsRefused m old new (λ c. TableSays (table_cells c) (ByCode (LostSectors lost)))
+SettlesAgain m old new entries sectors (Err (Lost segment lost)) =
+    IsRefused m old new (λ c. TableSays (table_cells c) (ByCode (LostSectors lost)))
 SettlesAgain m old new entries sectors (Err TableMismatch) = IsRefused m old new (λ c. HasList c entries → ⊥)
 SettlesAgain m old new entries sectors (Err Tape) = IsBrokenOff m old new settling_steps
 SettlesAgain m old new entries sectors (Err fault) = ⊥
@@ -94,7 +96,8 @@ pub record IsAdded {T : Type 0} (m : Meaning T) (old new : T) (entries : List En
 
 abbrev pub AddsEntry : {T A : Type 0} (m : Meaning T) (old new : T) (entries : List Entry) (entry : Entry) → Result A StoreFault → Type 0
 AddsEntry m old new entries entry (Ok answer) = IsAdded m old new entries entry
-AddsEntry m old new entries entry (Err (Lost segment lost)) = IsRefused m old new (λ c. TableSays (table_cells c) (ByCode (LostSectors lost)))
+AddsEntry m old new entries entry (Err (Lost segment lost)) =
+    IsRefused m old new (λ c. TableSays (table_cells c) (ByCode (LostSectors lost)))
 AddsEntry m old new entries entry (Err TableMismatch) = IsRefused m old new (λ c. HasList c entries → ⊥)
 AddsEntry m old new entries entry (Err Tape) = IsBrokenOff m old new (λ area c. entry_writes entries entry area)
 AddsEntry m old new entries entry (Err fault) = ⊥

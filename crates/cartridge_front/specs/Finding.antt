@@ -5,7 +5,9 @@ use Rattle.qic_base.specs.Cartridge.{Cartridge}
 use Rattle.qic_base.specs.Step.{Step}
 use Rattle.qic_base.specs.Tape.{Meaning, Done, Broke}
 use Rattle.qic_base.specs.declared.foreign.ForeignField.{ForeignField}
-use Rattle.qic_base.specs.declared.foreign.ForeignField.TheVariants.{FormatCode, FirstHeader, SecondHeader, FirstData, LastData, SegmentsPerTrack, Tracks, TrackMaximum, SectorMaximum, Map, Slot, Range}
+use Rattle.qic_base.specs.declared.foreign.ForeignField.TheVariants.{FormatCode, FirstHeader, SecondHeader, FirstData, LastData}
+use Rattle.qic_base.specs.declared.foreign.ForeignField.TheVariants.{SegmentsPerTrack, Tracks, TrackMaximum, SectorMaximum, Map, Slot}
+use Rattle.qic_base.specs.declared.foreign.ForeignField.TheVariants.{Range}
 use Rattle.cartridge_spec.specs.Header.{HeaderFault, has_signature, header_fault, Shows}
 use Rattle.cartridge_laws.specs.HeaderTerms.{fault_as}
 use Rattle.cartridge_spec.specs.Says.{TableSays}
@@ -179,7 +181,8 @@ pub record HasBadTable (c : Cartridge) (last : ℕ) (fault : HeaderFault) : Type
 -- what the volume table is
 abbrev pub FindsVolumes : Cartridge → (last : ℕ) (sectors : List (List ℕ)) (entries : List Entry) → Result Unread StoreFault → Type 0
 FindsVolumes c last sectors entries (Ok unread) = HasVolumes c last sectors entries unread
-FindsVolumes c last sectors entries (Err (Lost segment lost)) = (segment ≡ 2) × TableSays (table_cells c) (says.ByCode (says.LostSectors lost))
+FindsVolumes c last sectors entries (Err (Lost segment lost)) = (segment ≡ 2)
+    × TableSays (table_cells c) (says.ByCode (says.LostSectors lost))
 FindsVolumes c last sectors entries (Err TableMismatch) = TableSays (table_cells c) (says.ByCode says.Mismatch)
 FindsVolumes c last sectors entries (Err (Foreign field value)) = HasBadTable c last (fault_as field value)
 FindsVolumes c last sectors entries (Err fault) = ⊥

@@ -27,7 +27,8 @@ pub record HoldsOther (cells : List SectorView) (sectors : List (List ℕ)) (i :
 pub record IsReadBut (cells : List SectorView) (unread : Unread) (sectors : List (List ℕ)) : Type 0 where
   pub lost : NamesUnreadable cells unread.lost
   pub left_out : (i : ℕ) → IsLost unread.left_out i ↔ HoldsOther cells sectors i
-  pub held : (i : ℕ) (bytes : List ℕ) → ¬ (IsLost unread.left_out i) → slice_get cells i ≡ Some (Holds bytes) → slice_get sectors i ≡ Some bytes
+  pub held : (i : ℕ) (bytes : List ℕ) → ¬ (IsLost unread.left_out i) → slice_get cells i ≡ Some (Holds bytes) →
+      slice_get sectors i ≡ Some bytes
 
 -- ---- solved by one set after the other
 

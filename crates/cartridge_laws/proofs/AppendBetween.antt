@@ -1,5 +1,6 @@
 -- What the table's segment says while an append writes it.
-use Rattle.std.proofs.Common.{◌≤◌, Bool, true, false, cond, arith, ◌≡◌, ℕ, ◌<◌, List, length, sym, ap, ◌∙◌, ◌≢◌, zero, suc, [], ◌∷◌, refl, inl, inr}
+use Rattle.std.proofs.Common.{◌≤◌, Bool, true, false, cond, arith, ◌≡◌, ℕ, ◌<◌, List, length, sym, ap, ◌∙◌, ◌≢◌, zero, suc, [], ◌∷◌, refl}
+use Rattle.std.proofs.Common.{inl, inr}
 use Rattle.std.proofs.lemmas.List.{take_all}
 use Rattle.std.proofs.lemmas.Bool.{cases_eq}
 use Rattle.cartridge_laws.proofs.Cells.{IsReadable, count_of_readable, unreadable_count-first, one_if_any}

@@ -1,5 +1,6 @@
 -- The writes of a new volume, one segment after the other.
-use Rattle.std.proofs.Common.{◌≡◌, ℕ, zero, suc, ◌+◌, List, ◌∷◌, take, drop, refl, ap, ◌∙◌, arith, ◌-◌, ◌*◌, ◌++◌, Bool, true, false, cond, [], length, sym, nat_le}
+use Rattle.std.proofs.Common.{◌≡◌, ℕ, zero, suc, ◌+◌, List, ◌∷◌, take, drop, refl, ap, ◌∙◌, arith, ◌-◌, ◌*◌, ◌++◌, Bool, true, false, cond}
+use Rattle.std.proofs.Common.{[], length, sym, nat_le}
 use Rattle.std.proofs.lemmas.List.{drop-drop, length-drop}
 use Rattle.std.proofs.lemmas.List.Sums.{sum_by-cons}
 use Rattle.cartridge_laws.proofs.AppendBytes.{carried_all}
@@ -42,8 +43,10 @@ parts_head words s taken bytes =
     let n : ℕ = data_count (mask_at words s) in
     let m : ℕ = sectors_in words taken in
     let rest : List (List ℕ) → List Step = λ area. parts_writes words (parts_of words taken area) in
-    ap (λ (k : ℕ). parts_writes words (parts_of words (s ∷ taken) (in_sectors k bytes))) (sum_by-cons (λ t. data_count (mask_at words t)) s taken)
-    ∙ ap (λ (front : List (List ℕ)). part_writes words (record { segment = s; sectors = front }) ++ rest (drop n (in_sectors (n + m) bytes)))
+    ap (λ (k : ℕ). parts_writes words (parts_of words (s ∷ taken) (in_sectors k bytes)))
+    (sum_by-cons (λ t. data_count (mask_at words t)) s taken)
+    ∙ ap (λ (front : List (List ℕ)). part_writes words (record { segment = s; sectors = front }) ++ rest
+    (drop n (in_sectors (n + m) bytes)))
     (take_sectors n m bytes)
     ∙ ap (λ (rear : List (List ℕ)). part_writes words (record { segment = s; sectors = in_sectors n bytes }) ++ rest rear)
     (drop_sectors n m bytes)
@@ -51,7 +54,8 @@ parts_head words s taken bytes =
 head_ends : (words : List ℕ) (s : ℕ) (taken : List ℕ) (bytes : List ℕ) (ends : Bool) →
     parts_writes words (parts_of words (s ∷ cond ends [] taken) (in_sectors (sectors_in words (s ∷ cond ends [] taken)) bytes))
     ≡ part_writes words (record { segment = s; sectors = in_sectors (data_count (mask_at words s)) bytes })
-    ++ cond ends [] (parts_writes words (parts_of words taken (in_sectors (sectors_in words taken) (drop (1024 * data_count (mask_at words s)) bytes))))
+    ++ cond ends [] (parts_writes words (parts_of words taken
+    (in_sectors (sectors_in words taken) (drop (1024 * data_count (mask_at words s)) bytes))))
 head_ends words s taken bytes true = parts_head words s [] bytes
 head_ends words s taken bytes false = parts_head words s taken bytes
 

@@ -1,5 +1,6 @@
 -- The new volume's segments carry its bytes, and its area begins with them.
-use Rattle.std.proofs.Common.{ℕ, List, ◌≡◌, ◌+◌, ◌-◌, ◌∷◌, zero, suc, ◌*◌, inl, inr, sym, ap, ◌∙◌, arith, ◌≤◌, Bool, true, false, cond, [], nat_le, refl, All, ◌++◌, length, take, replicate, drop, subst}
+use Rattle.std.proofs.Common.{ℕ, List, ◌≡◌, ◌+◌, ◌-◌, ◌∷◌, zero, suc, ◌*◌, inl, inr, sym, ap, ◌∙◌, arith, ◌≤◌, Bool, true, false, cond, []}
+use Rattle.std.proofs.Common.{nat_le, refl, All, ◌++◌, length, take, replicate, drop, subst}
 use Rattle.std.specs.Prelude.{sum_by}
 use Rattle.std.proofs.lemmas.List.Sums.{sum_by-cons}
 use Rattle.std.specs.List.{range_with_len}
@@ -31,17 +32,20 @@ pub capacity_cons : (words : List ℕ) (s : ℕ) (ss : List ℕ) → capacity_of
 capacity_cons words s ss = sum_by-cons (λ t. capacity (mask_at words t)) s ss
 
 -- those that carry no data add nothing
-range_carries : (words : List ℕ) (m from : ℕ) → capacity_of words (range_with_len from m) ≡ capacity_of words (places_that (carries words) from m)
+range_carries : (words : List ℕ) (m from : ℕ) → capacity_of words (range_with_len from m) ≡ capacity_of words
+    (places_that (carries words) from m)
 range_carries words zero from = ap (capacity_of words) (sym (places_none (carries words) from))
 range_carries words (suc m) from =
     elim (cases_Bool (carries words from)) [
       | inl passes ↦
           capacity_cons words from (range_with_len (from + 1) m)
           ∙ ap (λ (n : ℕ). capacity (mask_at words from) + n) (range_carries words m (from + 1))
-          ∙ sym (ap (capacity_of words) (places_passes (carries words) from m passes) ∙ capacity_cons words from (places_that (carries words) (from + 1) m))
+          ∙ sym (ap (capacity_of words) (places_passes (carries words) from m passes)
+          ∙ capacity_cons words from (places_that (carries words) (from + 1) m))
       | inr fails ↦
           let none = carried (carries words from) (1024 * data_count (mask_at words from)) fails in
-          let here : capacity_of words (range_with_len from (suc m)) ≡ capacity (mask_at words from) + capacity_of words (range_with_len (from + 1) m) =
+          let here : capacity_of words (range_with_len from (suc m)) ≡ capacity (mask_at words from) + capacity_of words
+          (range_with_len (from + 1) m) =
           capacity_cons words from (range_with_len (from + 1) m) in
           let rest : capacity_of words (range_with_len from (suc m)) ≡ capacity_of words (range_with_len (from + 1) m) = omega arith in
           rest ∙ range_carries words m (from + 1) ∙ ap (capacity_of words) (sym (places_fails (carries words) from m fails))
@@ -57,7 +61,8 @@ taken_more : (words : List ℕ) (bytes : ℕ) (s : ℕ) (rest : List ℕ) (b : B
 taken_more words bytes s rest true is enough = omega (arith, leb-true bytes (capacity (mask_at words s)) is, capacity_cons words s [])
 taken_more words bytes s rest false is enough = omega (arith, enough, capacity_cons words s rest)
 
-taken_enough : (words : List ℕ) (bytes : ℕ) (ss : List ℕ) → bytes ≤ capacity_of words ss → bytes ≤ capacity_of words (taken_by words bytes ss)
+taken_enough : (words : List ℕ) (bytes : ℕ) (ss : List ℕ) → bytes ≤ capacity_of words ss →
+    bytes ≤ capacity_of words (taken_by words bytes ss)
 taken_enough words bytes [] enough = enough
 taken_enough words bytes (s ∷ ss) enough =
     taken_more words bytes s (taken_by words (bytes - capacity (mask_at words s)) ss) (nat_le bytes (capacity (mask_at words s))) refl
@@ -68,7 +73,8 @@ pub carried_all : (words : List ℕ) (s : ℕ) → Carries (mask_at words s) →
 carried_all words s carry =
     ap (λ (b : Bool). cond b (1024 * data_count (mask_at words s)) 0) (le-leb 4 (usable_count (mask_at words s)) carry)
 
-pub sectors_carry : (words segments : List ℕ) → All (λ s. Carries (mask_at words s)) segments → capacity_of words segments ≡ 1024 * sectors_in words segments
+pub sectors_carry : (words segments : List ℕ) → All (λ s. Carries (mask_at words s)) segments →
+    capacity_of words segments ≡ 1024 * sectors_in words segments
 sectors_carry words [] carry = refl
 sectors_carry words (s ∷ ss) carry =
     let here = carried_all words s (All-head (λ (t : ℕ). Carries (mask_at words t)) s ss carry) in
@@ -94,7 +100,8 @@ short_bytes bytes rest few =
     ∙ ap (take (length bytes)) (append_assoc bytes (replicate (1024 - length bytes) 0) rest)
     ∙ take_at bytes (replicate (1024 - length bytes) 0 ++ rest) (length bytes) refl
 
-pub bytes_of_sectors : (count : ℕ) (bytes : List ℕ) → length bytes ≤ 1024 * count → take (length bytes) (bytes_in (in_sectors count bytes)) ≡ bytes
+pub bytes_of_sectors : (count : ℕ) (bytes : List ℕ) → length bytes ≤ 1024 * count →
+    take (length bytes) (bytes_in (in_sectors count bytes)) ≡ bytes
 bytes_of_sectors zero bytes within = no_bytes bytes (omega arith)
 bytes_of_sectors (suc count) bytes within =
     let rest : List ℕ = bytes_in (in_sectors count (drop 1024 bytes)) in
@@ -140,7 +147,8 @@ done_bytes c plain name date bytes ready =
     sectors_carry words segments
     (subst (λ (ss : List ℕ). All (λ s. Carries (mask_at words s)) ss) (sym taken.are) (carrying_carry words taken.start taken.end)) in
     let long : volume_length words entry ≡ length bytes =
-    by_fit (nat_le (length bytes) (capacity_between words entry.start entry.end)) (length bytes) (capacity_between words entry.start entry.end)
+    by_fit (nat_le (length bytes) (capacity_between words entry.start entry.end)) (length bytes)
+    (capacity_between words entry.start entry.end)
     (le-leb (length bytes) (capacity_between words entry.start entry.end) (omega arith)) in (
       long,
       ap (λ (n : ℕ). take n (bytes_in volume.area)) long ∙ bytes_of_sectors (sectors_in words segments) bytes (omega arith),

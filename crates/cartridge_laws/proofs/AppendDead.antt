@@ -1,5 +1,6 @@
 -- A table of which each sector that takes a write holds its part, and the writes of its new data.
-use Rattle.std.proofs.Common.{ℕ, inl, List, arith, ◌≡◌, ◌⊎◌, sym, ◌∙◌, subst, refl, Bool, cond, ap, ◌≤◌, ◌∷◌, suc, ◌<◌, [], length, Some, inr}
+use Rattle.std.proofs.Common.{ℕ, inl, List, arith, ◌≡◌, ◌⊎◌, sym, ◌∙◌, subst, refl, Bool, cond, ap, ◌≤◌, ◌∷◌, suc, ◌<◌, [], length, Some}
+use Rattle.std.proofs.Common.{inr}
 use Rattle.cartridge_laws.proofs.AppendBetween.{none_if_readable}
 use Rattle.cartridge_laws.proofs.AppendStanding.{AreKeptTo}
 use Rattle.cartridge_laws.proofs.AppendTableWrites.{HoldParts, DifferIn, table_written, table_lived}
@@ -44,7 +45,8 @@ pub settled_kept : (c d : Cartridge) (area : List (List ℕ)) → AreKeptTo 2 c 
 settled_kept c d area kept known =
     let same : table_cells d ≡ table_cells c = same_cells c d 2 whole_mask (λ i h. kept 2 i (omega arith) h) in
     record {
-      table = subst (λ (cells : List SectorView). TableSays cells (AsRead area) ⊎ TableSays cells (ByCode (Data area))) (sym same) known.table;
+      table = subst (λ (cells : List SectorView). TableSays cells (AsRead area) ⊎ TableSays cells (ByCode (Data area)))
+          (sym same) known.table;
       live = λ i h live. kept 2 i (omega arith) h ∙ known.live i h (subst IsLive (kept 2 i (omega arith) h) live);
     }
 
@@ -96,7 +98,8 @@ no_more_unreadable (x ∷ xs) (y ∷ ys) long held =
     omega (arith, unreadable_count-first x xs, unreadable_count-first y ys)
 
 -- a table can be read where each of its sectors can that could before
-still_read : (c d : Cartridge) → ((i : ℕ) → i < 32 → IsReadable (table_cells c) i → IsReadable (table_cells d) i) → CanBeRead c → CanBeRead d
+still_read : (c d : Cartridge) → ((i : ℕ) → i < 32 → IsReadable (table_cells c) i → IsReadable (table_cells d) i) → CanBeRead c →
+    CanBeRead d
 still_read c d held (inl none) =
     let long : length (table_cells c) ≡ 32 = length-whole_cells c 2 in
     inl (count_of_readable 29 (table_cells d) (λ i h. held i (omega arith) (readable_from_count 29 (table_cells c) (omega arith) none i h)))

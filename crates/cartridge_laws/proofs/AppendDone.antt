@@ -1,5 +1,6 @@
 -- What all steps of an append leave, and what a stop among them leaves.
-use Rattle.std.proofs.Common.{◌≡◌, ℕ, ◌-◌, List, length, sym, ap, ◌∙◌, All, subst, ◌<◌, arith, ◌≤◌, ◌⊎◌, [], ◌∷◌, ◌++◌, refl, inl, Option, Some, IsSomeAnd, inr}
+use Rattle.std.proofs.Common.{◌≡◌, ℕ, ◌-◌, List, length, sym, ap, ◌∙◌, All, subst, ◌<◌, arith, ◌≤◌, ◌⊎◌, [], ◌∷◌, ◌++◌, refl, inl, Option}
+use Rattle.std.proofs.Common.{Some, IsSomeAnd, inr}
 use Rattle.std.specs.Prelude.{slice_index}
 use Rattle.std.proofs.lemmas.List.Elements.{All-weaker, All-append, All-cons, All-nil}
 use Rattle.cartridge_laws.proofs.AppendBetween.{begun_written, before_reads_old, turned_reads_new}
@@ -11,7 +12,8 @@ use Rattle.cartridge_laws.proofs.AppendSegments.{AreTaken, IsRising, carrying_ca
 use Rattle.cartridge_laws.proofs.AppendStanding.{AreKeptTo, stands_with}
 use Rattle.cartridge_laws.proofs.AppendTable.{done_table_shows, slot_differs, ready_count}
 use Rattle.cartridge_laws.proofs.AppendTableWrites.{DifferIn, table_stopped, Each, table_written}
-use Rattle.cartridge_laws.proofs.AppendVolume.{ready_taken, old_volumes, Behind, last_end_least, kept_to, old_stand, volume_writes_behind, may_append, whole_kept, stopped_volume}
+use Rattle.cartridge_laws.proofs.AppendVolume.{ready_taken, old_volumes, Behind, last_end_least, kept_to, old_stand, volume_writes_behind}
+use Rattle.cartridge_laws.proofs.AppendVolume.{may_append, whole_kept, stopped_volume}
 use Rattle.cartridge_laws.proofs.FormatStanding.{BeginsBehind, AreKept, volumes_kept}
 use Rattle.cartridge_laws.proofs.FormatWriting.{changed_by-append, effects-some, some_weaker}
 use Rattle.cartridge_laws.proofs.MountParts.{data_read}
@@ -133,7 +135,8 @@ stands_new c e plain name date bytes ready next reads =
       sound = sound_is_faultless table last (entries_of (with_bytes plain name date bytes)) shows.2 shows.1;
       shown = shows.1;
       stand = volumes_kept d e words volumes (behind_table d e next)
-          (All-append BeginsBehind plain.volumes (volume ∷ []) (begin_behind c plain stood) (All-cons BeginsBehind volume [] from (All-nil BeginsBehind)))
+          (All-append BeginsBehind plain.volumes (volume ∷ []) (begin_behind c plain stood)
+          (All-cons BeginsBehind volume [] from (All-nil BeginsBehind)))
           (All-append (VolumeStands d words) plain.volumes (volume ∷ [])
           (old_stand c d plain stood (kept_to c d plain (last_end (entries_of plain)) (omega arith) first))
           (All-cons (VolumeStands d words) volume [] (new_stands c plain name date bytes ready) (All-nil (VolumeStands d words))));
@@ -163,7 +166,8 @@ whole_then c plain name date bytes ready =
 new_differs : (c : Cartridge) (plain : Plain) (name : List ℕ) (date : ℕ) (bytes : List ℕ) → MayAppendTo c plain name date bytes →
     DifferIn plain.table_area (new_table plain name date bytes) (slot_sector (length plain.volumes))
 new_differs c plain name date bytes ready =
-    slot_differs plain.table_area (length plain.volumes) (slot_bytes (appended_volume plain name date bytes).entry) ready.stands.whole.table_area
+    slot_differs plain.table_area (length plain.volumes) (slot_bytes (appended_volume plain name date bytes).entry)
+    ready.stands.whole.table_area
 
 changed_small : (c : Cartridge) (plain : Plain) (name : List ℕ) (date : ℕ) (bytes : List ℕ) → MayAppendTo c plain name date bytes →
     slot_sector (length plain.volumes) < 29
@@ -171,7 +175,8 @@ changed_small c plain name date bytes ready = let few = ready_count c plain name
 
 pub stopped_list : StoppedList
 stopped_list c d plain name date bytes left ready is torn =
-    let whole : IsWhole d plain.table_area = subst (λ (e : Cartridge). IsWhole e plain.table_area) (sym is) (whole_then c plain name date bytes ready) in
+    let whole : IsWhole d plain.table_area = subst (λ (e : Cartridge). IsWhole e plain.table_area) (sym is)
+    (whole_then c plain name date bytes ready) in
     table_stopped d plain.table_area (new_table plain name date bytes)
     (slot_sector (length plain.volumes)) left (changed_small c plain name date bytes (may_append ready))
     (new_differs c plain name date bytes (may_append ready)) whole torn
@@ -206,7 +211,8 @@ done_stands c plain name date bytes may known =
     let d : Cartridge = changed_by first c in
     let all : changed_by (append_steps plain bytes volume) c ≡ changed_by next d = changed_by-append first next c in
     let then : IsSettledFor (changed_by next d) (new_table plain name date bytes) =
-    subst (λ (e : Cartridge). IsSettledFor e (new_table plain name date bytes)) all (done_is_settled_for c plain name date bytes may known) in
+    subst (λ (e : Cartridge). IsSettledFor e (new_table plain name date bytes)) all
+    (done_is_settled_for c plain name date bytes may known) in
     subst (λ (e : Cartridge). Stands e (with_bytes plain name date bytes)) (sym all)
     (stands_new c (changed_by next d) plain name date bytes may
     (steps_kept OfTable next d (list_in plain volume (ready_count c plain name date bytes may)))
@@ -294,4 +300,5 @@ either_of f g (inr b) = inr (g b)
 
 pub stopped_append : StoppedAppend
 stopped_append c plain name date bytes left ready torn =
-    some_weaker left (λ d known. either_of (λ reads. reads.stands) (λ reads. reads.stands) known) (stopped_reads c plain name date bytes left ready torn)
+    some_weaker left (λ d known. either_of (λ reads. reads.stands) (λ reads. reads.stands) known)
+    (stopped_reads c plain name date bytes left ready torn)

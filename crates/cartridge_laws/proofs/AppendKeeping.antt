@@ -1,5 +1,6 @@
 -- Writes to some sectors change no others, done or stopped.
-use Rattle.std.proofs.Common.{ℕ, ◌<◌, List, [], ◌∷◌, ◌++◌, ◌≡◌, refl, ◌∙◌, sym, subst, Option, Some, IsSomeAnd, inl, inr, suc, length, get_or, arith, Contains, take, drop, All}
+use Rattle.std.proofs.Common.{ℕ, ◌<◌, List, [], ◌∷◌, ◌++◌, ◌≡◌, refl, ◌∙◌, sym, subst, Option, Some, IsSomeAnd, inl, inr, suc, length}
+use Rattle.std.proofs.Common.{get_or, arith, Contains, take, drop, All}
 use Rattle.std.proofs.lemmas.List.Elements.{All-head, All-tail, Contains-get_or, All-weaker}
 use Rattle.cartridge_laws.proofs.FormatViews.{view_of_other_sector}
 use Rattle.cartridge_laws.proofs.FormatWriting.{some_and, some_weaker}
@@ -12,7 +13,8 @@ use Rattle.cartridge_spec.specs.Settling.{changed_by, writes_of}
 use Rattle.cartridge_spec.specs.Shape.{mask_at, usable_places, data_count}
 use Rattle.cartridge_spec.specs.Volumes.{Part, parts_of}
 use Rattle.qic_base.specs.Cartridge.{Cartridge, view_at, with_view}
-use Rattle.qic_base.specs.Step.{Step, WriteSector, FormatSegment, SetReferenced, SetProtected, Renew, Wear, Spoil, Upgrade, changed, written_view, worn_view, Halfway, Torn}
+use Rattle.qic_base.specs.Step.{Step, WriteSector, FormatSegment, SetReferenced, SetProtected, Renew, Wear, Spoil, Upgrade, changed}
+use Rattle.qic_base.specs.Step.{written_view, worn_view, Halfway, Torn}
 use Rattle.qic_base.specs.declared.tape.SectorView.{SectorView}
 
 -- ---- steps
@@ -47,7 +49,8 @@ view_kept : (allowed : ℕ → ℕ → Type 0) (c : Cartridge) (segment sector :
 view_kept allowed c segment sector view is small = record {
   info = refl;
   others = λ s i h other.
-      view_of_other_sector c segment sector s i view small h (λ same e. other (subst (λ (t : ℕ). allowed t i) (sym same) (subst (allowed segment) e is)));
+      view_of_other_sector c segment sector s i view small h
+      (λ same e. other (subst (λ (t : ℕ). allowed t i) (sym same) (subst (allowed segment) e is)));
 }
 
 step_kept : (allowed : ℕ → ℕ → Type 0) (s : Step) (c : Cartridge) → IsIn allowed s → IsKeptBut allowed c (changed s c)
@@ -111,7 +114,8 @@ parts_in allowed words (s ∷ ss) area are =
     let rest : List Part = parts_of words ss (drop (data_count (mask_at words s)) area) in
     in_append allowed (part_writes words part) (parts_writes words rest)
     (writes_in allowed s places (with_parity part.sectors)
-    (λ k h. All-head (AllowsUsable allowed words) s ss are (get_or places k 0) (Contains-get_or places k 0 h)) (usable_small (mask_at words s)))
+    (λ k h. All-head (AllowsUsable allowed words) s ss are (get_or places k 0) (Contains-get_or places k 0 h))
+    (usable_small (mask_at words s)))
     (parts_in allowed words ss (drop (data_count (mask_at words s)) area) (All-tail (AllowsUsable allowed words) s ss are))
 
 -- whole segments

@@ -1,17 +1,20 @@
 -- What an append leaves, done or stopped, is mounted as what it stands for, and its header copies are as they were.
-use Rattle.std.proofs.Common.{ℕ, ◌≤◌, ◌<◌, List, arith, ◌≡◌, ◌⊎◌, sym, subst, refl, inl, inr, Contains, length, Option, Some, IsSomeAnd, ◌∙◌}
+use Rattle.std.proofs.Common.{ℕ, ◌≤◌, ◌<◌, List, arith, ◌≡◌, ◌⊎◌, sym, subst, refl, inl, inr, Contains, length, Option, Some, IsSomeAnd}
+use Rattle.std.proofs.Common.{◌∙◌}
 use Rattle.std.proofs.lemmas.List.Elements.{All-weaker, All-contains_itself, Contains-get_or}
 use Rattle.cartridge_laws.proofs.AppendDead.{settled_kept}
 use Rattle.cartridge_laws.proofs.AppendDone.{IsReadAs, done_stands, done_is_settled_for, either_of, stopped_reads, stopped_append}
 use Rattle.cartridge_laws.proofs.MountStops.{some_both}
-use Rattle.cartridge_laws.proofs.AppendKeeping.{AreIn, in_append, parts_of_segments, IsKeptBut, steps_kept, steps_stopped, AllowsUsable, parts_in}
+use Rattle.cartridge_laws.proofs.AppendKeeping.{AreIn, in_append, parts_of_segments, IsKeptBut, steps_kept, steps_stopped, AllowsUsable}
+use Rattle.cartridge_laws.proofs.AppendKeeping.{parts_in}
 use Rattle.cartridge_laws.proofs.AppendTable.{ready_count}
 use Rattle.cartridge_laws.proofs.AppendVolume.{may_append, last_end_least, ready_taken, taken_behind, free_writes_stand, is_ready}
 use Rattle.cartridge_laws.proofs.AppendWhole.{sector_writes_are_cartridge}
 use Rattle.cartridge_laws.proofs.FormatStanding.{same_cells}
 use Rattle.cartridge_laws.proofs.FormatWriting.{some_weaker}
 use Rattle.cartridge_laws.proofs.MountStanding.{can_be_read, standing_mounts}
-use Rattle.cartridge_laws.specs.AppendLaws.{StoppedAppendMounts, StoppedAppendIsClean, append_steps_of, AppendTouchesOnly, FreeWritesAreClean, FreeWritesLeaveReady}
+use Rattle.cartridge_laws.specs.AppendLaws.{StoppedAppendMounts, StoppedAppendIsClean, append_steps_of, AppendTouchesOnly}
+use Rattle.cartridge_laws.specs.AppendLaws.{FreeWritesAreClean, FreeWritesLeaveReady}
 use Rattle.cartridge_laws.specs.AppendSettled.{DoneMounts, MayAppendTo, DoneIsClean, DoneTouchesOnly, FreeWritesLeaveSettled}
 use Rattle.cartridge_laws.specs.AppendSteps.{append_steps, volume_writes, list_writes, IsNamed}
 use Rattle.cartridge_laws.specs.AppendWrites.{KeepsTo, AreWrites, IsFree, IsOfSector}
@@ -72,13 +75,15 @@ append_in c plain name date bytes ready =
     (taken_behind plain.words from last segments (ready_taken c plain name date bytes ready))))
     ((omega arith, omega arith), ((omega arith, omega arith), ((omega arith, omega arith), ((omega arith, omega arith), tt))))
 
-clean_copy : (c d : Cartridge) (copy : ℕ) (area : List (List ℕ)) → copy < 2 → IsKeptBut BehindCopies c d → IsCleanCopy c copy area → IsCleanCopy d copy area
+clean_copy : (c d : Cartridge) (copy : ℕ) (area : List (List ℕ)) → copy < 2 → IsKeptBut BehindCopies c d → IsCleanCopy c copy area →
+    IsCleanCopy d copy area
 clean_copy c d copy area front kept clean =
     let same : copy_cells d copy ≡ copy_cells c copy =
     same_cells c d copy whole_mask (λ i h. kept.others copy i h (λ (past : 2 ≤ copy). omega arith)) in
     subst (λ (cells : List SectorView). Written cells area ⊎ Zero cells) (sym same) clean
 
-clean_kept : (c d : Cartridge) (plain new : Plain) → new.header_area ≡ plain.header_area → StandsCleanly c plain → IsKeptBut BehindCopies c d →
+clean_kept : (c d : Cartridge) (plain new : Plain) → new.header_area ≡ plain.header_area → StandsCleanly c plain →
+    IsKeptBut BehindCopies c d →
     Stands d new → StandsCleanly d new
 clean_kept c d plain new same clean kept stands = record {
   stands = stands;
@@ -100,7 +105,8 @@ stopped_append_is_clean c plain name date bytes left ready clean torn =
     let volume : Volume = appended_volume plain name date bytes in
     let steps : List Step = append_steps plain bytes volume in
     some_weaker left (λ d known.
-    either_of (clean_kept c d plain plain refl clean known.0) (clean_kept c d plain (with_bytes plain name date bytes) refl clean known.0) known.1)
+    either_of (clean_kept c d plain plain refl clean known.0) (clean_kept c d plain (with_bytes plain name date bytes) refl clean known.0)
+    known.1)
     (some_both (IsKeptBut BehindCopies c) (λ d. Stands d plain ⊎ Stands d (with_bytes plain name date bytes)) left
     (steps_stopped BehindCopies steps c left (append_in c plain name date bytes (may_append ready)) torn)
     (stopped_append c plain name date bytes left ready torn))
@@ -143,7 +149,8 @@ append_touches_only c plain name date bytes left ready torn =
 
 -- ---- whatever is written behind the last volume
 
-free_clean : (c d : Cartridge) (plain : Plain) → StandsCleanly c plain → Stands d plain → KeepsTo (last_end (entries_of plain)) c d → StandsCleanly d plain
+free_clean : (c d : Cartridge) (plain : Plain) → StandsCleanly c plain → Stands d plain → KeepsTo (last_end (entries_of plain)) c d →
+    StandsCleanly d plain
 free_clean c d plain clean stands kept =
     let least : 2 ≤ last_end (entries_of plain) = last_end_least c plain clean.stands in
     let first : copy_cells d 0 ≡ copy_cells c 0 = same_cells c d 0 whole_mask (λ i h. kept.sectors 0 i (omega arith) h) in

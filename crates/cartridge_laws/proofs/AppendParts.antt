@@ -1,5 +1,6 @@
 -- The writes of a new volume's segments leave each of them written with its part.
-use Rattle.std.proofs.Common.{◌≡◌, ℕ, ◌+◌, ◌-◌, ◌≤◌, List, [], ◌++◌, length, replicate, ap, ◌∙◌, subst, arith, length-append, ◌<◌, ◌∷◌, take, drop, All, sym, zero, suc, refl}
+use Rattle.std.proofs.Common.{◌≡◌, ℕ, ◌+◌, ◌-◌, ◌≤◌, List, [], ◌++◌, length, replicate, ap, ◌∙◌, subst, arith, length-append, ◌<◌, ◌∷◌}
+use Rattle.std.proofs.Common.{take, drop, All, sym, zero, suc, refl}
 use Rattle.std.proofs.lemmas.List.{take_at, length-replicate, length-take, length-drop}
 use Rattle.std.proofs.lemmas.List.Elements.{All-nil, All-cons, All-head, All-tail, All-append, All-replicate, All-take, All-drop}
 use Rattle.std.proofs.lemmas.List.Sums.{sum_by-cons}
@@ -23,7 +24,8 @@ use Rattle.qic_base.specs.declared.tape.SectorView.{SectorView}
 
 part_written : (c : Cartridge) (words : List ℕ) (s : ℕ) (sectors : List (List ℕ)) → Carries (mask_at words s) →
     length sectors ≡ data_count (mask_at words s) →
-    PartStands (changed_by (part_writes words (record { segment = s; sectors = sectors })) c) words (record { segment = s; sectors = sectors })
+    PartStands (changed_by (part_writes words (record { segment = s; sectors = sectors })) c) words
+    (record { segment = s; sectors = sectors })
 part_written c words s sectors carries long =
     let mask : ℕ = mask_at words s in
     let none : List (List ℕ) = replicate 3 [] in
@@ -36,7 +38,8 @@ part_written c words s sectors carries long =
 
 -- ---- several, ascending
 
-pub parts_written : (c : Cartridge) (words segments : List ℕ) (area : List (List ℕ)) → IsRising segments → All (λ s. Carries (mask_at words s)) segments →
+pub parts_written : (c : Cartridge) (words segments : List ℕ) (area : List (List ℕ)) → IsRising segments →
+    All (λ s. Carries (mask_at words s)) segments →
     length area ≡ sectors_in words segments →
     All (PartStands (changed_by (parts_writes words (parts_of words segments area)) c) words) (parts_of words segments area)
 parts_written c words [] area rise carry long = All-nil (PartStands c words)

@@ -1,5 +1,6 @@
 -- The segments that a new volume takes: the carrying ones from its first to its last, behind all that were taken.
-use Rattle.std.proofs.Common.{ℕ, zero, suc, ◌+◌, ◌-◌, ◌≤◌, Bool, All, arith, ◌<◌, List, [], ◌∷◌, inl, inr, sym, subst, ◌≡◌, ◌⊎◌, length, get_or, ap, true, refl, ◌∙◌, false, cond, nat_le, ◌*◌, sum_by, ◌&&◌, nat_lt}
+use Rattle.std.proofs.Common.{ℕ, zero, suc, ◌+◌, ◌-◌, ◌≤◌, Bool, All, arith, ◌<◌, List, [], ◌∷◌, inl, inr, sym, subst, ◌≡◌, ◌⊎◌, length}
+use Rattle.std.proofs.Common.{get_or, ap, true, refl, ◌∙◌, false, cond, nat_le, ◌*◌, sum_by, ◌&&◌, nat_lt}
 use Rattle.std.specs.List.{range_with_len}
 use Rattle.std.proofs.lemmas.List.Elements.{All-nil, All-cons, All-weaker, All-filter, filter_passes}
 use Rattle.std.proofs.lemmas.Bool.{cases_Bool, leb-true, ltb-true, false≢true, and_parts}
@@ -24,7 +25,8 @@ places_from test m from = All-filter test (λ (s : ℕ). from ≤ s) (range_with
     range_from zero start = All-nil (λ (s : ℕ). start ≤ s)
     range_from (suc n) start =
         All-cons (λ (s : ℕ). start ≤ s) start (range_with_len (start + 1) n) (omega arith)
-        (All-weaker (λ (s : ℕ). start + 1 ≤ s) (λ (s : ℕ). start ≤ s) (λ s (h : start + 1 ≤ s). omega arith) (range_with_len (start + 1) n) (range_from n (start + 1)))
+        (All-weaker (λ (s : ℕ). start + 1 ≤ s) (λ (s : ℕ). start ≤ s) (λ s (h : start + 1 ≤ s). omega arith) (range_with_len (start + 1) n)
+        (range_from n (start + 1)))
 
 -- a list that rises
 abbrev pub IsRising : List ℕ → Type 0
@@ -37,7 +39,8 @@ rising test (suc m) from =
     elim (cases_Bool (test from)) [
       | inl passes ↦
           subst IsRising (sym (places_passes test from m passes)) (
-            All-weaker (λ (s : ℕ). from + 1 ≤ s) (λ (s : ℕ). from < s) (λ s (h : from + 1 ≤ s). omega arith) (places_that test (from + 1) m) (places_from test m (from + 1)),
+            All-weaker (λ (s : ℕ). from + 1 ≤ s) (λ (s : ℕ). from < s) (λ s (h : from + 1 ≤ s). omega arith) (places_that test (from + 1) m)
+                (places_from test m (from + 1)),
             rising test m (from + 1),
           )
       | inr fails ↦ subst IsRising (sym (places_fails test from m fails)) (rising test m (from + 1))
@@ -63,7 +66,8 @@ front_one test from m passes = record {
   last = inr (omega arith, omega arith, refl);
 }
 
-front_more : (test : ℕ → Bool) (from m : ℕ) (rest : List ℕ) → test from ≡ true → Front test (from + 1) m rest → Front test from (suc m) (from ∷ rest)
+front_more : (test : ℕ → Bool) (from m : ℕ) (rest : List ℕ) → test from ≡ true → Front test (from + 1) m rest →
+    Front test from (suc m) (from ∷ rest)
 front_more test from m rest passes front = by_last front.last
   where
     by_last : (rest ≡ []) ⊎ ((1 ≤ front.count) × (1 ≤ length rest) × (get_or rest (length rest - 1) 0 + 1 ≡ from + 1 + front.count)) →
@@ -80,7 +84,8 @@ front_more test from m rest passes front = by_last front.last
           last = inr (omega arith, omega arith, omega arith);
         }
 
-front_fails : (test : ℕ → Bool) (from m : ℕ) (taken : List ℕ) → test from ≡ false → Front test (from + 1) m taken → Front test from (suc m) taken
+front_fails : (test : ℕ → Bool) (from m : ℕ) (taken : List ℕ) → test from ≡ false → Front test (from + 1) m taken →
+    Front test from (suc m) taken
 front_fails test from m taken fails front = by_last front.last
   where
     by_last : (taken ≡ []) ⊎ ((1 ≤ front.count) × (1 ≤ length taken) × (get_or taken (length taken - 1) 0 + 1 ≡ from + 1 + front.count)) →
@@ -110,7 +115,8 @@ taken_front words test (suc m) from bytes =
       | inl passes ↦
           subst (λ (ps : List ℕ). Front test from (suc m) (taken_by words bytes ps)) (sym (places_passes test from m passes))
           (front_ends test from m (taken_by words (bytes - capacity (mask_at words from)) (places_that test (from + 1) m))
-          (nat_le bytes (capacity (mask_at words from))) passes (taken_front words test m (from + 1) (bytes - capacity (mask_at words from))))
+          (nat_le bytes (capacity (mask_at words from))) passes
+          (taken_front words test m (from + 1) (bytes - capacity (mask_at words from))))
       | inr fails ↦
           subst (λ (ps : List ℕ). Front test from (suc m) (taken_by words bytes ps)) (sym (places_fails test from m fails))
           (front_fails test from m (taken_by words bytes (places_that test (from + 1) m)) fails (taken_front words test m (from + 1) bytes))
@@ -165,7 +171,8 @@ carrying_are words start end = refl
 
 pub carrying_carry : (words : List ℕ) (start end : ℕ) → All (λ s. Carries (mask_at words s)) (carrying words start end)
 carrying_carry words start end =
-    All-weaker (λ (s : ℕ). carries words s ≡ true) (λ (s : ℕ). Carries (mask_at words s)) (λ s passes. leb-true 4 (usable_count (mask_at words s)) passes)
+    All-weaker (λ (s : ℕ). carries words s ≡ true) (λ (s : ℕ). Carries (mask_at words s))
+    (λ s passes. leb-true 4 (usable_count (mask_at words s)) passes)
     (carrying words start end) (filter_passes (carries words) (range_with_len start (end + 1 - start)))
 
 pub carrying_rise : (words : List ℕ) (start end : ℕ) → IsRising (carrying words start end)
@@ -173,7 +180,8 @@ carrying_rise words start end = subst IsRising (sym (carrying_are words start en
 
 pub carrying_from : (words : List ℕ) (start end : ℕ) → All (λ s. start ≤ s) (carrying words start end)
 carrying_from words start end =
-    subst (λ (ss : List ℕ). All (λ s. start ≤ s) ss) (sym (carrying_are words start end)) (places_from (carries words) (end + 1 - start) start)
+    subst (λ (ss : List ℕ). All (λ s. start ≤ s) ss) (sym (carrying_are words start end))
+    (places_from (carries words) (end + 1 - start) start)
 
 -- ---- how much they carry
 
@@ -238,7 +246,8 @@ pub record AreTaken (words : List ℕ) (from last : ℕ) (segments : List ℕ) :
   pub forwards : start ≤ end
   pub within : end ≤ last
 
-front_taken : (words : List ℕ) (from last : ℕ) (taken : List ℕ) → Front (carries words) (from + 1) (last + 1 - (from + 1)) taken → 1 ≤ length taken →
+front_taken : (words : List ℕ) (from last : ℕ) (taken : List ℕ) → Front (carries words) (from + 1) (last + 1 - (from + 1)) taken →
+    1 ≤ length taken →
     AreTaken words from last taken
 front_taken words from last taken front some = by_last front.last
   where
@@ -280,10 +289,12 @@ by_slots true count have bytes is holds =
     (ltb-true count 232 is, leb-true 1 have both.0, leb-true bytes have both.1)
 by_slots false count have bytes is holds = absurd (false≢true (and_parts (nat_le 1 0) (nat_le bytes 0) holds).0)
 
-pub room_is : (words : List ℕ) (entries : List Entry) (bytes : ℕ) → (nat_le 1 (room words entries) && nat_le bytes (room words entries)) ≡ true →
+pub room_is : (words : List ℕ) (entries : List Entry) (bytes : ℕ) →
+    (nat_le 1 (room words entries) && nat_le bytes (room words entries)) ≡ true →
     HasRoom words entries bytes
 room_is words entries bytes holds =
-    let all = by_slots (nat_lt (length entries) 232) (length entries) (capacity_between words (last_end entries + 1) (length words - 1)) bytes refl holds in
+    let all = by_slots (nat_lt (length entries) 232) (length entries) (capacity_between words (last_end entries + 1) (length words - 1))
+    bytes refl holds in
     record { free_slot = all.0; some = all.1; enough = all.2 }
 
 pub room_most : (words : List ℕ) (entries : List Entry) (last : ℕ) → capacity_between words (last_end entries + 1) last ≤ 29696 * (last + 1)
@@ -300,5 +311,6 @@ segments_taken words entries bytes has =
     let m : ℕ = last + 1 - (from + 1) in
     let free : free_segments words entries ≡ places_that (carries words) (from + 1) m = carrying_are words (from + 1) last in
     subst (λ (ss : List ℕ). AreTaken words from last (taken_by words bytes ss)) (sym free)
-    (front_taken words from last (taken_by words bytes (places_that (carries words) (from + 1) m)) (taken_front words (carries words) m (from + 1) bytes)
+    (front_taken words from last (taken_by words bytes (places_that (carries words) (from + 1) m))
+    (taken_front words (carries words) m (from + 1) bytes)
     (taken_some words bytes (places_that (carries words) (from + 1) m) (some_carries words m (from + 1) has.some)))

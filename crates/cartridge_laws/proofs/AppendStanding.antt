@@ -1,5 +1,6 @@
 -- A cartridge whose header copies are as they were stands for the same plain one, or for one with another table.
-use Rattle.std.proofs.Common.{◌≡◌, ℕ, ◌<◌, ◌≤◌, zero, suc, ◌+◌, ◌-◌, All, arith, List, [], ◌∷◌, take, drop, sym, subst, nat_le, ◌⊎◌, map, ◌*◌, ap, ◌∙◌}
+use Rattle.std.proofs.Common.{◌≡◌, ℕ, ◌<◌, ◌≤◌, zero, suc, ◌+◌, ◌-◌, All, arith, List, [], ◌∷◌, take, drop, sym, subst, nat_le, ◌⊎◌, map}
+use Rattle.std.proofs.Common.{◌*◌, ap, ◌∙◌}
 use Rattle.std.specs.List.{range_with_len}
 use Rattle.std.proofs.lemmas.List.Elements.{All-nil, All-cons, All-head, All-tail, All-filter}
 use Rattle.cartridge_laws.proofs.AppendOrders.{LiesWithin}

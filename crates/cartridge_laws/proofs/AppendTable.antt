@@ -1,5 +1,6 @@
 -- The table's data with one slot more show the old list and the new entry behind it, in order.
-use Rattle.std.proofs.Common.{◌≡◌, ◌+◌, List, [], ◌∷◌, ◌++◌, map, refl, ap, ◌-◌, length, ℕ, ◌*◌, ◌%◌, set, sym, ◌∙◌, arith, ◌<◌, ◌^◌, ◌≤◌, subst}
+use Rattle.std.proofs.Common.{◌≡◌, ◌+◌, List, [], ◌∷◌, ◌++◌, map, refl, ap, ◌-◌, length, ℕ, ◌*◌, ◌%◌, set, sym, ◌∙◌, arith, ◌<◌, ◌^◌, ◌≤◌}
+use Rattle.std.proofs.Common.{subst}
 use Rattle.std.proofs.lemmas.List.{length-map, length-set, get_or-set_other}
 use Rattle.std.specs.Prelude.{slice_index}
 use Rattle.cartridge_laws.proofs.AppendOrders.{order_more}
@@ -97,7 +98,8 @@ done_table_shows c plain name date bytes ready =
     let end : taken.end ≤ last = taken.within in (
       slot_area plain.table_area n (slot_bytes entry) area within long (slot_are_bytes entry ready.label.bytes (omega arith) (omega arith)),
       subst (λ (es : List Entry). Shows (new_table plain name date bytes) es) (sym more)
-          (shows_more plain.table_area (entries_of plain) entry (slot_bytes entry) n (area_is_long plain.table_area area) ready.stands.shown (count_of_entries plain) within long
+          (shows_more plain.table_area (entries_of plain) entry (slot_bytes entry) n (area_is_long plain.table_area area) ready.stands.shown
+          (count_of_entries plain) within long
           (slot_is_used entry fits.name) (slot_shows entry fits)),
       subst (λ (es : List Entry). IsSoundList last es) (sym more)
           (order_more 2 last (entries_of plain) entry (old_order c plain ready.stands) (omega arith) (omega arith) (omega arith)),

@@ -1,5 +1,6 @@
 -- The four writes of a table's new data: what a stop among them leaves, and all of them.
-use Rattle.std.proofs.Common.{◌≡◌, ◌≢◌, ℕ, ◌<◌, List, ◌≤◌, refl, ap, ◌∙◌, sym, arith, inl, inr, subst, ◌+◌, ◌∷◌, Option, Some, IsSomeAnd, []}
+use Rattle.std.proofs.Common.{◌≡◌, ◌≢◌, ℕ, ◌<◌, List, ◌≤◌, refl, ap, ◌∙◌, sym, arith, inl, inr, subst, ◌+◌, ◌∷◌, Option, Some, IsSomeAnd}
+use Rattle.std.proofs.Common.{[]}
 use Rattle.std.proofs.lemmas.Bool.{cases_eq}
 use Rattle.cartridge_laws.proofs.FormatViews.{view_of_sector, view_of_other_sector}
 use Rattle.cartridge_laws.proofs.FormatWriting.{some_and, some_weaker}
@@ -37,13 +38,15 @@ sector_write new i = WriteSector 2 i (sector_at (with_parity new) i)
 -- ---- one write
 
 -- a sector that held bytes holds those that were written
-written_here : (c : Cartridge) (i : ℕ) (old bytes : List ℕ) → view_at c 2 i ≡ Holds old → view_at (changed (WriteSector 2 i bytes) c) 2 i ≡ Holds bytes
+written_here : (c : Cartridge) (i : ℕ) (old bytes : List ℕ) → view_at c 2 i ≡ Holds old →
+    view_at (changed (WriteSector 2 i bytes) c) 2 i ≡ Holds bytes
 written_here c i old bytes holds = view_of_sector c 2 i (written_view bytes) refl ∙ ap (written_view bytes) holds
 
 worn_here : (c : Cartridge) (i : ℕ) (old : List ℕ) → view_at c 2 i ≡ Holds old → view_at (changed (Wear 2 i) c) 2 i ≡ Lost
 worn_here c i old holds = view_of_sector c 2 i worn_view refl ∙ ap worn_view holds
 
-pub written_other : (c : Cartridge) (i j : ℕ) (bytes : List ℕ) → i < 32 → j < 32 → j ≢ i → view_at (changed (WriteSector 2 i bytes) c) 2 j ≡ view_at c 2 j
+pub written_other : (c : Cartridge) (i j : ℕ) (bytes : List ℕ) → i < 32 → j < 32 → j ≢ i →
+    view_at (changed (WriteSector 2 i bytes) c) 2 j ≡ view_at c 2 j
 written_other c i j bytes small h apart =
     view_of_other_sector c 2 i 2 j (written_view bytes (view_at c 2 i)) small h (λ e same. apart (sym same))
 
@@ -143,7 +146,8 @@ parity_stopped c old new left at torn =
 
 -- ---- all four
 
-pub table_stopped : (c : Cartridge) (old new : List (List ℕ)) (k : ℕ) (left : Option Cartridge) → k < 29 → DifferIn old new k → IsWhole c old →
+pub table_stopped : (c : Cartridge) (old new : List (List ℕ)) (k : ℕ) (left : Option Cartridge) → k < 29 → DifferIn old new k →
+    IsWhole c old →
     Torn (table_writes k new) (Some c) left → IsSomeAnd left (λ d. Between d old new k)
 table_stopped c old new k left small differ whole (inl is) = some_and (λ d. Between d old new k) c left (inl whole) is
 table_stopped c old new k left small differ whole (inr (inl is)) =
@@ -184,7 +188,8 @@ lived c k i bytes small h live =
     ]
 
 -- one that takes a write after the four took one before them
-pub table_lived : (c : Cartridge) (new : List (List ℕ)) (k i : ℕ) → k < 29 → i < 32 → IsLive (view_at (changed_by (table_writes k new) c) 2 i) →
+pub table_lived : (c : Cartridge) (new : List (List ℕ)) (k i : ℕ) → k < 29 → i < 32 →
+    IsLive (view_at (changed_by (table_writes k new) c) 2 i) →
     IsLive (view_at c 2 i)
 table_lived c new k i small h live =
     let first : Cartridge = changed (sector_write new k) c in

@@ -63,7 +63,8 @@ plain_room plain bytes room = room_is plain.words (entries_of plain) bytes room
 pub ready_taken : (c : Cartridge) (plain : Plain) (name : List ℕ) (date : ℕ) (bytes : List ℕ) → MayAppendTo c plain name date bytes →
     AreTaken plain.words (last_end (entries_of plain)) (last_segment c) (new_segments plain bytes)
 ready_taken c plain name date bytes ready =
-    subst (λ (last : ℕ). AreTaken plain.words (last_end (entries_of plain)) last (new_segments plain bytes)) (plain_last c plain ready.stands)
+    subst (λ (last : ℕ). AreTaken plain.words (last_end (entries_of plain)) last (new_segments plain bytes))
+    (plain_last c plain ready.stands)
     (segments_taken plain.words (entries_of plain) (length bytes) (plain_room plain (length bytes) ready.room))
 
 pub taken_behind : (words : List ℕ) (from last : ℕ) (segments : List ℕ) → AreTaken words from last segments → All (λ s. from < s) segments
@@ -86,7 +87,8 @@ volume_writes_behind c plain name date bytes volume ready =
 
 -- ---- what they leave
 
-pub kept_to : (c d : Cartridge) (plain : Plain) (to : ℕ) → to ≤ last_end (entries_of plain) → IsKeptBut (Behind plain) c d → AreKeptTo to c d
+pub kept_to : (c d : Cartridge) (plain : Plain) (to : ℕ) → to ≤ last_end (entries_of plain) → IsKeptBut (Behind plain) c d →
+    AreKeptTo to c d
 kept_to c d plain to least kept s i within h = kept.others s i h (λ (past : last_end (entries_of plain) < s). omega arith)
 
 pub whole_kept : (c d : Cartridge) (area : List (List ℕ)) → AreKeptTo 2 c d → IsWhole c area → IsWhole d area

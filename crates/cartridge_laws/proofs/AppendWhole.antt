@@ -26,7 +26,8 @@ use Rattle.gf256_qic.proofs.Parities.{parity_sectors-are_sectors}
 use Rattle.qic_base.proofs.Steps.{Torn-all}
 use Rattle.qic_base.specs.Cartridge.{Cartridge, view_at, IsSector}
 use Rattle.qic_base.specs.CartridgeTerms.{IsCartridge}
-use Rattle.qic_base.specs.Step.{Step, WriteSector, FormatSegment, SetReferenced, SetProtected, Renew, Wear, Spoil, Upgrade, changed, written_view, worn_view, effects, Halfway, Torn}
+use Rattle.qic_base.specs.Step.{Step, WriteSector, FormatSegment, SetReferenced, SetProtected, Renew, Wear, Spoil, Upgrade, changed}
+use Rattle.qic_base.specs.Step.{written_view, worn_view, effects, Halfway, Torn}
 
 -- ---- writes of whole sectors
 
@@ -60,7 +61,8 @@ step_stopped (Wear segment sector) c left is whole half = absurd is
 step_stopped (Spoil segment sector) c left is whole half = absurd is
 step_stopped Upgrade c left is whole half = absurd is
 
-steps_stopped : (ss : List Step) (c : Cartridge) (left : Option Cartridge) → AreWrites IsOfSector ss → IsCartridge c → Torn ss (Some c) left →
+steps_stopped : (ss : List Step) (c : Cartridge) (left : Option Cartridge) → AreWrites IsOfSector ss → IsCartridge c →
+    Torn ss (Some c) left →
     IsSomeAnd left IsCartridge
 steps_stopped [] c left are whole is = some_and IsCartridge c left whole is
 steps_stopped (s ∷ ss) c left are whole (inl is) = some_and IsCartridge c left whole is
@@ -77,20 +79,23 @@ block_sectors sectors are =
     All-append IsSector sectors (parity_sectors sectors) are
     (parity_sectors-are_sectors sectors are)
 
-pub writes_whole : (segment : ℕ) (places : List ℕ) (sectors : List (List ℕ)) → All IsSector sectors → AreWrites IsOfSector (writes_of segment places sectors)
+pub writes_whole : (segment : ℕ) (places : List ℕ) (sectors : List (List ℕ)) → All IsSector sectors →
+    AreWrites IsOfSector (writes_of segment places sectors)
 writes_whole segment [] sectors are = tt
 writes_whole segment (place ∷ places) [] are = tt
 writes_whole segment (place ∷ places) (bytes ∷ sectors) are =
     (All-head IsSector bytes sectors are, writes_whole segment places sectors (All-tail IsSector bytes sectors are))
 
-parts_whole : (words segments : List ℕ) (area : List (List ℕ)) → All IsSector area → AreWrites IsOfSector (parts_writes words (parts_of words segments area))
+parts_whole : (words segments : List ℕ) (area : List (List ℕ)) → All IsSector area →
+    AreWrites IsOfSector (parts_writes words (parts_of words segments area))
 parts_whole words [] area are = tt
 parts_whole words (s ∷ ss) area are =
     let n : ℕ = data_count (mask_at words s) in
     let part : Part = record { segment = s; sectors = take n area } in
     let rest : List Part = parts_of words ss (drop n area) in
     writes_more (part_writes words part) (parts_writes words rest)
-    (writes_whole s (usable_places (mask_at words s)) (with_parity (take n area)) (block_sectors (take n area) (All-take IsSector n area are)))
+    (writes_whole s (usable_places (mask_at words s)) (with_parity (take n area))
+    (block_sectors (take n area) (All-take IsSector n area are)))
     (parts_whole words ss (drop n area) (All-drop IsSector n area are))
 
 pub block_sector : (area : List (List ℕ)) (i : ℕ) → IsArea area → i < 32 → IsSector (sector_at (with_parity area) i)

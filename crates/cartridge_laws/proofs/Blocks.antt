@@ -1,5 +1,6 @@
 -- Cells say something: whether a code block agrees with them is found column by column.
-use Rattle.std.proofs.Common.{ℕ, slice_index, Option, Some, None, List, map, ◌≡◌, length, ◌∙◌, ap, slice_get, ◌<◌, arith, suc, refl, [], ◌∷◌, All, inl, inr, get_or, zero-add, sym, subst, ◌⊎◌}
+use Rattle.std.proofs.Common.{ℕ, slice_index, Option, Some, None, List, map, ◌≡◌, length, ◌∙◌, ap, slice_get, ◌<◌, arith, suc, refl, []}
+use Rattle.std.proofs.Common.{◌∷◌, All, inl, inr, get_or, zero-add, sym, subst, ◌⊎◌}
 use Rattle.std.proofs.lemmas.List.{length-map, same_lists, get_or_default, ext_get_or}
 use Rattle.std.specs.Option.{option_map}
 use Rattle.std.proofs.lemmas.Option.{slice_get-map, same_Some, slice_get_within, get_or_from_slice_get, slice_get-get_or}
@@ -8,7 +9,8 @@ use Rattle.std.proofs.Math.Nat.{suc_inj}
 use Rattle.std.specs.List.{range_with_len}
 use Rattle.std.proofs.lemmas.List.FromFn.{length-map-range_with_len, get_or-map-range_with_len}
 use Rattle.std.proofs.lemmas.Bool.{cases_lt}
-use Rattle.cartridge_laws.proofs.Search.{FitsKnown, Filled, Decided, decide_filled, decide_codeword, length-fits, known_byte, decide_each_below}
+use Rattle.cartridge_laws.proofs.Search.{FitsKnown, Filled, Decided, decide_filled, decide_codeword, length-fits, known_byte}
+use Rattle.cartridge_laws.proofs.Search.{decide_each_below}
 use Rattle.cartridge_laws.specs.SayingLaws.{SaysAlways}
 use Rattle.qic_base.specs.Cartridge.{IsSector}
 use Rattle.cartridge_spec.specs.Code.{column, IsCodeword, IsCodeBlock}

@@ -1,5 +1,6 @@
 -- The cells of a segment by place: which of them are unreadable, and how many.
-use Rattle.std.proofs.Common.{ℕ, zero, suc, Bool, false, List, [], ◌∷◌, ◌≡◌, ◌+◌, refl, arith, sym, ◌∙◌, ap, length, slice_get, Some, ◌<◌, ◌≤◌, take, zero-add, true, cond}
+use Rattle.std.proofs.Common.{ℕ, zero, suc, Bool, false, List, [], ◌∷◌, ◌≡◌, ◌+◌, refl, arith, sym, ◌∙◌, ap, length, slice_get, Some, ◌<◌}
+use Rattle.std.proofs.Common.{◌≤◌, take, zero-add, true, cond}
 use Rattle.std.proofs.lemmas.List.Sums.{sum_by-cons}
 use Rattle.cartridge_spec.specs.Code.{IsCodeBlock}
 use Rattle.cartridge_spec.specs.Says.{unreadable_count, Agrees}

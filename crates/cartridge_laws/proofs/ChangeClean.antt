@@ -1,8 +1,10 @@
 -- Header copies that are clean or bare stay so where no sector can be read that could not.
 use Rattle.std.proofs.Common.{ℕ, inl, inr, List, ◌≤◌, arith, refl}
-use Rattle.cartridge_laws.proofs.ChangeStanding.{written_less, zero_less, count_grows, worn_stands, spoiled_stands, marks_read_no_more, protected_stands, referenced_stands}
+use Rattle.cartridge_laws.proofs.ChangeStanding.{written_less, zero_less, count_grows, worn_stands, spoiled_stands, marks_read_no_more}
+use Rattle.cartridge_laws.proofs.ChangeStanding.{protected_stands, referenced_stands}
 use Rattle.cartridge_laws.proofs.ChangeViews.{ReadsNoMore, worn_reads_no_more, spoiled_alike}
-use Rattle.cartridge_laws.specs.ChangeLaws.{WornIsClean, WornIsBare, SpoiledIsClean, SpoiledIsBare, ProtectedIsClean, ProtectedIsBare, ReferencedIsClean, ReferencedIsBare}
+use Rattle.cartridge_laws.specs.ChangeLaws.{WornIsClean, WornIsBare, SpoiledIsClean, SpoiledIsBare, ProtectedIsClean, ProtectedIsBare}
+use Rattle.cartridge_laws.specs.ChangeLaws.{ReferencedIsClean, ReferencedIsBare}
 use Rattle.cartridge_spec.specs.Formatting.{StandsCleanly, HasNoHeader}
 use Rattle.cartridge_laws.specs.HeaderTerms.{IsBareCopy, IsCleanCopy}
 use Rattle.cartridge_spec.specs.HeaderCopies.{copy_cells}

@@ -1,5 +1,6 @@
 -- Sectors that take what is written to them go on to do so.
-use Rattle.std.proofs.Common.{◌≡◌, ◌⊎◌, ℕ, inl, inr, List, [], ◌∷◌, ◌++◌, get_or, take, drop, map, ap, ◌∙◌, sym, subst, refl, zero, suc, ◌+◌, ◌*◌, arith, Option, Some, None, IsSomeAnd}
+use Rattle.std.proofs.Common.{◌≡◌, ◌⊎◌, ℕ, inl, inr, List, [], ◌∷◌, ◌++◌, get_or, take, drop, map, ap, ◌∙◌, sym, subst, refl, zero, suc}
+use Rattle.std.proofs.Common.{◌+◌, ◌*◌, arith, Option, Some, None, IsSomeAnd}
 use Rattle.std.proofs.Math.Seq.{take-add}
 use Rattle.std.proofs.lemmas.Bool.{cases_eq}
 use Rattle.std.proofs.lemmas.List.{take-append-drop}
@@ -13,7 +14,8 @@ use Rattle.cartridge_spec.specs.TableSegment.{IsTableLive}
 use Rattle.cartridge_spec.specs.Shape.{IsLive}
 use Rattle.qic_base.specs.Cartridge.{Cartridge, view_at, with_view}
 use Rattle.qic_base.specs.CartridgeTerms.{with_segment, HalfFormatted}
-use Rattle.qic_base.specs.Step.{Step, WriteSector, FormatSegment, SetReferenced, SetProtected, Renew, Wear, Spoil, Upgrade, changed, written_view, formatted_view, worn_view, spoiled_view, ClosingView, OpeningView, SegmentBecame, Halfway}
+use Rattle.qic_base.specs.Step.{Step, WriteSector, FormatSegment, SetReferenced, SetProtected, Renew, Wear, Spoil, Upgrade, changed}
+use Rattle.qic_base.specs.Step.{written_view, formatted_view, worn_view, spoiled_view, ClosingView, OpeningView, SegmentBecame, Halfway}
 use Rattle.qic_base.specs.declared.tape.SectorView.{SectorView}
 use Rattle.qic_base.specs.declared.tape.SectorView.TheVariants.{Blank, Defect, Lost, Holds}
 
@@ -60,7 +62,8 @@ opening_live (Holds bytes) new live (inr zeros) = subst IsLive (sym zeros) tt
 
 -- ---- one sector changed
 
-sector_live : (c : Cartridge) (segment sector : ℕ) (change : SectorView → SectorView) → ((view : SectorView) → IsLive view → IsLive (change view)) →
+sector_live : (c : Cartridge) (segment sector : ℕ) (change : SectorView → SectorView) →
+    ((view : SectorView) → IsLive view → IsLive (change view)) →
     IsTableLive c → IsTableLive (with_view c segment sector (change (view_at c segment sector)))
 sector_live c segment sector change keeps live i h =
     elim (one_view c segment sector change 2 i) [
@@ -93,7 +96,8 @@ segment_view : (c : Cartridge) (segment : ℕ) (change : SectorView → SectorVi
 segment_view c segment change s i =
     let p : ℕ = 32 * s + i in
     let d : Cartridge = with_segment c segment change in
-    let before : get_or (take (32 * segment) c.views ++ take 32 (drop (32 * segment) c.views) ++ drop (32 * (segment + 1)) c.views) p Blank ≡ view_at c s i =
+    let before : get_or (take (32 * segment) c.views ++ take 32 (drop (32 * segment) c.views) ++ drop (32 * (segment + 1)) c.views) p
+    Blank ≡ view_at c s i =
     ap (λ (views : List SectorView). get_or views p Blank) (in_parts c.views segment) ∙ sym (unwrap_or-slice_get c.views p Blank) in
     let behind : view_at d s i ≡ get_or d.views p Blank = unwrap_or-slice_get d.views p Blank in
     elim (part_view change (take (32 * segment) c.views) (take 32 (drop (32 * segment) c.views)) (drop (32 * (segment + 1)) c.views) p) [
@@ -113,12 +117,14 @@ became_live : {Became : SectorView → SectorView → Type 0} (segment : ℕ) (c
 became_live {Became = Became} segment c d keeps became live i h =
     elim (cases_eq 2 segment) [
       | inl same ↦
-          let change : Became (view_at c 2 i) (view_at d 2 i) = subst (λ (s : ℕ). Became (view_at c s i) (view_at d s i)) (sym same) (became.within i h) in
+          let change : Became (view_at c 2 i) (view_at d 2 i) = subst (λ (s : ℕ). Became (view_at c s i) (view_at d s i)) (sym same)
+          (became.within i h) in
           keeps (view_at c 2 i) (view_at d 2 i) (live i h) change
       | inr apart ↦ subst IsLive (sym (view_of_other_stopped segment 2 i became h apart)) (live i h)
     ]
 
-half_live : (segment : ℕ) (c : Cartridge) (left : Option Cartridge) → IsTableLive c → HalfFormatted segment (Some c) left → IsSomeAnd left IsTableLive
+half_live : (segment : ℕ) (c : Cartridge) (left : Option Cartridge) → IsTableLive c → HalfFormatted segment (Some c) left →
+    IsSomeAnd left IsTableLive
 half_live segment c None live half = absurd half
 half_live segment c (Some d) live (inl closing) = became_live segment c d closing_live closing live
 half_live segment c (Some d) live (inr opening) = became_live segment c d opening_live opening live
@@ -135,7 +141,8 @@ step_live (Wear segment sector) c none live = sector_live c segment sector worn_
 step_live (Spoil segment sector) c none live = sector_live c segment sector spoiled_view spoiled_live live
 step_live Upgrade c none live = live
 
-step_stopped : (s : Step) (c : Cartridge) (left : Option Cartridge) → IsNoRenew s → IsTableLive c → Halfway s (Some c) left → IsSomeAnd left IsTableLive
+step_stopped : (s : Step) (c : Cartridge) (left : Option Cartridge) → IsNoRenew s → IsTableLive c → Halfway s (Some c) left →
+    IsSomeAnd left IsTableLive
 step_stopped (WriteSector segment sector bytes) c left none live half =
     some_and IsTableLive (changed (Wear segment sector) c) left (sector_live c segment sector worn_view worn_live live) half
 step_stopped (FormatSegment segment) c left none live half = half_live segment c left live half

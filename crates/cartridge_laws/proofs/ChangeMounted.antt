@@ -16,7 +16,8 @@ use Rattle.qic_base.specs.Step.{SetProtected, changed, SetReferenced}
 use Rattle.qic_base.specs.declared.tape.SectorView.{SectorView}
 
 -- a cartridge of the same length with the same header and the same table
-still_mounted : (c d : Cartridge) (header : Header) (words : List ℕ) (table : List (List ℕ)) (entries : List Entry) → d.info.segments_per_track ≡ c.info.segments_per_track →
+still_mounted : (c d : Cartridge) (header : Header) (words : List ℕ) (table : List (List ℕ)) (entries : List Entry) →
+    d.info.segments_per_track ≡ c.info.segments_per_track →
     ((area : List (List ℕ)) → HasHeader c area → HasHeader d area) → (TableIs c table → TableIs d table) →
     IsMounted c header words table entries → IsMounted d header words table entries
 still_mounted c d header words table entries long has reads mounted = record {
@@ -46,7 +47,8 @@ spoiled_mounts c segment sector header words table entries mounted =
     still_mounted c (spoiled segment sector c) header words table entries refl
     (λ area has. record {
       referenced = has.referenced;
-      in_force = in_force c (spoiled segment sector c) area (spoiled_cells c segment sector 0) (spoiled_cells c segment sector 1) has.in_force;
+      in_force = in_force c (spoiled segment sector c) area (spoiled_cells c segment sector 0)
+          (spoiled_cells c segment sector 1) has.in_force;
     })
     (table_alike c (spoiled segment sector c) table (spoiled_alike c segment sector) (spoiled_cells c segment sector 2)) mounted
 

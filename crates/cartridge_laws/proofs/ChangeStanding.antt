@@ -1,9 +1,11 @@
 -- A cartridge of which one sector, or a mark, changed stands for what it stood for.
-use Rattle.std.proofs.Common.{ℕ, List, sym, ◌∙◌, inl, inr, All, ◌≡◌, length, slice_get, Some, ap, ◌≤◌, subst, ◌<◌, arith, ◌⊎◌, true, map, refl}
+use Rattle.std.proofs.Common.{ℕ, List, sym, ◌∙◌, inl, inr, All, ◌≡◌, length, slice_get, Some, ap, ◌≤◌, subst, ◌<◌, arith, ◌⊎◌, true, map}
+use Rattle.std.proofs.Common.{refl}
 use Rattle.std.proofs.lemmas.List.Elements.{All-weaker}
 use Rattle.std.proofs.lemmas.Bool.{cases_lt}
 use Rattle.std.specs.Prelude.{unwrap_or}
-use Rattle.cartridge_laws.proofs.ChangeViews.{ReadsNoMore, held_before, view_of_other, worn_reads_no_more, ReadsAlike, spoiled_alike, same_count}
+use Rattle.cartridge_laws.proofs.ChangeViews.{ReadsNoMore, held_before, view_of_other, worn_reads_no_more, ReadsAlike, spoiled_alike}
+use Rattle.cartridge_laws.proofs.ChangeViews.{same_count}
 use Rattle.cartridge_laws.proofs.FormatCopies.{written_reads, no_fewer_unreadable, lost_does_not_read}
 use Rattle.cartridge_laws.proofs.FormatStanding.{same_cells}
 use Rattle.cartridge_laws.proofs.Sayings.{said_is_written}
@@ -26,7 +28,8 @@ use Rattle.qic_base.specs.declared.tape.SectorView.TheVariants.{Holds, Blank}
 
 -- ---- what was written
 
-pub written_less : (c d : Cartridge) (s mask : ℕ) (area : List (List ℕ)) → ReadsNoMore c d → Written (cells_of c s mask) area → Written (cells_of d s mask) area
+pub written_less : (c d : Cartridge) (s mask : ℕ) (area : List (List ℕ)) → ReadsNoMore c d → Written (cells_of c s mask) area →
+    Written (cells_of d s mask) area
 written_less c d s mask area less written = record {
   size = written.size ∙ count_of_cells c s mask ∙ sym (count_of_cells d s mask);
   each = λ i bytes at. written.each i bytes (held_before c d s mask i bytes less at);
@@ -39,7 +42,8 @@ pub copies_less : (c d : Cartridge) (area : List (List ℕ)) → ReadsNoMore c d
 copies_less c d area less (inl written) = inl (written_less c d 0 whole_mask area less written)
 copies_less c d area less (inr other) = inr (zero_less c d 0 whole_mask less other.0, written_less c d 1 whole_mask area less other.1)
 
-pub volume_less : (c d : Cartridge) (words : List ℕ) (volume : Volume) → ReadsNoMore c d → VolumeStands c words volume → VolumeStands d words volume
+pub volume_less : (c d : Cartridge) (words : List ℕ) (volume : Volume) → ReadsNoMore c d → VolumeStands c words volume →
+    VolumeStands d words volume
 volume_less c d words volume less stood = record {
   parts = All-weaker (PartStands c words) (PartStands d words)
       (λ part stands. written_less c d part.segment (mask_at words part.segment) part.sectors less stands)
@@ -47,7 +51,8 @@ volume_less c d words volume less stood = record {
   size = stood.size;
 }
 
-volumes_less : (c d : Cartridge) (words : List ℕ) (volumes : List Volume) → ReadsNoMore c d → All (VolumeStands c words) volumes → All (VolumeStands d words) volumes
+volumes_less : (c d : Cartridge) (words : List ℕ) (volumes : List Volume) → ReadsNoMore c d → All (VolumeStands c words) volumes →
+    All (VolumeStands d words) volumes
 volumes_less c d words volumes less stood =
     All-weaker (VolumeStands c words) (VolumeStands d words) (λ volume stands. volume_less c d words volume less stands) volumes stood
 
@@ -82,13 +87,15 @@ says_alike xs ys area alike (few, says) = (
   },
 )
 
-copy_reads : (c d : Cartridge) (copy : ℕ) (area : List (List ℕ)) → CellsAlike (copy_cells c copy) (copy_cells d copy) → CopyReads c copy area → CopyReads d copy area
+copy_reads : (c d : Cartridge) (copy : ℕ) (area : List (List ℕ)) → CellsAlike (copy_cells c copy) (copy_cells d copy) →
+    CopyReads c copy area → CopyReads d copy area
 copy_reads c d copy area alike reads = record {
   says = says_alike (copy_cells c copy) (copy_cells d copy) area alike reads.says;
   signature = reads.signature;
 }
 
-pub in_force : (c d : Cartridge) (area : List (List ℕ)) → CellsAlike (copy_cells c 0) (copy_cells d 0) → CellsAlike (copy_cells c 1) (copy_cells d 1) → IsInForce c area → IsInForce d area
+pub in_force : (c d : Cartridge) (area : List (List ℕ)) → CellsAlike (copy_cells c 0) (copy_cells d 0) →
+    CellsAlike (copy_cells c 1) (copy_cells d 1) → IsInForce c area → IsInForce d area
 in_force c d area first second (inl reads) = inl (copy_reads c d 0 area first reads)
 in_force c d area first second (inr reads) = inr (
   λ other again. reads.0 other (copy_reads d c 0 other (turned first) again),
@@ -101,13 +108,15 @@ table_less : (c d : Cartridge) (area : List (List ℕ)) → ReadsNoMore c d → 
 table_less c d area less written = written_less c d 2 whole_mask area less written
 
 -- one of another segment changes none of these cells
-pub other_cells : (c : Cartridge) (segment sector s : ℕ) → sector < 32 → (s ≡ segment → ⊥) → cells_of (worn segment sector c) s whole_mask ≡ cells_of c s whole_mask
+pub other_cells : (c : Cartridge) (segment sector s : ℕ) → sector < 32 → (s ≡ segment → ⊥) →
+    cells_of (worn segment sector c) s whole_mask ≡ cells_of c s whole_mask
 other_cells c segment sector s small apart =
     same_cells c (worn segment sector c) s whole_mask (λ i h.
     view_of_other c segment sector s i (worn_view (view_at c segment sector)) small h apart)
 
 -- the header in force where no header copy has the sector
-pub header_elsewhere : (c : Cartridge) (segment sector : ℕ) (area : List (List ℕ)) → sector < 32 → 2 ≤ segment → HasHeader c area → HasHeader (worn segment sector c) area
+pub header_elsewhere : (c : Cartridge) (segment sector : ℕ) (area : List (List ℕ)) → sector < 32 → 2 ≤ segment → HasHeader c area →
+    HasHeader (worn segment sector c) area
 header_elsewhere c segment sector area small behind header = record {
   referenced = header.referenced;
   in_force =
@@ -117,8 +126,10 @@ header_elsewhere c segment sector area small behind header = record {
       header.in_force;
 }
 
-worn_header : (c : Cartridge) (plain : Plain) (segment sector : ℕ) → sector < 32 → Stands c plain → WearSpares c plain segment sector → HasHeader (worn segment sector c) plain.header_area
-worn_header c plain segment sector small stood (inl behind) = header_elsewhere c segment sector plain.header_area small (omega arith) stood.header
+worn_header : (c : Cartridge) (plain : Plain) (segment sector : ℕ) → sector < 32 → Stands c plain → WearSpares c plain segment sector →
+    HasHeader (worn segment sector c) plain.header_area
+worn_header c plain segment sector small stood (inl behind) = header_elsewhere c segment sector plain.header_area small
+    (omega arith) stood.header
 worn_header c plain segment sector small stood (inr (inl copy)) = copy.1
 worn_header c plain segment sector small stood (inr (inr table)) =
     let two : segment ≡ 2 = table.0 in header_elsewhere c segment sector plain.header_area small (omega arith) stood.header
@@ -154,19 +165,22 @@ worn_stands c plain segment sector small stood spares =
 -- ---- few lost sectors
 
 -- a copy that could be read, and has lost at most three sectors, can be read
-few_reads : (c d : Cartridge) (copy : ℕ) (area : List (List ℕ)) → IsArea area → ReadsNoMore c d → CopyReads c copy area → unreadable_count (copy_cells d copy) ≤ 3 → CopyReads d copy area
+few_reads : (c d : Cartridge) (copy : ℕ) (area : List (List ℕ)) → IsArea area → ReadsNoMore c d → CopyReads c copy area →
+    unreadable_count (copy_cells d copy) ≤ 3 → CopyReads d copy area
 few_reads c d copy area is_area less reads few =
     written_reads d copy area is_area reads.signature
     (written_less c d copy whole_mask area less (said_is_written (copy_cells c copy) area reads.says)) few
 
 -- as many cells are unreadable, or more
-pub count_grows : (c d : Cartridge) (copy : ℕ) → ReadsNoMore c d → unreadable_count (copy_cells c copy) ≤ unreadable_count (copy_cells d copy)
+pub count_grows : (c d : Cartridge) (copy : ℕ) → ReadsNoMore c d → unreadable_count (copy_cells c copy) ≤ unreadable_count
+    (copy_cells d copy)
 count_grows c d copy less =
     no_fewer_unreadable (copy_cells c copy) (copy_cells d copy) (count_of_cells c copy whole_mask ∙ sym (count_of_cells d copy whole_mask))
     (λ i bytes at. held_before c d copy whole_mask i bytes less at)
 
 -- a copy that could not be read, and was written or holds zero bytes, can't be read with a sector less
-still_lost : (c d : Cartridge) (area : List (List ℕ)) → IsArea area → has_signature area ≡ true → ReadsNoMore c d → CopiesAre c area → CopyDoesNotRead c 0 → CopyDoesNotRead d 0
+still_lost : (c d : Cartridge) (area : List (List ℕ)) → IsArea area → has_signature area ≡ true → ReadsNoMore c d → CopiesAre c area →
+    CopyDoesNotRead c 0 → CopyDoesNotRead d 0
 still_lost c d area is_area signature less (inl written) none =
     elim (cases_lt 3 (unreadable_count (copy_cells c 0))) [
       | inl many ↦ let more = count_grows c d 0 less in lost_does_not_read d 0 (omega arith)
@@ -174,7 +188,8 @@ still_lost c d area is_area signature less (inl written) none =
     ]
 still_lost c d area is_area signature less (inr zeros) none = zero_does_not_read d 0 (zero_less c d 0 whole_mask less zeros.0)
 
-few_in_force : (c d : Cartridge) (plain : Plain) → Stands c plain → ReadsNoMore c d → FewLost c d plain.header_area → IsInForce d plain.header_area
+few_in_force : (c d : Cartridge) (plain : Plain) → Stands c plain → ReadsNoMore c d → FewLost c d plain.header_area →
+    IsInForce d plain.header_area
 few_in_force c d plain stood less (inl first) = inl (few_reads c d 0 plain.header_area stood.whole.header_area less first.0 first.1)
 few_in_force c d plain stood less (inr second) = inr (
   still_lost c d plain.header_area stood.whole.header_area second.1.signature less stood.copies second.0,
@@ -192,7 +207,8 @@ few_lost_is_in_force c plain segment sector stood few = record {
 abbrev pub spoiled : (segment sector : ℕ) → Cartridge → Cartridge
 spoiled segment sector c = changed (Spoil segment sector) c
 
-pub spoiled_cells : (c : Cartridge) (segment sector s : ℕ) → CellsAlike (cells_of c s whole_mask) (cells_of (spoiled segment sector c) s whole_mask)
+pub spoiled_cells : (c : Cartridge) (segment sector s : ℕ) → CellsAlike (cells_of c s whole_mask)
+    (cells_of (spoiled segment sector c) s whole_mask)
 spoiled_cells c segment sector s =
     let d : Cartridge = spoiled segment sector c in
     let alike : ReadsAlike c d = spoiled_alike c segment sector in
@@ -239,12 +255,15 @@ spoiled_stands c plain segment sector stood =
 pub same_views : (c d : Cartridge) (area : List (List ℕ)) → d.views ≡ c.views → IsInForce c area → IsInForce d area
 same_views c d area same reads =
     let cells : (s : ℕ) → copy_cells c s ≡ copy_cells d s =
-    λ s. ap (λ (views : List SectorView). map (λ i. unwrap_or (slice_get views (place_of s i)) Blank) (usable_places whole_mask)) (sym same) in
-    in_force c d area (same_alike (copy_cells c 0) (copy_cells d 0) (cells 0)) (same_alike (copy_cells c 1) (copy_cells d 1) (cells 1)) reads
+    λ s. ap (λ (views : List SectorView). map (λ i. unwrap_or (slice_get views (place_of s i)) Blank) (usable_places whole_mask))
+    (sym same) in
+    in_force c d area (same_alike (copy_cells c 0) (copy_cells d 0) (cells 0))
+    (same_alike (copy_cells c 1) (copy_cells d 1) (cells 1)) reads
 
 -- and nothing can be read in it that could not
 pub marks_read_no_more : (c d : Cartridge) → d.views ≡ c.views → ReadsNoMore c d
-marks_read_no_more c d same s i bytes at = sym (ap (λ (views : List SectorView). unwrap_or (slice_get views (place_of s i)) Blank) same) ∙ at
+marks_read_no_more c d same s i bytes at = sym (ap (λ (views : List SectorView). unwrap_or (slice_get views (place_of s i)) Blank) same)
+    ∙ at
 
 pub protected_stands : ProtectedStands
 protected_stands c plain on stood = record {
@@ -257,7 +276,8 @@ protected_stands c plain on stood = record {
   copies = stood.copies;
   sound_table = stood.sound_table;
   shown = stood.shown;
-  volumes = volumes_less c (changed (SetProtected on) c) plain.words plain.volumes (marks_read_no_more c (changed (SetProtected on) c) refl) stood.volumes;
+  volumes = volumes_less c (changed (SetProtected on) c) plain.words plain.volumes
+      (marks_read_no_more c (changed (SetProtected on) c) refl) stood.volumes;
   table = stood.table;
 }
 
@@ -272,6 +292,7 @@ referenced_stands c plain stood = record {
   copies = stood.copies;
   sound_table = stood.sound_table;
   shown = stood.shown;
-  volumes = volumes_less c (changed SetReferenced c) plain.words plain.volumes (marks_read_no_more c (changed SetReferenced c) refl) stood.volumes;
+  volumes = volumes_less c (changed SetReferenced c) plain.words plain.volumes
+      (marks_read_no_more c (changed SetReferenced c) refl) stood.volumes;
   table = stood.table;
 }

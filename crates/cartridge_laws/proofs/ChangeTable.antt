@@ -1,5 +1,6 @@
 -- The table's segment says the same where its cells are read alike.
-use Rattle.std.proofs.Common.{◌≡◌, ℕ, refl, false, List, sym, ap, Option, Some, None, zero, suc, ◌∙◌, Bool, map, slice_get, [], ◌∷◌, inl, inr, ◌<◌, ◌≤◌, subst}
+use Rattle.std.proofs.Common.{◌≡◌, ℕ, refl, false, List, sym, ap, Option, Some, None, zero, suc, ◌∙◌, Bool, map, slice_get, [], ◌∷◌, inl}
+use Rattle.std.proofs.Common.{inr, ◌<◌, ◌≤◌, subst}
 use Rattle.std.specs.Option.{option_map}
 use Rattle.std.specs.Prelude.{unwrap_or, if◌then◌else◌}
 use Rattle.std.proofs.lemmas.Option.{slice_get-map}
@@ -7,7 +8,8 @@ use Rattle.cartridge_laws.proofs.ChangeStanding.{CellsAlike, turned}
 use Rattle.cartridge_laws.proofs.ChangeViews.{ReadsAlike, same_count_front}
 use Rattle.cartridge_laws.proofs.Sets.{length-hidden, held_outside, seen_outside}
 use Rattle.cartridge_spec.specs.TableSegment.{table_cells, TableIs}
-use Rattle.cartridge_spec.specs.Says.{whole_mask, Agrees, HasBlock, HasNoBlock, HasFirstBlock, ReadsAll, shows_used_slot, last_used_below, unreadable_from, sets_by}
+use Rattle.cartridge_spec.specs.Says.{whole_mask, Agrees, HasBlock, HasNoBlock, HasFirstBlock, ReadsAll, shows_used_slot, last_used_below}
+use Rattle.cartridge_spec.specs.Says.{unreadable_from, sets_by}
 use Rattle.cartridge_laws.specs.TableCells.{last_used, unreadable_places, table_sets}
 use Rattle.cartridge_laws.specs.Segment.{hidden, unreadable_data}
 use Rattle.cartridge_spec.specs.Shape.{is_unreadable, usable_places}
@@ -41,7 +43,8 @@ last_alike : (f g : ℕ → SectorView) (places : List ℕ) (n : ℕ) → ((p : 
 unfolding last_used_below
 last_alike f g places zero alike = refl
 last_alike f g places (suc i) alike =
-    let here : shows_used_slot (unwrap_or (slice_get (map f places) i) Lost) ≡ shows_used_slot (unwrap_or (slice_get (map g places) i) Lost) =
+    let here : shows_used_slot (unwrap_or (slice_get (map f places) i) Lost) ≡ shows_used_slot
+    (unwrap_or (slice_get (map g places) i) Lost) =
     ap (λ (o : Option SectorView). shows_used_slot (unwrap_or o Lost)) (slice_get-map f places i)
     ∙ at_alike f g (slice_get places i) alike
     ∙ ap (λ (o : Option SectorView). shows_used_slot (unwrap_or o Lost)) (sym (slice_get-map g places i)) in
@@ -54,7 +57,8 @@ unreadable_alike : (f g : ℕ → SectorView) (places : List ℕ) (first : ℕ) 
 unfolding unreadable_from
 unreadable_alike f g [] first alike = refl
 unreadable_alike f g (p ∷ places) first alike =
-    ap (λ (b : Bool). if b then first ∷ unreadable_from (suc first) (map f places) else unreadable_from (suc first) (map f places)) (alike p)
+    ap (λ (b : Bool). if b then first ∷ unreadable_from (suc first) (map f places) else unreadable_from (suc first) (map f places))
+    (alike p)
     ∙ ap (λ (rest : List ℕ). if is_unreadable (g p) then first ∷ rest else rest) (unreadable_alike f g places (suc first) alike)
 
 sets_alike : (c d : Cartridge) → ReadsAlike c d → table_sets (table_cells c) ≡ table_sets (table_cells d)

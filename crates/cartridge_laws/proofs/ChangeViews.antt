@@ -1,5 +1,6 @@
 -- What a change of one sector does to the cells of each segment.
-use Rattle.std.proofs.Common.{◌≡◌, ◌⊎◌, ℕ, inl, inr, List, length, get_or, slice_set, ap, ◌∙◌, sym, ◌<◌, arith, slice_get, refl, Option, Some, None, ◌+◌, Bool, [], ◌∷◌, map, cond, zero, suc, take}
+use Rattle.std.proofs.Common.{◌≡◌, ◌⊎◌, ℕ, inl, inr, List, length, get_or, slice_set, ap, ◌∙◌, sym, ◌<◌, arith, slice_get, refl, Option}
+use Rattle.std.proofs.Common.{Some, None, ◌+◌, Bool, [], ◌∷◌, map, cond, zero, suc, take}
 use Rattle.std.proofs.lemmas.Bool.{cases_lt, cases_eq}
 use Rattle.std.proofs.lemmas.List.{get_or-set_same, get_or-set_other, set_past}
 use Rattle.std.proofs.lemmas.Option.{unwrap_or-slice_get, slice_get-map}
@@ -72,7 +73,8 @@ one_view c segment sector change s i =
 abbrev pub ReadsNoMore : (c d : Cartridge) → Type 0
 ReadsNoMore c d = (s i : ℕ) (bytes : List ℕ) → view_at d s i ≡ Holds bytes → view_at c s i ≡ Holds bytes
 
-pub worn_reads_no_more : (c : Cartridge) (segment sector : ℕ) → ReadsNoMore c (with_view c segment sector (worn_view (view_at c segment sector)))
+pub worn_reads_no_more : (c : Cartridge) (segment sector : ℕ) →
+    ReadsNoMore c (with_view c segment sector (worn_view (view_at c segment sector)))
 worn_reads_no_more c segment sector s i bytes at =
     elim (one_view c segment sector worn_view s i) [
       | inl stays ↦ sym stays ∙ at
@@ -97,7 +99,8 @@ pub record ReadsAlike (c d : Cartridge) : Type 0 where
   pub no_less : ReadsNoMore d c
   pub unreadable : (s i : ℕ) → is_unreadable (view_at d s i) ≡ is_unreadable (view_at c s i)
 
-pub spoiled_alike : (c : Cartridge) (segment sector : ℕ) → ReadsAlike c (with_view c segment sector (spoiled_view (view_at c segment sector)))
+pub spoiled_alike : (c : Cartridge) (segment sector : ℕ) →
+    ReadsAlike c (with_view c segment sector (spoiled_view (view_at c segment sector)))
 spoiled_alike c segment sector = record {
   no_more = λ s i bytes at.
       elim (one_view c segment sector spoiled_view s i) [

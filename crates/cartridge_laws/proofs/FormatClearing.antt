@@ -1,5 +1,6 @@
 -- What the steps that clear a cartridge leave, segment after segment.
-use Rattle.std.proofs.Common.{◌≡◌, ℕ, ◌<◌, ◌≤◌, length, true, refl, arith, ◌≢◌, ◌+◌, ◌*◌, inl, inr, sym, ap, ◌∙◌, subst, List, zero, suc, ◌↔◌}
+use Rattle.std.proofs.Common.{◌≡◌, ℕ, ◌<◌, ◌≤◌, length, true, refl, arith, ◌≢◌, ◌+◌, ◌*◌, inl, inr, sym, ap, ◌∙◌, subst, List, zero, suc}
+use Rattle.std.proofs.Common.{◌↔◌}
 use Rattle.std.proofs.lemmas.Bool.{cases_eq, false≢true}
 use Rattle.cartridge_laws.proofs.FormatCopies.{HoldsZeros, zero_from_views, unformatted_from_bare}
 use Rattle.cartridge_laws.proofs.FormatViews.{length-with_segment, view_of_segment, view_of_other_segment}

@@ -1,5 +1,6 @@
 -- What the cells of a segment are by the views of its sectors, and whether a header copy reads.
-use Rattle.std.proofs.Common.{◌≡◌, ℕ, ◌<◌, List, ◌-◌, sym, ◌∙◌, arith, length, slice_get, Some, ap, ◌≤◌, true, inl, inr, false, cond, refl, suc, [], ◌∷◌, ◌+◌, ◌*◌, replicate, zero, ◌==◌, get_or}
+use Rattle.std.proofs.Common.{◌≡◌, ℕ, ◌<◌, List, ◌-◌, sym, ◌∙◌, arith, length, slice_get, Some, ap, ◌≤◌, true, inl, inr, false, cond, refl}
+use Rattle.std.proofs.Common.{suc, [], ◌∷◌, ◌+◌, ◌*◌, replicate, zero, ◌==◌, get_or}
 use Rattle.std.proofs.lemmas.Option.{slice_get_within, unwrap_or-slice_get, slice_get-get_or, get_or_from_slice_get}
 use Rattle.std.proofs.lemmas.Bool.{cases_lt, false≢true}
 use Rattle.std.proofs.lemmas.List.{get_or-replicate, get_or_past, length-replicate, take_all, get_or-take}
@@ -108,7 +109,8 @@ no_fewer_unreadable [] [] long held = omega arith
 no_fewer_unreadable [] (y ∷ ys) long held = absurd (omega arith)
 no_fewer_unreadable (x ∷ xs) [] long held = absurd (omega arith)
 no_fewer_unreadable (x ∷ xs) (y ∷ ys) long held =
-    let first = counts_no_less x y (λ bytes is. let at : Some x ≡ Some (Holds bytes) = held 0 bytes (ap (λ (z : SectorView). Some z) is) in cc) in
+    let first = counts_no_less x y (λ bytes is. let at : Some x ≡ Some (Holds bytes) = held 0 bytes (ap (λ (z : SectorView). Some z) is) in
+    cc) in
     let rest = no_fewer_unreadable xs ys (omega arith) (λ i. held (suc i)) in
     omega (arith, unreadable_count-first x xs, unreadable_count-first y ys)
 
@@ -181,8 +183,11 @@ pub copy_is_readable : (c : Cartridge) (segment : ℕ) (block : List (List ℕ))
     unreadable_count (cells_of c segment whole_mask) ≤ 3
 copy_is_readable c segment block copy =
     let few : unreadable_count (cells_of c segment whole_mask) ≤ 1 =
-    few_unreadable 31 (cells_of c segment whole_mask) (length-whole_cells c segment) (λ i h.
-    (sector_at block (suc i), view_held c segment (suc i) (sector_at block (suc i)) (omega arith) (copy.here (suc i) (omega arith) (omega arith)))) in
+    few_unreadable 31 (cells_of c segment whole_mask) (length-whole_cells c segment) (λ i h. (
+      sector_at block (suc i),
+      view_held c segment (suc i) (sector_at block (suc i)) (omega arith)
+          (copy.here (suc i) (omega arith) (omega arith)),
+    )) in
     omega arith
 
 -- ---- a copy that was not written to the end
@@ -199,6 +204,8 @@ zero_front_does_not_read c copy zeros area reads =
     let front : get_or area 0 [] ≡ zero_sector =
     ap (λ (ss : List (List ℕ)). get_or ss 0 []) has.shown
     ∙ get_or-take (length has.block - 3) has.block 0 [] (omega arith)
-    ∙ get_or_from_slice_get has.block 0 zero_sector [] (has.agrees.each 0 zero_sector (view_held c copy 0 zero_sector (omega arith) zeros)) in
+    ∙ get_or_from_slice_get has.block 0 zero_sector [] (has.agrees.each 0 zero_sector (view_held c copy 0 zero_sector (omega arith) zeros))
+    in
     false≢true
-    (sym (ap (λ (bytes : List ℕ). number_at bytes 0 4 == 0xAA55_AA55) (unwrap_or-slice_get area 0 [] ∙ front) ∙ zeros_unsigned) ∙ reads.signature)
+    (sym (ap (λ (bytes : List ℕ). number_at bytes 0 4 == 0xAA55_AA55) (unwrap_or-slice_get area 0 [] ∙ front) ∙ zeros_unsigned)
+    ∙ reads.signature)

@@ -8,7 +8,8 @@ use Rattle.cartridge_laws.proofs.FormatFresh.{fresh_are_sound}
 use Rattle.cartridge_laws.proofs.FormatWriting.{IsWritable, IsWritten, copy_written, changed_by-append, view_of_written}
 use Rattle.cartridge_laws.specs.FormatLaws.{FormattingFormats, FormattedStands, FormattedIsLive, FormattedIsMarked}
 use Rattle.cartridge_laws.specs.FormatMarks.{IsFormattedFrom}
-use Rattle.cartridge_spec.specs.Formatting.{IsDefect, clearing_steps, copy_writes, HasNoDefectInFront, format_steps, IsFreshFor, fresh_plain}
+use Rattle.cartridge_spec.specs.Formatting.{IsDefect, clearing_steps, copy_writes, HasNoDefectInFront, format_steps, IsFreshFor}
+use Rattle.cartridge_spec.specs.Formatting.{fresh_plain}
 use Rattle.cartridge_spec.specs.Shape.{IsArea, sector_at, IsLive}
 use Rattle.cartridge_spec.specs.Says.{with_parity}
 use Rattle.cartridge_spec.specs.Settling.{changed_by}
@@ -64,7 +65,8 @@ second_written c block whole front long = copy_written 1 block (with_first c blo
 
 -- all steps, one list after the other
 all_steps : (c : Cartridge) (area : List (List ℕ)) →
-    changed_by (format_steps c.info.segments_per_track area) c ≡ changed_by (copy_writes 1 (with_parity area)) (with_first c (with_parity area))
+    changed_by (format_steps c.info.segments_per_track area) c ≡ changed_by (copy_writes 1 (with_parity area))
+    (with_first c (with_parity area))
 all_steps c area =
     let clearing : List Step = clearing_steps c.info.segments_per_track in
     let first : List Step = copy_writes 0 (with_parity area) in
@@ -90,7 +92,8 @@ both_written c area whole is_area front =
     }
   where
     by_copy : (copy i : ℕ) → copy < 2 → i < 32 →
-        view_at (changed_by (copy_writes 1 (with_parity area)) (with_first c (with_parity area))) copy i ≡ Holds (sector_at (with_parity area) i)
+        view_at (changed_by (copy_writes 1 (with_parity area)) (with_first c (with_parity area))) copy i ≡ Holds
+        (sector_at (with_parity area) i)
     by_copy zero i below h =
         let long : length (with_parity area) ≡ 32 = length-block area is_area in
         (second_written c (with_parity area) whole front long).almost.others 0 i h (λ same. absurd (omega arith))

@@ -1,5 +1,6 @@
 -- A cartridge with fresh header data in copy 0, and zero bytes in the table's segment, stands for the empty one.
-use Rattle.std.proofs.Common.{ℕ, List, replicate, ◌≡◌, refl, ◌+◌, ◌-◌, ◌≤◌, take, drop, ap, ◌∙◌, arith, ◌*◌, ◌/◌, ◌%◌, ◌<◌, true, [], eq-eqb, All, inl}
+use Rattle.std.proofs.Common.{ℕ, List, replicate, ◌≡◌, refl, ◌+◌, ◌-◌, ◌≤◌, take, drop, ap, ◌∙◌, arith, ◌*◌, ◌/◌, ◌%◌, ◌<◌, true, []}
+use Rattle.std.proofs.Common.{eq-eqb, All, inl}
 use Rattle.std.proofs.lemmas.List.{take-replicate, drop-replicate, get_or-replicate, length-replicate}
 use Rattle.std.proofs.lemmas.Option.{unwrap_or-slice_get}
 use Rattle.std.proofs.lemmas.List.Elements.{All-nil, All-replicate}
@@ -83,5 +84,6 @@ empty_stands c d label date words area whole for info written reads zeros =
       sound_table = empty_has_no_fault _;
       shown = empty_shows;
       volumes = All-nil (VolumeStands d words);
-      table = inl (zero_is_written (cells_of d 2 whole_mask) 29 (zero_from_views zeros) (length-whole_cells d 2) (omega arith) (omega arith));
+      table = inl (zero_is_written (cells_of d 2 whole_mask) 29 (zero_from_views zeros) (length-whole_cells d 2) (omega arith)
+          (omega arith));
     }

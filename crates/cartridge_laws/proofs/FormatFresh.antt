@@ -1,5 +1,6 @@
 -- Fresh header data pass all tests, where no sector in front is marked.
-use Rattle.std.proofs.Common.{◌≡◌, ℕ, ◌-◌, true, List, Option, None, eq-eqb, [], ◌∷◌, ap, ◌∙◌, All, ◌<◌, arith, zero, suc, ◌^◌, get_or, take, ◌+◌, drop, inl, inr, length, ◌%◌, ◌/◌, sym, ◌*◌, ◌≤◌}
+use Rattle.std.proofs.Common.{◌≡◌, ℕ, ◌-◌, true, List, Option, None, eq-eqb, [], ◌∷◌, ap, ◌∙◌, All, ◌<◌, arith, zero, suc, ◌^◌, get_or}
+use Rattle.std.proofs.Common.{take, ◌+◌, drop, inl, inr, length, ◌%◌, ◌/◌, sym, ◌*◌, ◌≤◌}
 use Rattle.std.specs.Option.{option_or}
 use Rattle.std.proofs.lemmas.List.Elements.{All-get_or}
 use Rattle.std.proofs.Math.Nat.{pow-suc}
@@ -72,7 +73,8 @@ front_words c label date words area s whole for below =
     let on : s < 28 * c.info.segments_per_track = omega arith in
     let is : words ≡ words_in area (28 * c.info.segments_per_track) = for.fresh.spells.shows.map in
     let read : get_or words s 0 ≡ word_in area s =
-    ap (λ (xs : List ℕ). get_or xs s 0) is ∙ get_or-map-range_with_len (word_in area) 0 (28 * c.info.segments_per_track) s s 0 on (omega arith) in
+    ap (λ (xs : List ℕ). get_or xs s 0) is ∙ get_or-map-range_with_len (word_in area) 0 (28 * c.info.segments_per_track) s s 0 on
+    (omega arith) in
     let offset : ℕ = 2048 + 4 * s in
     let small : word_in area s < 2 ^ 32 =
     number_at-below (sector_at area (offset / 1024)) (offset % 1024) (λ i. small_bytes area (offset / 1024) i for.fresh.size.sectors) in

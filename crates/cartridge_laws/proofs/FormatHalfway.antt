@@ -1,5 +1,6 @@
 -- What a stop among the steps that clear a cartridge leaves.
-use Rattle.std.proofs.Common.{◌⊎◌, ℕ, ◌≡◌, ◌<◌, ◌≤◌, true, sym, ◌∙◌, inl, refl, zero, suc, inr, ap, arith, List, Option, Some, None, IsSomeAnd, ◌+◌, ◌*◌, length}
+use Rattle.std.proofs.Common.{◌⊎◌, ℕ, ◌≡◌, ◌<◌, ◌≤◌, true, sym, ◌∙◌, inl, refl, zero, suc, inr, ap, arith, List, Option, Some, None}
+use Rattle.std.proofs.Common.{IsSomeAnd, ◌+◌, ◌*◌, length}
 use Rattle.cartridge_laws.proofs.FormatClearing.{formatted_zeros, IsClearedTo, cleared_more, cleared_none}
 use Rattle.cartridge_laws.proofs.FormatCopies.{HoldsZeros, Shrank, zero_from_views}
 use Rattle.cartridge_laws.proofs.FormatViews.{view_of_other_stopped}

@@ -51,16 +51,20 @@ first_sector [] long = absurd (omega arith)
 first_sector (bytes ∷ block) long = refl
 
 -- the writes to a set of places, by what the set has
-writes_by : (copy places : ℕ) (indexes : List ℕ) (sectors block : List (List ℕ)) → sectors_of places ≡ indexes → indexes_of indexes ≡ indexes →
+writes_by : (copy places : ℕ) (indexes : List ℕ) (sectors block : List (List ℕ)) → sectors_of places ≡ indexes →
+    indexes_of indexes ≡ indexes →
     map (λ place. sector_at block place) indexes ≡ sectors → named_writes copy whole_mask places block ≡ writes_of copy indexes sectors
 unfolding indexes_of
 writes_by copy places indexes sectors block has same held =
-    ap (λ (ps : List ℕ). writes_of copy (map (λ place. slice_index (usable_places whole_mask) place) ps) (map (λ place. sector_at block place) ps)) has
+    ap (λ (ps : List ℕ). writes_of copy (map (λ place. slice_index (usable_places whole_mask) place) ps)
+    (map (λ place. sector_at block place) ps)) has
     ∙ ap (λ (is : List ℕ). writes_of copy is (map (λ place. sector_at block place) indexes)) same
     ∙ ap (λ (ss : List (List ℕ)). writes_of copy indexes ss) held
 
 pub copy_writes_by_places : CopyWritesByPlaces
 copy_writes_by_places copy block long =
-    let rear = writes_by copy (2 ^ 32 - 2) (range_with_len 1 31) (drop 1 block) block all_but_the_first rear_indexes (sectors_from block 1 31 long) in
+    let rear = writes_by copy (2 ^ 32 - 2) (range_with_len 1 31) (drop 1 block) block all_but_the_first rear_indexes
+    (sectors_from block 1 31 long) in
     let front = writes_by copy 1 (range_with_len 0 1) (take 1 block) block the_first front_index (first_sector block long) in
-    sym (ap (λ (ws : List Step). ws ++ named_writes copy whole_mask 1 block) rear ∙ ap (λ (ws : List Step). writes_of copy (range_with_len 1 31) (drop 1 block) ++ ws) front)
+    sym (ap (λ (ws : List Step). ws ++ named_writes copy whole_mask 1 block) rear
+    ∙ ap (λ (ws : List Step). writes_of copy (range_with_len 1 31) (drop 1 block) ++ ws) front)

@@ -1,6 +1,8 @@
 -- A cartridge that was kept but for its header copies stands for what it stood for, where a copy still reads, and else has bare
 -- copies.
-use Rattle.std.proofs.Common.{ℕ, suc, ◌-◌, ◌<◌, Bool, true, false, [], ◌∷◌, cond, arith, All, zero, ◌/◌, ◌%◌, ◌^◌, ◌==◌, ◌≡◌, List, map, refl, ap, ◌∙◌, ◌||◌, Some, ◌≤◌, nat_lt, length, slice_get, sym, subst, ◌+◌, take, drop, nat_le, inl, inr, ◌⊎◌, ◌*◌}
+use Rattle.std.proofs.Common.{ℕ, suc, ◌-◌, ◌<◌, Bool, true, false, [], ◌∷◌, cond, arith, All, zero, ◌/◌, ◌%◌, ◌^◌, ◌==◌, ◌≡◌, List, map}
+use Rattle.std.proofs.Common.{refl, ap, ◌∙◌, ◌||◌, Some, ◌≤◌, nat_lt, length, slice_get, sym, subst, ◌+◌, take, drop, nat_le, inl, inr, ◌⊎◌}
+use Rattle.std.proofs.Common.{◌*◌}
 use Rattle.std.proofs.lemmas.List.Elements.{All-nil, All-cons, All-append, All-weaker, All-head, All-tail, All-filter}
 use Rattle.std.proofs.lemmas.Bool.{ltb-false, or_parts, cases_lt}
 use Rattle.std.proofs.lemmas.Option.{slice_get_within}
@@ -34,7 +36,8 @@ unfolding lost_places
 small_places mask zero = All-nil (λ (place : ℕ). place < 0)
 small_places mask (suc n) =
     All-append (λ (place : ℕ). place < suc n) (lost_places mask n) _
-    (All-weaker (λ (place : ℕ). place < n) (λ (place : ℕ). place < suc n) (λ place h. omega arith) (lost_places mask n) (small_places mask n))
+    (All-weaker (λ (place : ℕ). place < n) (λ (place : ℕ). place < suc n) (λ place h. omega arith) (lost_places mask n)
+    (small_places mask n))
     (last_small n (mask / 2 ^ n % 2 == 1))
 
 map_same : (f g : ℕ → SectorView) (xs : List ℕ) → All (λ x. f x ≡ g x) xs → map f xs ≡ map g xs
@@ -74,7 +77,8 @@ entry_starts area last entries sound shown i e at =
 abbrev pub BeginsBehind : Volume → Type 0
 BeginsBehind volume = 3 ≤ volume.entry.start
 
-pub volumes_behind : (volumes : List Volume) → ((i : ℕ) (e : Entry) → slice_get (map (λ volume. volume.entry) volumes) i ≡ Some e → 3 ≤ e.start) →
+pub volumes_behind : (volumes : List Volume) →
+    ((i : ℕ) (e : Entry) → slice_get (map (λ volume. volume.entry) volumes) i ≡ Some e → 3 ≤ e.start) →
     All BeginsBehind volumes
 volumes_behind [] starts = All-nil BeginsBehind
 volumes_behind (volume ∷ volumes) starts =
@@ -115,7 +119,8 @@ volumes_kept c d words (volume ∷ volumes) kept behind written =
     let stood : VolumeStands c words volume = All-head (VolumeStands c words) volume volumes written in
     All-cons (VolumeStands d words) volume volumes
     (record { parts = parts_kept c d words (carrying words start end) volume.area kept segments stood.parts; size = stood.size })
-    (volumes_kept c d words volumes kept (All-tail BeginsBehind volume volumes behind) (All-tail (VolumeStands c words) volume volumes written))
+    (volumes_kept c d words volumes kept (All-tail BeginsBehind volume volumes behind)
+    (All-tail (VolumeStands c words) volume volumes written))
 
 -- ---- the header
 
@@ -129,7 +134,8 @@ record HeaderStands (d : Cartridge) (area : List (List ℕ)) : Type 0 where
   in_force : IsInForce d area
   copies : CopiesAre d area
 
-copy_decided : (d : Cartridge) (copy : ℕ) (area : List (List ℕ)) → IsArea area → has_signature area ≡ true → Written (copy_cells d copy) area →
+copy_decided : (d : Cartridge) (copy : ℕ) (area : List (List ℕ)) → IsArea area → has_signature area ≡ true →
+    Written (copy_cells d copy) area →
     CopyReads d copy area ⊎ CopyDoesNotRead d copy
 copy_decided d copy area is_area signature written =
     elim (cases_lt 3 (unreadable_count (copy_cells d copy))) [
@@ -200,7 +206,10 @@ kept_stands c d plain stood kept =
     let first : IsCleanCopy d 0 area = clean_kept 0 area stood.copies.first kept.first in
     let second : IsCleanCopy d 1 area = clean_kept 1 area stood.copies.second kept.second in
     elim (header_decided d area is_area signature first second) [
-      | inl header ↦ inl (record { stands = still_stands c d plain stood.stands kept header; copies = record { first = first; second = second } })
+      | inl header ↦ inl (record {
+        stands = still_stands c d plain stood.stands kept header;
+        copies = record { first = first; second = second };
+      })
       | inr none ↦ inr (record {
         first = clean_is_bare d 0 area is_area signature first none.0;
         second = clean_is_bare d 1 area is_area signature second none.1;

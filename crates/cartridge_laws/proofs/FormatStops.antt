@@ -1,14 +1,18 @@
 -- What a stop among the steps of formatting leaves, from the first to the last.
 use Rattle.std.proofs.Common.{◌⊎◌, inl, inr, ℕ, ◌≤◌, sym, ◌∙◌, arith, ◌≡◌, ◌<◌, List, ◌++◌, length, ap, subst, Option, Some, IsSomeAnd}
 use Rattle.cartridge_laws.proofs.FormatClearing.{cleared_to_the_end, formatted_zeros}
-use Rattle.cartridge_laws.proofs.FormatCopies.{unformatted_from_bare, bare_shrank, zero_from_views, HoldsZeros, zero_front_does_not_read, IsCopyOf}
-use Rattle.cartridge_laws.proofs.FormatDone.{cleared, cleared_front, copy_stands, with_first, first_written, first_writable, second_writable}
+use Rattle.cartridge_laws.proofs.FormatCopies.{unformatted_from_bare, bare_shrank, zero_from_views, HoldsZeros, zero_front_does_not_read}
+use Rattle.cartridge_laws.proofs.FormatCopies.{IsCopyOf}
+use Rattle.cartridge_laws.proofs.FormatDone.{cleared, cleared_front, copy_stands, with_first, first_written, first_writable}
+use Rattle.cartridge_laws.proofs.FormatDone.{second_writable}
 use Rattle.cartridge_laws.proofs.FormatHalfway.{IsKeptOrBare, IsKeptCopy, clearing_stopped}
 use Rattle.cartridge_laws.proofs.FormatStanding.{kept_stands}
-use Rattle.cartridge_laws.proofs.FormatWriting.{some_weaker, IsUntouched, IsAlmostWritten, IsPartlyWritten, changed_by-append, effects-some, copy_stopped}
+use Rattle.cartridge_laws.proofs.FormatWriting.{some_weaker, IsUntouched, IsAlmostWritten, IsPartlyWritten, changed_by-append, effects-some}
+use Rattle.cartridge_laws.proofs.FormatWriting.{copy_stopped}
 use Rattle.cartridge_laws.proofs.Segments.{zero_does_not_read}
 use Rattle.cartridge_laws.specs.FormatLaws.{StoppedClearing, StoppedClearingNew, StoppedFormat, StoppedFormatNew}
-use Rattle.cartridge_spec.specs.Formatting.{StandsCleanly, HasNoHeader, HasNoDefectInFront, IsFreshFor, fresh_plain, clearing_steps, copy_writes, format_steps}
+use Rattle.cartridge_spec.specs.Formatting.{StandsCleanly, HasNoHeader, HasNoDefectInFront, IsFreshFor, fresh_plain, clearing_steps}
+use Rattle.cartridge_spec.specs.Formatting.{copy_writes, format_steps}
 use Rattle.cartridge_laws.specs.HeaderTerms.{IsBareCopy}
 use Rattle.cartridge_spec.specs.HeaderCopies.{IsUnformatted}
 use Rattle.cartridge_spec.specs.TableSegment.{IsTableLive}
@@ -60,12 +64,14 @@ untouched_unformatted c d whole front kept =
           (sym (kept.others 1 i h (λ same. absurd (omega arith)) ∙ (cleared_to_the_end c whole).formatted 1 i (omega arith) h) ∙ view);
     } in
     inr (
-      zero_front_does_not_read d 0 (kept.others 0 0 (omega arith) (λ same. omega arith) ∙ cleared_front c 0 0 whole front (omega arith) (omega arith)),
+      zero_front_does_not_read d 0 (kept.others 0 0 (omega arith) (λ same. omega arith) ∙ cleared_front c 0 0 whole front (omega arith)
+          (omega arith)),
       zero_does_not_read d 1 (zero_from_views zeros),
     )
 
 -- the table's segment holds zero bytes, where it is as it was cleared
-table_zeros : (c d : Cartridge) → IsCartridge c → HasNoDefectInFront c → ((i : ℕ) → i < 32 → view_at d 2 i ≡ view_at (cleared c) 2 i) → HoldsZeros d 2
+table_zeros : (c d : Cartridge) → IsCartridge c → HasNoDefectInFront c → ((i : ℕ) → i < 32 → view_at d 2 i ≡ view_at (cleared c) 2 i) →
+    HoldsZeros d 2
 table_zeros c d whole front same = record {
   each = λ i bytes h view.
       let held : Holds zero_sector ≡ Holds bytes = sym (same i h ∙ cleared_front c 2 i whole front (omega arith) h) ∙ view in
@@ -73,7 +79,8 @@ table_zeros c d whole front same = record {
 }
 
 -- and each of its sectors takes a write
-table_live : (c d : Cartridge) → IsCartridge c → HasNoDefectInFront c → ((i : ℕ) → i < 32 → view_at d 2 i ≡ view_at (cleared c) 2 i) → IsTableLive d
+table_live : (c d : Cartridge) → IsCartridge c → HasNoDefectInFront c → ((i : ℕ) → i < 32 → view_at d 2 i ≡ view_at (cleared c) 2 i) →
+    IsTableLive d
 table_live c d whole front same i h = subst IsLive (sym (same i h ∙ cleared_front c 2 i whole front (omega arith) h)) tt
 
 almost_copy : {segment : ℕ} {block : List (List ℕ)} {c d : Cartridge} → IsAlmostWritten segment block c d → IsCopyOf d segment block
@@ -121,7 +128,8 @@ second_left c d label date words area whole for partly =
       table_live c d whole for.front table,
     ))
 
-format_stopped : (c : Cartridge) (label : List ℕ) (date : ℕ) (words : List ℕ) (area : List (List ℕ)) (left : Option Cartridge) → IsCartridge c →
+format_stopped : (c : Cartridge) (label : List ℕ) (date : ℕ) (words : List ℕ) (area : List (List ℕ)) (left : Option Cartridge) →
+    IsCartridge c →
     IsFreshFor c label date words area → Torn (format_steps c.info.segments_per_track area) (Some c) left →
     IsSomeAnd left (LeftByFormat c (fresh_plain c label date words area))
 format_stopped c label date words area left whole for torn =

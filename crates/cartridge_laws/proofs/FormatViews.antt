@@ -1,5 +1,6 @@
 -- What a change of one segment or of one sector does to the views of a cartridge.
-use Rattle.std.proofs.Common.{◌≡◌, ℕ, ◌+◌, ◌*◌, get_or, List, ◌≤◌, length, arith, length-append, length-take, length-drop, ◌<◌, ◌∙◌, ap, sym, ◌≢◌, inl, inr, slice_get, Option}
+use Rattle.std.proofs.Common.{◌≡◌, ℕ, ◌+◌, ◌*◌, get_or, List, ◌≤◌, length, arith, length-append, length-take, length-drop, ◌<◌, ◌∙◌, ap}
+use Rattle.std.proofs.Common.{sym, ◌≢◌, inl, inr, slice_get, Option}
 use Rattle.std.proofs.lemmas.Option.{unwrap_or-slice_get}
 use Rattle.std.proofs.lemmas.List.{length-map, get_or-set_same, get_or_past, set_past, get_or-set_other}
 use Rattle.std.proofs.lemmas.Bool.{cases_lt}

@@ -1,5 +1,6 @@
 -- What the writes of a header copy leave, done or stopped.
-use Rattle.std.proofs.Common.{◌≡◌, ◌+◌, List, [], ◌∷◌, ◌++◌, refl, Some, sym, subst, Option, IsSomeAnd, None, ℕ, ◌<◌, ◌∙◌, arith, zero, suc, ◌≤◌, inl, inr, length, get_or, ap, ◌⊎◌}
+use Rattle.std.proofs.Common.{◌≡◌, ◌+◌, List, [], ◌∷◌, ◌++◌, refl, Some, sym, subst, Option, IsSomeAnd, None, ℕ, ◌<◌, ◌∙◌, arith, zero, suc}
+use Rattle.std.proofs.Common.{◌≤◌, inl, inr, length, get_or, ap, ◌⊎◌}
 use Rattle.std.specs.List.{range_with_len}
 use Rattle.std.proofs.lemmas.Option.{unwrap_or-slice_get}
 use Rattle.cartridge_laws.proofs.FormatViews.{view_of_other_sector, view_of_sector}
@@ -81,7 +82,8 @@ writes_stopped : (m from : ℕ) (sectors : List (List ℕ)) (segment : ℕ) (c :
     Torn (writes_of segment (range_with_len from m) sectors) (Some c) left → IsSomeAnd left (IsUntouched segment from c)
 writes_stopped zero from sectors segment c left room is = some_and (IsUntouched segment from c) c left (untouched segment from c) is
 writes_stopped (suc m) from [] segment c left room is = some_and (IsUntouched segment from c) c left (untouched segment from c) is
-writes_stopped (suc m) from (bytes ∷ sectors) segment c left room (inl is) = some_and (IsUntouched segment from c) c left (untouched segment from c) is
+writes_stopped (suc m) from (bytes ∷ sectors) segment c left room (inl is) = some_and (IsUntouched segment from c) c left
+    (untouched segment from c) is
 writes_stopped (suc m) from (bytes ∷ sectors) segment c left room (inr (inl is)) =
     some_and (IsUntouched segment from c) (changed (Wear segment from) c) left (wear_untouched segment from c (omega arith)) is
 writes_stopped (suc m) from (bytes ∷ sectors) segment c left room (inr (inr torn)) =
@@ -96,14 +98,16 @@ view_written zero from j sectors segment c room long h = absurd (omega arith)
 view_written (suc m) from j [] segment c room long h = absurd (omega arith)
 view_written (suc m) from zero (bytes ∷ sectors) segment c room long h =
     let place : from + 0 ≡ from = omega arith in
-    subst (λ (i : ℕ). view_at (changed_by (writes_of segment (range_with_len (from + 1) m) sectors) (changed (WriteSector segment from bytes) c)) segment i
+    subst (λ (i : ℕ). view_at (changed_by (writes_of segment (range_with_len (from + 1) m) sectors)
+    (changed (WriteSector segment from bytes) c)) segment i
     ≡ written_view bytes (view_at c segment i)) (sym place)
     ((writes_untouched m (from + 1) sectors segment (changed (WriteSector segment from bytes) c) (omega arith)).others
     segment from (omega arith) (λ same. omega arith)
     ∙ view_of_sector c segment from (written_view bytes) refl)
 view_written (suc m) from (suc j) (bytes ∷ sectors) segment c room long h =
     let place : (from + 1) + j ≡ from + suc j = omega arith in
-    subst (λ (i : ℕ). view_at (changed_by (writes_of segment (range_with_len (from + 1) m) sectors) (changed (WriteSector segment from bytes) c)) segment i
+    subst (λ (i : ℕ). view_at (changed_by (writes_of segment (range_with_len (from + 1) m) sectors)
+    (changed (WriteSector segment from bytes) c)) segment i
     ≡ written_view (get_or sectors j []) (view_at c segment i)) place
     (view_written m (from + 1) j sectors segment (changed (WriteSector segment from bytes) c) (omega arith) (omega arith) (omega arith)
     ∙ ap (written_view (get_or sectors j []))
@@ -137,7 +141,8 @@ view_of_written (suc i) written h = written.almost.here (suc i) (omega arith) h
 abbrev rear_writes : (copy : ℕ) → (rear : List (List ℕ)) → List Step
 rear_writes copy rear = writes_of copy (range_with_len 1 31) rear
 
-rear_written : (copy i : ℕ) (bytes : List ℕ) (rear : List (List ℕ)) (c : Cartridge) → length rear ≡ 31 → IsWritable c copy → 1 ≤ i → i < 32 →
+rear_written : (copy i : ℕ) (bytes : List ℕ) (rear : List (List ℕ)) (c : Cartridge) → length rear ≡ 31 → IsWritable c copy → 1 ≤ i →
+    i < 32 →
     view_at (changed_by (rear_writes copy rear) c) copy i ≡ Holds (sector_at (bytes ∷ rear) i)
 rear_written copy zero bytes rear c long writable from h = absurd (omega arith)
 rear_written copy (suc j) bytes rear c long writable from h =
@@ -210,13 +215,16 @@ copy_written copy (bytes ∷ rear) c long writable =
 abbrev pub IsPartlyWritten : (copy : ℕ) (block : List (List ℕ)) (c d : Cartridge) → Type 0
 IsPartlyWritten copy block c d = IsUntouched copy 1 c d ⊎ IsAlmostWritten copy block c d
 
-last_stopped : (copy : ℕ) (bytes : List ℕ) (rear : List (List ℕ)) (c : Cartridge) (left : Option Cartridge) → length rear ≡ 31 → IsWritable c copy →
+last_stopped : (copy : ℕ) (bytes : List ℕ) (rear : List (List ℕ)) (c : Cartridge) (left : Option Cartridge) → length rear ≡ 31 →
+    IsWritable c copy →
     Torn (WriteSector copy 0 bytes ∷ []) (Some (changed_by (rear_writes copy rear) c)) left →
     IsSomeAnd left (IsPartlyWritten copy (bytes ∷ rear) c)
 last_stopped copy bytes rear c left long writable (inl is) =
-    some_and (IsPartlyWritten copy (bytes ∷ rear) c) (changed_by (rear_writes copy rear) c) left (inl (writes_untouched 31 1 rear copy c (omega arith))) is
+    some_and (IsPartlyWritten copy (bytes ∷ rear) c) (changed_by (rear_writes copy rear) c) left
+    (inl (writes_untouched 31 1 rear copy c (omega arith))) is
 last_stopped copy bytes rear c left long writable (inr (inl is)) =
-    some_and (IsPartlyWritten copy (bytes ∷ rear) c) (changed (Wear copy 0) (changed_by (rear_writes copy rear) c)) left (inr (worn_written copy bytes rear c long writable)) is
+    some_and (IsPartlyWritten copy (bytes ∷ rear) c) (changed (Wear copy 0) (changed_by (rear_writes copy rear) c)) left
+    (inr (worn_written copy bytes rear c long writable)) is
 last_stopped copy bytes rear c left long writable (inr (inr is)) =
     some_and (IsPartlyWritten copy (bytes ∷ rear) c) (changed (WriteSector copy 0 bytes) (changed_by (rear_writes copy rear) c)) left
     (inr (all_written copy bytes rear c long writable).almost) is

@@ -1,12 +1,14 @@
 -- Fresh header data for a cartridge, and the words that mark its defects.
-use Rattle.std.proofs.Common.{ℕ, Bool, true, false, zero, suc, ◌+◌, ◌*◌, ◌^◌, ◌-◌, ◌<◌, arith, ◌≤◌, ◌≡◌, ◌⊎◌, inl, inr, ◌/◌, ◌%◌, ap, ◌∙◌, refl, List, map, length, get_or, sym, [], All, set, length-set}
+use Rattle.std.proofs.Common.{ℕ, Bool, true, false, zero, suc, ◌+◌, ◌*◌, ◌^◌, ◌-◌, ◌<◌, arith, ◌≤◌, ◌≡◌, ◌⊎◌, inl, inr, ◌/◌, ◌%◌, ap, ◌∙◌}
+use Rattle.std.proofs.Common.{refl, List, map, length, get_or, sym, [], All, set, length-set}
 use Rattle.std.proofs.Math.Nat.{pow-suc}
 use Rattle.std.proofs.lemmas.Bool.{cases_lt}
 use Rattle.std.proofs.lemmas.Nat.Bits.{bit_at_cat_low, bit_at_cat_high, bit_at_lowest}
 use Rattle.std.specs.List.{range_with_len}
 use Rattle.std.proofs.lemmas.List.FromFn.{length-map-range_with_len, get_or-map-range_with_len, fill_by_all}
 use Rattle.std.proofs.lemmas.List.Elements.{All-get_or, All-from_recursion, All-set}
-use Rattle.cartridge_laws.proofs.FreshBuilding.{zero_area, with_words, zero_area_is, IsMapped, words_written, IsFilled, zero_area_clear, fields_written}
+use Rattle.cartridge_laws.proofs.FreshBuilding.{zero_area, with_words, zero_area_is, IsMapped, words_written, IsFilled, zero_area_clear}
+use Rattle.cartridge_laws.proofs.FreshBuilding.{fields_written}
 use Rattle.cartridge_laws.proofs.HeaderSpellingLaws.{all_fields, IsEncoded, encoded_spells}
 use Rattle.cartridge_laws.specs.FreshLaws.{FreshAreaExists}
 use Rattle.cartridge_laws.specs.HeaderWriting.{with_fields, FieldFits, told_fields}
@@ -64,7 +66,8 @@ from_bits-bit f (suc width) i below = by_place (λ lower. from_bits-bit f width 
         ∙ ap (λ (n : ℕ). bit (f width) / 2 ^ n % 2) none
         ∙ highest (bit (f width)) (bit-below (f width)))
 
-    by_place : (i < width → from_bits f width / 2 ^ i % 2 ≡ bit (f i)) → (i < width) ⊎ (width ≤ i) → (bit (f width) * 2 ^ width + from_bits f width) / 2 ^ i % 2 ≡ bit (f i)
+    by_place : (i < width → from_bits f width / 2 ^ i % 2 ≡ bit (f i)) → (i < width) ⊎ (width ≤ i) →
+        (bit (f width) * 2 ^ width + from_bits f width) / 2 ^ i % 2 ≡ bit (f i)
     by_place rest (inl lower) = bit_at_cat_low (bit (f width)) width (from_bits f width) i lower ∙ rest lower
     by_place rest (inr upper) = at_width i (omega arith)
 
@@ -98,7 +101,8 @@ defect_word-below : (c : Cartridge) (segment : ℕ) → defect_word c segment < 
 unfolding defect_word
 defect_word-below c segment = from_bits-below (λ index. is_defect (view_at c segment index)) 32
 
-defect_word-bit : (c : Cartridge) (segment index : ℕ) → index < 32 → defect_word c segment / 2 ^ index % 2 ≡ bit (is_defect (view_at c segment index))
+defect_word-bit : (c : Cartridge) (segment index : ℕ) → index < 32 → defect_word c segment / 2 ^ index % 2 ≡ bit
+    (is_defect (view_at c segment index))
 unfolding defect_word
 defect_word-bit c segment index within = from_bits-bit (λ i. is_defect (view_at c segment i)) 32 index within
 
@@ -167,7 +171,8 @@ words_shown c whole =
     defect_words-at c s on ∙ sym ((is_mapped c whole).words s on)))
 
 is_encoded : (c : Cartridge) (label : List ℕ) (date : ℕ) → IsCartridge c → IsLabel label → date < 2 ^ 32 →
-    IsEncoded (fresh_header c.info.segments_per_track label date) (defect_words c) (first_sector c (fresh_header c.info.segments_per_track label date)) zero_area (mapped c)
+    IsEncoded (fresh_header c.info.segments_per_track label date) (defect_words c)
+    (first_sector c (fresh_header c.info.segments_per_track label date)) zero_area (mapped c)
 unfolding first_sector
 is_encoded c label date whole is_label small = record {
   tracks = whole.long;

@@ -1,6 +1,8 @@
 -- A data area that is built: zero bytes, the words of a map written over them, and the fields of a header.
-use Rattle.std.proofs.Common.{◌≡◌, ℕ, ◌+◌, ◌<◌, ◌≤◌, List, ◌++◌, take, drop, length, ◌∙◌, arith, All, zero, suc, ◌/◌, ◌%◌, replicate, refl, [], ◌*◌, get_or, set, ◌^◌, ap, length-set, get_or-set_same, below_more, add-one, true, ◌∷◌}
-use Rattle.std.proofs.lemmas.List.Elements.{All-take, All-drop, All-append, All-nil, All-cons, All-replicate, All-get_or, All-set, All-head, All-tail}
+use Rattle.std.proofs.Common.{◌≡◌, ℕ, ◌+◌, ◌<◌, ◌≤◌, List, ◌++◌, take, drop, length, ◌∙◌, arith, All, zero, suc, ◌/◌, ◌%◌, replicate, refl}
+use Rattle.std.proofs.Common.{[], ◌*◌, get_or, set, ◌^◌, ap, length-set, get_or-set_same, below_more, add-one, true, ◌∷◌}
+use Rattle.std.proofs.lemmas.List.Elements.{All-take, All-drop, All-append, All-nil, All-cons, All-replicate, All-get_or, All-set, All-head}
+use Rattle.std.proofs.lemmas.List.Elements.{All-tail}
 use Rattle.std.proofs.lemmas.List.{length-replicate, get_or-replicate}
 use Rattle.std.proofs.lemmas.Option.{unwrap_or-slice_get}
 use Rattle.cartridge_laws.proofs.FreshFields.{are_first, first-head, first-tail}
@@ -95,7 +97,8 @@ word_written segment word area whole on small =
     let sector : List ℕ = get_or area (2 + segment / 256) [] in
     let bytes : List ℕ = overwritten (get_or area (2 + segment / 256) []) (4 * (segment % 256)) (little_endian_bytes 4 word) in
     let is_sector : IsSector (overwritten (get_or area (2 + segment / 256) []) (4 * (segment % 256)) (little_endian_bytes 4 word)) =
-    overwritten_is_sector (get_or area (2 + segment / 256) []) (little_endian_bytes 4 word) (4 * (segment % 256)) old (omega arith) (number_bytes 4 word) in
+    overwritten_is_sector (get_or area (2 + segment / 256) []) (little_endian_bytes 4 word) (4 * (segment % 256)) old (omega arith)
+    (number_bytes 4 word) in
     let place : (2048 + 4 * segment) / 1024 ≡ 2 + segment / 256 = omega arith in
     let rest : (2048 + 4 * segment) % 1024 ≡ 4 * (segment % 256) = omega arith in
     record {
@@ -105,7 +108,8 @@ word_written segment word area whole on small =
       };
       spelled = rw (place, rest)
           (ap (λ (xs : List ℕ). number_at xs (4 * (segment % 256)) 4)
-          (unwrap_or-slice_get (set area (2 + segment / 256) bytes) (2 + segment / 256) [] ∙ get_or-set_same area (2 + segment / 256) bytes [] there)
+          (unwrap_or-slice_get (set area (2 + segment / 256) bytes) (2 + segment / 256) []
+          ∙ get_or-set_same area (2 + segment / 256) bytes [] there)
           ∙ number_at-overwritten sector (4 * (segment % 256)) 4 word (omega arith) small);
       others = λ k outside. byte_in-other_word area bytes sector segment word k there refl (omega arith) refl outside;
     }
@@ -154,7 +158,8 @@ value_written sector offset width (Text bytes) whole within fills =
     let size : length bytes ≡ width = fills.0 in
     overwritten_is_sector sector bytes offset whole (omega arith) fills.1
 
-pub fields_written : (fs : List Field) (sector : List ℕ) → are_first fs ≡ true → All IsFilled fs → IsSector sector → IsSector (with_fields fs sector)
+pub fields_written : (fs : List Field) (sector : List ℕ) → are_first fs ≡ true → All IsFilled fs → IsSector sector →
+    IsSector (with_fields fs sector)
 fields_written [] sector within fills whole = whole
 fields_written (f ∷ fs) sector within fills whole =
     fields_written fs (overwritten sector f.offset (value_bytes f.width f.value)) (first-tail f fs within) (All-tail IsFilled f fs fills)

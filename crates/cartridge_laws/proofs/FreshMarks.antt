@@ -1,5 +1,6 @@
 -- Words that mark a cartridge's defects, and words that an area shows.
-use Rattle.std.proofs.Common.{ℕ, zero, suc, ◌-◌, ◌^◌, ◌<◌, List, [], ◌∷◌, take, arith, All, ◌≡◌, ◌+◌, drop, ◌⊎◌, inl, inr, ◌≤◌, length, ◌∙◌, ◌*◌, ◌/◌, ◌%◌, get_or, ap, sym}
+use Rattle.std.proofs.Common.{ℕ, zero, suc, ◌-◌, ◌^◌, ◌<◌, List, [], ◌∷◌, take, arith, All, ◌≡◌, ◌+◌, drop, ◌⊎◌, inl, inr, ◌≤◌, length, ◌∙◌}
+use Rattle.std.proofs.Common.{◌*◌, ◌/◌, ◌%◌, get_or, ap, sym}
 use Rattle.std.proofs.Math.Nat.{pow-suc}
 use Rattle.std.proofs.lemmas.List.Elements.{All-head, All-tail, All-drop, All-nil, All-from_get_or, All-get_or}
 use Rattle.std.proofs.lemmas.Bool.{cases_lt}
@@ -102,7 +103,8 @@ fresh_words c label date words area for =
 
 pub fresh_area_is_one : FreshAreaIsOne
 fresh_area_is_one c label date words others area other for fro =
-    let same : words ≡ others = marks_are_one c words others (fresh_words c label date words area for) (fresh_words c label date others other fro) for.marks fro.marks in
+    let same : words ≡ others = marks_are_one c words others (fresh_words c label date words area for)
+    (fresh_words c label date others other fro) for.marks fro.marks in
     let before : IsFreshArea c.info.segments_per_track label date others other = record { size = fro.size; spells = fro.spells } in
     let moved : IsFreshArea c.info.segments_per_track label date words other = rw same before in
     (same, spelled_is_one (fresh_header c.info.segments_per_track label date) words area other for.size moved.size for.spells moved.spells)

@@ -1,5 +1,6 @@
 -- Areas that spell the same header and the same map are equal, byte by byte.
-use Rattle.std.proofs.Common.{ℕ, ◌<◌, List, ◌≡◌, ◌-◌, [], ◌∷◌, length, refl, arith, ◌+◌, ◌≤◌, sym, ◌∙◌, ◌%◌, ◌/◌, get_or, ap, ◌⊎◌, inl, inr, true, ◌*◌, ◌++◌}
+use Rattle.std.proofs.Common.{ℕ, ◌<◌, List, ◌≡◌, ◌-◌, [], ◌∷◌, length, refl, arith, ◌+◌, ◌≤◌, sym, ◌∙◌, ◌%◌, ◌/◌, get_or, ap, ◌⊎◌, inl, inr}
+use Rattle.std.proofs.Common.{true, ◌*◌, ◌++◌}
 use Rattle.std.specs.List.{All, slice_range}
 use Rattle.std.proofs.lemmas.List.Elements.{All-head, All-tail, All-get_or, All-take, All-drop, All-nil, All-cons, All-append}
 use Rattle.std.proofs.lemmas.Option.{unwrap_or-slice_get}
@@ -9,7 +10,8 @@ use Rattle.std.proofs.lemmas.List.FromFn.{get_or-map-range_with_len}
 use Rattle.std.proofs.lemmas.List.{same_lists, get_or_default}
 use Rattle.cartridge_laws.proofs.FreshFields.{are_first, first-head, first-tail}
 use Rattle.cartridge_laws.specs.FreshLaws.{SpelledIsOne}
-use Rattle.cartridge_spec.specs.Header.{Value, Number, Text, HoldsValue, Field, Holds, word_in, Header, SpellsHeader, profile_fields, header_fields}
+use Rattle.cartridge_spec.specs.Header.{Value, Number, Text, HoldsValue, Field, Holds, word_in, Header, SpellsHeader, profile_fields}
+use Rattle.cartridge_spec.specs.Header.{header_fields}
 use Rattle.cartridge_laws.specs.HeaderTerms.{byte_in, IsInField, IsInMap, words_in}
 use Rattle.cartridge_spec.specs.Shape.{IsArea, sector_at}
 use Rattle.qic_base.specs.Cartridge.{IsSector}
@@ -97,7 +99,8 @@ same_or_outside : (fs : List Field) (one other : List (List ℕ)) (k : ℕ) → 
     All (Holds one) fs → All (Holds other) fs → (byte_in one k ≡ byte_in other k) ⊎ All (λ field. ¬ (IsInField k field)) fs
 same_or_outside [] one other k whole all first holds held = inr (All-nil (λ (field : Field). ¬ (IsInField k field)))
 same_or_outside (f ∷ fs) one other k whole all first holds held =
-    by_rest (same_or_outside fs one other k whole all (first-tail f fs first) (All-tail (Holds one) f fs holds) (All-tail (Holds other) f fs held))
+    by_rest (same_or_outside fs one other k whole all (first-tail f fs first) (All-tail (Holds one) f fs holds)
+    (All-tail (Holds other) f fs held))
     (field_or_not k f)
   where
     placed : IsPlaced f.offset f.width
@@ -150,7 +153,8 @@ same_bytes_in h words one other k whole all spells spelled within =
     (All-append (Holds other) (profile_fields h.segments_per_track) (header_fields h) spelled.profile spelled.shows.header))
     (map_or_not (28 * h.segments_per_track) k)
   where
-    by_fields : (byte_in one k ≡ byte_in other k) ⊎ All (λ field. ¬ (IsInField k field)) (profile_fields h.segments_per_track ++ header_fields h) →
+    by_fields : (byte_in one k ≡ byte_in other k) ⊎ All (λ field. ¬ (IsInField k field))
+        (profile_fields h.segments_per_track ++ header_fields h) →
         IsInMap (28 * h.segments_per_track) k ⊎ ¬ (IsInMap (28 * h.segments_per_track) k) → byte_in one k ≡ byte_in other k
     by_fields (inl same) in_map = same
     by_fields (inr outside) (inl in_map) =

@@ -20,7 +20,8 @@ in_area area = record {
 }
 
 same-fields : (h : Header) (format_date write_date segments : ℕ) (label : List ℕ) (label_date : ℕ) →
-    format_date ≡ h.format_date → write_date ≡ h.write_date → segments ≡ h.segments_per_track → label ≡ h.label → label_date ≡ h.label_date →
+    format_date ≡ h.format_date → write_date ≡ h.write_date → segments ≡ h.segments_per_track → label ≡ h.label →
+    label_date ≡ h.label_date →
     record { format_date = format_date; write_date = write_date; segments_per_track = segments; label = label; label_date = label_date } ≡ h
 same-fields h format_date write_date segments label label_date f w n l d = rw (f, w, n, l, d) refl
 
@@ -42,7 +43,8 @@ header_is_determined area one other words others s t =
 pub spelled_is_read : SpelledIsRead
 spelled_is_read h words area long spells good =
     let signature : number_in area 0 4 ≡ 0xAA55_AA55 = spells.profile 0 any (omega arith) in
-    let fields : first_fault area (profile_fields h.segments_per_track) ≡ None = first_fault-holds (profile_fields h.segments_per_track) area spells.profile in
+    let fields : first_fault area (profile_fields h.segments_per_track) ≡ None =
+    first_fault-holds (profile_fields h.segments_per_track) area spells.profile in
     let least : 3 ≤ h.segments_per_track = long.shortest in
     let marks : map_fault area ≡ None = map_fault-none area (λ s below.
     sym (word_in-read area words (28 * h.segments_per_track) s spells.shows.map (omega arith)) ∙ good s below) in

@@ -1,11 +1,13 @@
 -- The tests of a header's fields, as a reader makes them, and how many words its map has.
-use Rattle.std.proofs.Common.{◌≡◌, ℕ, ◌-◌, ◌==◌, true, List, Option, None, refl, eq-eqb, [], ◌∷◌, ap, ◌∙◌, Some, Bool, false, arith, ◌<◌, get_or, length, sym, ◌*◌}
+use Rattle.std.proofs.Common.{◌≡◌, ℕ, ◌-◌, ◌==◌, true, List, Option, None, refl, eq-eqb, [], ◌∷◌, ap, ◌∙◌, Some, Bool, false, arith, ◌<◌}
+use Rattle.std.proofs.Common.{get_or, length, sym, ◌*◌}
 use Rattle.std.specs.Option.{option_or}
 use Rattle.std.specs.List.{All}
 use Rattle.std.proofs.lemmas.List.Elements.{All-head, All-tail, All-nil, All-cons}
 use Rattle.std.proofs.lemmas.Bool.{eqb-true}
 use Rattle.std.proofs.lemmas.List.FromFn.{get_or-map-range_with_len, length-map-range_with_len}
-use Rattle.cartridge_spec.specs.Header.{Value, Number, Text, number_in, HoldsValue, value_fault, Field, HeaderFault, Holds, first_fault, tested, header_fault, number, profile_fields, word_in, Header}
+use Rattle.cartridge_spec.specs.Header.{Value, Number, Text, number_in, HoldsValue, value_fault, Field, HeaderFault, Holds, first_fault}
+use Rattle.cartridge_spec.specs.Header.{tested, header_fault, number, profile_fields, word_in, Header}
 use Rattle.cartridge_laws.specs.HeaderTerms.{field_fault, fault_as, map_fault, words_in}
 use Rattle.cartridge_spec.specs.HeaderCopies.{IsFormatted, last_segment}
 use Rattle.cartridge_spec.specs.Volumes.{Plain, Stands}
@@ -15,7 +17,8 @@ use Rattle.qic_base.specs.declared.foreign.ForeignField.TheVariants.{SegmentsPer
 
 -- ---- a list of fields
 
-pub field_fault-holds : (area : List (List ℕ)) (offset width : ℕ) (value : Value) (test : Option ForeignField) → HoldsValue area offset width value → value_fault area offset width value test ≡ None
+pub field_fault-holds : (area : List (List ℕ)) (offset width : ℕ) (value : Value) (test : Option ForeignField) →
+    HoldsValue area offset width value → value_fault area offset width value test ≡ None
 field_fault-holds area offset width (Number value) test holds =
     let equal : (number_in area offset width == value) ≡ true = eq-eqb _ _ holds in
     rw equal refl
@@ -42,13 +45,15 @@ first_fault-none [] area none = All-nil (λ (f : Field). field_fault area f ≡ 
 first_fault-none (f ∷ fs) area none =
     All-cons (λ (g : Field). field_fault area g ≡ None) f fs (or-none-left _ _ none) (first_fault-none fs area (or-none-right _ _ none))
 
-tested-sound : (area : List (List ℕ)) (name : ForeignField) (offset width value : ℕ) → field_fault area (tested name offset width value) ≡ None → number_in area offset width ≡ value
+tested-sound : (area : List (List ℕ)) (name : ForeignField) (offset width value : ℕ) →
+    field_fault area (tested name offset width value) ≡ None → number_in area offset width ≡ value
 tested-sound area name offset width value none = by_test (number_in area offset width == value) refl
   where
     by_test : (b : Bool) → (number_in area offset width == value) ≡ b → number_in area offset width ≡ value
     by_test true equal = eqb-true _ _ equal
     by_test false unequal =
-        let some : field_fault area (tested name offset width value) ≡ Some (fault_as name (number_in area offset width)) = rw unequal refl in
+        let some : field_fault area (tested name offset width value) ≡ Some (fault_as name (number_in area offset width)) =
+        rw unequal refl in
         absurd (cc)
 
 -- data of which no test fails have the drive's segments per track
@@ -70,7 +75,8 @@ map_fault-none area good =
     rw (eq-eqb _ 0 zero_word, eq-eqb _ 0 one_word, eq-eqb _ 0 two_word) refl
 
 -- the words of a map that was read
-pub word_in-read : (area : List (List ℕ)) (words : List ℕ) (segments s : ℕ) → words ≡ words_in area segments → s < segments → get_or words s 0 ≡ word_in area s
+pub word_in-read : (area : List (List ℕ)) (words : List ℕ) (segments s : ℕ) → words ≡ words_in area segments → s < segments →
+    get_or words s 0 ≡ word_in area s
 word_in-read area words segments s is h =
     ap (λ (xs : List ℕ). get_or xs s 0) is ∙ get_or-map-range_with_len (word_in area) 0 segments s s 0 h (omega arith)
 
@@ -78,7 +84,8 @@ pub length-words_in : (area : List (List ℕ)) (words : List ℕ) (segments : �
 length-words_in area words segments is = ap length is ∙ length-map-range_with_len (word_in area) 0 segments
 
 -- so a cartridge with a sound header has a word for each segment
-pub mounted_last : (c : Cartridge) (area : List (List ℕ)) (header : Header) (words : List ℕ) → IsFormatted c area header words → length words - 1 ≡ last_segment c
+pub mounted_last : (c : Cartridge) (area : List (List ℕ)) (header : Header) (words : List ℕ) → IsFormatted c area header words →
+    length words - 1 ≡ last_segment c
 mounted_last c area header words formatted =
     let n : ℕ = c.info.segments_per_track in
     let there : number_in area 24 2 ≡ header.segments_per_track = formatted.shown.header 2 (number 24 2 0) (omega arith) in

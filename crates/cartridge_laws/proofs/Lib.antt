@@ -85,4 +85,6 @@ pub mod TableSlotLaws
 pub mod TableTotals
 pub mod Whole
 pub mod Writing
+pub mod WrongTable
+pub mod WrongTableLost
 pub mod Zeros

@@ -1,5 +1,6 @@
 -- The bytes of an area, and the numbers in its fields.
-use Rattle.std.proofs.Common.{◌≡◌, ℕ, ◌-◌, ◌<◌, List, [], length, set, ◌∙◌, get_or-set_same, ◌≢◌, sym, get_or-set_other, ◌⊎◌, inl, inr, ◌+◌, ◌*◌, ◌/◌, ◌%◌, ◌≤◌, get_or, ap, arith, zero, suc, take, drop, refl, ◌∷◌}
+use Rattle.std.proofs.Common.{◌≡◌, ℕ, ◌-◌, ◌<◌, List, [], length, set, ◌∙◌, get_or-set_same, ◌≢◌, sym, get_or-set_other, ◌⊎◌, inl, inr, ◌+◌}
+use Rattle.std.proofs.Common.{◌*◌, ◌/◌, ◌%◌, ◌≤◌, get_or, ap, arith, zero, suc, take, drop, refl, ◌∷◌}
 use Rattle.std.proofs.lemmas.Option.{unwrap_or-slice_get}
 use Rattle.std.proofs.lemmas.Bool.{cases_eq, cases_lt}
 use Rattle.cartridge_laws.specs.HeaderTerms.{byte_in, IsInMap}
@@ -44,19 +45,24 @@ byte_in-other_word area bytes sector segment word k there is long written outsid
             let below : k < 2048 + 4 * segment = within.1 in
             absurd (omega arith)
 
-    by_place : k / 1024 ≡ 2 + segment / 256 → (k % 1024 < 4 * (segment % 256)) ⊎ (4 * (segment % 256) ≤ k % 1024) → get_or bytes (k % 1024) 0 ≡ get_or sector (k % 1024) 0
-    by_place same (inl below) = ap (λ (xs : List ℕ). get_or xs (k % 1024) 0) written ∙ get_or-overwritten_below sector (little_endian_bytes 4 word) (4 * (segment % 256)) (k % 1024) 0 (omega arith) below
+    by_place : k / 1024 ≡ 2 + segment / 256 → (k % 1024 < 4 * (segment % 256)) ⊎ (4 * (segment % 256) ≤ k % 1024) →
+        get_or bytes (k % 1024) 0 ≡ get_or sector (k % 1024) 0
+    by_place same (inl below) = ap (λ (xs : List ℕ). get_or xs (k % 1024) 0) written
+        ∙ get_or-overwritten_below sector (little_endian_bytes 4 word) (4 * (segment % 256)) (k % 1024) 0 (omega arith) below
     by_place same (inr from) =
         let past : 4 * (segment % 256) + 4 ≤ k % 1024 = not_within same from in
         ap (λ (xs : List ℕ). get_or xs (k % 1024) 0) written
-        ∙ get_or-overwritten_above sector (little_endian_bytes 4 word) (4 * (segment % 256)) (k % 1024) 0 (omega arith) (omega (arith, length-little_endian_bytes 4 word))
+        ∙ get_or-overwritten_above sector (little_endian_bytes 4 word) (4 * (segment % 256)) (k % 1024) 0 (omega arith)
+        (omega (arith, length-little_endian_bytes 4 word))
 
-    by_sector : (k / 1024 ≡ 2 + segment / 256) ⊎ (k / 1024 ≢ 2 + segment / 256) → byte_in (set area (2 + segment / 256) bytes) k ≡ byte_in area k
+    by_sector : (k / 1024 ≡ 2 + segment / 256) ⊎ (k / 1024 ≢ 2 + segment / 256) →
+        byte_in (set area (2 + segment / 256) bytes) k ≡ byte_in area k
     by_sector (inl same) =
         ap (λ (xs : List ℕ). get_or xs (k % 1024) 0) (new same)
         ∙ by_place same (cases_lt (k % 1024) (4 * (segment % 256)))
         ∙ ap (λ (xs : List ℕ). get_or xs (k % 1024) 0) (sym (old same))
-    by_sector (inr other) = ap (λ (xs : List ℕ). get_or xs (k % 1024) 0) (sector_at-set_other area (2 + segment / 256) (k / 1024) bytes other)
+    by_sector (inr other) = ap (λ (xs : List ℕ). get_or xs (k % 1024) 0)
+        (sector_at-set_other area (2 + segment / 256) (k / 1024) bytes other)
 
 -- ---- the number in a field by its bytes
 
@@ -66,7 +72,8 @@ little_endian-none (suc width) zero = refl
 little_endian-none (suc width) (suc n) = refl
 
 -- a byte, and the number in the bytes behind it
-little_endian-take : (xs : List ℕ) (at width : ℕ) → little_endian (take (suc width) (drop at xs)) ≡ get_or xs at 0 + 256 * little_endian (take width (drop (at + 1) xs))
+little_endian-take : (xs : List ℕ) (at width : ℕ) → little_endian (take (suc width) (drop at xs)) ≡ get_or xs at 0 + 256 * little_endian
+    (take width (drop (at + 1) xs))
 little_endian-take [] at width =
     little_endian-none (suc width) at ∙ sym (ap (λ (n : ℕ). 0 + 256 * n) (little_endian-none width (at + 1)))
 little_endian-take (x ∷ xs) zero width = refl
@@ -75,7 +82,8 @@ little_endian-take (x ∷ xs) (suc at) width =
     little_endian-take xs at width
     ∙ ap (λ (n : ℕ). get_or xs at 0 + 256 * little_endian (take width (drop n (x ∷ xs)))) (sym next)
 
-number-same : (xs ys : List ℕ) (width at : ℕ) → ((j : ℕ) → at ≤ j → j < at + width → get_or xs j 0 ≡ get_or ys j 0) → little_endian (take width (drop at xs)) ≡ little_endian (take width (drop at ys))
+number-same : (xs ys : List ℕ) (width at : ℕ) → ((j : ℕ) → at ≤ j → j < at + width → get_or xs j 0 ≡ get_or ys j 0) →
+    little_endian (take width (drop at xs)) ≡ little_endian (take width (drop at ys))
 number-same xs ys zero at same = refl
 number-same xs ys (suc width) at same =
     little_endian-take xs at width
@@ -93,12 +101,14 @@ number_in-same area other offset width within same =
     (number-same (sector_at other (offset / 1024)) (sector_at area (offset / 1024)) width (offset % 1024)
     (λ j from below. byte j from below))
   where
-    byte : (j : ℕ) → offset % 1024 ≤ j → j < offset % 1024 + width → get_or (sector_at other (offset / 1024)) j 0 ≡ get_or (sector_at area (offset / 1024)) j 0
+    byte : (j : ℕ) → offset % 1024 ≤ j → j < offset % 1024 + width → get_or (sector_at other (offset / 1024)) j 0 ≡ get_or
+        (sector_at area (offset / 1024)) j 0
     byte j from below =
         let k : ℕ = 1024 * (offset / 1024) + j in
         let quotient : (1024 * (offset / 1024) + j) / 1024 ≡ offset / 1024 = omega arith in
         let rest : (1024 * (offset / 1024) + j) % 1024 ≡ j = omega arith in
-        let here : byte_in other (1024 * (offset / 1024) + j) ≡ byte_in area (1024 * (offset / 1024) + j) = same (1024 * (offset / 1024) + j) (omega arith) (omega arith) in
+        let here : byte_in other (1024 * (offset / 1024) + j) ≡ byte_in area (1024 * (offset / 1024) + j) =
+        same (1024 * (offset / 1024) + j) (omega arith) (omega arith) in
         rw (quotient, rest) at here
 
 pub IsInMap-more : (n k : ℕ) → IsInMap n k → IsInMap (n + 1) k

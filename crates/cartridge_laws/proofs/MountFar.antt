@@ -1,5 +1,6 @@
 -- What the reading of a table tells of its segment, where sectors were left out of account.
-use Rattle.std.proofs.Common.{◌≡◌, ◌⊎◌, ℕ, suc, ◌+◌, inl, inr, subst, arith, Bool, true, List, [], ◌∷◌, ◌<◌, sym, ◌∙◌, ap, ◌≢◌, ◌≤◌, length, slice_get, Option, Some, zero, ◌++◌, None, refl, length-append}
+use Rattle.std.proofs.Common.{◌≡◌, ◌⊎◌, ℕ, suc, ◌+◌, inl, inr, subst, arith, Bool, true, List, [], ◌∷◌, ◌<◌, sym, ◌∙◌, ap, ◌≢◌, ◌≤◌, length}
+use Rattle.std.proofs.Common.{slice_get, Option, Some, zero, ◌++◌, None, refl, length-append}
 use Rattle.std.specs.Prelude.{if◌then◌else◌, unwrap_or, ◌==◌}
 use Rattle.std.proofs.lemmas.Bool.{cases_Bool, true≢false, cases_eq, ne_eqb, cases_lt, le-ltb}
 use Rattle.cartridge_laws.proofs.Cells.{unreadable_at}
@@ -13,13 +14,15 @@ use Rattle.cartridge_laws.proofs.MountStanding.{said_area}
 use Rattle.cartridge_laws.proofs.Readings.{AreAmong}
 use Rattle.cartridge_laws.proofs.Sayings.{said_are_sectors, said_is_written}
 use Rattle.cartridge_laws.proofs.Segments.{length-whole_cells}
-use Rattle.cartridge_laws.proofs.Sets.{IsOneOf, none_is_unnamed, one_is_named, length-hidden, seen_outside, few_outside, unreadable_is_named}
+use Rattle.cartridge_laws.proofs.Sets.{IsOneOf, none_is_unnamed, one_is_named, length-hidden, seen_outside, few_outside}
+use Rattle.cartridge_laws.proofs.Sets.{unreadable_is_named}
 use Rattle.cartridge_laws.specs.MountBlocks.{HoldsPart}
 use Rattle.cartridge_laws.specs.Segment.{IsUnreadable, hidden}
 use Rattle.cartridge_spec.specs.Code.{parity_sectors}
 use Rattle.cartridge_spec.specs.TableSegment.{table_cells, TableIs, ReadsPlainly}
 use Rattle.cartridge_spec.specs.Shape.{IsArea, is_unreadable}
-use Rattle.cartridge_spec.specs.Says.{Says, Data, Agrees, HasBlock, unreadable_count, with_parity, HasFirstBlock, unreadable_from, set_of, shows_used_slot, last_used_below, with_used, sets_by}
+use Rattle.cartridge_spec.specs.Says.{Says, Data, Agrees, HasBlock, unreadable_count, with_parity, HasFirstBlock, unreadable_from, set_of}
+use Rattle.cartridge_spec.specs.Says.{shows_used_slot, last_used_below, with_used, sets_by}
 use Rattle.cartridge_laws.specs.TableCells.{unreadable_places, last_used, sets_by_one, sets_by_two}
 use Rattle.gf256_qic.proofs.Parities.{length-parity_sectors}
 use Rattle.qic_base.specs.Cartridge.{Cartridge, view_at}
@@ -36,11 +39,13 @@ named_is_unreadable place [] j one = absurd one
 named_is_unreadable place (cell ∷ cells) j one =
     elim (cases_Bool (is_unreadable cell)) [
       | inl gone ↦
-          by_first gone (subst (λ (b : Bool). IsOneOf (if b then place ∷ unreadable_from (suc place) cells else unreadable_from (suc place) cells) j)
+          by_first gone (subst (λ (b : Bool). IsOneOf
+          (if b then place ∷ unreadable_from (suc place) cells else unreadable_from (suc place) cells) j)
           gone one) (λ rest. named_is_unreadable (suc place) cells j rest)
       | inr kept ↦
           later (named_is_unreadable (suc place) cells j
-          (subst (λ (b : Bool). IsOneOf (if b then place ∷ unreadable_from (suc place) cells else unreadable_from (suc place) cells) j) kept one))
+          (subst (λ (b : Bool). IsOneOf (if b then place ∷ unreadable_from (suc place) cells else unreadable_from (suc place) cells) j) kept
+          one))
     ]
   where
     later : (i : ℕ) × (j ≡ suc place + i) × (unreadable_at cells i ≡ true) →
@@ -88,7 +93,8 @@ outside c area ps few among has =
           let read = read_there c ps i among h (λ one.
           true≢false (sym (one_is_named ps i one) ∙ none_is_unnamed ps i none)) in
           let there : slice_get (with_parity area) i ≡ Some read.0 =
-          written.each i read.0 (seen_outside (set_of ps) (table_cells c) i read.0 (none_is_unnamed ps i none) (view_held c 2 i read.0 h read.1)) in
+          written.each i read.0 (seen_outside (set_of ps) (table_cells c) i read.0 (none_is_unnamed ps i none)
+          (view_held c 2 i read.0 h read.1)) in
           read.1 ∙ ap Holds (sym (ap (λ (o : Option (List ℕ)). unwrap_or o []) there)),
     )
 
@@ -262,7 +268,8 @@ far_by_two c area m other used is_used reads small places among first =
         (inr (is_gone c 29 (omega arith) (subst (λ (ps : List ℕ). IsOneOf ps 29) (sym found) (inr (inl refl)))))
     with_first (Some k) is those found (inr none) = absurd none.1
 
-    with_second : AreAmong (table_cells c) (m ∷ 30 ∷ []) → HasFirstBlock (set_of (m ∷ 30 ∷ 31 ∷ []) ∷ []) (table_cells c) area → IsFar c area
+    with_second : AreAmong (table_cells c) (m ∷ 30 ∷ []) → HasFirstBlock (set_of (m ∷ 30 ∷ 31 ∷ []) ∷ []) (table_cells c) area →
+        IsFar c area
     with_second those (inl has) =
         let out = outside c area (m ∷ 30 ∷ 31 ∷ []) (omega arith) (λ i un. wider i (those i un)) has in
         far_third c area m reads out.0 small gone out.1

@@ -29,7 +29,8 @@ use Rattle.qic_base.specs.declared.tape.TapeInfo.{TapeInfo}
 same_copy : {area : List (List ℕ)} {c d : Cartridge} (copy : ℕ) → KeepsTable area c d → copy < 2 → copy_cells d copy ≡ copy_cells c copy
 same_copy {c = c} {d = d} copy kept below = same_cells c d copy whole_mask (λ i h. kept.others copy i h (λ same. absurd (omega arith)))
 
-copy_reads : (c d : Cartridge) (copy : ℕ) (area : List (List ℕ)) → copy_cells d copy ≡ copy_cells c copy → CopyReads c copy area → CopyReads d copy area
+copy_reads : (c d : Cartridge) (copy : ℕ) (area : List (List ℕ)) → copy_cells d copy ≡ copy_cells c copy → CopyReads c copy area →
+    CopyReads d copy area
 copy_reads c d copy area same reads = record {
   says = subst (λ (cells : List SectorView). Says cells (Data area)) (sym same) reads.says;
   signature = reads.signature;
@@ -38,7 +39,8 @@ copy_reads c d copy area same reads = record {
 copy_does_not_read : (c d : Cartridge) (copy : ℕ) → copy_cells d copy ≡ copy_cells c copy → CopyDoesNotRead c copy → CopyDoesNotRead d copy
 copy_does_not_read c d copy same none area reads = none area (copy_reads d c copy area (sym same) reads)
 
-pub in_force : (c d : Cartridge) (area : List (List ℕ)) → copy_cells d 0 ≡ copy_cells c 0 → copy_cells d 1 ≡ copy_cells c 1 → IsInForce c area → IsInForce d area
+pub in_force : (c d : Cartridge) (area : List (List ℕ)) → copy_cells d 0 ≡ copy_cells c 0 → copy_cells d 1 ≡ copy_cells c 1 →
+    IsInForce c area → IsInForce d area
 in_force c d area first second (inl reads) = inl (copy_reads c d 0 area first reads)
 in_force c d area first second (inr reads) = inr (copy_does_not_read c d 0 first reads.0, copy_reads c d 1 area second reads.1)
 
@@ -48,7 +50,8 @@ has_header c d table area kept has = record {
   in_force = in_force c d area (same_copy 0 kept (omega arith)) (same_copy 1 kept (omega arith)) has.in_force;
 }
 
-pub copies_are : (c d : Cartridge) (area : List (List ℕ)) → copy_cells d 0 ≡ copy_cells c 0 → copy_cells d 1 ≡ copy_cells c 1 → CopiesAre c area → CopiesAre d area
+pub copies_are : (c d : Cartridge) (area : List (List ℕ)) → copy_cells d 0 ≡ copy_cells c 0 → copy_cells d 1 ≡ copy_cells c 1 →
+    CopiesAre c area → CopiesAre d area
 copies_are c d area first second (inl written) = inl (subst (λ (cells : List SectorView). Written cells area) (sym first) written)
 copies_are c d area first second (inr other) = inr (
   subst (λ (cells : List SectorView). Zero cells) (sym first) other.0,
@@ -61,7 +64,8 @@ sound_header c d table area kept = ap (λ (i : TapeInfo). header_fault area i.se
 
 -- ---- the table
 
-no_fault : (c d : Cartridge) (table area : List (List ℕ)) → KeepsTable table c d → HasNoFault area (last_segment c) → HasNoFault area (last_segment d)
+no_fault : (c d : Cartridge) (table area : List (List ℕ)) → KeepsTable table c d → HasNoFault area (last_segment c) →
+    HasNoFault area (last_segment d)
 no_fault c d table area kept sound i h =
     ap (λ (info : TapeInfo). slot_fault area (28 * info.segments_per_track - 1) i) kept.info ∙ sound i h
 
@@ -144,4 +148,5 @@ clean_kept c d plain area clean table kept reads = record {
 
 pub stopped_is_clean : StoppedIsClean
 stopped_is_clean c plain area left clean table torn =
-    some_weaker left (λ d kept. clean_kept c d plain area clean table kept.0 kept.1) (kept_plainly c plain area left clean.stands table torn)
+    some_weaker left (λ d kept. clean_kept c d plain area clean table kept.0 kept.1)
+    (kept_plainly c plain area left clean.stands table torn)

@@ -48,7 +48,8 @@ pub left_out_parity : (c : Cartridge) (block : List (List ℕ)) (i : ℕ) → 29
 left_out_parity c block i h = ap (λ (b : Bool). if b then holds_other (view_at c 2 i) (sector_at block i) else false) (le-ltb i 29 h)
 
 -- a sector that holds its part, or is unreadable, was not left out
-pub not_left_out : (c : Cartridge) (area : List (List ℕ)) (i : ℕ) → i < 29 → PartOrGone c area i → is_left_out c (with_parity area) i ≡ false
+pub not_left_out : (c : Cartridge) (area : List (List ℕ)) (i : ℕ) → i < 29 → PartOrGone c area i →
+    is_left_out c (with_parity area) i ≡ false
 not_left_out c area i h (inl part) =
     left_out_data c (with_parity area) i h ∙ part_is_no_other (view_at c 2 i) (sector_at (with_parity area) i) part
 not_left_out c area i h (inr gone) =
@@ -64,7 +65,8 @@ none_left_out c area each =
       | inr back ↦ left_out_parity c (with_parity area) i back
     ]))
 
-pub unsettled_holds_not : (c : Cartridge) (area : List (List ℕ)) (i : ℕ) → is_unsettled c (with_parity area) i ≡ true → HoldsPart c area i → ⊥
+pub unsettled_holds_not : (c : Cartridge) (area : List (List ℕ)) (i : ℕ) → is_unsettled c (with_parity area) i ≡ true → HoldsPart c area i →
+    ⊥
 unsettled_holds_not c area i passes part =
     let bytes : List ℕ = sector_at (with_parity area) i in
     elim (cases_lt i 29) [
@@ -74,7 +76,8 @@ unsettled_holds_not c area i passes part =
           ∙ ap (λ (v : SectorView). not (holds v bytes)) part ∙ holds_same bytes)
     ]
 
-pub settled_parity : (c : Cartridge) (area : List (List ℕ)) (i : ℕ) → 29 ≤ i → is_unsettled c (with_parity area) i ≡ false → HoldsPart c area i
+pub settled_parity : (c : Cartridge) (area : List (List ℕ)) (i : ℕ) → 29 ≤ i → is_unsettled c (with_parity area) i ≡ false →
+    HoldsPart c area i
 settled_parity c area i back fails =
     let bytes : List ℕ = sector_at (with_parity area) i in
     held_there (view_at c 2 i) bytes

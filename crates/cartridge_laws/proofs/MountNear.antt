@@ -5,7 +5,8 @@ use Rattle.std.proofs.lemmas.Slice.Eq.{bytes_eq-Decides}
 use Rattle.std.specs.Str.{bytes_eq}
 use Rattle.cartridge_laws.proofs.FormatStanding.{same_cells}
 use Rattle.cartridge_laws.proofs.MountParts.{data_read, length-block}
-use Rattle.cartridge_laws.proofs.MountSeen.{HoldsOutside, one_or_none, few_in_table, by_place, ReadsOutside, one_in_table, block_outside, no_block_outside, not_first_set, sets_of_one, by_gone, two_in_table, sets_of_two}
+use Rattle.cartridge_laws.proofs.MountSeen.{HoldsOutside, one_or_none, few_in_table, by_place, ReadsOutside, one_in_table, block_outside}
+use Rattle.cartridge_laws.proofs.MountSeen.{no_block_outside, not_first_set, sets_of_one, by_gone, two_in_table, sets_of_two}
 use Rattle.cartridge_laws.proofs.MountStanding.{written_table}
 use Rattle.cartridge_laws.proofs.MountStops.{block_written}
 use Rattle.cartridge_laws.proofs.Sets.{IsOneOf, IsNoneOf}
@@ -143,7 +144,8 @@ second_gone : (d : Cartridge) (area : List (List ℕ)) (m : ℕ) (other : List �
     other ≢ sector_at (with_parity area) 31 → TableIs d area
 second_gone d area m other is small all gone p29 gone_30 view differs =
     let reads : ReadsOutside d (m ∷ 30 ∷ []) =
-    read_but d area m (m ∷ 30 ∷ []) all (λ i none. none.0) (λ none. part_read d area 29 p29) (λ none. absurd (none.1.0 refl)) (other, view) in
+    read_but d area m (m ∷ 30 ∷ []) all (λ i none. none.0) (λ none. part_read d area 29 p29) (λ none. absurd (none.1.0 refl))
+    (other, view) in
     let few : unreadable_count (table_cells d) ≤ 2 = few_in_table d (m ∷ 30 ∷ []) reads in
     let holds : HoldsOutside d area (m ∷ 30 ∷ 31 ∷ []) =
     outside_but d area m (m ∷ 30 ∷ 31 ∷ []) all (λ i none. none.0) (λ none. p29) (λ none. absurd (none.1.0 refl))

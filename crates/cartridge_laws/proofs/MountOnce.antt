@@ -1,5 +1,6 @@
 -- The mounting of a cartridge gives just one thing.
-use Rattle.std.proofs.Common.{◌≡◌, ℕ, List, inl, inr, None, ap, ◌∙◌, Some, sym, ◌<◌, arith, subst, refl, ◌*◌, [], ◌∷◌, All, ◌⊎◌, Bool, true, false, Option}
+use Rattle.std.proofs.Common.{◌≡◌, ℕ, List, inl, inr, None, ap, ◌∙◌, Some, sym, ◌<◌, arith, subst, refl, ◌*◌, [], ◌∷◌, All, ◌⊎◌, Bool, true}
+use Rattle.std.proofs.Common.{false, Option}
 use Rattle.std.proofs.lemmas.List.Elements.{All-nil, All-cons}
 use Rattle.cartridge_laws.proofs.Blocks.{says_always}
 use Rattle.cartridge_laws.proofs.HeaderReadingLaws.{header_is_determined, in_area}
@@ -14,7 +15,8 @@ use Rattle.cartridge_laws.specs.Slots.{TableFault}
 use Rattle.cartridge_laws.specs.HeaderTerms.{text_in, words_in, text, IsInForce}
 use Rattle.cartridge_spec.specs.HeaderCopies.{CopyReads, copy_cells, HasHeader, CopyDoesNotRead, IsUnformatted, last_segment, IsFormatted}
 use Rattle.cartridge_spec.specs.TableSegment.{table_cells, TableIs}
-use Rattle.cartridge_spec.specs.Mounting.{IsSoundlyFormatted, RefusesHeader, RefusesTable, Mounting, NotFormatted, Foreign, TableLost, TableMismatch, Mounted, Mounts, IsMounted}
+use Rattle.cartridge_spec.specs.Mounting.{IsSoundlyFormatted, RefusesHeader, RefusesTable, Mounting, NotFormatted, Foreign, TableLost}
+use Rattle.cartridge_spec.specs.Mounting.{TableMismatch, Mounted, Mounts, IsMounted}
 use Rattle.cartridge_spec.specs.Says.{Data, AsRead, ByCode, Saying, TableSays, LostSectors, Mismatch, Says, whole_mask, TableSaying}
 use Rattle.cartridge_spec.specs.Table.{IsFirstFault, slot_fault, HasNoFault, Entry}
 use Rattle.qic_base.specs.Cartridge.{Cartridge}
@@ -42,7 +44,7 @@ not_in_force : (c : Cartridge) (area : List (List ℕ)) → CopyDoesNotRead c 0 
 not_in_force c area first second (inl reads) = first area reads
 not_in_force c area first second (inr reads) = second area reads.1
 
-not_unformatted : (c : Cartridge) (area : List (List ℕ)) → IsUnformatted c → HasHeader c area → ⊥
+pub not_unformatted : (c : Cartridge) (area : List (List ℕ)) → IsUnformatted c → HasHeader c area → ⊥
 not_unformatted c area (inl without) has = let with_bursts = has.referenced in cc
 not_unformatted c area (inr none) has = not_in_force c area none.0 none.1 has.in_force
 
@@ -94,13 +96,15 @@ not_lost c xs n table lost = not_otherwise c xs (LostSectors n) (λ same. cc) ta
 not_at_odds : (c : Cartridge) (xs : List (List ℕ)) → TableIs c xs → TableSays (table_cells c) (ByCode Mismatch) → ⊥
 not_at_odds c xs table none = not_otherwise c xs Mismatch (λ same. cc) table none
 
-lost_not_at_odds : (c : Cartridge) (n : ℕ) → TableSays (table_cells c) (ByCode (LostSectors n)) → TableSays (table_cells c) (ByCode Mismatch) → ⊥
+lost_not_at_odds : (c : Cartridge) (n : ℕ) → TableSays (table_cells c) (ByCode (LostSectors n)) →
+    TableSays (table_cells c) (ByCode Mismatch) → ⊥
 lost_not_at_odds c n lost none =
     let same : ByCode (LostSectors n) ≡ ByCode Mismatch =
     table_says_is_function (table_cells c) (ByCode (LostSectors n)) (ByCode Mismatch) lost none in
     cc
 
-pub one_loss : (c : Cartridge) (m n : ℕ) → TableSays (table_cells c) (ByCode (LostSectors m)) → TableSays (table_cells c) (ByCode (LostSectors n)) → m ≡ n
+pub one_loss : (c : Cartridge) (m n : ℕ) → TableSays (table_cells c) (ByCode (LostSectors m)) →
+    TableSays (table_cells c) (ByCode (LostSectors n)) → m ≡ n
 one_loss c m n hm hn =
     let same : ByCode (LostSectors m) ≡ ByCode (LostSectors n) =
     table_says_is_function (table_cells c) (ByCode (LostSectors m)) (ByCode (LostSectors n)) hm hn in
@@ -172,7 +176,8 @@ slot_alone c fault TableMismatch refuses h = absurd (not_at_odds c refuses.area 
 slot_alone c fault (Mounted header words table entries) refuses h =
     absurd (slots_not_at_fault c fault table refuses h.reads h.sound)
 
-lost_alone : (c : Cartridge) (k : ℕ) (m : Mounting) → IsSoundlyFormatted c → TableSays (table_cells c) (ByCode (LostSectors k)) → Mounts c m →
+lost_alone : (c : Cartridge) (k : ℕ) (m : Mounting) → IsSoundlyFormatted c → TableSays (table_cells c) (ByCode (LostSectors k)) →
+    Mounts c m →
     TableLost k ≡ m
 lost_alone c k NotFormatted sound lost h = absurd (not_unformatted c sound.area h sound.formatted.has_header)
 lost_alone c k (Foreign f) sound lost (inl h) = absurd (not_refused c f h sound)
@@ -254,7 +259,8 @@ other_saying : (c : Cartridge) (copy : ℕ) (saying : Saying) → Says (copy_cel
 other_saying c copy saying says other area reads =
     other area (says_is_function (copy_cells c copy) (Data area) saying reads.says says)
 
-by_signature : (c : Cartridge) (copy : ℕ) (area : List (List ℕ)) (b : Bool) → Says (copy_cells c copy) (Data area) → has_signature area ≡ b →
+by_signature : (c : Cartridge) (copy : ℕ) (area : List (List ℕ)) (b : Bool) → Says (copy_cells c copy) (Data area) →
+    has_signature area ≡ b →
     IsDecided c copy
 by_signature c copy area true says signature = inl (record { area = area; reads = record { says = says; signature = signature } })
 by_signature c copy area false says signature = inr (λ other reads.

@@ -1,5 +1,6 @@
 -- The sectors of a table's block, and code blocks with the same sectors outside three places at most.
-use Rattle.std.proofs.Common.{◌≡◌, ℕ, List, length, arith, length-append, ◌<◌, [], get_or, ◌∙◌, Some, sym, ap, false, ◌∷◌, refl, slice_get, ◌≤◌}
+use Rattle.std.proofs.Common.{◌≡◌, ℕ, List, length, arith, length-append, ◌<◌, [], get_or, ◌∙◌, Some, sym, ap, false, ◌∷◌, refl, slice_get}
+use Rattle.std.proofs.Common.{◌≤◌}
 use Rattle.std.proofs.lemmas.List.{get_or_append_left}
 use Rattle.std.proofs.lemmas.Option.{unwrap_or-slice_get, slice_get-get_or}
 use Rattle.cartridge_laws.proofs.Cells.{IsReadable}
@@ -31,7 +32,8 @@ data_sector area i h =
     unwrap_or-slice_get (with_parity area) i [] ∙ get_or_append_left area (parity_sectors area) [] i h
 
 -- data sectors that hold their parts are read
-pub data_read : (c : Cartridge) (area : List (List ℕ)) → IsArea area → ((i : ℕ) → i < 29 → HoldsPart c area i) → ReadsAll (table_cells c) area
+pub data_read : (c : Cartridge) (area : List (List ℕ)) → IsArea area → ((i : ℕ) → i < 29 → HoldsPart c area i) →
+    ReadsAll (table_cells c) area
 data_read c area is holds =
     let size : length area ≡ 29 = is.size in
     record {

@@ -1,5 +1,6 @@
 -- Places of a segment that pass a test.
-use Rattle.std.proofs.Common.{◌≡◌, ℕ, zero, suc, ◌+◌, ◌<◌, ◌≤◌, ◌∙◌, arith, Bool, false, [], ◌≢◌, inl, inr, ap, true, List, ◌∷◌, ◌++◌, ◌⊎◌, subst, sym}
+use Rattle.std.proofs.Common.{◌≡◌, ℕ, zero, suc, ◌+◌, ◌<◌, ◌≤◌, ◌∙◌, arith, Bool, false, [], ◌≢◌, inl, inr, ap, true, List, ◌∷◌, ◌++◌, ◌⊎◌}
+use Rattle.std.proofs.Common.{subst, sym}
 use Rattle.std.proofs.lemmas.Bool.{cases_eq, cases_Bool}
 use Rattle.cartridge_laws.proofs.MountWriting.{places_that, places_none, places_fails, places_passes, places_are}
 use Rattle.cartridge_laws.proofs.Sets.{IsOneOf, IsNoneOf}
@@ -7,7 +8,8 @@ use Rattle.cartridge_laws.specs.Segment.{places_where}
 
 -- ---- none, or one
 
-no_place_from : (test : ℕ → Bool) (count from : ℕ) → ((i : ℕ) → from ≤ i → i < from + count → test i ≡ false) → places_that test from count ≡ []
+no_place_from : (test : ℕ → Bool) (count from : ℕ) → ((i : ℕ) → from ≤ i → i < from + count → test i ≡ false) →
+    places_that test from count ≡ []
 no_place_from test zero from none = places_none test from
 no_place_from test (suc m) from none =
     places_fails test from m (none from (omega arith) (omega arith))
@@ -20,7 +22,8 @@ one_place_from test k (suc m) from low high passes others =
     elim (cases_eq from k) [
       | inl same ↦
           places_passes test from m (ap test same ∙ passes)
-          ∙ ap (λ (ps : List ℕ). from ∷ ps) (no_place_from test m (from + 1) (λ i l h. others i (omega arith) (omega arith) (λ e. omega arith)))
+          ∙ ap (λ (ps : List ℕ). from ∷ ps)
+          (no_place_from test m (from + 1) (λ i l h. others i (omega arith) (omega arith) (λ e. omega arith)))
           ∙ ap (λ (p : ℕ). p ∷ []) same
       | inr apart ↦
           places_fails test from m (others from (omega arith) (omega arith) apart)
@@ -30,7 +33,8 @@ one_place_from test k (suc m) from low high passes others =
 pub no_place : (test : ℕ → Bool) → ((i : ℕ) → i < 32 → test i ≡ false) → places_where test ≡ []
 no_place test none = places_are test ∙ no_place_from test 32 0 (λ i low high. none i (omega arith))
 
-pub one_place : (test : ℕ → Bool) (k : ℕ) → k < 32 → test k ≡ true → ((i : ℕ) → i < 32 → i ≢ k → test i ≡ false) → places_where test ≡ k ∷ []
+pub one_place : (test : ℕ → Bool) (k : ℕ) → k < 32 → test k ≡ true → ((i : ℕ) → i < 32 → i ≢ k → test i ≡ false) →
+    places_where test ≡ k ∷ []
 one_place test k small passes others =
     places_are test ∙ one_place_from test k 32 0 (omega arith) (omega arith) passes (λ i low high. others i (omega arith))
 

@@ -1,6 +1,7 @@
 -- The unreadable sectors of the table's segment, its last sector with a used slot, and blocks that agree with the cells
 -- outside a set.
-use Rattle.std.proofs.Common.{◌⊎◌, ℕ, inl, inr, List, [], ◌∷◌, ◌+◌, ◌++◌, ◌≡◌, ◌<◌, sym, subst, arith, zero, suc, true, length, false, ◌≤◌, refl, ◌∙◌, ap, Bool, slice_get, Some, ◌≢◌, Option}
+use Rattle.std.proofs.Common.{◌⊎◌, ℕ, inl, inr, List, [], ◌∷◌, ◌+◌, ◌++◌, ◌≡◌, ◌<◌, sym, subst, arith, zero, suc, true, length, false, ◌≤◌}
+use Rattle.std.proofs.Common.{refl, ◌∙◌, ap, Bool, slice_get, Some, ◌≢◌, Option}
 use Rattle.std.proofs.lemmas.Bool.{cases_eq, cases_lt, lt-ltb}
 use Rattle.std.specs.Prelude.{if◌then◌else◌, unwrap_or}
 use Rattle.cartridge_laws.proofs.Cells.{unreadable_at, IsReadable, readable_from_count}
@@ -8,12 +9,14 @@ use Rattle.cartridge_laws.proofs.FormatCopies.{view_held, held_view}
 use Rattle.cartridge_laws.proofs.MountParts.{readable_front, length-block, sector_there, code_block, near_blocks}
 use Rattle.cartridge_laws.proofs.Sayings.{data_of-parity}
 use Rattle.cartridge_laws.proofs.Segments.{length-whole_cells, cells_of_whole}
-use Rattle.cartridge_laws.proofs.Sets.{IsOneOf, IsNoneOf, few_unreadable, unnamed_is_none, held_outside, length-hidden, none_is_unnamed, seen_outside}
+use Rattle.cartridge_laws.proofs.Sets.{IsOneOf, IsNoneOf, few_unreadable, unnamed_is_none, held_outside, length-hidden, none_is_unnamed}
+use Rattle.cartridge_laws.proofs.Sets.{seen_outside}
 use Rattle.cartridge_laws.specs.MountBlocks.{HoldsPart}
 use Rattle.cartridge_laws.specs.Segment.{IsUnreadable, unreadable_data, hidden}
 use Rattle.cartridge_spec.specs.TableSegment.{table_cells, TableIs}
 use Rattle.cartridge_spec.specs.Shape.{IsArea, is_unreadable, sector_at}
-use Rattle.cartridge_spec.specs.Says.{unreadable_count, HasBlock, with_parity, HasNoBlock, HasFirstBlock, unreadable_from, shows_used_slot, last_used_below, set_of, sets_by}
+use Rattle.cartridge_spec.specs.Says.{unreadable_count, HasBlock, with_parity, HasNoBlock, HasFirstBlock, unreadable_from, shows_used_slot}
+use Rattle.cartridge_spec.specs.Says.{last_used_below, set_of, sets_by}
 use Rattle.cartridge_laws.specs.TableCells.{unreadable_places, sets_by_one, sets_by_two, last_used}
 use Rattle.qic_base.specs.Cartridge.{Cartridge, view_at}
 use Rattle.qic_base.specs.declared.tape.SectorView.{SectorView}
@@ -116,7 +119,8 @@ two_from place zero (suc other) (cell ∷ cells) order h lost gone each =
     let behind : suc place + other ≡ place + suc other = omega arith in
     ap (λ (b : Bool). if b then place ∷ unreadable_from (suc place) cells else unreadable_from (suc place) cells) lost
     ∙ ap (λ (ps : List ℕ). place ∷ ps)
-    (one_from (suc place) other cells (omega arith) gone (λ i l apart. each (suc i) (omega arith) (λ e. omega arith) (λ e. apart (omega arith))))
+    (one_from (suc place) other cells (omega arith) gone
+    (λ i l apart. each (suc i) (omega arith) (λ e. omega arith) (λ e. apart (omega arith))))
     ∙ ap (λ (p : ℕ). p ∷ (suc place + other) ∷ []) same
     ∙ ap (λ (p : ℕ). (place + 0) ∷ p ∷ []) behind
 two_from place (suc m) (suc other) (cell ∷ cells) order h lost gone each =
@@ -160,7 +164,8 @@ one_in_table d m within lost reads =
     (held.0, view_held d 2 i held.0 (omega arith) held.1))
     ∙ ap (λ (p : ℕ). p ∷ []) same
 
-pub two_in_table : (d : Cartridge) (m other : ℕ) → m < other → other < 32 → IsUnreadable (view_at d 2 m) → IsUnreadable (view_at d 2 other) →
+pub two_in_table : (d : Cartridge) (m other : ℕ) → m < other → other < 32 → IsUnreadable (view_at d 2 m) →
+    IsUnreadable (view_at d 2 other) →
     ReadsOutside d (m ∷ other ∷ []) → unreadable_places (table_cells d) ≡ m ∷ other ∷ []
 two_in_table d m other order within lost gone reads =
     let long : length (table_cells d) ≡ 32 = length-whole_cells d 2 in
@@ -175,7 +180,7 @@ two_in_table d m other order within lost gone reads =
     ∙ ap (λ (p : ℕ). m ∷ p ∷ []) behind
 
 -- a sector of data is unreadable
-some_lost : (d : Cartridge) (m : ℕ) → m < 29 → IsUnreadable (view_at d 2 m) → 0 < unreadable_data (table_cells d)
+pub some_lost : (d : Cartridge) (m : ℕ) → m < 29 → IsUnreadable (view_at d 2 m) → 0 < unreadable_data (table_cells d)
 some_lost d m small lost =
     elim (cases_lt 0 (unreadable_data (table_cells d))) [
       | inl some ↦ some

@@ -1,5 +1,6 @@
 -- A cartridge whose table was settled.
-use Rattle.std.proofs.Common.{subst, List, Option, Some, IsSomeAnd, ℕ, ◌≡◌, ap, Bool, false, cond, sym, ◌∙◌, inl, inr, refl, not, ◌<◌, ◌++◌, [], true}
+use Rattle.std.proofs.Common.{subst, List, Option, Some, IsSomeAnd, ℕ, ◌≡◌, ap, Bool, false, cond, sym, ◌∙◌, inl, inr, refl, not, ◌<◌, ◌++◌}
+use Rattle.std.proofs.Common.{[], true}
 use Rattle.std.proofs.lemmas.Bool.{cases_lt}
 use Rattle.std.specs.Prelude.{if◌then◌else◌}
 use Rattle.cartridge_laws.proofs.MountAlike.{stopped_settles_alike}
@@ -13,7 +14,8 @@ use Rattle.cartridge_laws.proofs.MountStops.{written_right, block_written, holds
 use Rattle.cartridge_laws.proofs.MountWhole.{settling_effects}
 use Rattle.cartridge_laws.proofs.MountWriting.{IsAllWritten, all_written, unsettled_data, unsettled_parity}
 use Rattle.cartridge_laws.specs.MountBlocks.{KeepsTable, HoldsPart}
-use Rattle.cartridge_laws.specs.MountLaws.{SettledKeepsTable, SettledMounts, SettledStands, SettledIsClean, SettledTwice, SettledIsWritten, SettledReadsPlainly, SettledIsWhole, SettledNeedsNoSteps}
+use Rattle.cartridge_laws.specs.MountLaws.{SettledKeepsTable, SettledMounts, SettledStands, SettledIsClean, SettledTwice, SettledIsWritten}
+use Rattle.cartridge_laws.specs.MountLaws.{SettledReadsPlainly, SettledIsWhole, SettledNeedsNoSteps}
 use Rattle.cartridge_spec.specs.TableSegment.{TableIs, ReadsPlainly, IsTableLive}
 use Rattle.cartridge_spec.specs.Mounting.{settled}
 use Rattle.cartridge_spec.specs.Says.{whole_mask, with_parity}
@@ -78,7 +80,8 @@ settled_open c area is = ap (λ (b : Bool). cond b c (changed_by (writes_of 2 (u
 settled_all_written : (c : Cartridge) (area : List (List ℕ)) → TableIs c area → c.info.protected ≡ false →
     IsAllWritten (with_parity area) c (settled area c)
 settled_all_written c area table is =
-    subst (IsAllWritten (with_parity area) c) (sym (settled_open c area is)) (all_written (with_parity area) c (length-table_block c area table))
+    subst (IsAllWritten (with_parity area) c) (sym (settled_open c area is))
+    (all_written (with_parity area) c (length-table_block c area table))
 
 pub settled_is_written : SettledIsWritten
 settled_is_written c area table is =
@@ -102,7 +105,8 @@ settled_is_whole c area i table is live h =
 
 -- ---- it needs no steps
 
-whole_is_settled : (d : Cartridge) (block : List (List ℕ)) (i : ℕ) → view_at d 2 i ≡ Holds (sector_at block i) → is_unsettled d block i ≡ false
+whole_is_settled : (d : Cartridge) (block : List (List ℕ)) (i : ℕ) → view_at d 2 i ≡ Holds (sector_at block i) →
+    is_unsettled d block i ≡ false
 whole_is_settled d block i view =
     let bytes : List ℕ = sector_at block i in
     elim (cases_lt i 29) [

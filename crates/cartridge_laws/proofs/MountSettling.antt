@@ -1,10 +1,12 @@
 -- What a stop among the writes that settle a table leaves.
-use Rattle.std.proofs.Common.{ℕ, List, ◌≡◌, inl, inr, ◌∙◌, ap, subst, arith, Bool, Option, Some, IsSomeAnd, ◌≢◌, ◌<◌, ◌≤◌, sym, false, [], ◌∷◌, ◌++◌, true, ◌⊎◌, refl}
+use Rattle.std.proofs.Common.{ℕ, List, ◌≡◌, inl, inr, ◌∙◌, ap, subst, arith, Bool, Option, Some, IsSomeAnd, ◌≢◌, ◌<◌, ◌≤◌, sym, false, []}
+use Rattle.std.proofs.Common.{◌∷◌, ◌++◌, true, ◌⊎◌, refl}
 use Rattle.std.proofs.lemmas.Bool.{cases_eq, cases_lt, true≢false, cases_Bool}
 use Rattle.std.specs.Prelude.{if◌then◌else◌}
 use Rattle.cartridge_laws.proofs.FormatWriting.{some_and, some_weaker}
 use Rattle.cartridge_laws.proofs.MountFar.{IsApart, IsFar, is_far}
-use Rattle.cartridge_laws.proofs.MountLeftOut.{none_left_out, unsettled_test, no_other_is_part, left_out_data, unsettled_holds_not, settled_parity, left_out_parity, not_left_out, plain_places}
+use Rattle.cartridge_laws.proofs.MountLeftOut.{none_left_out, unsettled_test, no_other_is_part, left_out_data, unsettled_holds_not}
+use Rattle.cartridge_laws.proofs.MountLeftOut.{settled_parity, left_out_parity, not_left_out, plain_places}
 use Rattle.cartridge_laws.proofs.MountNear.{PartOrGone, AllBut, first_gone, gone_not_read, few_gone, three_parts}
 use Rattle.cartridge_laws.proofs.MountPlaces.{one_place, AreSmall, rest_small, both_small, where_small}
 use Rattle.cartridge_laws.proofs.MountSoFar.{IsBase, nothing_yet, stopped_from, written_here, IsTest, worn_here, worn_gone}
@@ -89,9 +91,11 @@ written_base c area m k apart other =
       | inr not_k ↦ written_other c k i bytes (omega arith) (omega arith) not_k ∙ apart_part c area m k i apart h not_m not_k
     ] in
     let p30 : HoldsPart d area 30 =
-    written_other c k 30 bytes (omega arith) (omega arith) (λ e. omega arith) ∙ apart_parity c area m k 30 apart (omega arith) (omega arith) in
+    written_other c k 30 bytes (omega arith) (omega arith) (λ e. omega arith) ∙ apart_parity c area m k 30 apart (omega arith)
+    (omega arith) in
     let p31 : HoldsPart d area 31 =
-    written_other c k 31 bytes (omega arith) (omega arith) (λ e. omega arith) ∙ apart_parity c area m k 31 apart (omega arith) (omega arith) in
+    written_other c k 31 bytes (omega arith) (omega arith) (λ e. omega arith) ∙ apart_parity c area m k 31 apart (omega arith)
+    (omega arith) in
     let same_29 : view_at d 2 29 ≡ view_at c 2 29 = written_other c k 29 bytes (omega arith) (omega arith) (λ e. omega arith) in
     let p29 : PartOrGone d area 29 =
     elim apart.first [ inl part ↦ inl (same_29 ∙ part) | inr gone ↦ inr (ap is_unreadable same_29 ∙ gone) ] in
@@ -218,7 +222,8 @@ pub record IsKeptBy (P : Cartridge → Type 0) (block : List (List ℕ)) : Type 
   pub written : (i : ℕ) (d : Cartridge) → i < 32 → P d → P (changed (WriteSector 2 i (sector_at block i)) d)
   pub worn : (i : ℕ) (d : Cartridge) → i < 32 → P d → P (changed (Wear 2 i) d)
 
-places_stopped : (P : Cartridge → Type 0) (block : List (List ℕ)) (ps : List ℕ) (c : Cartridge) (left : Option Cartridge) → IsKeptBy P block →
+places_stopped : (P : Cartridge → Type 0) (block : List (List ℕ)) (ps : List ℕ) (c : Cartridge) (left : Option Cartridge) →
+    IsKeptBy P block →
     AreSmall ps → P c → Torn (block_writes block ps) (Some c) left → IsSomeAnd left P
 places_stopped P block [] c left kept small holds torn = some_and P c left holds torn
 places_stopped P block (p ∷ ps) c left kept small holds (inl before) = some_and P c left holds before
@@ -233,7 +238,8 @@ settling_small c area =
     both_small (places_where (is_left_out c (with_parity area))) (places_where (is_unsettled c (with_parity area)))
     (where_small (is_left_out c (with_parity area))) (where_small (is_unsettled c (with_parity area)))
 
-pub stopped_keeps : (P : Cartridge → Type 0) (c : Cartridge) (area : List (List ℕ)) (left : Option Cartridge) → IsKeptBy P (with_parity area) →
+pub stopped_keeps : (P : Cartridge → Type 0) (c : Cartridge) (area : List (List ℕ)) (left : Option Cartridge) →
+    IsKeptBy P (with_parity area) →
     P c → Torn (settling_steps area c) (Some c) left → IsSomeAnd left P
 stopped_keeps P c area left kept holds torn =
     by_marks P c area left c.info.protected holds

@@ -1,9 +1,11 @@
 -- The settling of a table that was read with a sector of data lost: each write, done or stopped, leaves the same reading.
-use Rattle.std.proofs.Common.{◌≡◌, ℕ, refl, List, ◌≢◌, ◌<◌, sym, ◌⊎◌, inl, inr, ◌≤◌, Bool, true, false, arith, ◌∙◌, ap, subst, ◌+◌, zero, suc, ◌∷◌, Option, Some, IsSomeAnd}
+use Rattle.std.proofs.Common.{◌≡◌, ℕ, refl, List, ◌≢◌, ◌<◌, sym, ◌⊎◌, inl, inr, ◌≤◌, Bool, true, false, arith, ◌∙◌, ap, subst, ◌+◌, zero}
+use Rattle.std.proofs.Common.{suc, ◌∷◌, Option, Some, IsSomeAnd}
 use Rattle.std.proofs.lemmas.Bool.{cases_lt, cases_eq, cases_Bool}
 use Rattle.cartridge_laws.proofs.FormatViews.{view_of_sector}
 use Rattle.cartridge_laws.proofs.FormatWriting.{some_and}
-use Rattle.cartridge_laws.proofs.MountNear.{IsRead, AllBut, gone_not_read, PartOrGone, same_reads, data_reads, first_gone, third_any, gone_or_read}
+use Rattle.cartridge_laws.proofs.MountNear.{IsRead, AllBut, gone_not_read, PartOrGone, same_reads, data_reads, first_gone, third_any}
+use Rattle.cartridge_laws.proofs.MountNear.{gone_or_read}
 use Rattle.cartridge_laws.proofs.MountWriting.{steps_that, steps_none, steps_passes, steps_fails}
 use Rattle.cartridge_laws.specs.MountBlocks.{HoldsPart}
 use Rattle.cartridge_laws.specs.Segment.{IsUnreadable}
@@ -18,7 +20,8 @@ use Rattle.cartridge_laws.proofs.AppendTableWrites.{written_other, worn_other}
 
 -- ---- one sector changed
 
-pub written_here : (d : Cartridge) (i : ℕ) (bytes : List ℕ) → view_at (changed (WriteSector 2 i bytes) d) 2 i ≡ written_view bytes (view_at d 2 i)
+pub written_here : (d : Cartridge) (i : ℕ) (bytes : List ℕ) → view_at (changed (WriteSector 2 i bytes) d) 2 i ≡ written_view bytes
+    (view_at d 2 i)
 written_here d i bytes = view_of_sector d 2 i (written_view bytes) refl
 
 pub worn_here : (d : Cartridge) (i : ℕ) → view_at (changed (Wear 2 i) d) 2 i ≡ worn_view (view_at d 2 i)
@@ -140,7 +143,8 @@ so_far_reads c d area n m base far =
     small_m : m < 32
     small_m = let small : m < 29 = base.small in omega arith
 
-    by_parity : view_at d 2 m ≡ view_at c 2 m → (HoldsPart c area 30 × HoldsPart c area 31) ⊎ (HoldsPart c area 29 × IsRead (view_at c 2 31)) →
+    by_parity : view_at d 2 m ≡ view_at c 2 m → (HoldsPart c area 30 × HoldsPart c area 31)
+        ⊎ (HoldsPart c area 29 × IsRead (view_at c 2 31)) →
         TableIs d area
     by_parity same (inl both) =
         elim (cases_lt 29 n) [
@@ -305,16 +309,19 @@ stopped_from c area test m (suc count) n d left base tests room far torn =
     elim (cases_Bool (test n)) [
       | inl passes ↦
           step passes (λ behind.
-          stopped_from c area test m count (n + 1) (changed (WriteSector 2 n (sector_at (with_parity area) n)) d) left base tests (omega arith)
+          stopped_from c area test m count (n + 1) (changed (WriteSector 2 n (sector_at (with_parity area) n)) d) left base tests
+          (omega arith)
           (far_written c d area n (omega arith) far) behind)
           (subst (λ (ss : List Step). Torn ss (Some d) left) (steps_passes test (with_parity area) n count passes) torn)
       | inr fails ↦
-          stopped_from c area test m count (n + 1) d left base tests (omega arith) (far_passed c d area test n m base tests (omega arith) fails far)
+          stopped_from c area test m count (n + 1) d left base tests (omega arith)
+          (far_passed c d area test n m base tests (omega arith) fails far)
           (subst (λ (ss : List Step). Torn ss (Some d) left) (steps_fails test (with_parity area) n count fails) torn)
     ]
   where
     step : test n ≡ true →
-        (Torn (steps_that test (with_parity area) (n + 1) count) (Some (changed (WriteSector 2 n (sector_at (with_parity area) n)) d)) left →
+        (Torn (steps_that test (with_parity area) (n + 1) count) (Some (changed (WriteSector 2 n (sector_at (with_parity area) n)) d))
+        left →
         IsSomeAnd left (λ e. TableIs e area)) →
         Torn (WriteSector 2 n (sector_at (with_parity area) n) ∷ steps_that test (with_parity area) (n + 1) count) (Some d) left →
         IsSomeAnd left (λ e. TableIs e area)

@@ -1,5 +1,6 @@
 -- What a stop among writes to the table's segment keeps, and the plain reading after one.
-use Rattle.std.proofs.Common.{◌≡◌, ℕ, ◌<◌, Bool, true, List, inl, inr, ◌∷◌, Option, Some, IsSomeAnd, zero, suc, ◌+◌, ◌≤◌, subst, arith, None, refl, ◌≢◌, length, ◌*◌, sym, ap, ◌∙◌, false, not, []}
+use Rattle.std.proofs.Common.{◌≡◌, ℕ, ◌<◌, Bool, true, List, inl, inr, ◌∷◌, Option, Some, IsSomeAnd, zero, suc, ◌+◌, ◌≤◌, subst, arith}
+use Rattle.std.proofs.Common.{None, refl, ◌≢◌, length, ◌*◌, sym, ap, ◌∙◌, false, not, []}
 use Rattle.std.proofs.lemmas.Bool.{cases_Bool, cases_eq, cases_lt, true≢false}
 use Rattle.std.proofs.lemmas.List.{length-set}
 use Rattle.std.proofs.lemmas.Slice.Eq.{bytes_eq-Decides}
@@ -9,7 +10,8 @@ use Rattle.cartridge_laws.proofs.FormatViews.{view_of_sector, view_of_other_sect
 use Rattle.cartridge_laws.proofs.FormatWriting.{some_and, some_weaker}
 use Rattle.cartridge_laws.proofs.MountParts.{length-block}
 use Rattle.cartridge_laws.proofs.MountStanding.{said_area}
-use Rattle.cartridge_laws.proofs.MountWriting.{steps_that, steps_none, steps_passes, steps_fails, table_block, unsettled_data, unsettled_parity, solved_agree, IsAllWritten, all_written, same_written}
+use Rattle.cartridge_laws.proofs.MountWriting.{steps_that, steps_none, steps_passes, steps_fails, table_block, unsettled_data}
+use Rattle.cartridge_laws.proofs.MountWriting.{unsettled_parity, solved_agree, IsAllWritten, all_written, same_written}
 use Rattle.cartridge_laws.proofs.Sayings.{written_is_said}
 use Rattle.cartridge_laws.proofs.Segments.{cells_of_whole, length-whole_cells}
 use Rattle.cartridge_spec.specs.TableSegment.{table_cells, ReadsPlainly}
@@ -96,7 +98,8 @@ pub record IsOnTheWay (c d : Cartridge) : Type 0 where
 pub way_begun : (c : Cartridge) → IsOnTheWay c c
 way_begun c = record { info = refl; version = refl; size = refl; others = λ s i h apart. refl; takes = λ i bytes h. refl }
 
-pub way_more : (c d : Cartridge) (i : ℕ) (f : SectorView → SectorView) → i < 32 → IsMild f → IsOnTheWay c d → IsOnTheWay c (with_change d i f)
+pub way_more : (c d : Cartridge) (i : ℕ) (f : SectorView → SectorView) → i < 32 → IsMild f → IsOnTheWay c d →
+    IsOnTheWay c (with_change d i f)
 way_more c d i f small mild way =
     let view : SectorView = f (view_at d 2 i) in
     record {
@@ -107,7 +110,8 @@ way_more c d i f small mild way =
           view_of_other_sector d 2 i s j view small h (λ same e. absurd (apart same)) ∙ way.others s j h apart;
       takes = λ j bytes h.
           elim (cases_eq j i) [
-            | inl same ↦ subst (λ (k : ℕ). written_view bytes (view_at (with_change d i f) 2 k) ≡ written_view bytes (view_at c 2 k)) (sym same)
+            | inl same ↦ subst (λ (k : ℕ). written_view bytes (view_at (with_change d i f) 2 k) ≡ written_view bytes (view_at c 2 k))
+                (sym same)
                 (ap (written_view bytes) (view_of_sector d 2 i f mild.blank) ∙ mild.takes bytes (view_at d 2 i) ∙ way.takes i bytes small)
             | inr apart ↦
                 ap (written_view bytes) (view_of_other_sector d 2 i 2 j view small h (λ e same. apart (sym same)))
@@ -121,7 +125,8 @@ record IsReadWay (c d : Cartridge) : Type 0 where
   way : IsOnTheWay c d
   kept : (i : ℕ) → i < 29 → view_at d 2 i ≡ view_at c 2 i
 
-read_more : (c d : Cartridge) (i : ℕ) (f : SectorView → SectorView) → i < 32 → 29 ≤ i → IsMild f → IsReadWay c d → IsReadWay c (with_change d i f)
+read_more : (c d : Cartridge) (i : ℕ) (f : SectorView → SectorView) → i < 32 → 29 ≤ i → IsMild f → IsReadWay c d →
+    IsReadWay c (with_change d i f)
 read_more c d i f small parity mild way = record {
   way = way_more c d i f small mild way.way;
   kept = λ j h.
@@ -137,7 +142,8 @@ only_parity c area i reads small passes =
           let here = reads.each i data_sector in
           let both : Some (view_at c 2 i) ≡ Some (Holds here.0) = sym (cells_of_whole c 2 i small) ∙ here.1 in
           let view : view_at c 2 i ≡ Holds here.0 = cc in
-          absurd (true≢false (sym passes ∙ unsettled_data c (table_block area) i data_sector ∙ ap (λ (v : SectorView). is_unreadable v) view))
+          absurd (true≢false (sym passes ∙ unsettled_data c (table_block area) i data_sector
+          ∙ ap (λ (v : SectorView). is_unreadable v) view))
       | inr parity ↦ parity
     ]
 
@@ -156,7 +162,8 @@ reads_still c d area reads way = record {
   each = λ i h.
       let here = reads.each i h in (
         here.0,
-        cells_of_whole d 2 i (omega arith) ∙ ap (λ (v : SectorView). Some v) (way.kept i h) ∙ sym (cells_of_whole c 2 i (omega arith)) ∙ here.1,
+        cells_of_whole d 2 i (omega arith) ∙ ap (λ (v : SectorView). Some v) (way.kept i h) ∙ sym (cells_of_whole c 2 i (omega arith))
+            ∙ here.1,
         here.2,
       );
 }
@@ -178,7 +185,8 @@ solved_more block c d i f small mild right lost way =
       agrees = λ j held h is.
           elim (cases_eq j i) [
             | inl same ↦
-                let here : view_at (with_change d i f) 2 i ≡ Holds held = subst (λ (k : ℕ). view_at (with_change d i f) 2 k ≡ Holds held) same is in
+                let here : view_at (with_change d i f) 2 i ≡ Holds held =
+                subst (λ (k : ℕ). view_at (with_change d i f) 2 k ≡ Holds held) same is in
                 right (view_at d 2 i) held (sym (view_of_sector d 2 i f mild.blank) ∙ here) ∙ ap (sector_at block) (sym same)
             | inr apart ↦
                 way.agrees j held h (sym (view_of_other_sector d 2 i 2 j view small h (λ e same. apart (sym same))) ∙ is)
@@ -224,7 +232,8 @@ solved_kept : (c : Cartridge) (area : List (List ℕ)) → Says (table_cells c) 
     IsKept (IsSolvedWay (table_block area) c) (is_unsettled c (table_block area)) (table_block area)
 solved_kept c area says = record {
   written = λ i d small passes way.
-      solved_more (table_block area) c d i (written_view (sector_at (table_block area) i)) small (written_mild (sector_at (table_block area) i))
+      solved_more (table_block area) c d i (written_view (sector_at (table_block area) i)) small
+      (written_mild (sector_at (table_block area) i))
       (written_right (sector_at (table_block area) i)) (λ held is. only_lost c area i held says small passes is) way;
   worn = λ i d small passes way.
       solved_more (table_block area) c d i worn_view small worn_mild

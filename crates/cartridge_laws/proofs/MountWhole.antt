@@ -39,7 +39,8 @@ block_sectors area is_area =
     let size : length area ≡ 29 = is_area.size in
     (parity_block area (omega arith) (omega arith) is_area.sectors).sectors
 
-block_sector : (c : Cartridge) (area : List (List ℕ)) (i : ℕ) → IsCartridge c → TableIs c area → i < 32 → IsSector (sector_at (with_parity area) i)
+block_sector : (c : Cartridge) (area : List (List ℕ)) (i : ℕ) → IsCartridge c → TableIs c area → i < 32 →
+    IsSector (sector_at (with_parity area) i)
 block_sector c area i whole table h =
     let long : length (with_parity area) ≡ 32 = length-table_block c area table in
     subst IsSector (sym (unwrap_or-slice_get (with_parity area) i []))

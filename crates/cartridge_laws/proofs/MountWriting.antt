@@ -1,5 +1,6 @@
 -- Writes to the table's segment at the places that pass a test, and cartridges whose whole segment was written.
-use Rattle.std.proofs.Common.{ℕ, List, Bool, filter, ◌≡◌, zero, [], refl, suc, ◌+◌, true, ◌∷◌, false, ap, ◌*◌, ◌/◌, ◌%◌, ◌<◌, length, get_or, slice_get, sym, ◌∙◌, subst, arith, ◌≢◌, inl, inr, zero-add, Option, not, cond, ◌≤◌}
+use Rattle.std.proofs.Common.{ℕ, List, Bool, filter, ◌≡◌, zero, [], refl, suc, ◌+◌, true, ◌∷◌, false, ap, ◌*◌, ◌/◌, ◌%◌, ◌<◌, length}
+use Rattle.std.proofs.Common.{get_or, slice_get, sym, ◌∙◌, subst, arith, ◌≢◌, inl, inr, zero-add, Option, not, cond, ◌≤◌}
 use Rattle.std.specs.List.{range_with_len}
 use Rattle.std.specs.Prelude.{unwrap_or}
 use Rattle.std.proofs.lemmas.List.{same_lists, get_or_default, length-set}
@@ -76,7 +77,8 @@ same_views xs ys long same =
     ∙ unwrap_or-slice_get ys k Blank in
     get_or_default xs k d Blank h ∙ here ∙ get_or_default ys k Blank d (omega arith))
 
-same_parts : (c : Cartridge) (info : TapeInfo) (version : ℕ) (views : List SectorView) → c.info ≡ info → c.version ≡ version → c.views ≡ views →
+same_parts : (c : Cartridge) (info : TapeInfo) (version : ℕ) (views : List SectorView) → c.info ≡ info → c.version ≡ version →
+    c.views ≡ views →
     c ≡ record { info = info; version = version; views = views }
 same_parts c info version views i n v = rw (sym i, sym n, sym v) refl
 
@@ -105,7 +107,8 @@ same_choice block c d e left right s i h =
 
 pub same_written : (block : List (List ℕ)) (c d e : Cartridge) → IsAllWritten block c d → IsAllWritten block c e → d ≡ e
 same_written block c d e left right =
-    same_cartridge d e (left.info ∙ sym right.info) (left.version ∙ sym right.version) (left.size ∙ sym right.size) (same_choice block c d e left right)
+    same_cartridge d e (left.info ∙ sym right.info) (left.version ∙ sym right.version) (left.size ∙ sym right.size)
+    (same_choice block c d e left right)
 
 pub length-writes_of : (places : List ℕ) (sectors : List (List ℕ)) (segment : ℕ) (c : Cartridge) →
     length (changed_by (writes_of segment places sectors) c).views ≡ length c.views
@@ -124,7 +127,8 @@ range_written block c long =
       version = rest.version;
       size = length-writes_of (range_with_len 0 32) block 2 c;
       table = λ i h.
-          subst (λ (j : ℕ). view_at (changed_by (writes_of 2 (range_with_len 0 32) block) c) 2 j ≡ written_view (sector_at block i) (view_at c 2 j)) (zero-add i)
+          subst (λ (j : ℕ). view_at (changed_by (writes_of 2 (range_with_len 0 32) block) c) 2 j ≡ written_view (sector_at block i)
+          (view_at c 2 j)) (zero-add i)
           (view_written 32 0 i block 2 c (omega arith) long h
           ∙ ap (λ (bytes : List ℕ). written_view bytes (view_at c 2 (0 + i))) (sym (unwrap_or-slice_get block i [])));
       others = λ s i h apart. rest.others s i h (λ same. absurd (apart same));
@@ -133,7 +137,8 @@ range_written block c long =
 pub all_written : (block : List (List ℕ)) (c : Cartridge) → length block ≡ 32 →
     IsAllWritten block c (changed_by (writes_of 2 (usable_places whole_mask) block) c)
 all_written block c long =
-    subst (λ (places : List ℕ). IsAllWritten block c (changed_by (writes_of 2 places block) c)) (sym places_of_whole) (range_written block c long)
+    subst (λ (places : List ℕ). IsAllWritten block c (changed_by (writes_of 2 places block) c)) (sym places_of_whole)
+    (range_written block c long)
 
 -- ---- what a table is known to hold
 

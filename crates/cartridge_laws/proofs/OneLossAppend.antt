@@ -1,5 +1,6 @@
 -- An append changes one sector of the table's data, the last one with a used slot.
-use Rattle.std.proofs.Common.{◌≡◌, ℕ, ◌+◌, ◌*◌, ◌/◌, ◌%◌, ◌<◌, ◌∙◌, ap, arith, List, [], ◌∷◌, take, drop, ◌||◌, refl, Bool, true, false, zero, suc, inl, inr, sym, length, ◌++◌}
+use Rattle.std.proofs.Common.{◌≡◌, ℕ, ◌+◌, ◌*◌, ◌/◌, ◌%◌, ◌<◌, ◌∙◌, ap, arith, List, [], ◌∷◌, take, drop, ◌||◌, refl, Bool, true, false}
+use Rattle.std.proofs.Common.{zero, suc, inl, inr, sym, length, ◌++◌}
 use Rattle.std.proofs.lemmas.Bool.{cases_eq, cases_Bool}
 use Rattle.std.proofs.lemmas.List.{length-map, length_push}
 use Rattle.cartridge_laws.proofs.AppendDone.{stopped_list}

@@ -1,6 +1,7 @@
 -- A cartridge that differs in the table's segment alone from one that stands, and says that one's data of the table, comes back
 -- as that one; so does one that an append left, done or stopped, where one sector more of the table's segment is lost.
-use Rattle.std.proofs.Common.{◌∙◌, ℕ, List, ◌≡◌, ◌<◌, arith, ap, ◌-◌, ◌*◌, inl, false, ◌⊎◌, sym, subst, refl, length, Option, Some, IsSomeAnd, inr}
+use Rattle.std.proofs.Common.{◌∙◌, ℕ, List, ◌≡◌, ◌<◌, arith, ap, ◌-◌, ◌*◌, inl, false, ◌⊎◌, sym, subst, refl, length, Option, Some}
+use Rattle.std.proofs.Common.{IsSomeAnd, inr}
 use Rattle.cartridge_laws.proofs.AppendDead.{ready_settled}
 use Rattle.cartridge_laws.proofs.AppendDone.{done_stands, appended_is_whole, OfTable, list_in}
 use Rattle.cartridge_laws.proofs.MountStops.{some_both}
@@ -16,7 +17,8 @@ use Rattle.cartridge_laws.proofs.OneLossAppend.{stopped_append_reads_either, app
 use Rattle.cartridge_laws.proofs.OneLossRead.{before_reads_old_still}
 use Rattle.cartridge_laws.specs.AppendBetween.{IsWhole}
 use Rattle.cartridge_laws.specs.AppendLaws.{volume_steps, IsReadyFor, list_steps, new_table}
-use Rattle.cartridge_laws.specs.OneLossLaws.{TableAloneComesBack, TableAloneIsClean, StoppedAppendComesBack, DoneAppendReadsNew, DoneAppendComesBack, SettledComesBack}
+use Rattle.cartridge_laws.specs.OneLossLaws.{TableAloneComesBack, TableAloneIsClean, StoppedAppendComesBack, DoneAppendReadsNew}
+use Rattle.cartridge_laws.specs.OneLossLaws.{DoneAppendComesBack, SettledComesBack}
 use Rattle.cartridge_spec.specs.Appending.{with_bytes, appended_volume}
 use Rattle.cartridge_spec.specs.Header.{header_fault}
 use Rattle.cartridge_spec.specs.TableSegment.{TableIs, table_cells, ChangesTableAlone, LosesOne, LosesOneAlone}
@@ -116,7 +118,8 @@ whole_comes_back d plain stood whole area f lost loses =
 
 pub settled_comes_back : SettledComesBack
 settled_comes_back c plain cartridge stood live unprotected table f lost loses =
-    whole_comes_back (settled plain.table_area c) plain (settled_stands c c plain (record { info = refl; others = λ s i h apart. refl }) stood table unprotected)
+    whole_comes_back (settled plain.table_area c) plain
+    (settled_stands c c plain (record { info = refl; others = λ s i h apart. refl }) stood table unprotected)
     (λ i h. settled_is_whole c plain.table_area i table unprotected live h) (table_is_area c plain.table_area cartridge table) f lost loses
 
 pub table_alone_is_clean : TableAloneIsClean
@@ -175,7 +178,8 @@ stopped_append_comes_back c d plain name date bytes left ready is torn =
         TableIs f plain.table_area ⊎ TableIs f (new_table plain name date bytes) →
         ComesBackAs f plain ⊎ ComesBackAs f (with_bytes plain name date bytes)
     back e kept f lost loses (inl reads) =
-        inl (table_alone_comes_back d f plain (subst (λ (g : Cartridge). Stands g plain) (sym is) (old_stands c plain name date bytes ready))
+        inl (table_alone_comes_back d f plain
+        (subst (λ (g : Cartridge). Stands g plain) (sym is) (old_stands c plain name date bytes ready))
         (alone_then d e f (kept_alone d e kept) loses.alone) reads)
     back e kept f lost loses (inr reads) =
         let all : Cartridge = changed_by steps d in

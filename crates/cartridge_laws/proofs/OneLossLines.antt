@@ -3,7 +3,9 @@ use Rattle.std.proofs.Common.{◌≡◌, ◌≢◌, ℕ, ◌<◌, List, sym, ◌
 use Rattle.std.specs.Prelude.{unwrap_or}
 use Rattle.std.proofs.lemmas.Bool.{cases_eq}
 use Rattle.cartridge_laws.proofs.MountParts.{front_sector}
-use Rattle.cartridge_laws.proofs.MountSeen.{HoldsOutside, by_place, ReadsOutside, last_used_is, by_gone, few_in_table, block_outside, first_set, one_in_table, sets_of_one, two_in_table, sets_of_two, no_block_outside, not_first_set}
+use Rattle.cartridge_laws.proofs.MountSeen.{HoldsOutside, by_place, ReadsOutside, last_used_is, by_gone, few_in_table, block_outside}
+use Rattle.cartridge_laws.proofs.MountSeen.{first_set, one_in_table, sets_of_one, two_in_table, sets_of_two, no_block_outside}
+use Rattle.cartridge_laws.proofs.MountSeen.{not_first_set}
 use Rattle.cartridge_laws.proofs.OneLossParity.{same_data, parity_differs}
 use Rattle.cartridge_laws.proofs.Segments.{cells_of_whole}
 use Rattle.cartridge_laws.proofs.Sets.{IsNoneOf, IsOneOf}
@@ -71,9 +73,10 @@ changed_differs : (d : Cartridge) (old new : List (List ℕ)) (k m : ℕ) → Is
     sector_at (with_parity new) k ≢ sector_at (with_parity old) k
 changed_differs d old new k m broken same =
     let differ : DifferInOne old new k = broken.differ in
-    differ.differs (sym (front_sector old differ.old_area k differ.data_sector) ∙ sym same ∙ front_sector new differ.new_area k differ.data_sector)
+    differ.differs (sym (front_sector old differ.old_area k differ.data_sector) ∙ sym same
+    ∙ front_sector new differ.new_area k differ.data_sector)
 
-shows_used : (d : Cartridge) (area : List (List ℕ)) (i : ℕ) → IsArea area → i < 29 → HoldsPart d area i →
+pub shows_used : (d : Cartridge) (area : List (List ℕ)) (i : ℕ) → IsArea area → i < 29 → HoldsPart d area i →
     shows_used_slot (unwrap_or (slice_get (table_cells d) i) Lost) ≡ has_used_slot (sector_at area i)
 shows_used d area i is h part =
     ap (λ (o : Option SectorView). shows_used_slot (unwrap_or o Lost)) (cells_of_whole d 2 i (omega arith))
@@ -135,7 +138,8 @@ two_lost : (d : Cartridge) (old new : List (List ℕ)) (k m other : ℕ) → IsB
     sets_by (last_used (table_cells d)) (unreadable_places (table_cells d)) ≡ sets_by_two (last_used (table_cells d)) m other
 two_lost d old new k m other broken from below gone reads =
     let small : m < 29 = broken.small in
-    ap (sets_by (last_used (table_cells d))) (two_in_table d m other (omega arith) below (ap is_unreadable broken.here) (ap is_unreadable gone) reads)
+    ap (sets_by (last_used (table_cells d)))
+    (two_in_table d m other (omega arith) below (ap is_unreadable broken.here) (ap is_unreadable gone) reads)
     ∙ sets_of_two (last_used (table_cells d)) m other small
 
 -- ---- line by line, where the changed sector is not lost
@@ -350,7 +354,8 @@ one_new_still_old d old new k m broken same p29 p30 p31 =
           (omega arith) tt p29 differs),
       inr (
         no_block_outside d old (m ∷ 31 ∷ []) (29 ∷ []) 29 (sector_at (with_parity new) 29) is (omega arith)
-            (old_outside d old new k m (m ∷ 31 ∷ 29 ∷ []) broken (λ i none. changed_is_lost k m i same none.0) (λ none. absurd (none.1.1.0 refl))
+            (old_outside d old new k m (m ∷ 31 ∷ 29 ∷ []) broken (λ i none. changed_is_lost k m i same none.0)
+            (λ none. absurd (none.1.1.0 refl))
             (λ none. p30) (λ none. p31))
             (omega arith) ((λ e. omega arith), ((λ e. omega arith), tt)) p29 differs,
         inl (block_outside d old (m ∷ 29 ∷ []) [] is holds (λ i one. absurd one)),

@@ -1,5 +1,6 @@
 -- Two tables that differ in one sector of data differ in their parity, and a code block near a table's is that.
-use Rattle.std.proofs.Common.{◌≡◌, ℕ, ◌<◌, ◌∙◌, ap, List, length, slice_get, slice_index, Some, ◌≤◌, sym, arith, [], ◌∷◌, ◌≢◌, inl, inr, subst}
+use Rattle.std.proofs.Common.{◌≡◌, ℕ, ◌<◌, ◌∙◌, ap, List, length, slice_get, slice_index, Some, ◌≤◌, sym, arith, [], ◌∷◌, ◌≢◌, inl, inr}
+use Rattle.std.proofs.Common.{subst}
 use Rattle.std.specs.Option.{option_map}
 use Rattle.std.proofs.lemmas.Bool.{cases_eq, cases_lt}
 use Rattle.cartridge_laws.proofs.MountParts.{sector_there, few_named, length-block, code_block, near_blocks, front_sector}
@@ -67,7 +68,8 @@ parity_bytes_differ old new changed parity j differ from below small apart same 
     let long_old : length (with_parity old) ≡ 32 = length-block old differ.old_area in
     let long_new : length (with_parity new) ≡ 32 = length-block new differ.new_area in
     let columns : column j (with_parity old) ≡ column j (with_parity new) =
-    near_columns (with_parity old) (with_parity new) j (changed ∷ q ∷ r ∷ []) (code_block old differ.old_area) (code_block new differ.new_area)
+    near_columns (with_parity old) (with_parity new) j (changed ∷ q ∷ r ∷ []) (code_block old differ.old_area)
+    (code_block new differ.new_area)
     long_old long_new small (omega arith) (λ i h none.
     elim (cases_lt i 29) [
       | inl front ↦ ap (λ (s : List ℕ). slice_index s j) (same_data old new changed i differ front none.0)

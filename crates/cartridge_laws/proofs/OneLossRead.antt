@@ -5,10 +5,12 @@ use Rattle.cartridge_laws.proofs.MountParts.{length-block, data_read}
 use Rattle.cartridge_laws.proofs.MountSeen.{few_in_table}
 use Rattle.cartridge_laws.proofs.MountStanding.{written_table}
 use Rattle.cartridge_laws.proofs.MountStops.{block_written}
-use Rattle.cartridge_laws.proofs.OneLossLines.{IsBroken, all_old, first_lost, all_old_at_once, first_lost_at_once, one_new_still_old, one_new, second_lost, two_new, third_lost, all_new}
+use Rattle.cartridge_laws.proofs.OneLossLines.{IsBroken, all_old, first_lost, all_old_at_once, first_lost_at_once, one_new_still_old}
+use Rattle.cartridge_laws.proofs.OneLossLines.{one_new, second_lost, two_new, third_lost, all_new}
 use Rattle.cartridge_laws.specs.AppendBetween.{IsWhole, IsBegun, IsTurned}
 use Rattle.cartridge_laws.specs.MountBlocks.{HoldsPart}
-use Rattle.cartridge_laws.specs.OneLossLaws.{BeforeReadsOldStill, LostParityReadsNew, LostDataReadsOld, LostDataReadsNew, OneLossReadsEither}
+use Rattle.cartridge_laws.specs.OneLossLaws.{BeforeReadsOldStill, LostParityReadsNew, LostDataReadsOld, LostDataReadsNew}
+use Rattle.cartridge_laws.specs.OneLossLaws.{OneLossReadsEither}
 use Rattle.cartridge_laws.specs.OneLossTables.{DifferInOne, IsLastInUse}
 use Rattle.cartridge_spec.specs.TableSegment.{table_cells, TableIs, LosesOne}
 use Rattle.cartridge_spec.specs.Says.{unreadable_count, with_parity}
@@ -65,7 +67,8 @@ lost_parity_reads_new c d old new m is turned from loses =
 
 -- ---- a sector of data
 
-broken_by : (c d : Cartridge) (old new : List (List ℕ)) (k m : ℕ) → DifferInOne old new k → IsLastInUse new k → IsTurned c old new → m < 29 →
+broken_by : (c d : Cartridge) (old new : List (List ℕ)) (k m : ℕ) → DifferInOne old new k → IsLastInUse new k → IsTurned c old new →
+    m < 29 →
     LosesOne c d m → IsBroken d old new k m
 broken_by c d old new k m differ last turned small loses =
     let begins : 29 ≤ turned.turn = turned.from in
@@ -164,7 +167,8 @@ turned_reads_either c d old new k m differ last turned small loses =
                 inr (lost_data_reads_new c d old new k m differ last turned small loses (omega arith) (λ e part. absurd (cc)))
           ]
           | inr not_second ↦
-              inr (lost_data_reads_new c d old new k m differ last turned small loses (omega arith) (λ second part. absurd (not_second second)))
+              inr (lost_data_reads_new c d old new k m differ last turned small loses (omega arith)
+              (λ second part. absurd (not_second second)))
         ]
       ]
     ]

@@ -1,5 +1,6 @@
 -- The places of a set, ascending, and those of the usable sectors.
-use Rattle.std.proofs.Common.{◌≡◌, ℕ, refl, [], ◌+◌, List, ◌++◌, zero, suc, ◌-◌, ◌/◌, ◌%◌, ◌^◌, sym, ◌∙◌, ap, arith, inl, inr, ◌∷◌, add-zero, append_assoc, ◌≤◌, subst, ◌<◌, length, get_or, add-one, map}
+use Rattle.std.proofs.Common.{◌≡◌, ℕ, refl, [], ◌+◌, List, ◌++◌, zero, suc, ◌-◌, ◌/◌, ◌%◌, ◌^◌, sym, ◌∙◌, ap, arith, inl, inr, ◌∷◌}
+use Rattle.std.proofs.Common.{add-zero, append_assoc, ◌≤◌, subst, ◌<◌, length, get_or, add-one, map}
 use Rattle.std.proofs.lemmas.Bool.{cases_eq, cases_lt}
 use Rattle.std.proofs.lemmas.List.{append-nil, get_or_at, length_push, length-append, map-id, get_or_append_left, get_or_push}
 use Rattle.std.proofs.lemmas.Nat.Bits.{bit_at_above, bit_at_ones}
@@ -117,7 +118,8 @@ abbrev pub AreApart : List ℕ → Type 0
 AreApart places = (j k : ℕ) → j < k → k < length places → get_or places j 0 ≡ get_or places k 0 → ⊥
 
 small_places : (mask n k : ℕ) → k < length (lost_places mask n) → get_or (lost_places mask n) k 0 < n
-small_places mask zero k h = let none : length (lost_places mask 0) ≡ 0 = ap (λ (l : List ℕ). length l) (none_below mask) in absurd (omega arith)
+small_places mask zero k h = let none : length (lost_places mask 0) ≡ 0 = ap (λ (l : List ℕ). length l) (none_below mask) in
+    absurd (omega arith)
 small_places mask (suc n) k h =
     let next : lost_places mask (n + 1) ≡ lost_places mask (suc n) = ap (lost_places mask) (add-one n) in
     elim (cases_eq ((mask / 2 ^ n) % 2) 1) [
@@ -146,7 +148,8 @@ small_places mask (suc n) k h =
 
 ascending : (mask n j k : ℕ) → j < k → k < length (lost_places mask n) →
     get_or (lost_places mask n) j 0 < get_or (lost_places mask n) k 0
-ascending mask zero j k l h = let none : length (lost_places mask 0) ≡ 0 = ap (λ (l : List ℕ). length l) (none_below mask) in absurd (omega arith)
+ascending mask zero j k l h = let none : length (lost_places mask 0) ≡ 0 = ap (λ (l : List ℕ). length l) (none_below mask) in
+    absurd (omega arith)
 ascending mask (suc n) j k l h =
     let next : lost_places mask (n + 1) ≡ lost_places mask (suc n) = ap (lost_places mask) (add-one n) in
     elim (cases_eq ((mask / 2 ^ n) % 2) 1) [

@@ -1,5 +1,6 @@
 -- What is read by sets of sectors that are left out of account: at most one thing, and something.
-use Rattle.std.proofs.Common.{ℕ, ◌≤◌, List, [], ◌∷◌, ◌≡◌, true, arith, length, Bool, false, ◌++◌, inr, Option, Some, None, inl, refl, subst, nat_lt, sym, ◌∙◌, ap, ◌⊎◌, All}
+use Rattle.std.proofs.Common.{ℕ, ◌≤◌, List, [], ◌∷◌, ◌≡◌, true, arith, length, Bool, false, ◌++◌, inr, Option, Some, None, inl, refl, subst}
+use Rattle.std.proofs.Common.{nat_lt, sym, ◌∙◌, ap, ◌⊎◌, All}
 use Rattle.std.specs.Prelude.{if◌then◌else◌, ◌==◌}
 use Rattle.std.proofs.lemmas.Bool.{eqb-true, cases_lt}
 use Rattle.std.proofs.lemmas.List.Elements.{All-nil, All-cons, All-head, All-tail}
@@ -10,7 +11,8 @@ use Rattle.cartridge_laws.proofs.Sayings.{says_is_function}
 use Rattle.cartridge_laws.proofs.Sets.{IsOneOf, few_outside, unreadable_is_named, views_hidden}
 use Rattle.cartridge_laws.specs.TableCells.{sets_by_one, sets_by_two, last_used, unreadable_places, table_sets}
 use Rattle.cartridge_laws.specs.Segment.{hidden, HasNoBlocks}
-use Rattle.cartridge_spec.specs.Says.{unreadable_count, Data, HasBlock, HasNoBlock, HasFirstBlock, Saying, LostSectors, Mismatch, SaysBy, Says, set_of, with_used, sets_by}
+use Rattle.cartridge_spec.specs.Says.{unreadable_count, Data, HasBlock, HasNoBlock, HasFirstBlock, Saying, LostSectors, Mismatch, SaysBy}
+use Rattle.cartridge_spec.specs.Says.{Says, set_of, with_used, sets_by}
 use Rattle.qic_base.specs.CartridgeTerms.{IsView}
 use Rattle.qic_base.specs.declared.tape.SectorView.{SectorView}
 
@@ -64,8 +66,11 @@ small_by_tests : (cells : List SectorView) (used : Option ℕ) (m other : ℕ) (
     AreAmong cells (m ∷ other ∷ []) → AreSmall cells (by_other used m a b)
 small_by_tests cells used m other true b is_29 is_30 among =
     small_with_used cells used (m ∷ 29 ∷ []) (omega arith) (subst (λ (p : ℕ). AreAmong cells (m ∷ p ∷ [])) (is_29 refl) among)
-small_by_tests cells used m other false true is_29 is_30 among =
-    (small_set cells (m ∷ 30 ∷ 31 ∷ []) (omega arith) (λ i un. front i (subst (λ (p : ℕ). IsOneOf (m ∷ p ∷ []) i) (is_30 refl) (among i un))), tt)
+small_by_tests cells used m other false true is_29 is_30 among = (
+  small_set cells (m ∷ 30 ∷ 31 ∷ []) (omega arith)
+      (λ i un. front i (subst (λ (p : ℕ). IsOneOf (m ∷ p ∷ []) i) (is_30 refl) (among i un))),
+  tt,
+)
   where
     front : (i : ℕ) → IsOneOf (m ∷ 30 ∷ []) i → IsOneOf (m ∷ 30 ∷ 31 ∷ []) i
     front i (inl same) = inl same

@@ -1,6 +1,7 @@
 -- Search among finitely many: what is decided of each number below a bound is decided of some, and so of columns that
 -- are filled in where they have no byte.
-use Rattle.std.proofs.Common.{◌⊎◌, inl, inr, ℕ, ◌<◌, zero, suc, subst, arith, ◌≡◌, List, [], ◌∷◌, Option, Some, None, refl, ap, length, ◌∙◌, slice_get, ◌≤◌, All}
+use Rattle.std.proofs.Common.{◌⊎◌, inl, inr, ℕ, ◌<◌, zero, suc, subst, arith, ◌≡◌, List, [], ◌∷◌, Option, Some, None, refl, ap, length, ◌∙◌}
+use Rattle.std.proofs.Common.{slice_get, ◌≤◌, All}
 use Rattle.std.proofs.lemmas.Bool.{cases_lt, cases_eq}
 use Rattle.std.proofs.lemmas.List.Elements.{All-nil, All-cons, All-head, All-tail}
 use Rattle.cartridge_spec.specs.Code.{IsCodeword, value_at}

@@ -1,5 +1,6 @@
 -- Sets of places, the cells outside them, and how many cells are unreadable then.
-use Rattle.std.proofs.Common.{ℕ, ◌/◌, ◌%◌, ◌^◌, Bool, ◌≡◌, ◌⊎◌, List, [], ◌∷◌, ◌≢◌, inl, inr, sym, ◌∙◌, ap, arith, true, max, bit_or, ◌<◌, subst, false, suc, refl, length, zero, ◌+◌, slice_get, Some, All, ◌≤◌, not, ◌&&◌}
+use Rattle.std.proofs.Common.{ℕ, ◌/◌, ◌%◌, ◌^◌, Bool, ◌≡◌, ◌⊎◌, List, [], ◌∷◌, ◌≢◌, inl, inr, sym, ◌∙◌, ap, arith, true, max, bit_or, ◌<◌}
+use Rattle.std.proofs.Common.{subst, false, suc, refl, length, zero, ◌+◌, slice_get, Some, All, ◌≤◌, not, ◌&&◌}
 use Rattle.std.specs.Prelude.{◌==◌, if◌then◌else◌}
 use Rattle.std.specs.Int.{bit_at}
 use Rattle.std.proofs.lemmas.Bool.{cases_eq, eq-eqb, eqb-true, cases_Bool, ne_eqb}

@@ -8,5 +8,6 @@ use Rattle.cartridge_spec.specs.Shape.{usable_places, usable_count, data_count}
 
 pub places_are_data_and_parity : PlacesAreDataAndParity
 places_are_data_and_parity mask carries =
-    ap (λ (b : Bool). data_places mask ++ (if b then drop (data_count mask) (usable_places mask) else [])) (le-leb 4 (usable_count mask) carries)
+    ap (λ (b : Bool). data_places mask ++ (if b then drop (data_count mask) (usable_places mask) else []))
+    (le-leb 4 (usable_count mask) carries)
     ∙ take-append-drop (data_count mask) (usable_places mask)

@@ -1,5 +1,6 @@
 -- The bytes of a slot show the entry that they were made from.
-use Rattle.std.proofs.Common.{◌≡◌, ℕ, ◌+◌, ◌-◌, ◌≤◌, List, ◌++◌, length, take, drop, ap, ◌∙◌, arith, codes, [], ◌∷◌, replicate, length-append, refl, ◌<◌, get_or, sym, true, eq-eqb, All}
+use Rattle.std.proofs.Common.{◌≡◌, ℕ, ◌+◌, ◌-◌, ◌≤◌, List, ◌++◌, length, take, drop, ap, ◌∙◌, arith, codes, [], ◌∷◌, replicate}
+use Rattle.std.proofs.Common.{length-append, refl, ◌<◌, get_or, sym, true, eq-eqb, All}
 use Rattle.std.specs.List.{slice_range}
 use Rattle.std.proofs.lemmas.List.{take_all, drop_at, length-replicate, get_or_append_left, get_or_at, append_assoc}
 use Rattle.std.specs.Prelude.{slice_index}
@@ -107,7 +108,8 @@ in_6 e i j name order within =
 signature_is : (e : Entry) → length e.name ≡ 44 → number_at (slot_bytes e) 0 4 ≡ little_endian (codes "VTBL")
 unfolding number_at
 signature_is e name =
-    ap little_endian (in_6 e 0 4 name (omega arith) (omega arith) ∙ range_left (codes "VTBL") (little_endian_bytes 2 e.start) 0 4 (omega arith) (omega arith))
+    ap little_endian (in_6 e 0 4 name (omega arith) (omega arith) ∙ range_left (codes "VTBL") (little_endian_bytes 2 e.start) 0 4
+    (omega arith) (omega arith))
 
 start_is : (e : Entry) → FitsSlot e → number_at (slot_bytes e) 4 2 ≡ e.start
 unfolding number_at
@@ -169,16 +171,28 @@ sequence_is e fits =
 pub slot_is_used : (e : Entry) → length e.name ≡ 44 → is_used (slot_bytes e) ≡ true
 slot_is_used e name = eq-eqb _ _ (signature_is e name)
 
-same_entry : (e : Entry) (start end date flags sequence directory size : ℕ) (name : List ℕ) → start ≡ e.start → end ≡ e.end → name ≡ e.name →
+same_entry : (e : Entry) (start end date flags sequence directory size : ℕ) (name : List ℕ) → start ≡ e.start → end ≡ e.end →
+    name ≡ e.name →
     date ≡ e.date → flags ≡ e.flags → sequence ≡ e.sequence → directory ≡ e.directory → size ≡ e.size →
-    record { start = start; end = end; name = name; date = date; flags = flags; sequence = sequence; directory = directory; size = size } ≡ e
+    record {
+      start = start;
+      end = end;
+      name = name;
+      date = date;
+      flags = flags;
+      sequence = sequence;
+      directory = directory;
+      size = size;
+    } ≡ e
 same_entry e start end date flags sequence directory size name a b c d f g h i = rw (a, b, c, d, f, g, h, i) refl
 
 pub slot_shows : (e : Entry) → FitsSlot e → entry_in (slot_bytes e) ≡ e
 slot_shows e fits =
-    same_entry e (number_at (slot_bytes e) 4 2) (number_at (slot_bytes e) 6 2) (number_at (slot_bytes e) 52 4) (slice_index (slot_bytes e) 56)
+    same_entry e (number_at (slot_bytes e) 4 2) (number_at (slot_bytes e) 6 2) (number_at (slot_bytes e) 52 4)
+    (slice_index (slot_bytes e) 56)
     (slice_index (slot_bytes e) 57) (number_at (slot_bytes e) 92 4) (number_at (slot_bytes e) 96 8) (slice_range (slot_bytes e) 8 52)
-    (start_is e fits) (end_is e fits) (name_is e fits) (date_is e fits) (flags_are e fits) (sequence_is e fits) (directory_is e fits) (size_is e fits)
+    (start_is e fits) (end_is e fits) (name_is e fits) (date_is e fits) (flags_are e fits) (sequence_is e fits) (directory_is e fits)
+    (size_is e fits)
 
 -- ---- its bytes are bytes
 

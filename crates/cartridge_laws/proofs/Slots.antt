@@ -1,6 +1,7 @@
 -- A table's data with one slot written: that slot has its bytes, and all others are as they were; so the data show one
 -- entry more.
-use Rattle.std.proofs.Common.{◌≡◌, ℕ, ◌-◌, ◌<◌, List, [], length, set, ap, ◌≢◌, sym, arith, ◌+◌, ◌++◌, take, drop, All, ◌*◌, ◌%◌, ◌∙◌, ◌/◌, inl, inr, ◌∷◌, slice_get, Some, true}
+use Rattle.std.proofs.Common.{◌≡◌, ℕ, ◌-◌, ◌<◌, List, [], length, set, ap, ◌≢◌, sym, arith, ◌+◌, ◌++◌, take, drop, All, ◌*◌, ◌%◌, ◌∙◌, ◌/◌}
+use Rattle.std.proofs.Common.{inl, inr, ◌∷◌, slice_get, Some, true}
 use Rattle.std.proofs.lemmas.List.Elements.{All-append, All-take, All-drop, All-set}
 use Rattle.std.proofs.lemmas.Option.{slice_get-get_or, slice_get_within, get_or_from_slice_get}
 use Rattle.std.proofs.lemmas.List.{length-set, length_push, get_or_append_left}
@@ -9,7 +10,8 @@ use Rattle.std.proofs.lemmas.Bool.{cases_lt, cases_eq}
 use Rattle.cartridge_spec.specs.Shape.{IsArea, sector_at}
 use Rattle.cartridge_laws.specs.Slots.{slot_sector, with_slot}
 use Rattle.cartridge_spec.specs.Table.{slot, Entry, Shows, entry_in, is_used, is_free}
-use Rattle.qic_base.proofs.FieldLaws.{length-overwritten, slice_range-overwritten, slice_range-overwritten_below, slice_range-overwritten_above}
+use Rattle.qic_base.proofs.FieldLaws.{length-overwritten, slice_range-overwritten, slice_range-overwritten_below}
+use Rattle.qic_base.proofs.FieldLaws.{slice_range-overwritten_above}
 use Rattle.qic_base.specs.Cartridge.{IsSector}
 use Rattle.qic_base.specs.Field.{overwritten}
 use Rattle.cartridge_laws.proofs.FreshSpelled.{sector_is}
@@ -26,7 +28,8 @@ pub record IsLong (area : List (List ℕ)) : Type 0 where
 pub area_is_long : (area : List (List ℕ)) → IsArea area → IsLong area
 area_is_long area is = record { size = is.size; sectors = λ i h. (sector_is area i is h).size }
 
-bytes_of_overwritten : (bytes part : List ℕ) (at : ℕ) → All (λ b. b < 256) bytes → All (λ b. b < 256) part → All (λ b. b < 256) (overwritten bytes at part)
+bytes_of_overwritten : (bytes part : List ℕ) (at : ℕ) → All (λ b. b < 256) bytes → All (λ b. b < 256) part →
+    All (λ b. b < 256) (overwritten bytes at part)
 unfolding overwritten
 bytes_of_overwritten bytes part at are part_are =
     All-append (λ (b : ℕ). b < 256) (take at bytes ++ part) (drop (at + length part) bytes)
@@ -56,14 +59,16 @@ slot_range area i =
     let long : 128 ≡ 128 * (i % 8) + 128 - 128 * (i % 8) = omega arith in
     ap (λ (n : ℕ). take n (drop (128 * (i % 8)) (sector_at area (i / 8)))) long
 
-slot_written : (area : List (List ℕ)) (i : ℕ) (bytes : List ℕ) → IsLong area → i < 232 → length bytes ≡ 128 → slot (with_slot area i bytes) i ≡ bytes
+slot_written : (area : List (List ℕ)) (i : ℕ) (bytes : List ℕ) → IsLong area → i < 232 → length bytes ≡ 128 →
+    slot (with_slot area i bytes) i ≡ bytes
 slot_written area i bytes is within long =
     let k : ℕ = i / 8 in
     let at : ℕ = 128 * (i % 8) in
     let count : length area ≡ 29 = is.size in
     let size : length (sector_at area k) ≡ 1024 = is.sectors k (omega arith) in
     slot_range (with_slot area i bytes) i
-    ∙ ap (λ (sector : List ℕ). slice_range sector at (at + 128)) (sector_at-set_same area k (overwritten (sector_at area k) at bytes) (omega arith))
+    ∙ ap (λ (sector : List ℕ). slice_range sector at (at + 128))
+    (sector_at-set_same area k (overwritten (sector_at area k) at bytes) (omega arith))
     ∙ slice_range-overwritten (sector_at area k) bytes at (at + 128) (omega arith) (omega arith)
 
 same_sector : (area : List (List ℕ)) (i j : ℕ) (bytes : List ℕ) → IsLong area → i < 232 → length bytes ≡ 128 → j ≢ i → j / 8 ≡ i / 8 →
@@ -106,7 +111,8 @@ entry_before es e x i at =
     slice_get-get_or (es ++ e ∷ []) i x (omega (arith, length_push es e))
     ∙ ap Some (get_or_append_left es (e ∷ []) x i within ∙ get_or_from_slice_get es i x x at)
 
-pub shows_more : (area : List (List ℕ)) (es : List Entry) (e : Entry) (bytes : List ℕ) (n : ℕ) → IsLong area → Shows area es → length es ≡ n → n < 232 →
+pub shows_more : (area : List (List ℕ)) (es : List Entry) (e : Entry) (bytes : List ℕ) (n : ℕ) → IsLong area → Shows area es →
+    length es ≡ n → n < 232 →
     length bytes ≡ 128 → is_used bytes ≡ true → entry_in bytes ≡ e → Shows (with_slot area n bytes) (es ++ e ∷ [])
 shows_more area es e bytes n is shows count within long used shown =
     let new : List (List ℕ) = with_slot area n bytes in
@@ -116,7 +122,8 @@ shows_more area es e bytes n is shows count within long used shown =
       used = λ i h.
           elim (cases_eq i n) [
             | inl same ↦ ap (λ (k : ℕ). is_used (slot new k)) same ∙ ap is_used here ∙ used
-            | inr apart ↦ ap is_used (other_slot area n i bytes is within long apart) ∙ shows.used i (omega (arith, length_push es e, apart))
+            | inr apart ↦ ap is_used (other_slot area n i bytes is within long apart)
+                ∙ shows.used i (omega (arith, length_push es e, apart))
           ];
       shown = λ i h.
           elim (cases_eq i n) [

@@ -1,5 +1,6 @@
 -- Data without a slot at fault show a list of volumes in order, and data that show such a list have none.
-use Rattle.std.proofs.Common.{ℕ, ◌<◌, ◌≤◌, ◌≡◌, Bool, true, false, cond, not, ◌||◌, Some, None, refl, List, nat_lt, nat_le, arith, sym, ◌∙◌, ◌+◌, length, slice_get, ◌∷◌, ap, add-zero, suc, subst, [], zero, inl, inr}
+use Rattle.std.proofs.Common.{ℕ, ◌<◌, ◌≤◌, ◌≡◌, Bool, true, false, cond, not, ◌||◌, Some, None, refl, List, nat_lt, nat_le, arith, sym, ◌∙◌}
+use Rattle.std.proofs.Common.{◌+◌, length, slice_get, ◌∷◌, ap, add-zero, suc, subst, [], zero, inl, inr}
 use Rattle.std.proofs.lemmas.Bool.Decides.{nat_tests}
 use Rattle.std.proofs.lemmas.Option.{same_Some}
 use Rattle.std.proofs.lemmas.Bool.{cases_lt}
@@ -26,7 +27,8 @@ pick_range false false below true i is_taken is_used none = cc
 pick_range false true true true i is_taken is_used none = cc
 pick_range false true false true i is_taken is_used none = cc
 
-pub good_range : (area : List (List ℕ)) (last i : ℕ) → is_used (slot area i) ≡ true → slot_fault area last i ≡ None → has_bad_range area last i ≡ false
+pub good_range : (area : List (List ℕ)) (last i : ℕ) → is_used (slot area i) ≡ true → slot_fault area last i ≡ None →
+    has_bad_range area last i ≡ false
 unfolding slot_fault
 good_range area last i used none =
     pick_range (is_free (slot area i)) (is_used (slot area i)) (some_free_below area i) (has_bad_range area last i) i
@@ -83,7 +85,8 @@ rest_shown area k e es shows = record {
       subst (λ (n : ℕ). slice_get es i ≡ Some (entry_in (slot area n))) next (shows.shown (suc i) (omega arith));
 }
 
-next_taken : (area : List (List ℕ)) (k before : ℕ) (e : Entry) → e ≡ entry_in (slot area k) → 2 ≤ before → before < e.start → e.start ≤ e.end →
+next_taken : (area : List (List ℕ)) (k before : ℕ) (e : Entry) → e ≡ entry_in (slot area k) → 2 ≤ before → before < e.start →
+    e.start ≤ e.end →
     IsTakenBefore area (suc k) e.end
 next_taken area k before e is least behind forwards = record {
   is = ap (λ (x : Entry). x.end) is;
@@ -103,7 +106,8 @@ in_order area last k before (e ∷ es) taken shows none =
       there.behind,
       there.forwards,
       there.within,
-      in_order area last (suc k) e.end es (next_taken area k before e is taken.least there.behind there.forwards) (rest_shown area k e es shows)
+      in_order area last (suc k) e.end es (next_taken area k before e is taken.least there.behind there.forwards)
+          (rest_shown area k e es shows)
           (λ i h.
           let next : k + suc i ≡ suc k + i = omega arith in
           subst (λ (n : ℕ). slot_fault area last n ≡ None) next (none (suc i) (omega arith))),
@@ -121,14 +125,16 @@ ranges_are_good area last k before (e ∷ es) taken shows order (suc i) h =
     let is : e ≡ entry_in (slot area k) = first_shown area k e es shows in
     let next : suc k + i ≡ k + suc i = omega arith in
     subst (λ (n : ℕ). has_bad_range area last n ≡ false) next
-    (ranges_are_good area last (suc k) e.end es (next_taken area k before e is taken.least order.0 order.1) (rest_shown area k e es shows) order.3 i (omega arith))
+    (ranges_are_good area last (suc k) e.end es (next_taken area k before e is taken.least order.0 order.1)
+    (rest_shown area k e es shows) order.3 i (omega arith))
 
 -- ---- the table
 
 shows_from : (area : List (List ℕ)) (entries : List Entry) → Shows area entries → ShowsFrom area 0 entries
 shows_from area entries shows = record {
   used = λ i h. let same : i ≡ 0 + i = omega arith in subst (λ (n : ℕ). is_used (slot area n) ≡ true) same (shows.used i h);
-  shown = λ i h. let same : i ≡ 0 + i = omega arith in subst (λ (n : ℕ). slice_get entries i ≡ Some (entry_in (slot area n))) same (shows.shown i h);
+  shown = λ i h. let same : i ≡ 0 + i = omega arith in subst (λ (n : ℕ). slice_get entries i ≡ Some (entry_in (slot area n))) same
+      (shows.shown i h);
 }
 
 first_taken : (area : List (List ℕ)) → IsTakenBefore area 0 2
@@ -140,7 +146,8 @@ faultless_is_sound area last entries none shows =
     in_order area last 0 2 entries (first_taken area) (shows_from area entries shows)
     (λ i h. let same : i ≡ 0 + i = omega arith in subst (λ (n : ℕ). slot_fault area last n ≡ None) same (none i (omega arith)))
 
-none_free : (area : List (List ℕ)) (entries : List Entry) → Shows area entries → (n : ℕ) → n ≤ length entries → some_free_below area n ≡ false
+none_free : (area : List (List ℕ)) (entries : List Entry) → Shows area entries → (n : ℕ) → n ≤ length entries →
+    some_free_below area n ≡ false
 unfolding some_free_below
 none_free area entries shows zero h = refl
 none_free area entries shows (suc n) h =

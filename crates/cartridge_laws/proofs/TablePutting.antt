@@ -10,7 +10,8 @@ use Rattle.cartridge_spec.specs.Table.{slot_bytes, Entry, Shows}
 
 -- ---- the list
 
-pub put_shows : (area : List (List ℕ)) (es : List Entry) (e : Entry) (n : ℕ) → IsLong area → Shows area es → length es ≡ n → n < 232 → FitsSlot e →
+pub put_shows : (area : List (List ℕ)) (es : List Entry) (e : Entry) (n : ℕ) → IsLong area → Shows area es → length es ≡ n → n < 232 →
+    FitsSlot e →
     Shows (with_slot area n (slot_bytes e)) (es ++ e ∷ [])
 put_shows area es e n is shows count within fits =
     shows_more area es e (slot_bytes e) n is shows count within

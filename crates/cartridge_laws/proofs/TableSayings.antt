@@ -1,5 +1,6 @@
 -- The table's segment says at most one thing, and it says something.
-use Rattle.std.proofs.Common.{◌≡◌, ℕ, List, ◌<◌, sym, ◌∙◌, arith, length, Some, subst, inl, refl, ap, [], zero, suc, ◌∷◌, take, slice_get, ◌≤◌, map, inr}
+use Rattle.std.proofs.Common.{◌≡◌, ℕ, List, ◌<◌, sym, ◌∙◌, arith, length, Some, subst, inl, refl, ap, [], zero, suc, ◌∷◌, take, slice_get}
+use Rattle.std.proofs.Common.{◌≤◌, map, inr}
 use Rattle.std.proofs.lemmas.List.{same_lists, length-map, length-take-le}
 use Rattle.std.proofs.lemmas.Option.{get_or_from_slice_get, slice_get-map}
 use Rattle.std.specs.Option.{option_map}
@@ -42,7 +43,8 @@ no_code cells xs reads some =
     absurd (omega arith)
 
 -- data that the code finds where no sector is left out of account are those of the table
-pub says_data : (cells : List SectorView) (xs : List (List ℕ)) → 0 < unreadable_data cells → Says cells (Data xs) → TableSays cells (ByCode (Data xs))
+pub says_data : (cells : List SectorView) (xs : List (List ℕ)) → 0 < unreadable_data cells → Says cells (Data xs) →
+    TableSays cells (ByCode (Data xs))
 says_data cells xs some says =
     (some, (says.0, inl (subst (λ (cs : List SectorView). HasBlock cs xs) (sym (nothing_is_hidden cells)) says.1)))
 

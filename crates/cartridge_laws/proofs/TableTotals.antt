@@ -1,10 +1,13 @@
 -- Each volume table has a first slot at fault, or shows a list of volumes.
-use Rattle.std.proofs.Common.{◌≡◌, ◌⊎◌, ℕ, ◌+◌, ◌<◌, Bool, true, false, refl, inl, inr, nat_lt, ltb-true, ltb-false, arith, List, None, ap, ◌∙◌, Option, Some, zero, suc, ◌≤◌, add-one, cond, not, ◌||◌, length, slice_get, ◌++◌, length-append, [], ◌∷◌, get_or, sym}
+use Rattle.std.proofs.Common.{◌≡◌, ◌⊎◌, ℕ, ◌+◌, ◌<◌, Bool, true, false, refl, inl, inr, nat_lt, ltb-true, ltb-false, arith, List, None, ap}
+use Rattle.std.proofs.Common.{◌∙◌, Option, Some, zero, suc, ◌≤◌, add-one, cond, not, ◌||◌, length, slice_get, ◌++◌, length-append, [], ◌∷◌}
+use Rattle.std.proofs.Common.{get_or, sym}
 use Rattle.std.proofs.lemmas.List.{get_or_append_left}
 use Rattle.std.proofs.lemmas.Option.{slice_get-get_or, slice_get_within, get_or_from_slice_get}
 use Rattle.std.proofs.Math.Seq.{get_or-append_seam}
 use Rattle.cartridge_laws.specs.TableLaws.{SoundDataShowVolumes, DataAreSoundOrFaulty}
-use Rattle.cartridge_spec.specs.Table.{slot_fault, IsFirstFault, slot, is_free, is_used, some_free_below, has_bad_range, Entry, entry_in, HasNoFault}
+use Rattle.cartridge_spec.specs.Table.{slot_fault, IsFirstFault, slot, is_free, is_used, some_free_below, has_bad_range, Entry, entry_in}
+use Rattle.cartridge_spec.specs.Table.{HasNoFault}
 use Rattle.cartridge_laws.specs.Slots.{TableFault, ForeignSlot, BadRange}
 
 -- an index below n + 1 is below n or is n
@@ -36,7 +39,8 @@ none_next area last n below here i within = by_place (last_or_before i n within)
 next_fault : (area : List (List ℕ)) (last n : ℕ) (o : Option TableFault) → n < 232 → slot_fault area last n ≡ o → NoneBelow area last n →
     FirstFault area last ⊎ NoneBelow area last (n + 1)
 next_fault area last n None within here below = inr (none_next area last n below here)
-next_fault area last n (Some f) within here below = inl (record { fault = f; first = record { place = n; within = within; here = here; before = below } })
+next_fault area last n (Some f) within here below =
+    inl (record { fault = f; first = record { place = n; within = within; here = here; before = below } })
 
 fault_or_none : (area : List (List ℕ)) (last n : ℕ) → n ≤ 232 → FirstFault area last ⊎ NoneBelow area last n
 fault_or_none area last zero within = inr (λ i none. absurd (omega arith))
@@ -98,7 +102,8 @@ slice_get-last xs e i here =
     slice_get-get_or (xs ++ e ∷ []) i e (omega (arith, length-append xs (e ∷ []), here))
     ∙ ap Some (ap (λ k. get_or (xs ++ e ∷ []) k e) here ∙ get_or-append_seam xs e [] e)
 
-front_used : (area : List (List ℕ)) (n : ℕ) (front : Front area n) → length front.entries ≡ n → is_used (slot area n) ≡ true → Front area (n + 1)
+front_used : (area : List (List ℕ)) (n : ℕ) (front : Front area n) → length front.entries ≡ n → is_used (slot area n) ≡ true →
+    Front area (n + 1)
 front_used area n front full used = record {
   entries = front.entries ++ entry_in (slot area n) ∷ [];
   within = omega (arith, length-append front.entries (entry_in (slot area n) ∷ []), full);
@@ -116,10 +121,13 @@ front_used area n front full used = record {
     used_at i (inr same) = ap (λ k. is_used (slot area k)) same ∙ used
 
     shown_at : (i : ℕ) → (i < n) ⊎ (i ≡ n) → slice_get (front.entries ++ entry_in (slot area n) ∷ []) i ≡ Some (entry_in (slot area i))
-    shown_at i (inl before) = slice_get-left front.entries (entry_in (slot area n) ∷ []) i (entry_in (slot area i)) (front.shown i (omega (arith, full)))
-    shown_at i (inr same) = slice_get-last front.entries (entry_in (slot area n)) i (same ∙ sym full) ∙ ap (λ k. Some (entry_in (slot area k))) (sym same)
+    shown_at i (inl before) = slice_get-left front.entries (entry_in (slot area n) ∷ []) i (entry_in (slot area i))
+        (front.shown i (omega (arith, full)))
+    shown_at i (inr same) = slice_get-last front.entries (entry_in (slot area n)) i (same ∙ sym full)
+        ∙ ap (λ k. Some (entry_in (slot area k))) (sym same)
 
-next_front : (area : List (List ℕ)) (n : ℕ) → Front area n → (is_free (slot area n) ≡ true) ⊎ ((is_used (slot area n) ≡ true) × (some_free_below area n ≡ false)) → Front area (n + 1)
+next_front : (area : List (List ℕ)) (n : ℕ) → Front area n → (is_free (slot area n) ≡ true)
+    ⊎ ((is_used (slot area n) ≡ true) × (some_free_below area n ≡ false)) → Front area (n + 1)
 next_front area n front (inl free) = front_free area n front free
 next_front area n front (inr used) = by_full front.full
   where
@@ -137,7 +145,8 @@ front_of area last zero none = record {
   full = inl refl;
 }
 front_of area last (suc n) none =
-    rw (← add-one) (next_front area n (front_of area last n (λ i within. none i (omega arith))) (free_or_used area last n (none n (omega arith))))
+    rw (← add-one) (next_front area n (front_of area last n (λ i within. none i (omega arith)))
+    (free_or_used area last n (none n (omega arith))))
 
 pub sound_data_show_volumes : SoundDataShowVolumes
 sound_data_show_volumes area last sound =

@@ -1,5 +1,6 @@
 -- What the writes of a segment leave on a cartridge.
-use Rattle.std.proofs.Common.{◌≡◌, ℕ, zero, suc, ◌<◌, refl, arith, List, [], ◌∷◌, length, set, slice_get, Some, ◌≢◌, ap, ◌≤◌, ◌∙◌, sym, inl, inr, Option, get_or, subst, map}
+use Rattle.std.proofs.Common.{◌≡◌, ℕ, zero, suc, ◌<◌, refl, arith, List, [], ◌∷◌, length, set, slice_get, Some, ◌≢◌, ap, ◌≤◌, ◌∙◌, sym, inl}
+use Rattle.std.proofs.Common.{inr, Option, get_or, subst, map}
 use Rattle.std.proofs.lemmas.List.{length-append, length-take-le, set_past, length-map, take_all}
 use Rattle.std.specs.Prelude.{unwrap_or}
 use Rattle.std.proofs.lemmas.Bool.{cases_lt}
@@ -130,7 +131,8 @@ writes_leave_data c segment usable sectors least room =
       each = λ k held at.
           let within : k < length (cells_of after segment usable) = slice_get_within (cells_of after segment usable) k (Holds held) at in
           let below : k < usable_count usable = omega arith in
-          let here : Some (Holds held) ≡ Some (view_at after segment (get_or (usable_places usable) k 0)) = sym at ∙ cell_at after segment usable k below in
+          let here : Some (Holds held) ≡ Some (view_at after segment (get_or (usable_places usable) k 0)) = sym at
+          ∙ cell_at after segment usable k below in
           let view : view_at after segment (get_or (usable_places usable) k 0) ≡ Holds held = cc in
           let bytes : get_or (block_in usable sectors) k [] ≡ held =
           held_bytes (view_at c segment (get_or (usable_places usable) k 0)) (get_or (block_in usable sectors) k []) held

@@ -1,5 +1,6 @@
 -- Zero bytes are a code block of their own: cells of zero bytes were written with zero bytes, and say no header.
-use Rattle.std.proofs.Common.{◌≡◌, ℕ, zero, suc, ◌∙◌, ap, length, replicate, bit_xor, ◌<◌, ◌≤◌, arith, List, slice_index, refl, ◌∷◌, sym, subst, ◌+◌, ◌++◌, [], slice_get, Some, false}
+use Rattle.std.proofs.Common.{◌≡◌, ℕ, zero, suc, ◌∙◌, ap, length, replicate, bit_xor, ◌<◌, ◌≤◌, arith, List, slice_index, refl, ◌∷◌, sym}
+use Rattle.std.proofs.Common.{subst, ◌+◌, ◌++◌, [], slice_get, Some, false}
 use Rattle.std.specs.Int.Bits.{xor_zero_l}
 use Rattle.std.proofs.lemmas.List.{length-replicate, get_or-replicate, replicate-append-replicate}
 use Rattle.std.proofs.lemmas.List.Elements.{All-replicate}

@@ -1,5 +1,6 @@
 -- What an append leaves, done or stopped, as facts.
-use Rattle.std.specs.Prelude.{ℕ, List, ◌≡◌, ◌^◌, ◌<◌, true, length, All, false, ◌⊎◌, ◌++◌, [], ◌∷◌, drop, nat_le, if◌then◌else◌, ◌*◌, take, Option, Some, IsSomeAnd}
+use Rattle.std.specs.Prelude.{ℕ, List, ◌≡◌, ◌^◌, ◌<◌, true, length, All, false, ◌⊎◌, ◌++◌, [], ◌∷◌, drop, nat_le, if◌then◌else◌, ◌*◌, take}
+use Rattle.std.specs.Prelude.{Option, Some, IsSomeAnd}
 use Rattle.cartridge_laws.specs.AppendBetween.{IsWhole, IsBegun, IsTurned, Between}
 use Rattle.cartridge_laws.specs.AppendSteps.{volume_writes, list_writes, append_steps, writes_into, IsNamed}
 use Rattle.cartridge_laws.specs.AppendWrites.{AreWrites, IsFree, KeepsTo, IsOfSector}

@@ -3,7 +3,8 @@ use Rattle.std.specs.Prelude.{ℕ, ◌≡◌, ◌-◌, ◌^◌, ◌++◌, List, 
 use Rattle.cartridge_laws.specs.FormatMarks.{IsClearedFrom, IsFormattedFrom}
 use Rattle.cartridge_laws.specs.Segment.{IsUnreadable}
 use Rattle.cartridge_laws.specs.Writes.{named_writes}
-use Rattle.cartridge_spec.specs.Formatting.{HasNoHeader, copy_writes, clearing_steps, IsDefect, format_steps, HasNoDefectInFront, StandsCleanly, IsFreshFor, fresh_plain, MarksDefects}
+use Rattle.cartridge_spec.specs.Formatting.{HasNoHeader, copy_writes, clearing_steps, IsDefect, format_steps, HasNoDefectInFront}
+use Rattle.cartridge_spec.specs.Formatting.{StandsCleanly, IsFreshFor, fresh_plain, MarksDefects}
 use Rattle.cartridge_spec.specs.HeaderCopies.{copy_cells, IsUnformatted}
 use Rattle.cartridge_spec.specs.Shape.{IsArea}
 use Rattle.cartridge_spec.specs.TableSegment.{IsTableLive}

@@ -1,5 +1,6 @@
 -- Parts of what the specs say of the header and its copies, by names of their own.
-use Rattle.std.specs.Prelude.{ℕ, List, ◌+◌, ◌*◌, ◌/◌, ◌%◌, ◌≤◌, ◌<◌, ◌==◌, ◌⊎◌, not, Option, None, Some, slice_index, slice_range, map, if◌then◌else◌}
+use Rattle.std.specs.Prelude.{ℕ, List, ◌+◌, ◌*◌, ◌/◌, ◌%◌, ◌≤◌, ◌<◌, ◌==◌, ◌⊎◌, not, Option, None, Some, slice_index, slice_range, map}
+use Rattle.std.specs.Prelude.{if◌then◌else◌}
 use Rattle.std.specs.List.{range_with_len}
 use Rattle.cartridge_spec.specs.Formatting.{HasNoHeader, fresh_header}
 use Rattle.cartridge_spec.specs.Header.{Field, Text, HeaderFault, SpellsHeader, value_fault, word_in}

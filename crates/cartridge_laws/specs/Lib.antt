@@ -31,3 +31,5 @@ pub mod VolumeParts
 pub mod WorkedValues
 pub mod Writes
 pub mod WritingLaws
+pub mod WrongTableLaws
+pub mod WrongTableSector

@@ -113,7 +113,8 @@ TableAloneComesBack =
 -- so does a settled cartridge, each sector of whose table's segment takes a write, where one of them is lost, ..
 abbrev pub SettledComesBack : Type 0
 SettledComesBack =
-    (c : Cartridge) (plain : Plain) → IsCartridge c → Stands c plain → IsTableLive c → c.info.protected ≡ false → TableIs c plain.table_area →
+    (c : Cartridge) (plain : Plain) → IsCartridge c → Stands c plain → IsTableLive c → c.info.protected ≡ false →
+    TableIs c plain.table_area →
     (f : Cartridge) (lost : ℕ) → LosesOneAlone (settled plain.table_area c) f lost → ComesBackAs f plain
 
 -- .. with header copies that formatting may begin over where they were so

@@ -3,7 +3,8 @@ use Rattle.std.specs.Prelude.{◌≡◌, List, All, ◌≤◌, length, ◌≢◌
 use Rattle.std.specs.List.{range_with_len}
 use Rattle.cartridge_spec.specs.Header.{has_signature}
 use Rattle.cartridge_spec.specs.HeaderCopies.{copy_cells, CopyDoesNotRead}
-use Rattle.cartridge_spec.specs.Says.{Saying, Says, TableSaying, TableSays, Mismatch, ByCode, ReadsAll, cells_of, whole_mask, Data, Written, unreadable_count, LostSectors, Zero}
+use Rattle.cartridge_spec.specs.Says.{Saying, Says, TableSaying, TableSays, Mismatch, ByCode, ReadsAll, cells_of, whole_mask, Data, Written}
+use Rattle.cartridge_spec.specs.Says.{unreadable_count, LostSectors, Zero}
 use Rattle.cartridge_laws.specs.Segment.{unreadable_data}
 use Rattle.cartridge_spec.specs.Shape.{usable_count, usable_places}
 use Rattle.qic_base.specs.CartridgeTerms.{IsView, IsCartridge}

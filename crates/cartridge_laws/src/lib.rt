@@ -13,3 +13,4 @@ pub mod one_loss;
 pub mod saying;
 pub mod tables;
 pub mod worked_values;
+pub mod wrong_table;

@@ -1,6 +1,7 @@
 -- Volumes more: the room for one, its segments, its bytes in sectors, its entry, and the writes (this project's
 -- profile).
-use Rattle.std.specs.Prelude.{ℕ, List, [], ◌∷◌, ◌+◌, length, if◌then◌else◌, nat_lt, ◌-◌, nat_le, ◌&&◌, Bool, ◌++◌, replicate, zero, suc, take, drop, slice_index, sum_by}
+use Rattle.std.specs.Prelude.{ℕ, List, [], ◌∷◌, ◌+◌, length, if◌then◌else◌, nat_lt, ◌-◌, nat_le, ◌&&◌, Bool, ◌++◌, replicate, zero, suc}
+use Rattle.std.specs.Prelude.{take, drop, slice_index, sum_by}
 use Rattle.cartridge_spec.specs.Says.{with_parity}
 use Rattle.cartridge_spec.specs.Settling.{block_writes, writes_of}
 use Rattle.cartridge_spec.specs.Shape.{mask_at, capacity, data_count, usable_places}

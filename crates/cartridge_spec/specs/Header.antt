@@ -1,12 +1,14 @@
 -- The header: the data area of segments 0 and 1, 29 sectors (Linux ftape headers: the fields, their offsets and widths,
 -- and the bad sector map; the values that are written and the tests on reading are this project's profile).
-use Rattle.std.specs.Prelude.{ℕ, ◌/◌, ◌%◌, List, slice_index, ◌+◌, slice_range, ◌*◌, map, ◌<◌, ◌≤◌, Option, None, Some, ◌-◌, [], ◌∷◌, ◌≡◌, All, ◌++◌, ◌==◌, Bool, if◌then◌else◌, not}
+use Rattle.std.specs.Prelude.{ℕ, ◌/◌, ◌%◌, List, slice_index, ◌+◌, slice_range, ◌*◌, map, ◌<◌, ◌≤◌, Option, None, Some, ◌-◌, [], ◌∷◌, ◌≡◌}
+use Rattle.std.specs.Prelude.{All, ◌++◌, ◌==◌, Bool, if◌then◌else◌, not}
 use Rattle.std.specs.List.{range_with_len}
 use Rattle.std.specs.Option.{option_map, option_or}
 use Rattle.cartridge_spec.specs.Shape.{sector_at}
 use Rattle.qic_base.specs.Field.{number_at}
 use Rattle.qic_base.specs.declared.foreign.ForeignField.{ForeignField}
-use Rattle.qic_base.specs.declared.foreign.ForeignField.TheVariants.{FormatCode, FirstHeader, SecondHeader, FirstData, LastData, SegmentsPerTrack, Tracks, TrackMaximum, SectorMaximum, Map}
+use Rattle.qic_base.specs.declared.foreign.ForeignField.TheVariants.{FormatCode, FirstHeader, SecondHeader, FirstData, LastData}
+use Rattle.qic_base.specs.declared.foreign.ForeignField.TheVariants.{SegmentsPerTrack, Tracks, TrackMaximum, SectorMaximum, Map}
 
 -- the number in the field of this many bytes that begins at an offset; no field lies in two sectors
 abbrev pub number_in : List (List ℕ) → (offset width : ℕ) → ℕ

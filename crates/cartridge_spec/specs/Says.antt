@@ -1,6 +1,7 @@
 -- What a segment says: the cells of its usable sectors, the code block that agrees with those that can be read, and the
 -- data in it (QIC-80-MC: three sectors of parity behind the data, so three sectors that are lost are found again).
-use Rattle.std.specs.Prelude.{ℕ, zero, suc, ◌-◌, ◌^◌, ◌/◌, ◌%◌, ◌==◌, ◌||◌, ◌≡◌, ◌<◌, ◌≤◌, ◌⊎◌, ◌++◌, List, [], ◌∷◌, map, count_by, All, length, slice_get, take, Bool, false, Option, Some, None, unwrap_or, if◌then◌else◌, bit_or, nat_lt}
+use Rattle.std.specs.Prelude.{ℕ, zero, suc, ◌-◌, ◌^◌, ◌/◌, ◌%◌, ◌==◌, ◌||◌, ◌≡◌, ◌<◌, ◌≤◌, ◌⊎◌, ◌++◌, List, [], ◌∷◌, map, count_by, All}
+use Rattle.std.specs.Prelude.{length, slice_get, take, Bool, false, Option, Some, None, unwrap_or, if◌then◌else◌, bit_or, nat_lt}
 use Rattle.cartridge_spec.specs.Code.{IsCodeBlock, parity_sectors}
 use Rattle.cartridge_spec.specs.Shape.{usable_places, is_unreadable}
 use Rattle.cartridge_spec.specs.Table.{slot, is_used}

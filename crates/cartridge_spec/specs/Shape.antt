@@ -1,6 +1,7 @@
 -- The shape of a segment: which of its sectors are usable, and which of these are parity (QIC-80-MC); the views of
 -- sectors.
-use Rattle.std.specs.Prelude.{ℕ, List, ◌-◌, ◌^◌, slice_index, length, ◌*◌, nat_le, if◌then◌else◌, sum_by, Bool, true, false, [], slice_get, unwrap_or, ◌≡◌, All}
+use Rattle.std.specs.Prelude.{ℕ, List, ◌-◌, ◌^◌, slice_index, length, ◌*◌, nat_le, if◌then◌else◌, sum_by, Bool, true, false, [], slice_get}
+use Rattle.std.specs.Prelude.{unwrap_or, ◌≡◌, All}
 use Rattle.qic_base.specs.Cartridge.{lost_places, IsSector}
 use Rattle.qic_base.specs.declared.tape.SectorView.{SectorView}
 use Rattle.qic_base.specs.declared.tape.SectorView.TheVariants.{Blank, Defect, Holds}

@@ -1,5 +1,7 @@
 -- The volume table: its slots and entries, and the first slot at fault (QIC-80-MC, the ftape headers).
-use Rattle.std.specs.Prelude.{ℕ, List, [], ◌∷◌, ◌++◌, codes, replicate, ◌/◌, ◌*◌, ◌%◌, slice_set, take, drop, ◌==◌, Bool, slice_index, slice_range, ◌≡◌, ◌<◌, ◌≤◌, true, length, Some, slice_get, ◌||◌, false, zero, suc, ◌-◌, ◌&&◌, nat_lt, nat_le, not, Option, None, if◌then◌else◌}
+use Rattle.std.specs.Prelude.{ℕ, List, [], ◌∷◌, ◌++◌, codes, replicate, ◌/◌, ◌*◌, ◌%◌, slice_set, take, drop, ◌==◌, Bool, slice_index}
+use Rattle.std.specs.Prelude.{slice_range, ◌≡◌, ◌<◌, ◌≤◌, true, length, Some, slice_get, ◌||◌, false, zero, suc, ◌-◌, ◌&&◌, nat_lt, nat_le}
+use Rattle.std.specs.Prelude.{not, Option, None, if◌then◌else◌}
 use Rattle.cartridge_spec.specs.Header.{HeaderFault}
 use Rattle.cartridge_spec.specs.Shape.{sector_at}
 use Rattle.qic_base.specs.Field.{little_endian_bytes, overwritten, number_at, little_endian}

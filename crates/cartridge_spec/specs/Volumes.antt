@@ -1,6 +1,7 @@
 -- Volumes, and the plain cartridge that a cartridge stands for: its header, its table and its volumes (the rules of a
 -- volume's segments and of its length are this project's profile).
-use Rattle.std.specs.Prelude.{ℕ, ◌+◌, ◌-◌, List, filter, nat_le, sum_by, ◌==◌, ◌&&◌, if◌then◌else◌, [], ◌∷◌, take, drop, ◌≡◌, length, All, map, ◌⊎◌, None, ◌<◌, ◌≤◌, ◌++◌}
+use Rattle.std.specs.Prelude.{ℕ, ◌+◌, ◌-◌, List, filter, nat_le, sum_by, ◌==◌, ◌&&◌, if◌then◌else◌, [], ◌∷◌, take, drop, ◌≡◌, length, All}
+use Rattle.std.specs.Prelude.{map, ◌⊎◌, None, ◌<◌, ◌≤◌, ◌++◌}
 use Rattle.std.specs.List.{range_with_len}
 use Rattle.cartridge_spec.specs.Header.{Header, header_fault}
 use Rattle.cartridge_spec.specs.HeaderCopies.{copy_cells, HasHeader, last_segment}

@@ -1,5 +1,6 @@
 -- What comes between an append and the loss of one sector more, step by step.
-use Rattle.std.proofs.Common.{◌≡◌, ◌≢◌, ◌∙◌, ◌⊎◌, ◌<◌, ◌≤◌, ◌+◌, ◌*◌, ◌==◌, nat_lt, if◌then◌else◌, ℕ, List, Bool, true, false, inl, inr, ap, sym, subst, refl, arith, length, get_or}
+use Rattle.std.proofs.Common.{◌≡◌, ◌≢◌, ◌∙◌, ◌⊎◌, ◌<◌, ◌≤◌, ◌+◌, ◌*◌, ◌==◌, nat_lt, if◌then◌else◌, ℕ, List, Bool, true, false, inl, inr, ap}
+use Rattle.std.proofs.Common.{sym, subst, refl, arith, length, get_or}
 use Rattle.std.proofs.lemmas.Bool.{cases_Bool, cases_lt, eqb-true, eqb-false, le-ltb, lt-ltb}
 use Rattle.std.proofs.lemmas.List.{get_or-set_same, length-set, set_past}
 use Rattle.std.proofs.lemmas.Option.{unwrap_or-slice_get}
@@ -20,7 +21,8 @@ use Rattle.cartridge_spec.specs.Volumes.{Plain, Stands, entries_of, worn}
 use Rattle.command_laws.specs.Between.{ComesBackOnceFree, FreeMayComeBack, MountsWhileProtected, StepsBetweenCarryOn, without_mark}
 use Rattle.command_spec.specs.OneLoss.{ComesBackAsOneOf}
 use Rattle.qic_base.specs.Cartridge.{Cartridge, view_at, with_view}
-use Rattle.qic_base.specs.Step.{FormatSegment, Renew, SetProtected, SetReferenced, Spoil, Upgrade, Wear, WriteSector, changed, spoiled_view, worn_view}
+use Rattle.qic_base.specs.Step.{FormatSegment, Renew, SetProtected, SetReferenced, Spoil, Upgrade, Wear, WriteSector, changed, spoiled_view}
+use Rattle.qic_base.specs.Step.{worn_view}
 use Rattle.qic_base.specs.declared.tape.SectorView.{SectorView}
 use Rattle.qic_base.specs.declared.tape.SectorView.TheVariants.{Blank, Defect, Holds, Lost}
 use Rattle.qic_base.specs.declared.tape.TapeInfo.{TapeInfo}
@@ -69,7 +71,8 @@ touched_here change c s i =
     ]
 
 -- it is the same of two cartridges with as many views, of which the sector is the same
-touched_alike : (change : SectorView → SectorView) (c d : Cartridge) (segment sector s i : ℕ) → sector < 32 → i < 32 → length c.views ≡ length d.views →
+touched_alike : (change : SectorView → SectorView) (c d : Cartridge) (segment sector s i : ℕ) → sector < 32 → i < 32 →
+    length c.views ≡ length d.views →
     view_at c s i ≡ view_at d s i → view_at (touched change segment sector c) s i ≡ view_at (touched change segment sector d) s i
 touched_alike change c d segment sector s i small low long same =
     elim (cases_Bool (s == segment)) [
@@ -96,7 +99,8 @@ touched_alike change c d segment sector s i small low long same =
 settled_long : (area : List (List ℕ)) (c : Cartridge) → length (settled area c).views ≡ length c.views
 settled_long area c = by_mark c.info.protected
   where
-    by_mark : (mark : Bool) → length (if mark then c else changed_by (writes_of 2 (usable_places whole_mask) (with_parity area)) c).views ≡ length c.views
+    by_mark : (mark : Bool) → length (if mark then c else changed_by (writes_of 2 (usable_places whole_mask) (with_parity area)) c).views ≡
+        length c.views
     by_mark true = refl
     by_mark false = length-writes_of (usable_places whole_mask) (with_parity area) 2 c
 
@@ -105,15 +109,19 @@ abbrev LeavesTable : Cartridge → Cartridge → Type 0
 LeavesTable c d = (i : ℕ) → i < 32 → view_at d 2 i ≡ view_at c 2 i
 
 -- what comes back without the change comes back with it, where what stands still does
-module _ (change : SectorView → SectorView) (c : Cartridge) (segment sector : ℕ) (small : sector < 32) (live : IsTableLive c) (free : c.info.protected ≡ false)
-    (stays : LeavesTable c (touched change segment sector c)) (stands : (d : Cartridge) (plain : Plain) → Stands d plain → Stands (touched change segment sector d) plain) where
-  touched_as : (f : Cartridge) (lost : ℕ) (plain : Plain) → LosesOneAlone (touched change segment sector c) f lost → ComesBackAs (worn 2 lost c) plain → ComesBackAs f plain
+module _ (change : SectorView → SectorView) (c : Cartridge) (segment sector : ℕ) (small : sector < 32) (live : IsTableLive c)
+    (free : c.info.protected ≡ false)
+    (stays : LeavesTable c (touched change segment sector c))
+    (stands : (d : Cartridge) (plain : Plain) → Stands d plain → Stands (touched change segment sector d) plain) where
+  touched_as : (f : Cartridge) (lost : ℕ) (plain : Plain) → LosesOneAlone (touched change segment sector c) f lost →
+      ComesBackAs (worn 2 lost c) plain → ComesBackAs f plain
   touched_as f lost plain loses comes =
       let without : Cartridge = worn 2 lost c in
       let known = loses_one c lost live loses.loses.within in
       let still : Cartridge = settled plain.table_area without in
       let keeps = settled_keeps_table without plain.table_area comes.mounts.reads in
-      let long : length c.views ≡ length still.views = sym (settled_long plain.table_area without ∙ length-set c.views (32 * 2 + lost) (worn_view (view_at c 2 lost))) in
+      let long : length c.views ≡ length still.views =
+      sym (settled_long plain.table_area without ∙ length-set c.views (32 * 2 + lost) (worn_view (view_at c 2 lost))) in
       let stood : Stands (touched change segment sector still) plain = stands still plain (comes.stands free) in
       let same : (i : ℕ) → i < 32 → view_at f 2 i ≡ view_at without 2 i =
       λ i h. elim (cases_Bool (i == lost)) [
@@ -132,7 +140,8 @@ module _ (change : SectorView → SectorView) (c : Cartridge) (segment sector : 
         info = loses.alone.info ∙ sym keeps.info;
         others = λ s i h apart.
             loses.alone.others s i h apart
-            ∙ touched_alike change c still segment sector s i small h long (sym (keeps.others s i h apart ∙ known.alone.others s i h apart));
+            ∙ touched_alike change c still segment sector s i small h long
+            (sym (keeps.others s i h apart ∙ known.alone.others s i h apart));
       })
       table
 
@@ -164,9 +173,11 @@ spoiled_leaves c segment sector live i h =
 
 -- ---- the steps
 
-on_info : (c d : Cartridge) (one other : Plain) → d.views ≡ c.views → d.info ≡ c.info → ComesBackAsOneOf one other c → ComesBackAsOneOf one other d
+on_info : (c d : Cartridge) (one other : Plain) → d.views ≡ c.views → d.info ≡ c.info → ComesBackAsOneOf one other c →
+    ComesBackAsOneOf one other d
 on_info c d one other views info comes f lost loses =
-    let same : (s i : ℕ) → view_at d s i ≡ view_at c s i = λ s i. ap (λ (vs : List SectorView). view_at (record c { views = vs }) s i) views in
+    let same : (s i : ℕ) → view_at d s i ≡ view_at c s i = λ s i. ap (λ (vs : List SectorView). view_at (record c { views = vs }) s i) views
+    in
     comes f lost (record {
       loses = record {
         within = loses.loses.within;
@@ -191,14 +202,16 @@ steps_between_carry_on (Wear segment sector) c one other (behind, small) may =
     let d : Cartridge = without_mark c in
     let stays = worn_leaves d segment sector behind small in
     record {
-      comes = touched_may worn_view d segment sector small may.live refl stays (λ e plain stood. worn_stands e plain segment sector small stood (inl behind)) one other may.comes;
+      comes = touched_may worn_view d segment sector small may.live refl stays
+          (λ e plain stood. worn_stands e plain segment sector small stood (inl behind)) one other may.comes;
       live = λ i h. subst IsLive (sym (stays i h)) (may.live i h);
     }
 steps_between_carry_on (Spoil segment sector) c one other small may =
     let d : Cartridge = without_mark c in
     let stays = spoiled_leaves d segment sector may.live in
     record {
-      comes = touched_may spoiled_view d segment sector small may.live refl stays (λ e plain stood. spoiled_stands e plain segment sector stood) one other may.comes;
+      comes = touched_may spoiled_view d segment sector small may.live refl stays
+          (λ e plain stood. spoiled_stands e plain segment sector stood) one other may.comes;
       live = λ i h. subst IsLive (sym (stays i h)) (may.live i h);
     }
 steps_between_carry_on (WriteSector segment sector bytes) c one other between may = absurd between
@@ -220,7 +233,8 @@ free_may_come_back c one other free live comes = record {
 }
 
 marked : (f : Cartridge) (plain : Plain) → Mounts (without_mark f) (mounted_as plain) → Mounts f (mounted_as plain)
-marked f plain mounts = protected_mounts (without_mark f) f.info.protected plain.header plain.words plain.table_area (entries_of plain) mounts
+marked f plain mounts = protected_mounts (without_mark f) f.info.protected plain.header plain.words plain.table_area
+    (entries_of plain) mounts
 
 pub mounts_while_protected : MountsWhileProtected
 mounts_while_protected c f one other lost may loses =

@@ -1,5 +1,6 @@
 -- What an append leaves of a cartridge that stands for a plain one: done, refused, or stopped.
-use Rattle.std.proofs.Common.{◌≡◌, ◌≢◌, List, [], ℕ, false, refl, ◌⊎◌, inl, inr, Some, subst, ◌+◌, ◌++◌, ap, ◌∙◌, ◌-◌, Option, IsSomeAnd, None, length, Bool, All, ◌<◌, ◌≤◌, arith, true, cond, take, nat_le, min, append-nil, sym, ◌^◌, ◌∷◌}
+use Rattle.std.proofs.Common.{◌≡◌, ◌≢◌, List, [], ℕ, false, refl, ◌⊎◌, inl, inr, Some, subst, ◌+◌, ◌++◌, ap, ◌∙◌, ◌-◌, Option, IsSomeAnd}
+use Rattle.std.proofs.Common.{None, length, Bool, All, ◌<◌, ◌≤◌, arith, true, cond, take, nat_le, min, append-nil, sym, ◌^◌, ◌∷◌}
 use Rattle.std.proofs.lemmas.List.Elements.{All-weaker}
 use Rattle.std.proofs.lemmas.Bool.{leb-true, and_parts, cases_Bool}
 use Rattle.std.proofs.lemmas.List.{take_all, length-map}
@@ -29,7 +30,8 @@ use Rattle.cartridge_spec.specs.Shape.{mask_at}
 use Rattle.cartridge_spec.specs.Table.{slot_bytes, Entry}
 use Rattle.cartridge_spec.specs.Volumes.{Plain, entries_of, Stands, Volume}
 use Rattle.command_laws.proofs.InputActLaws.{volume_is_free, volume_is_writes}
-use Rattle.command_spec.specs.Append.{appended, AppendOutcome, Kept, input_writes, entry_acts, room_in, taking, volume_acts, Fits, TooLong, kept_over}
+use Rattle.command_spec.specs.Append.{appended, AppendOutcome, Kept, input_writes, entry_acts, room_in, taking, volume_acts, Fits, TooLong}
+use Rattle.command_spec.specs.Append.{kept_over}
 use Rattle.command_laws.specs.AppendTerms.{entry_for, free_in}
 use Rattle.command_laws.specs.Outcomes.{Appends}
 use Rattle.command_spec.specs.Lines.{reply_behind, appended_line}
@@ -92,7 +94,8 @@ settled_stays c area table =
     settling_effects (settled area c) area (settled_keeps_table c area table).table
     ∙ ap (λ (d : Cartridge). Some d) (settled_twice c area table)
 
-stopped_behind : (c : Cartridge) (plain : Plain) (steps : List Step) (left : Option Cartridge) → Stands c plain → TableIs c plain.table_area →
+stopped_behind : (c : Cartridge) (plain : Plain) (steps : List Step) (left : Option Cartridge) → Stands c plain →
+    TableIs c plain.table_area →
     Torn (behind_settling c plain steps) (Some c) left →
     IsSomeAnd left (λ d. Stands d plain) ⊎ Torn steps (Some (settled plain.table_area c)) left
 stopped_behind c plain steps left stood table torn =
@@ -101,11 +104,13 @@ stopped_behind c plain steps left stood table torn =
     let again : List Step = settling_steps area s in
     elim (Torn-append (settling_steps area c) (again ++ steps) (Some c) left torn) [
       | inl front ↦ inl (stopped_stands c plain area left stood table front)
-      | inr rest ↦ elim (Torn-append again steps (Some s) left (subst (λ (held : Option Cartridge). Torn (again ++ steps) held left) (settling_effects c area table) rest)) [
-        | inl front ↦
-            inl (stopped_stands s plain area left (settled_stands c plain area stood table) (settled_keeps_table c area table).table front)
-        | inr behind ↦ inr (subst (λ (held : Option Cartridge). Torn steps held left) (settled_stays c area table) behind)
-      ]
+      | inr rest ↦ elim (Torn-append again steps (Some s) left
+          (subst (λ (held : Option Cartridge). Torn (again ++ steps) held left) (settling_effects c area table) rest)) [
+            | inl front ↦
+                inl (stopped_stands s plain area left (settled_stands c plain area stood table)
+                (settled_keeps_table c area table).table front)
+            | inr behind ↦ inr (subst (λ (held : Option Cartridge). Torn steps held left) (settled_stays c area table) behind)
+          ]
     ]
 
 pub done_behind : (c : Cartridge) (plain : Plain) (steps : List Step) → TableIs c plain.table_area →
@@ -146,7 +151,8 @@ free_behind c plain =
     All-weaker (λ (s : ℕ). last + 1 ≤ s) (λ (s : ℕ). last < s) (λ s (h : last + 1 ≤ s). omega arith) (free_in (kept_of c plain))
     (carrying_from plain.words (last + 1) (length plain.words - 1))
 
-pub free_if : (before : ℕ) (some : Bool) (acts : List Act) → AreWrites (IsFree before) (steps_of acts) → AreWrites (IsFree before) (steps_of (cond some acts []))
+pub free_if : (before : ℕ) (some : Bool) (acts : List Act) → AreWrites (IsFree before) (steps_of acts) →
+    AreWrites (IsFree before) (steps_of (cond some acts []))
 free_if before true acts free = free
 free_if before false acts free = tt
 
@@ -167,7 +173,8 @@ segments_stand c plain input left stood table torn =
     elim (stopped_behind c plain steps left stood table torn) [
       | inl stands ↦ stands
       | inr behind ↦ some_weaker left (λ d known. known.0)
-          (free_writes_stand s plain steps left (settled_stands c plain plain.table_area stood table) (segments_are_free c plain input) behind)
+          (free_writes_stand s plain steps left (settled_stands c plain plain.table_area stood table)
+          (segments_are_free c plain input) behind)
     ]
 
 -- ---- where there is no room for all of the input
@@ -177,7 +184,8 @@ pub no_table : (c : Cartridge) (plain : Plain) (name : List ℕ) (date : ℕ) (i
 no_table c plain name date input small =
     let have : ℕ = room_in (kept_of c plain) in
     ap (λ (b : Bool). segments_acts c plain input
-    ++ entry_acts (kept_of c plain) name date (reply_behind (length (entries_of plain))) (cond b (Fits input) (TooLong (min (length input) (have + 1)) have))) small
+    ++ entry_acts (kept_of c plain) name date (reply_behind (length (entries_of plain)))
+    (cond b (Fits input) (TooLong (min (length input) (have + 1)) have))) small
     ∙ append-nil (segments_acts c plain input)
 
 -- ---- where there is
@@ -198,7 +206,8 @@ table_writes_are c plain name date input enough =
     let kept : Kept = kept_of c plain in
     let have : ℕ = room_in kept in
     let bytes : List ℕ = slot_bytes (entry_for kept name date input) in
-    ap (λ (b : Bool). steps_of (entry_acts kept name date (reply_behind (length (entries_of plain))) (cond b (Fits input) (TooLong (min (length input) (have + 1)) have)))) enough
+    ap (λ (b : Bool). steps_of (entry_acts kept name date (reply_behind (length (entries_of plain)))
+    (cond b (Fits input) (TooLong (min (length input) (have + 1)) have)))) enough
     ∙ append-nil (table_writes (slot_sector (length (entries_of plain))) (with_slot plain.table_area (length (entries_of plain)) bytes))
     ∙ ap (λ (n : ℕ). table_writes (slot_sector n) (with_slot plain.table_area n bytes)) (length-map plain.volumes (λ (v : Volume). v.entry))
 
@@ -213,7 +222,8 @@ steps_are name date input c plain enough =
 
 -- ---- a stop
 
-run_stopped : (name : List ℕ) (date : ℕ) (input : List ℕ) (c : Cartridge) (plain : Plain) (left : Option Cartridge) → IsLabel name → date < 2 ^ 32 → All (λ b. b < 256) input →
+run_stopped : (name : List ℕ) (date : ℕ) (input : List ℕ) (c : Cartridge) (plain : Plain) (left : Option Cartridge) → IsLabel name →
+    date < 2 ^ 32 → All (λ b. b < 256) input →
     IsCartridge c → Stands c plain → IsTableLive c → c.info.protected ≡ false → TableIs c plain.table_area →
     Torn (behind_settling c plain (steps_of (segments_acts c plain input ++ table_acts c plain name date input))) (Some c) left →
     IsSomeAnd left (λ d. Stands d plain ⊎ Stands d (with_bytes plain name date input))
@@ -221,7 +231,8 @@ run_stopped name date input c plain left label word content whole stood live unp
     let s : Cartridge = settled plain.table_area c in
     elim (cases_Bool (fits plain input)) [
       | inl enough ↦ elim (stopped_behind c plain (appends.append_steps_of plain name date input) left stood table
-          (subst (λ (steps : List Step). Torn (behind_settling c plain steps) (Some c) left) (steps_are name date input c plain enough) torn)) [
+          (subst (λ (steps : List Step). Torn (behind_settling c plain steps) (Some c) left)
+          (steps_are name date input c plain enough) torn)) [
             | inl stands ↦ some_weaker left (λ d stands. inl stands) stands
             | inr behind ↦
                 let ready : IsReadyFor s plain name date input = settled_is_ready c plain name date input (record {
@@ -239,11 +250,13 @@ run_stopped name date input c plain left label word content whole stood live unp
           ]
       | inr small ↦ some_weaker left (λ d stands. inl stands)
           (segments_stand c plain input left stood table
-          (subst (λ (acts : List Act). Torn (behind_settling c plain (steps_of acts)) (Some c) left) (no_table c plain name date input small) torn))
+          (subst (λ (acts : List Act). Torn (behind_settling c plain (steps_of acts)) (Some c) left)
+          (no_table c plain name date input small) torn))
     ]
 
 -- a stop leaves what stood, or that with the volume of the input
-pub append_stopped : (name : List ℕ) (date : ℕ) (input : List ℕ) (c : Cartridge) (plain : Plain) (outcome : CommandOutcome) (left : Option Cartridge) →
+pub append_stopped : (name : List ℕ) (date : ℕ) (input : List ℕ) (c : Cartridge) (plain : Plain) (outcome : CommandOutcome)
+    (left : Option Cartridge) →
     IsLabel name → date < 2 ^ 32 → All (λ b. b < 256) input → IsCartridge c → Stands c plain → IsTableLive c →
     AppendOutcome name date (Some c) input outcome → Torn (steps_of outcome.acts) (Some c) left →
     IsSomeAnd left (λ d. Stands d plain ⊎ Stands d (with_bytes plain name date input))
@@ -274,8 +287,10 @@ append_done name date input c plain outcome label word content whole stood machi
       | inr run ↦
           let have : ℕ = room_in (kept_of c plain) in
           let enough : fits plain input ≡ true =
-          done_fits (fits plain input) (min (length input) (have + 1)) have (sym (ap (λ (o : CommandOutcome). o.status) run.is) ∙ is_done) in
-          some_and (λ d. Stands d (with_bytes plain name date input)) _ (effects (steps_of outcome.acts) (Some c)) (stands run.unprotected run.table enough)
+          done_fits (fits plain input) (min (length input) (have + 1)) have (sym (ap (λ (o : CommandOutcome). o.status) run.is) ∙ is_done)
+          in
+          some_and (λ d. Stands d (with_bytes plain name date input)) _ (effects (steps_of outcome.acts) (Some c))
+          (stands run.unprotected run.table enough)
           (ap (λ (o : CommandOutcome). effects (steps_of o.acts) (Some c)) run.is
           ∙ ap (λ (steps : List Step). effects (behind_settling c plain steps) (Some c)) (steps_are name date input c plain enough)
           ∙ done_behind c plain (appends.append_steps_of plain name date input) run.table)
@@ -308,7 +323,8 @@ append_refused name date input c plain outcome whole stood machine other =
       | inr run ↦
           let have : ℕ = room_in (kept_of c plain) in
           let small : fits plain input ≡ false =
-          not_done_small (fits plain input) (min (length input) (have + 1)) have (λ is. other (ap (λ (o : CommandOutcome). o.status) run.is ∙ is)) in
+          not_done_small (fits plain input) (min (length input) (have + 1)) have
+          (λ is. other (ap (λ (o : CommandOutcome). o.status) run.is ∙ is)) in
           let steps : List Step = behind_settling c plain (steps_of (segments_acts c plain input)) in
           let same : steps_of outcome.acts ≡ steps =
           ap (λ (o : CommandOutcome). steps_of o.acts) run.is
@@ -345,7 +361,8 @@ quiet_front (f ∷ fs) rest (a ∷ acts) last prints parts quiet =
     no_rear (x ∷ xs) ys none = absurd (cc)
 
 -- a front of the settling and the segments' acts leaves what stood
-front_stands : (c : Cartridge) (plain : Plain) (input : List ℕ) (front more : List Act) (first again : Act) → Stands c plain → TableIs c plain.table_area →
+front_stands : (c : Cartridge) (plain : Plain) (input : List ℕ) (front more : List Act) (first again : Act) → Stands c plain →
+    TableIs c plain.table_area →
     first.steps ≡ settling_steps plain.table_area c → again.steps ≡ settling_steps plain.table_area (settled plain.table_area c) →
     front ++ more ≡ first ∷ again ∷ segments_acts c plain input →
     IsSomeAnd (effects (steps_of front) (Some c)) (λ d. Stands d plain)
@@ -365,14 +382,16 @@ empty_front : (c : Cartridge) (plain : Plain) (front rest acts : List Act) → S
     IsSomeAnd (effects (steps_of front) (Some c)) (λ d. Stands d plain)
 empty_front c plain front rest acts stood parts none =
     subst (λ (ss : List Step). IsSomeAnd (effects ss (Some c)) (λ d. Stands d plain))
-    (sym (no_step (steps_of front) (steps_of rest) (sym (steps_of-append front rest) ∙ ap (λ (xs : List Act). steps_of xs) parts ∙ none))) stood
+    (sym (no_step (steps_of front) (steps_of rest) (sym (steps_of-append front rest) ∙ ap (λ (xs : List Act). steps_of xs) parts ∙ none)))
+    stood
   where
     no_step : (xs ys : List Step) → xs ++ ys ≡ [] → xs ≡ []
     no_step [] ys is = refl
     no_step (x ∷ xs) ys is = absurd (cc)
 
 -- a front of the acts in which nothing is printed leaves what stood: the table is not yet written
-pub append_unanswered : (name : List ℕ) (date : ℕ) (input : List ℕ) (c : Cartridge) (plain : Plain) (outcome : CommandOutcome) (front rest : List Act) →
+pub append_unanswered : (name : List ℕ) (date : ℕ) (input : List ℕ) (c : Cartridge) (plain : Plain) (outcome : CommandOutcome)
+    (front rest : List Act) →
     IsCartridge c → Stands c plain → AppendOutcome name date (Some c) input outcome → front ++ rest ≡ outcome.acts → text_of front ≡ [] →
     IsSomeAnd (effects (steps_of front) (Some c)) (λ d. Stands d plain)
 append_unanswered name date input c plain outcome front rest whole stood machine parts quiet =
@@ -389,12 +408,14 @@ append_unanswered name date input c plain outcome front rest whole stood machine
           elim (cases_Bool (fits plain input)) [
             | inl enough ↦
                 let last : Act = record {
-                  steps = table_writes (slot_sector (length (entries_of plain))) (with_slot plain.table_area (length (entries_of plain)) (slot_bytes e));
+                  steps = table_writes (slot_sector (length (entries_of plain)))
+                      (with_slot plain.table_area (length (entries_of plain)) (slot_bytes e));
                   text = reply_behind (length (entries_of plain)) e;
                 } in
                 let found = quiet_front front rest (first ∷ again ∷ segments_acts c plain input) last
                 (appended_line_is_some (length (entries_of plain) + 1) e.size e.start e.end)
-                (acts ∙ ap (λ (b : Bool). first ∷ again ∷ (segments_acts c plain input ++ entry_acts kept name date (reply_behind (length (entries_of plain)))
+                (acts ∙ ap (λ (b : Bool). first ∷ again ∷ (segments_acts c plain input ++ entry_acts kept name date
+                (reply_behind (length (entries_of plain)))
                 (cond b (Fits input) (TooLong (min (length input) (have + 1)) have)))) enough) quiet in
                 front_stands c plain input front found.0 first again stood run.table refl refl found.1
             | inr small ↦

@@ -14,7 +14,8 @@ abbrev pub Rules : Words → Option Cartridge → CommandOutcome → Type 0
 Rules command held outcome = (input : List ℕ) → Yields command held input outcome
 
 -- it does over one input what it does over any
-pub any_input : (command : Words) (held : Option Cartridge) (input : List ℕ) (outcome : CommandOutcome) → (traits_of command).reads ≡ false →
+pub any_input : (command : Words) (held : Option Cartridge) (input : List ℕ) (outcome : CommandOutcome) →
+    (traits_of command).reads ≡ false →
     Yields command held input outcome → Rules command held outcome
 any_input command held input outcome blind plain other = ((laws_of command).blind blind).any held input other outcome plain
 
@@ -27,7 +28,8 @@ pub text_front : (command : Words) (text : List ℕ) → CommandPrints command t
 text_front command text prints = (laws_of command).texts.text_front text prints
 
 -- .. and a front of a front
-pub shorter_front : (command : Words) (front rest text : List ℕ) → front ++ rest ≡ text → FrontPrints command text → FrontPrints command front
+pub shorter_front : (command : Words) (front rest text : List ℕ) → front ++ rest ≡ text → FrontPrints command text →
+    FrontPrints command front
 shorter_front command front rest text parts prints = (laws_of command).texts.shorter_front front rest text parts prints
 
 -- one that was refused may have printed nothing, ..
@@ -39,5 +41,6 @@ pub refused_front : (command : Words) (answer : Status) (text : List ℕ) → Re
 refused_front command answer text prints = (laws_of command).texts.refused_front answer text prints
 
 -- a command that reads no input appends none
-pub appends_none : (command : Words) (told : Option (List ℕ)) (input : List ℕ) → (traits_of command).reads ≡ false → IsOfBytes command told input
+pub appends_none : (command : Words) (told : Option (List ℕ)) (input : List ℕ) → (traits_of command).reads ≡ false →
+    IsOfBytes command told input
 appends_none command told input blind = λ is. let no = ((laws_of command).blind blind).no_append in absurd (cc)

@@ -25,7 +25,8 @@ use Rattle.command_spec.specs.declared.words.Words.TheVariants as commands
 
 -- ---- the run
 
-module _ {T S K : Type 0} (t : tapes.Meaning T) (s : sources.Meaning S) (k : sinks.Meaning K) (words : List (List ℕ)) (old new : Outside T S K) (answer : Status) (number : ℕ) (c : Cartridge) where
+module _ {T S K : Type 0} (t : tapes.Meaning T) (s : sources.Meaning S) (k : sinks.Meaning K) (words : List (List ℕ))
+    (old new : Outside T S K) (answer : Status) (number : ℕ) (c : Cartridge) where
   -- the outcome over the cartridge that was told
   record WasStepped : Type 0 where
     outcome : CommandOutcome
@@ -33,7 +34,8 @@ module _ {T S K : Type 0} (t : tapes.Meaning T) (s : sources.Meaning S) (k : sin
     answered : answer ≡ outcome.status
     took : k.took old.sink (output_of outcome) new.sink
 
-  was_stepped : answer ≢ status.NoMemory → Spells words (commands.Restore number) → t.told old.tape ≡ Some (Some c) → Answers t s k words old new answer → WasStepped
+  was_stepped : answer ≢ status.NoMemory → Spells words (commands.Restore number) → t.told old.tape ≡ Some (Some c) →
+      Answers t s k words old new answer → WasStepped
   was_stepped came spells told answers =
       let over = subst (λ (o : Option (Option Cartridge)). IfSome o (λ held. (input : List ℕ) × IsInput (s.left old.source) input
       × ((answer ≡ status.NoMemory) ⊎ Stepped t s k words held input old new answer))) told answers in
@@ -42,7 +44,8 @@ module _ {T S K : Type 0} (t : tapes.Meaning T) (s : sources.Meaning S) (k : sin
         | inr stepped ↦ by_step over.0 stepped stepped.step
       ]
     where
-      by_step : (input : List ℕ) → (stepped : Stepped t s k words (Some c) input old new answer) → Step words (Some c) input stepped.held' stepped.output stepped.taken answer → WasStepped
+      by_step : (input : List ℕ) → (stepped : Stepped t s k words (Some c) input old new answer) →
+          Step words (Some c) input stepped.held' stepped.output stepped.taken answer → WasStepped
       by_step input stepped (inl none) = absurd (none.0 (commands.Restore number) spells)
       by_step input stepped (inr (command, spelled, (outcome, yields, left, output, taken, answered))) =
           let same : command ≡ commands.Restore number = one_command words command (commands.Restore number) spelled spells in
@@ -53,7 +56,8 @@ module _ {T S K : Type 0} (t : tapes.Meaning T) (s : sources.Meaning S) (k : sin
             took = subst (λ (text : List ℕ). k.took old.sink text new.sink) output stepped.took;
           }
 
-  was_cut : (failing : Failing) (plain : Plain) (volume : Volume) → HasNumber c plain number volume → Spells words (commands.Restore number) → t.told old.tape ≡ Some (Some c) → IsCut t s k words old new failing →
+  was_cut : (failing : Failing) (plain : Plain) (volume : Volume) → HasNumber c plain number volume →
+      Spells words (commands.Restore number) → t.told old.tape ≡ Some (Some c) → IsCut t s k words old new failing →
       TookFront k old.sink new.sink (volume_bytes plain.words volume)
   was_cut failing plain volume has spells told (command, spelled, over) =
       let same : command ≡ commands.Restore number = one_command words command (commands.Restore number) spelled spells in
@@ -71,9 +75,12 @@ module _ {T S K : Type 0} (t : tapes.Meaning T) (s : sources.Meaning S) (k : sin
         took = took.took;
       }
 
-pub gives_back : {T S K : Type 0} (t : tapes.Meaning T) (s : sources.Meaning S) (k : sinks.Meaning K) (words : List (List ℕ)) (old new : Outside T S K) (answer : Status) →
-    (is_fault answer ≡ false → Answers t s k words old new answer) → ((failing : Failing) → answer ≡ fault_of failing → IsCut t s k words old new failing) →
-    (number : ℕ) (c : Cartridge) (plain : Plain) (volume : Volume) → Spells words (commands.Restore number) → t.told old.tape ≡ Some (Some c) →
+pub gives_back : {T S K : Type 0} (t : tapes.Meaning T) (s : sources.Meaning S) (k : sinks.Meaning K) (words : List (List ℕ))
+    (old new : Outside T S K) (answer : Status) →
+    (is_fault answer ≡ false → Answers t s k words old new answer) →
+    ((failing : Failing) → answer ≡ fault_of failing → IsCut t s k words old new failing) →
+    (number : ℕ) (c : Cartridge) (plain : Plain) (volume : Volume) → Spells words (commands.Restore number) →
+    t.told old.tape ≡ Some (Some c) →
     HasNumber c plain number volume → GivesBack k c plain volume old.sink new.sink answer
 gives_back t s k words old new answer carried cut number c plain volume spells told has = record {
   whole = λ sound memory few.

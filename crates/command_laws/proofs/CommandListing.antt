@@ -1,5 +1,6 @@
 -- What a cartridge is mounted with when a run is over that adds volumes.
-use Rattle.std.proofs.Common.{◌≡◌, ◌≢◌, ◌⊎◌, inl, inr, ℕ, ◌+◌, ◌<◌, ◌^◌, ◌&&◌, nat_le, min, Bool, true, false, cond, List, [], ◌∷◌, ◌++◌, length, Option, Some, None, IsSomeAnd, refl, sym, ap, ◌∙◌, subst, append-nil, arith, append_assoc, ◌≤◌}
+use Rattle.std.proofs.Common.{◌≡◌, ◌≢◌, ◌⊎◌, inl, inr, ℕ, ◌+◌, ◌<◌, ◌^◌, ◌&&◌, nat_le, min, Bool, true, false, cond, List, [], ◌∷◌, ◌++◌}
+use Rattle.std.proofs.Common.{length, Option, Some, None, IsSomeAnd, refl, sym, ap, ◌∙◌, subst, append-nil, arith, append_assoc, ◌≤◌}
 use Rattle.std.proofs.lemmas.List.{length-append}
 use Rattle.cartridge_laws.proofs.FormatWriting.{effects-some, some_and}
 use Rattle.cartridge_laws.proofs.MountOnce.{mounts_is_function}
@@ -64,7 +65,8 @@ use Rattle.command_spec.specs.declared.words.Words.TheVariants as commands
 
 -- ---- a cartridge as it was mounted
 
-module _ (c : Cartridge) (header : Header) (words : List ℕ) (table : List (List ℕ)) (entries : List Entry) (whole : IsCartridge c) (mounts : Mounts c (Mounted header words table entries)) where
+module _ (c : Cartridge) (header : Header) (words : List ℕ) (table : List (List ℕ)) (entries : List Entry) (whole : IsCartridge c)
+    (mounts : Mounts c (Mounted header words table entries)) where
   abbrev still : Cartridge
   still = settled table c
 
@@ -93,7 +95,8 @@ module _ (c : Cartridge) (header : Header) (words : List ℕ) (table : List (Lis
 
   -- behind the settling and a front of other acts
   behind_acts : (more : List Act) → effects (steps_of (settling ∷ more)) (Some c) ≡ Some (changed_by (steps_of more) still)
-  behind_acts more = effects-append (settling_steps table c) (steps_of more) (Some c) ∙ ap (effects (steps_of more)) now_settled ∙ effects-some (steps_of more) still
+  behind_acts more = effects-append (settling_steps table c) (steps_of more) (Some c) ∙ ap (effects (steps_of more)) now_settled
+      ∙ effects-some (steps_of more) still
 
   abbrev ListsNow : List Entry → Option Cartridge → Type 0
   ListsNow es left = IsSomeAnd left (λ d. Lists d header words es)
@@ -121,7 +124,8 @@ module _ (c : Cartridge) (header : Header) (words : List ℕ) (table : List (Lis
         by_flag false is = absurd (cc)
 
     -- carried out, it leaves the list with the volume
-    lists_with : (input : List ℕ) (outcome : CommandOutcome) → AppendOutcome name date (Some c) input outcome → outcome.status ≡ status.Done →
+    lists_with : (input : List ℕ) (outcome : CommandOutcome) → AppendOutcome name date (Some c) input outcome →
+        outcome.status ≡ status.Done →
         ListsNow (entries ++ entry_behind words entries name date input ∷ []) (effects (steps_of outcome.acts) (Some c))
     lists_with input outcome (inl (locked, is)) done = let other = ap (λ (o : CommandOutcome). o.status) is in absurd (cc)
     lists_with input outcome (inr (free, opened)) done =
@@ -129,19 +133,25 @@ module _ (c : Cartridge) (header : Header) (words : List ℕ) (table : List (Lis
         let took : taking (room_in (kept_over still words entries table)) None input ≡ Fits input =
         fits_where_done (room_in (kept_over still words entries table)) input (sym (ap (λ (o : CommandOutcome). o.status) is) ∙ done) in
         let all : Lists (changed_by (steps_of (acts_by (kept_over still words entries table) input)) still) header words
-        (listed_behind (kept_over still words entries table) name date (taking (room_in (kept_over still words entries table)) None input)) =
-        append_lists still header words entries table name date None (reply_behind (length entries)) input lists_still listed (ap (λ (i : TapeInfo). i.protected) same_info ∙ free) reads_still label word in
-        lists_as (entries ++ entry_behind words entries name date input ∷ []) (changed_by (steps_of (acts_by (kept_over still words entries table) input)) still)
+        (listed_behind (kept_over still words entries table) name date (taking (room_in (kept_over still words entries table)) None input))
+        =
+        append_lists still header words entries table name date None (reply_behind (length entries)) input lists_still listed
+        (ap (λ (i : TapeInfo). i.protected) same_info ∙ free) reads_still label word in
+        lists_as (entries ++ entry_behind words entries name date input ∷ [])
+        (changed_by (steps_of (acts_by (kept_over still words entries table) input)) still)
         (effects (steps_of outcome.acts) (Some c))
-        (subst (λ (became : Taking). Lists (changed_by (steps_of (acts_by (kept_over still words entries table) input)) still) header words (listed_behind (kept_over still words entries table) name date became)) took all)
+        (subst (λ (became : Taking). Lists (changed_by (steps_of (acts_by (kept_over still words entries table) input)) still) header words
+        (listed_behind (kept_over still words entries table) name date became)) took all)
         (ap (λ (o : CommandOutcome). effects (steps_of o.acts) (Some c)) is
         ∙ behind_acts (acts_by (kept_over still words entries table) input))
 
     -- and before its reply it leaves the list as it was
-    lists_without : (input : List ℕ) (outcome : CommandOutcome) (front rest : List Act) → AppendOutcome name date (Some c) input outcome → front ++ rest ≡ outcome.acts →
+    lists_without : (input : List ℕ) (outcome : CommandOutcome) (front rest : List Act) → AppendOutcome name date (Some c) input outcome →
+        front ++ rest ≡ outcome.acts →
         (outcome.status ≢ status.Done) ⊎ (text_of front ≡ []) → ListsNow entries (effects (steps_of front) (Some c))
     lists_without input outcome front rest (inl (locked, is)) parts before =
-        lists_before (effects (steps_of front) (Some c)) (ap (λ (xs : List Act). effects (steps_of xs) (Some c)) (no_acts front rest (parts ∙ ap (λ (o : CommandOutcome). o.acts) is)))
+        lists_before (effects (steps_of front) (Some c))
+        (ap (λ (xs : List Act). effects (steps_of xs) (Some c)) (no_acts front rest (parts ∙ ap (λ (o : CommandOutcome). o.acts) is)))
       where
         no_acts : (xs ys : List Act) → xs ++ ys ≡ [] → xs ≡ []
         no_acts [] ys none = refl
@@ -153,7 +163,8 @@ module _ (c : Cartridge) (header : Header) (words : List ℕ) (table : List (Lis
       where
         -- an entry is written by the last act, which prints
         none_added : (front rest : List Act) → front ++ rest ≡ settling ∷ acts_by (kept_over still words entries table) input →
-            (status_by_room (room_in (kept_over still words entries table)) input ≢ status.Done) ⊎ (text_of front ≡ []) → AddsNone rest (taking (room_in (kept_over still words entries table)) None input)
+            (status_by_room (room_in (kept_over still words entries table)) input ≢ status.Done) ⊎ (text_of front ≡ []) →
+            AddsNone rest (taking (room_in (kept_over still words entries table)) None input)
         none_added front (y ∷ ys) parts before = inl (λ none. cc)
         none_added front [] parts (inl other) =
             inr (λ bytes took. other (status_fits (room_in (kept_over still words entries table)) input bytes took))
@@ -161,16 +172,19 @@ module _ (c : Cartridge) (header : Header) (words : List ℕ) (table : List (Lis
             let kept : Kept = kept_over still words entries table in
             let e : Entry = entry_for kept name date bytes in
             appended_line_is_some (length entries + 1) e.size e.start e.end
-            (sym (replied_text kept name date (reply_behind (length entries)) input bytes took) ∙ ap text_of (sym parts ∙ append-nil front) ∙ quiet))
+            (sym (replied_text kept name date (reply_behind (length entries)) input bytes took) ∙ ap text_of (sym parts ∙ append-nil front)
+            ∙ quiet))
 
         by_front : (xs : List Act) → xs ++ rest ≡ settling ∷ acts_by (kept_over still words entries table) input →
-            (status_by_room (room_in (kept_over still words entries table)) input ≢ status.Done) ⊎ (text_of xs ≡ []) → ListsNow entries (effects (steps_of xs) (Some c))
+            (status_by_room (room_in (kept_over still words entries table)) input ≢ status.Done) ⊎ (text_of xs ≡ []) →
+            ListsNow entries (effects (steps_of xs) (Some c))
         by_front [] parts before = lists_before (Some c) refl
         by_front (x ∷ more) parts before =
             let first : x ≡ settling = cc in
             let behind : more ++ rest ≡ acts_by (kept_over still words entries table) input = cc in
             lists_as entries (changed_by (steps_of more) still) (effects (steps_of (x ∷ more)) (Some c))
-            (append_front_lists still header words entries table name date None (reply_behind (length entries)) input more rest lists_still listed
+            (append_front_lists still header words entries table name date None (reply_behind (length entries)) input more rest lists_still
+            listed
             (ap (λ (i : TapeInfo). i.protected) same_info ∙ free) reads_still behind (none_added (x ∷ more) rest parts before))
             (ap (λ (a : Act). effects (steps_of (a ∷ more)) (Some c)) first ∙ behind_acts more)
 
@@ -211,7 +225,8 @@ IsWhole acts text (inl w) = Unit {0}
 IsWhole acts text (inr p) = ⊥
 
 -- over what is told of a command: some input and its outcome, and the acts that were done
-pub record RanDone {T S K : Type 0} (t : tapes.Meaning T) (s : sources.Meaning S) (k : sinks.Meaning K) (command : Words) (old new : Outside T S K) (answer : Status) (c : Cartridge) : Type 0 where
+pub record RanDone {T S K : Type 0} (t : tapes.Meaning T) (s : sources.Meaning S) (k : sinks.Meaning K) (command : Words)
+    (old new : Outside T S K) (answer : Status) (c : Cartridge) : Type 0 where
   pub input : List ℕ
   pub is_told : IsInput (s.left old.source) input
   pub outcome : CommandOutcome
@@ -227,8 +242,10 @@ pub record RanDone {T S K : Type 0} (t : tapes.Meaning T) (s : sources.Meaning S
   pub broke : answer ≡ status.SinkFault → IsPart outcome.acts text at
   pub whole : answer ≢ status.SinkFault → IsWhole outcome.acts text at
 
-ends_done : {T S K : Type 0} (t : tapes.Meaning T) (s : sources.Meaning S) (k : sinks.Meaning K) (command : Words) (old new : Outside T S K) (answer : Status) → Laws t s k old new → HasValues command →
-    CommandEnds t s k command old new answer → (c : Cartridge) → t.told old.tape ≡ Some (Some c) → answer ≢ status.TapeFault → RanDone t s k command old new answer c
+ends_done : {T S K : Type 0} (t : tapes.Meaning T) (s : sources.Meaning S) (k : sinks.Meaning K) (command : Words) (old new : Outside T S K)
+    (answer : Status) → Laws t s k old new → HasValues command →
+    CommandEnds t s k command old new answer → (c : Cartridge) → t.told old.tape ≡ Some (Some c) → answer ≢ status.TapeFault →
+    RanDone t s k command old new answer c
 ends_done t s k command old new answer laws values (inl finished) c told other =
     let over = over_at (t.told old.tape) _ (Some c) finished.told told in record {
       input = over.0;
@@ -296,8 +313,11 @@ ends_done t s k command old new answer laws values (inr (SinkFails, is, stopped)
 
 -- ---- `append`
 
-module _ {T S K : Type 0} (t : tapes.Meaning T) (s : sources.Meaning S) (k : sinks.Meaning K) (name : List ℕ) (date : ℕ) (old new : Outside T S K) (answer : Status) (laws : Laws t s k old new) (values : HasValues (commands.Append name date))
-    (ends : CommandEnds t s k (commands.Append name date) old new answer) (c : Cartridge) (header : Header) (words : List ℕ) (table : List (List ℕ)) (entries : List Entry) (told : t.told old.tape ≡ Some (Some c)) (mounts : Mounts c (Mounted header words table entries)) where
+module _ {T S K : Type 0} (t : tapes.Meaning T) (s : sources.Meaning S) (k : sinks.Meaning K) (name : List ℕ) (date : ℕ)
+    (old new : Outside T S K) (answer : Status) (laws : Laws t s k old new) (values : HasValues (commands.Append name date))
+    (ends : CommandEnds t s k (commands.Append name date) old new answer) (c : Cartridge) (header : Header) (words : List ℕ)
+    (table : List (List ℕ)) (entries : List Entry) (told : t.told old.tape ≡ Some (Some c))
+    (mounts : Mounts c (Mounted header words table entries)) where
   abbrev command : Words
   command = commands.Append name date
 
@@ -307,7 +327,8 @@ module _ {T S K : Type 0} (t : tapes.Meaning T) (s : sources.Meaning S) (k : sin
   append_lists_volume : IsCarriedOut answer → (input : List ℕ) × IsInput (s.left old.source) input
       × NowLists t new.tape header words (entries ++ entry_behind words entries name date input ∷ [])
   append_lists_volume which =
-      let d : Did t (s.left old.source) command old.tape new.tape (Some c) status.Done = carried_out_did t s k command old new answer (Some c) whole values refl told which ends in
+      let d : Did t (s.left old.source) command old.tape new.tape (Some c) status.Done = carried_out_did t s k command old new answer
+      (Some c) whole values refl told which ends in
       let with : List Entry = entries ++ entry_behind words entries name date d.input ∷ [] in (
         d.input,
         d.is_told,
@@ -325,7 +346,8 @@ module _ {T S K : Type 0} (t : tapes.Meaning T) (s : sources.Meaning S) (k : sin
           let over = over_at (t.told old.tape) _ (Some c) finished.told told in
           now_weaker t old.tape new.tape
           (λ left is. subst (λ (o : Option Cartridge). IsSomeAnd o (λ e. Lists e header words entries)) (sym is)
-          (lists_without c header words table entries whole mounts name date values.0 values.1 over.0 finished.outcome finished.outcome.acts [] over.2.1 (append-nil finished.outcome.acts)
+          (lists_without c header words table entries whole mounts name date values.0 values.1 over.0 finished.outcome finished.outcome.acts
+          [] over.2.1 (append-nil finished.outcome.acts)
           (inl (λ same. not.0 (finished.answered ∙ same)))))
           (done_now t old.tape new.tape (steps_of finished.outcome.acts) (Some c) finished.went.did told)
       by_end (inr (TapeFails, is, stopped)) = absurd (not.2 is)
@@ -337,12 +359,14 @@ module _ {T S K : Type 0} (t : tapes.Meaning T) (s : sources.Meaning S) (k : sin
           let cut = off.cut in
           now_weaker t old.tape new.tape
           (λ left is. subst (λ (o : Option Cartridge). IsSomeAnd o (λ e. Lists e header words entries)) (sym is)
-          (lists_without c header words table entries whole mounts name date values.0 values.1 over.0 some.0 cut.front cut.rest some.1 cut.parts (inr (off.silent refl))))
+          (lists_without c header words table entries whole mounts name date values.0 values.1 over.0 some.0 cut.front cut.rest some.1
+          cut.parts (inr (off.silent refl))))
           (done_now t old.tape new.tape (steps_of cut.front) (Some c) cut.did told)
 
 -- ---- `script`
 
-module _ (c : Cartridge) (header : Header) (words : List ℕ) (table : List (List ℕ)) (entries : List Entry) (whole : IsCartridge c) (mounts : Mounts c (Mounted header words table entries))
+module _ (c : Cartridge) (header : Header) (words : List ℕ) (table : List (List ℕ)) (entries : List Entry) (whole : IsCartridge c)
+    (mounts : Mounts c (Mounted header words table entries))
     (input : List ℕ) (came : CommandOutcome) (does : ScriptDoes (settled table c) words entries input came) where
   abbrev Answered : (text : List ℕ) → Option Cartridge → Type 0
   Answered text left = ListsAnswered header words entries does.items does.dids (length text) left
@@ -357,37 +381,46 @@ module _ (c : Cartridge) (header : Header) (words : List ℕ) (table : List (Lis
     acts : outcome.acts ≡ quiet (settling_steps table c) ∷ came.acts
     acts =
         ap (λ (o : CommandOutcome). o.acts) did.is
-        ∙ ap (λ (o : CommandOutcome). quiet (settling_steps table c) ∷ o.acts) (one_script (settled table c) words entries input did.came came did.does does)
+        ∙ ap (λ (o : CommandOutcome). quiet (settling_steps table c) ∷ o.acts)
+        (one_script (settled table c) words entries input did.came came did.does does)
 
     -- once it was carried out those of all lines are there
-    script_lists_all : ItemsWearBehind does.items → IsSomeAnd (effects (steps_of outcome.acts) (Some c)) (λ d. Lists d header words (entries_behind entries does.dids))
+    script_lists_all : ItemsWearBehind does.items → IsSomeAnd (effects (steps_of outcome.acts) (Some c))
+        (λ d. Lists d header words (entries_behind entries does.dids))
     script_lists_all behind =
         listed_done (settled table c) header words entries input came (effects (steps_of outcome.acts) (Some c))
         (lists_still c header words table entries whole mounts) (listed c header words table entries whole mounts) does behind
         (ap (λ (xs : List Act). effects (steps_of xs) (Some c)) acts ∙ behind_acts c header words table entries whole mounts came.acts)
 
     -- a front of the acts went
-    script_answered : (text : List ℕ) (at : FrontDone outcome.acts text) → IsWhole outcome.acts text at → Answered text (effects (done_of outcome.acts text at) (Some c))
+    script_answered : (text : List ℕ) (at : FrontDone outcome.acts text) → IsWhole outcome.acts text at →
+        Answered text (effects (done_of outcome.acts text at) (Some c))
     script_answered text (inr p) part = absurd part
     script_answered text (inl w) is_whole = by_front w.front w.rest (w.parts ∙ acts) w.is_text
       where
-        by_front : (front rest : List Act) → front ++ rest ≡ quiet (settling_steps table c) ∷ came.acts → text ≡ text_of front → Answered text (effects (steps_of front) (Some c))
+        by_front : (front rest : List Act) → front ++ rest ≡ quiet (settling_steps table c) ∷ came.acts → text ≡ text_of front →
+            Answered text (effects (steps_of front) (Some c))
         by_front [] rest parts is =
-            subst (λ (xs : List ℕ). Answered xs (Some c)) (sym is) (listed_none (settled table c) c header words entries input came does (table, mounts))
+            subst (λ (xs : List ℕ). Answered xs (Some c)) (sym is)
+            (listed_none (settled table c) c header words entries input came does (table, mounts))
         by_front (x ∷ more) rest parts is =
             let first : x ≡ quiet (settling_steps table c) = cc in
             let behind : more ++ rest ≡ came.acts = cc in
-            subst (λ (xs : List ℕ). Answered xs (effects (steps_of (x ∷ more)) (Some c))) (sym (is ∙ ap (λ (a : Act). text_of (a ∷ more)) first))
-            (listed_between (settled table c) header words entries input came more rest (effects (steps_of (x ∷ more)) (Some c)) (lists_still c header words table entries whole mounts)
+            subst (λ (xs : List ℕ). Answered xs (effects (steps_of (x ∷ more)) (Some c)))
+            (sym (is ∙ ap (λ (a : Act). text_of (a ∷ more)) first))
+            (listed_between (settled table c) header words entries input came more rest (effects (steps_of (x ∷ more)) (Some c))
+            (lists_still c header words table entries whole mounts)
             (listed c header words table entries whole mounts) does behind
             (ap (λ (a : Act). effects (steps_of (a ∷ more)) (Some c)) first ∙ behind_acts c header words table entries whole mounts more))
 
     -- the text of the act behind them broke off
-    script_broken : (text : List ℕ) (at : FrontDone outcome.acts text) → IsPart outcome.acts text at → Broken text (effects (done_of outcome.acts text at) (Some c))
+    script_broken : (text : List ℕ) (at : FrontDone outcome.acts text) → IsPart outcome.acts text at →
+        Broken text (effects (done_of outcome.acts text at) (Some c))
     script_broken text (inl w) is_whole = absurd is_whole
     script_broken text (inr p) part = by_front p.front p.act p.rest p.some p.more (p.parts ∙ acts) p.written p.lacks p.is_text
       where
-        by_front : (front : List Act) (act : Act) (rest : List Act) (some unsaid : List ℕ) → front ++ act ∷ rest ≡ quiet (settling_steps table c) ∷ came.acts → some ++ unsaid ≡ act.text → unsaid ≢ [] →
+        by_front : (front : List Act) (act : Act) (rest : List Act) (some unsaid : List ℕ) →
+            front ++ act ∷ rest ≡ quiet (settling_steps table c) ∷ came.acts → some ++ unsaid ≡ act.text → unsaid ≢ [] →
             text ≡ text_of front ++ some → Broken text (effects (steps_of front ++ act.steps) (Some c))
         by_front [] act rest some unsaid parts written lacks is =
             let first : act ≡ quiet (settling_steps table c) = cc in
@@ -399,7 +432,8 @@ module _ (c : Cartridge) (header : Header) (words : List ℕ) (table : List (Lis
             ap length (is ∙ ap (λ (a : Act). text_of (a ∷ more) ++ some) first) ∙ length-append (text_of more) some in
             let act_text : length act.text ≡ length some + length unsaid = ap length (sym written) ∙ length-append some unsaid in
             let long : 0 < length unsaid = some_long unsaid lacks in
-            listed_behind_act (settled table c) header words entries input came more act rest (effects (steps_of (x ∷ more) ++ act.steps) (Some c)) (length text)
+            listed_behind_act (settled table c) header words entries input came more act rest
+            (effects (steps_of (x ∷ more) ++ act.steps) (Some c)) (length text)
             (lists_still c header words table entries whole mounts) (listed c header words table entries whole mounts) does behind
             (ap (λ (a : Act). effects (steps_of (a ∷ more) ++ act.steps) (Some c)) first
             ∙ ap (λ (ss : List TapeStep). effects ss (Some c)) (append_assoc (settling_steps table c) (steps_of more) act.steps)
@@ -410,7 +444,8 @@ module _ (c : Cartridge) (header : Header) (words : List ℕ) (table : List (Lis
 
 -- ---- `make`
 
-module _ (seed count : ℕ) (few : count ≤ 200) (c : Cartridge) (header : Header) (words : List ℕ) (table : List (List ℕ)) (entries : List Entry) (whole : IsCartridge c)
+module _ (seed count : ℕ) (few : count ≤ 200) (c : Cartridge) (header : Header) (words : List ℕ) (table : List (List ℕ))
+    (entries : List Entry) (whole : IsCartridge c)
     (mounts : Mounts c (Mounted header words table entries)) where
   abbrev HasMade : (n : ℕ) → Option Cartridge → Type 0
   HasMade n left = IsSomeAnd left (λ d. Lists d header words (made_list seed n words entries))
@@ -422,41 +457,56 @@ module _ (seed count : ℕ) (few : count ≤ 200) (c : Cartridge) (header : Head
   before_any d left lists is = (0, omega arith, some_and (λ e. Lists e header words entries) d left lists is)
 
   -- a front of the acts behind the settling
-  behind_some : (acts : List Act) (answer : Status) (more rest : List Act) → Makes seed count (settled table c) words entries acts answer → more ++ rest ≡ acts →
+  behind_some : (acts : List Act) (answer : Status) (more rest : List Act) → Makes seed count (settled table c) words entries acts answer →
+      more ++ rest ≡ acts →
       HasSome (effects (steps_of (quiet (settling_steps table c) ∷ more)) (Some c))
   behind_some acts answer more rest makes parts =
-      let l = make_lists seed count (settled table c) header words entries acts more rest answer (effects (steps_of (quiet (settling_steps table c) ∷ more)) (Some c)) few
-      (lists_still c header words table entries whole mounts) (listed c header words table entries whole mounts) makes parts (behind_acts c header words table entries whole mounts more) in
+      let l = make_lists seed count (settled table c) header words entries acts more rest answer
+      (effects (steps_of (quiet (settling_steps table c) ∷ more)) (Some c)) few
+      (lists_still c header words table entries whole mounts) (listed c header words table entries whole mounts) makes parts
+      (behind_acts c header words table entries whole mounts more) in
       (l.appended, l.within, l.lists)
 
-  behind_all : (acts : List Act) (answer : Status) (more rest : List Act) → Makes seed count (settled table c) words entries acts answer → more ++ rest ≡ acts →
-      ((rest ≡ []) × (answer ≡ status.Done)) ⊎ (text_of more ≢ []) → HasMade count (effects (steps_of (quiet (settling_steps table c) ∷ more)) (Some c))
+  behind_all : (acts : List Act) (answer : Status) (more rest : List Act) → Makes seed count (settled table c) words entries acts answer →
+      more ++ rest ≡ acts →
+      ((rest ≡ []) × (answer ≡ status.Done)) ⊎ (text_of more ≢ []) →
+      HasMade count (effects (steps_of (quiet (settling_steps table c) ∷ more)) (Some c))
   behind_all acts answer more rest makes parts which =
-      made_are_listed seed count (settled table c) header words entries acts more rest answer (effects (steps_of (quiet (settling_steps table c) ∷ more)) (Some c)) few
-      (lists_still c header words table entries whole mounts) (listed c header words table entries whole mounts) makes parts (behind_acts c header words table entries whole mounts more) which
+      made_are_listed seed count (settled table c) header words entries acts more rest answer
+      (effects (steps_of (quiet (settling_steps table c) ∷ more)) (Some c)) few
+      (lists_still c header words table entries whole mounts) (listed c header words table entries whole mounts) makes parts
+      (behind_acts c header words table entries whole mounts more) which
 
   -- the steps of a front and of the act behind it
   with_act : (x : Act) (more : List Act) (act : Act) → x ≡ quiet (settling_steps table c) →
       steps_of (x ∷ more) ++ act.steps ≡ steps_of (quiet (settling_steps table c) ∷ (more ++ act ∷ []))
   with_act x more act first =
       ap (λ (a : Act). steps_of (a ∷ more) ++ act.steps) first ∙ append_assoc (settling_steps table c) (steps_of more) act.steps
-      ∙ ap (λ (ss : List TapeStep). settling_steps table c ++ ss) (ap (λ (ss : List TapeStep). steps_of more ++ ss) (sym (append-nil act.steps)) ∙ sym (steps_of-append more (act ∷ [])))
+      ∙ ap (λ (ss : List TapeStep). settling_steps table c ++ ss)
+      (ap (λ (ss : List TapeStep). steps_of more ++ ss) (sym (append-nil act.steps)) ∙ sym (steps_of-append more (act ∷ [])))
 
   make_lists_so : (outcome : CommandOutcome) (text : List ℕ) (at : FrontDone outcome.acts text) → MakeOutcome seed count (Some c) outcome →
-      HasSome (effects (done_of outcome.acts text at) (Some c)) × ((text ≢ []) ⊎ IsPart outcome.acts text at → HasMade count (effects (done_of outcome.acts text at) (Some c)))
+      HasSome (effects (done_of outcome.acts text at) (Some c))
+      × ((text ≢ []) ⊎ IsPart outcome.acts text at → HasMade count (effects (done_of outcome.acts text at) (Some c)))
   make_lists_so outcome text at (inl (locked, is)) = by_none at (ap (λ (o : CommandOutcome). o.acts) is)
     where
       by_none : (at : FrontDone outcome.acts text) → outcome.acts ≡ [] →
-          HasSome (effects (done_of outcome.acts text at) (Some c)) × ((text ≢ []) ⊎ IsPart outcome.acts text at → HasMade count (effects (done_of outcome.acts text at) (Some c)))
+          HasSome (effects (done_of outcome.acts text at) (Some c))
+          × ((text ≢ []) ⊎ IsPart outcome.acts text at → HasMade count (effects (done_of outcome.acts text at) (Some c)))
       by_none (inl w) none = by_front w.front w.rest (w.parts ∙ none) w.is_text
         where
-          by_front : (front rest : List Act) → front ++ rest ≡ [] → text ≡ text_of front → HasSome (effects (steps_of front) (Some c)) × ((text ≢ []) ⊎ ⊥ → HasMade count (effects (steps_of front) (Some c)))
-          by_front [] rest parts is_text = (before_any c (Some c) (table, mounts) refl, λ shown. elim shown [ inl some ↦ absurd (some is_text) | inr part ↦ absurd part ])
+          by_front : (front rest : List Act) → front ++ rest ≡ [] → text ≡ text_of front → HasSome (effects (steps_of front) (Some c))
+              × ((text ≢ []) ⊎ ⊥ → HasMade count (effects (steps_of front) (Some c)))
+          by_front [] rest parts is_text = (
+            before_any c (Some c) (table, mounts) refl,
+            λ shown. elim shown [ inl some ↦ absurd (some is_text) | inr part ↦ absurd part ],
+          )
           by_front (x ∷ xs) rest parts is_text = cc
       by_none (inr p) none = by_front p.front p.act p.rest (p.parts ∙ none)
         where
           by_front : (front : List Act) (act : Act) (rest : List Act) → front ++ act ∷ rest ≡ [] →
-              HasSome (effects (steps_of front ++ act.steps) (Some c)) × ((text ≢ []) ⊎ Unit {0} → HasMade count (effects (steps_of front ++ act.steps) (Some c)))
+              HasSome (effects (steps_of front ++ act.steps) (Some c))
+              × ((text ≢ []) ⊎ Unit {0} → HasMade count (effects (steps_of front ++ act.steps) (Some c)))
           by_front [] act rest parts = cc
           by_front (x ∷ xs) act rest parts = cc
   make_lists_so outcome text at (inr (free, opened)) = by_at at
@@ -469,7 +519,10 @@ module _ (seed count : ℕ) (few : count ≤ 200) (c : Cartridge) (header : Head
 
       by_whole : (front rest : List Act) → front ++ rest ≡ quiet (settling_steps table c) ∷ did.acts → text ≡ text_of front →
           HasSome (effects (steps_of front) (Some c)) × ((text ≢ []) ⊎ ⊥ → HasMade count (effects (steps_of front) (Some c)))
-      by_whole [] rest parts is_text = (before_any c (Some c) (table, mounts) refl, λ shown. elim shown [ inl some ↦ absurd (some is_text) | inr part ↦ absurd part ])
+      by_whole [] rest parts is_text = (
+        before_any c (Some c) (table, mounts) refl,
+        λ shown. elim shown [ inl some ↦ absurd (some is_text) | inr part ↦ absurd part ],
+      )
       by_whole (x ∷ more) rest parts is_text =
           let first : x ≡ quiet (settling_steps table c) = cc in
           let behind : more ++ rest ≡ did.acts = cc in
@@ -483,7 +536,8 @@ module _ (seed count : ℕ) (few : count ≤ 200) (c : Cartridge) (header : Head
             ],
           )
 
-      by_part : (front : List Act) (act : Act) (rest : List Act) (said unsaid : List ℕ) → front ++ act ∷ rest ≡ quiet (settling_steps table c) ∷ did.acts → said ++ unsaid ≡ act.text → unsaid ≢ [] →
+      by_part : (front : List Act) (act : Act) (rest : List Act) (said unsaid : List ℕ) →
+          front ++ act ∷ rest ≡ quiet (settling_steps table c) ∷ did.acts → said ++ unsaid ≡ act.text → unsaid ≢ [] →
           HasSome (effects (steps_of front ++ act.steps) (Some c)) × HasMade count (effects (steps_of front ++ act.steps) (Some c))
       by_part [] act rest said unsaid parts written lacks =
           let first : act ≡ quiet (settling_steps table c) = cc in
@@ -493,14 +547,17 @@ module _ (seed count : ℕ) (few : count ≤ 200) (c : Cartridge) (header : Head
           let behind : more ++ act ∷ rest ≡ did.acts = cc in
           let next : List Act = more ++ act ∷ [] in
           let all : next ++ rest ≡ did.acts = append_assoc more (act ∷ []) rest ∙ behind in
-          let same : effects (steps_of (quiet (settling_steps table c) ∷ next)) (Some c) ≡ effects (steps_of (x ∷ more) ++ act.steps) (Some c) =
+          let same : effects (steps_of (quiet (settling_steps table c) ∷ next)) (Some c) ≡ effects (steps_of (x ∷ more) ++ act.steps)
+          (Some c) =
           ap (λ (ss : List TapeStep). effects ss (Some c)) (sym (with_act x more act first)) in (
             subst HasSome same (behind_some did.acts did.answer next rest did.makes all),
-            subst (HasMade count) same (behind_all did.acts did.answer next rest did.makes all (inr (λ none. lacks (none_left more act said unsaid written none)))),
+            subst (HasMade count) same (behind_all did.acts did.answer next rest did.makes all
+                (inr (λ none. lacks (none_left more act said unsaid written none)))),
           )
 
       by_at : (at : FrontDone outcome.acts text) →
-          HasSome (effects (done_of outcome.acts text at) (Some c)) × ((text ≢ []) ⊎ IsPart outcome.acts text at → HasMade count (effects (done_of outcome.acts text at) (Some c)))
+          HasSome (effects (done_of outcome.acts text at) (Some c))
+          × ((text ≢ []) ⊎ IsPart outcome.acts text at → HasMade count (effects (done_of outcome.acts text at) (Some c)))
       by_at (inl w) = by_whole w.front w.rest (w.parts ∙ acts) w.is_text
       by_at (inr p) = let so = by_part p.front p.act p.rest p.some p.more (p.parts ∙ acts) p.written p.lacks in (so.0, λ shown. so.1)
 
@@ -511,21 +568,27 @@ module _ (seed count : ℕ) (few : count ≤ 200) (c : Cartridge) (header : Head
     0,
     appended_by seed count words entries outcome.status 0 (omega arith)
         (subst (λ (why : Status). AppendedFrom seed 1 count words entries why 0) (sym (ap (λ (o : CommandOutcome). o.status) is)) tt),
-    some_and (λ e. Lists e header words entries) c (effects (steps_of outcome.acts) (Some c)) (table, mounts) (ap (λ (o : CommandOutcome). effects (steps_of o.acts) (Some c)) is),
+    some_and (λ e. Lists e header words entries) c (effects (steps_of outcome.acts) (Some c)) (table, mounts)
+        (ap (λ (o : CommandOutcome). effects (steps_of o.acts) (Some c)) is),
   )
   make_lists_answered outcome (inr (free, opened)) =
-      let did : Making seed count c header words table entries outcome = went_on c header words table entries whole mounts (Making seed count) outcome opened in
-      let l = make_lists seed count (settled table c) header words entries did.acts did.acts [] did.answer (effects (steps_of (quiet (settling_steps table c) ∷ did.acts)) (Some c)) few
-      (lists_still c header words table entries whole mounts) (listed c header words table entries whole mounts) did.makes (append-nil did.acts)
+      let did : Making seed count c header words table entries outcome = went_on c header words table entries whole mounts
+      (Making seed count) outcome opened in
+      let l = make_lists seed count (settled table c) header words entries did.acts did.acts [] did.answer
+      (effects (steps_of (quiet (settling_steps table c) ∷ did.acts)) (Some c)) few
+      (lists_still c header words table entries whole mounts) (listed c header words table entries whole mounts) did.makes
+      (append-nil did.acts)
       (behind_acts c header words table entries whole mounts did.acts) in (
         l.appended,
         appended_by seed count words entries outcome.status l.appended l.within
-            (subst (λ (why : Status). AppendedFrom seed 1 count words entries why l.appended) (sym (ap (λ (o : CommandOutcome). o.status) did.is)) (l.answered refl)),
+            (subst (λ (why : Status). AppendedFrom seed 1 count words entries why l.appended)
+            (sym (ap (λ (o : CommandOutcome). o.status) did.is)) (l.answered refl)),
         subst (HasMade l.appended) (sym (ap (λ (o : CommandOutcome). effects (steps_of o.acts) (Some c)) did.is)) l.lists,
       )
 
   -- .. and once it was carried out all of them
-  make_lists_all : (outcome : CommandOutcome) → MakeOutcome seed count (Some c) outcome → outcome.status ≡ status.Done → HasMade count (effects (steps_of outcome.acts) (Some c))
+  make_lists_all : (outcome : CommandOutcome) → MakeOutcome seed count (Some c) outcome → outcome.status ≡ status.Done →
+      HasMade count (effects (steps_of outcome.acts) (Some c))
   make_lists_all outcome does done =
       let made = make_lists_answered outcome does in
       subst (λ (n : ℕ). HasMade n (effects (steps_of outcome.acts) (Some c)))
@@ -533,18 +596,23 @@ module _ (seed count : ℕ) (few : count ≤ 200) (c : Cartridge) (header : Head
 
 -- ---- all of them
 
-pub lists_appends : {T S K : Type 0} (t : tapes.Meaning T) (s : sources.Meaning S) (k : sinks.Meaning K) (words : List (List ℕ)) (command : Words) (old new : Outside T S K) (answer : Status) →
-    Laws t s k old new → Spells words command → ((other : Words) → Spells words other → HasValues other) → CommandEnds t s k command old new answer →
-    (c : Cartridge) (header : Header) (map_words : List ℕ) (table : List (List ℕ)) (entries : List Entry) → t.told old.tape ≡ Some (Some c) →
+pub lists_appends : {T S K : Type 0} (t : tapes.Meaning T) (s : sources.Meaning S) (k : sinks.Meaning K) (words : List (List ℕ))
+    (command : Words) (old new : Outside T S K) (answer : Status) →
+    Laws t s k old new → Spells words command → ((other : Words) → Spells words other → HasValues other) →
+    CommandEnds t s k command old new answer →
+    (c : Cartridge) (header : Header) (map_words : List ℕ) (table : List (List ℕ)) (entries : List Entry) →
+    t.told old.tape ≡ Some (Some c) →
     Mounts c (Mounted header map_words table entries) → answer ≢ status.TapeFault →
     ListsAppends t k (s.left old.source) words new.tape old.sink new.sink answer c header map_words table entries
 lists_appends t s k words command old new answer laws spelled values ends c header map_words table entries told mounts other = record {
   appended = λ name date spells which.
       append_lists_volume t s k name date old new answer laws (values (commands.Append name date) spells)
-      (subst (λ (w : Words). CommandEnds t s k w old new answer) (one_command words command (commands.Append name date) spelled spells) ends) c header map_words table entries told mounts which;
+      (subst (λ (w : Words). CommandEnds t s k w old new answer) (one_command words command (commands.Append name date) spelled spells)
+      ends) c header map_words table entries told mounts which;
   unchanged = λ name date spells not_done no_sink.
       append_lists_none t s k name date old new answer laws (values (commands.Append name date) spells)
-      (subst (λ (w : Words). CommandEnds t s k w old new answer) (one_command words command (commands.Append name date) spelled spells) ends) c header map_words table entries told mounts (not_done, no_sink, other);
+      (subst (λ (w : Words). CommandEnds t s k w old new answer) (one_command words command (commands.Append name date) spelled spells)
+      ends) c header map_words table entries told mounts (not_done, no_sink, other);
   made = λ seed count spells.
       let which : Words = commands.Make seed count in
       let few : count ≤ 200 = values which spells in
@@ -552,7 +620,8 @@ lists_appends t s k words command old new answer laws spelled values ends c head
       (subst (λ (w : Words). CommandEnds t s k w old new answer) (one_command words command which spelled spells) ends) c told other in
       let whole : IsCartridge c = told_whole (Some c) (t.told old.tape) (t.size old.tape) laws.right told in
       let so = make_lists_so seed count few c header map_words table entries whole mounts ran.outcome ran.text ran.at ran.plain in
-      let Made : ℕ → Option Cartridge → Type 0 = λ n left. IsSomeAnd left (λ d. Lists d header map_words (made_list seed n map_words entries)) in record {
+      let Made : ℕ → Option Cartridge → Type 0 = λ n left. IsSomeAnd left
+      (λ d. Lists d header map_words (made_list seed n map_words entries)) in record {
         text = ran.text;
         took = ran.took;
         some = (so.0.0, so.0.1, now_weaker t old.tape new.tape (λ left is. subst (Made so.0.0) (sym is) so.0.2) ran.now);
@@ -561,7 +630,8 @@ lists_appends t s k words command old new answer laws spelled values ends c head
             let made = make_lists_answered seed count few c header map_words table entries whole mounts ran.outcome ran.plain in (
               made.0,
               subst (λ (why : Status). AppendedBy seed count map_words entries why made.0) all.0 made.1,
-              now_weaker t old.tape new.tape (λ left is. subst (Made made.0) (sym (is ∙ ap (λ (ss : List TapeStep). effects ss (Some c)) all.1)) made.2) ran.now,
+              now_weaker t old.tape new.tape
+                  (λ left is. subst (Made made.0) (sym (is ∙ ap (λ (ss : List TapeStep). effects ss (Some c)) all.1)) made.2) ran.now,
             );
         all = λ either. elim either [
           | inl some ↦ now_weaker t old.tape new.tape (λ left is. subst (Made count) (sym is) (so.1 (inl some))) ran.now
@@ -575,7 +645,8 @@ lists_appends t s k words command old new answer laws spelled values ends c head
       };
   scripted = λ spells.
       let ran = ends_done t s k commands.Script old new answer laws tt
-      (subst (λ (w : Words). CommandEnds t s k w old new answer) (one_command words command commands.Script spelled spells) ends) c told other in
+      (subst (λ (w : Words). CommandEnds t s k w old new answer) (one_command words command commands.Script spelled spells) ends) c told
+      other in
       let whole : IsCartridge c = told_whole (Some c) (t.told old.tape) (t.size old.tape) laws.right told in (
         ran.input,
         ran.is_told,
@@ -584,10 +655,12 @@ lists_appends t s k words command old new answer laws spelled values ends c head
           took = ran.took;
           answered = λ other. now_weaker t old.tape new.tape
               (λ left is. subst (ListsAnswered header map_words entries does.items does.dids (length ran.text)) (sym is)
-              (script_answered c header map_words table entries whole mounts ran.input came does ran.outcome ran.plain ran.text ran.at (ran.whole other))) ran.now;
+              (script_answered c header map_words table entries whole mounts ran.input came does ran.outcome ran.plain ran.text ran.at
+              (ran.whole other))) ran.now;
           broken = λ sink. now_weaker t old.tape new.tape
               (λ left is. subst (ListsBroken header map_words entries does.items does.dids (length ran.text)) (sym is)
-              (script_broken c header map_words table entries whole mounts ran.input came does ran.outcome ran.plain ran.text ran.at (ran.broke sink))) ran.now;
+              (script_broken c header map_words table entries whole mounts ran.input came does ran.outcome ran.plain ran.text ran.at
+              (ran.broke sink))) ran.now;
           all = λ heard behind. now_weaker t old.tape new.tape
               (λ left is. subst (λ (o : Option Cartridge). IsSomeAnd o (λ d. Lists d header map_words (entries_behind entries does.dids)))
               (sym (is ∙ ap (λ (ss : List TapeStep). effects ss (Some c)) (ran.heard heard).1))
@@ -598,8 +671,10 @@ lists_appends t s k words command old new answer laws spelled values ends c head
 
 -- ---- a run that touched nothing
 
-pub none_listed : {T K : Type 0} (t : tapes.Meaning T) (k : sinks.Meaning K) (told : Option (List ℕ)) (words : List (List ℕ)) (a : T) (x : K) (answer : Status) → tape_calls.IsToldRight (t.told a) (t.size a) →
-    k.took x [] x → (IsCarriedOut answer → ⊥) → (IsHeard answer → ⊥) → ((seed count : ℕ) (words : List ℕ) (es : List Entry) → AppendedFrom seed 1 count words es answer 0) →
+pub none_listed : {T K : Type 0} (t : tapes.Meaning T) (k : sinks.Meaning K) (told : Option (List ℕ)) (words : List (List ℕ)) (a : T)
+    (x : K) (answer : Status) → tape_calls.IsToldRight (t.told a) (t.size a) →
+    k.took x [] x → (IsCarriedOut answer → ⊥) → (IsHeard answer → ⊥) →
+    ((seed count : ℕ) (words : List ℕ) (es : List Entry) → AppendedFrom seed 1 count words es answer 0) →
     (c : Cartridge) (header : Header) (map_words : List ℕ) (table : List (List ℕ)) (entries : List Entry) → t.told a ≡ Some (Some c) →
     Mounts c (Mounted header map_words table entries) → ListsAppends t k told words a x x answer c header map_words table entries
 none_listed t k told words a x answer right nothing never unheard unmade c header map_words table entries held mounts = record {
@@ -609,7 +684,11 @@ none_listed t k told words a x answer right nothing never unheard unmade c heade
     text = [];
     took = nothing;
     some = (0, omega arith, as_before);
-    answered = λ sound. (0, appended_by seed count map_words entries answer 0 (omega arith) (unmade seed count map_words entries), as_before);
+    answered = λ sound. (
+      0,
+      appended_by seed count map_words entries answer 0 (omega arith) (unmade seed count map_words entries),
+      as_before,
+    );
     all = λ either. elim either [ inl some ↦ absurd (some refl) | inr done ↦ absurd (never done) ];
   };
   scripted = λ spells. (
@@ -628,4 +707,5 @@ none_listed t k told words a x answer right nothing never unheard unmade c heade
 }
   where
     as_before : NowLists t a header map_words entries
-    as_before = subst (λ (o : Option (Option Cartridge)). IsSomeAnd o (λ left. IsSomeAnd left (λ d. Lists d header map_words entries))) (sym held) (table, mounts)
+    as_before = subst (λ (o : Option (Option Cartridge)). IsSomeAnd o (λ left. IsSomeAnd left (λ d. Lists d header map_words entries)))
+        (sym held) (table, mounts)

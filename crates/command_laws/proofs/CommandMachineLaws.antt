@@ -15,7 +15,8 @@ use Rattle.qic_base.specs.Step.{effects}
 use Rattle.command_spec.specs.declared.status.Status.TheVariants as status
 
 -- what a command does, as a step does it
-pub record Does (command : Words) (held : Option Cartridge) (input : List ℕ) (held' : Option Cartridge) (output : List ℕ) (taken : ℕ) (answer : Status) : Type 0 where
+pub record Does (command : Words) (held : Option Cartridge) (input : List ℕ) (held' : Option Cartridge) (output : List ℕ) (taken : ℕ)
+    (answer : Status) : Type 0 where
   pub outcome : CommandOutcome
   pub plain : Yields command held input outcome
   pub after : held' ≡ effects (steps_of outcome.acts) held
@@ -23,8 +24,10 @@ pub record Does (command : Words) (held : Option Cartridge) (input : List ℕ) (
   pub took : taken ≡ outcome.taken
   pub answered : answer ≡ outcome.status
 
-same_outcome : (command : Words) (held : Option Cartridge) (input : List ℕ) (held' other : Option Cartridge) (output printed : List ℕ) (taken read : ℕ) (one two : Status) →
-    Does command held input held' output taken one → Does command held input other printed read two → IsSameOutcome held' other output printed taken read one two
+same_outcome : (command : Words) (held : Option Cartridge) (input : List ℕ) (held' other : Option Cartridge) (output printed : List ℕ)
+    (taken read : ℕ) (one two : Status) →
+    Does command held input held' output taken one → Does command held input other printed read two →
+    IsSameOutcome held' other output printed taken read one two
 same_outcome command held input held' other output printed taken read one two a b =
     let same = plain_is_function command held input a.outcome b.outcome a.plain b.plain in
     record {
@@ -45,11 +48,20 @@ machine_is_function_where unique words held input held' other output printed tak
     absurd (a.0 command spelled)
 machine_is_function_where unique words held input held' other output printed taken read one two (inr (command, spelled, step)) (inl b) =
     absurd (b.0 command spelled)
-machine_is_function_where unique words held input held' other output printed taken read one two (inr (command, spelled, (outcome, plain, after, shown, took, answered))) (inr (again, spells, (result, rule, then, text, bytes, ended))) =
+machine_is_function_where unique words held input held' other output printed taken read one two
+    (inr (command, spelled, (outcome, plain, after, shown, took, answered)))
+    (inr (again, spells, (result, rule, then, text, bytes, ended))) =
     let same = unique words again command spells spelled in
     same_outcome command held input held' other output printed taken read one two
     (record { outcome = outcome; plain = plain; after = after; printed = shown; took = took; answered = answered })
-    (record { outcome = result; plain = subst (λ (w : Words). Yields w held input result) same rule; after = then; printed = text; took = bytes; answered = ended })
+    (record {
+      outcome = result;
+      plain = subst (λ (w : Words). Yields w held input result) same rule;
+      after = then;
+      printed = text;
+      took = bytes;
+      answered = ended;
+    })
 
 -- ---- it answers
 
@@ -62,11 +74,14 @@ no_step : (words : List (List ℕ)) (held : Option Cartridge) (input : List ℕ)
 unfolding AnyStep
 no_step words held input none = (held, ([], (0, (status.Usage, inl (none, refl, refl, refl, refl)))))
 
-command_step : (words : List (List ℕ)) (held : Option Cartridge) (input : List ℕ) (command : Words) → Spells words command → IfSome held IsCartridge → AnyStep words held input
+command_step : (words : List (List ℕ)) (held : Option Cartridge) (input : List ℕ) (command : Words) → Spells words command →
+    IfSome held IsCartridge → AnyStep words held input
 unfolding AnyStep
 command_step words held input command spelled whole =
-    let some = plain_answers command held input (has_values words command spelled) whole in
-    (effects (steps_of some.0.acts) held, (output_of some.0, (some.0.taken, (some.0.status, inr (command, spelled, (some.0, some.1, refl, refl, refl, refl))))))
+    let some = plain_answers command held input (has_values words command spelled) whole in (
+      effects (steps_of some.0.acts) held,
+      (output_of some.0, (some.0.taken, (some.0.status, inr (command, spelled, (some.0, some.1, refl, refl, refl, refl))))),
+    )
 
 pub machine_answers_where : OneCommand → EachWords → MachineAnswers
 unfolding AnyStep

@@ -1,5 +1,6 @@
 -- A cartridge that an append left, done or stopped, comes back where one sector more of its table's segment is lost.
-use Rattle.std.proofs.Common.{inl, ℕ, ◌≤◌, List, ◌∙◌, ◌⊎◌, inr, ◌++◌, ◌+◌, Option, Some, subst, ◌≡◌, ◌^◌, ◌<◌, true, false, All, IsSomeAnd, refl, [], ◌∷◌, ap, length, min, sym}
+use Rattle.std.proofs.Common.{inl, ℕ, ◌≤◌, List, ◌∙◌, ◌⊎◌, inr, ◌++◌, ◌+◌, Option, Some, subst, ◌≡◌, ◌^◌, ◌<◌, true, false, All, IsSomeAnd}
+use Rattle.std.proofs.Common.{refl, [], ◌∷◌, ap, length, min, sym}
 use Rattle.std.proofs.lemmas.Bool.{cases_Bool}
 use Rattle.cartridge_laws.proofs.AppendReady.{settled_is_ready}
 use Rattle.cartridge_laws.proofs.AppendVolume.{free_writes_stand, last_end_least, stopped_volume}
@@ -18,7 +19,8 @@ use Rattle.cartridge_spec.specs.TableSegment.{TableIs, IsTableLive, LosesOneAlon
 use Rattle.cartridge_spec.specs.Mounting.{settled, ComesBackAs}
 use Rattle.cartridge_spec.specs.Settling.{settling_steps, changed_by}
 use Rattle.cartridge_spec.specs.Volumes.{Plain, Stands, entries_of}
-use Rattle.command_laws.proofs.CommandAppends.{behind_settling, segments_acts, table_acts, fits, segments_are_free, no_table, steps_are, course, kept_of, done_behind, done_fits}
+use Rattle.command_laws.proofs.CommandAppends.{behind_settling, segments_acts, table_acts, fits, segments_are_free, no_table, steps_are}
+use Rattle.command_laws.proofs.CommandAppends.{course, kept_of, done_behind, done_fits}
 use Rattle.command_spec.specs.Append.{AppendOutcome, room_in}
 use Rattle.command_spec.specs.OneLoss.{ComesBackAsOneOf}
 use Rattle.command_spec.specs.Outcome.{CommandOutcome}
@@ -38,7 +40,8 @@ kept_whole c d area last h kept whole i low = kept.sectors 2 i h low ∙ whole i
 -- ---- a stop
 
 -- a stop comes before the table is settled, or behind that
-settled_or_not : (c : Cartridge) (plain : Plain) (steps : List Step) (left : Option Cartridge) → TableIs c plain.table_area → IsTableLive c →
+settled_or_not : (c : Cartridge) (plain : Plain) (steps : List Step) (left : Option Cartridge) → TableIs c plain.table_area →
+    IsTableLive c →
     Torn (behind_settling c plain steps) (Some c) left →
     Torn (settling_steps plain.table_area c) (Some c) left ⊎ Torn steps (Some (settled plain.table_area c)) left
 settled_or_not c plain steps left table live torn =
@@ -86,12 +89,14 @@ module _ (name : List ℕ) (date : ℕ) (input : List ℕ) (c : Cartridge) (plai
   free_survives new left torn =
       some_weaker left
       (λ d known f lost loses.
-      inl (whole_comes_back d plain known.0 (kept_whole s d plain.table_area (last_end (entries_of plain)) (last_end_least c plain stood) known.1 s_whole)
+      inl (whole_comes_back d plain known.0
+      (kept_whole s d plain.table_area (last_end (entries_of plain)) (last_end_least c plain stood) known.1 s_whole)
       is_area f lost loses))
       (free_writes_stand s plain (steps_of (segments_acts c plain input)) left s_stands (segments_are_free c plain input) torn)
 
   -- among the writes of an append
-  pub append_survives : fits plain input ≡ true → (left : Option Cartridge) → Torn (appends.append_steps_of plain name date input) (Some s) left →
+  pub append_survives : fits plain input ≡ true → (left : Option Cartridge) → Torn (appends.append_steps_of plain name date input)
+      (Some s) left →
       IsSomeAnd left (ComesBackAsOneOf plain (with_bytes plain name date input))
   append_survives enough left torn =
       let front : List Step = appends.volume_steps plain name date input in
@@ -110,12 +115,14 @@ module _ (name : List ℕ) (date : ℕ) (input : List ℕ) (c : Cartridge) (plai
   run_survives left torn =
       elim (cases_Bool (fits plain input)) [
         | inl enough ↦ elim (settled_or_not c plain (appends.append_steps_of plain name date input) left table live
-            (subst (λ (steps : List Step). Torn (behind_settling c plain steps) (Some c) left) (steps_are name date input c plain enough) torn)) [
+            (subst (λ (steps : List Step). Torn (behind_settling c plain steps) (Some c) left)
+            (steps_are name date input c plain enough) torn)) [
               | inl settling ↦ inl settling
               | inr behind ↦ inr (append_survives enough left behind)
             ]
         | inr small ↦ elim (settled_or_not c plain (steps_of (segments_acts c plain input)) left table live
-            (subst (λ (acts : List Act). Torn (behind_settling c plain (steps_of acts)) (Some c) left) (no_table c plain name date input small) torn)) [
+            (subst (λ (acts : List Act). Torn (behind_settling c plain (steps_of acts)) (Some c) left)
+            (no_table c plain name date input small) torn)) [
               | inl settling ↦ inl settling
               | inr behind ↦ inr (free_survives (with_bytes plain name date input) left behind)
             ]
@@ -135,7 +142,8 @@ nothing_torn c [] left same = same
 nothing_torn c (x ∷ xs) left same = inl same
 
 -- a stop leaves a table that is not yet settled, or what comes back
-pub append_comes_back : (name : List ℕ) (date : ℕ) (input : List ℕ) (c : Cartridge) (plain : Plain) (outcome : CommandOutcome) (left : Option Cartridge) →
+pub append_comes_back : (name : List ℕ) (date : ℕ) (input : List ℕ) (c : Cartridge) (plain : Plain) (outcome : CommandOutcome)
+    (left : Option Cartridge) →
     IsLabel name → date < 2 ^ 32 → All (λ b. b < 256) input → IsCartridge c → Stands c plain → IsTableLive c →
     AppendOutcome name date (Some c) input outcome → Torn (steps_of outcome.acts) (Some c) left →
     Torn (settling_steps plain.table_area c) (Some c) left ⊎ IsSomeAnd left (ComesBackAsOneOf plain (with_bytes plain name date input))
@@ -161,7 +169,8 @@ done_comes_back name date input c plain outcome label word content whole stood l
       | inr run ↦
           let have : ℕ = room_in (kept_of c plain) in
           let enough : fits plain input ≡ true =
-          done_fits (fits plain input) (min (length input) (have + 1)) have (sym (ap (λ (o : CommandOutcome). o.status) run.is) ∙ is_done) in
+          done_fits (fits plain input) (min (length input) (have + 1)) have (sym (ap (λ (o : CommandOutcome). o.status) run.is) ∙ is_done)
+          in
           some_and (λ d. (f : Cartridge) (lost : ℕ) → LosesOneAlone d f lost → ComesBackAs f (with_bytes plain name date input))
           (changed_by (appends.append_steps_of plain name date input) (settled plain.table_area c))
           (effects (steps_of outcome.acts) (Some c))

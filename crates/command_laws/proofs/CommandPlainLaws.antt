@@ -1,5 +1,6 @@
 -- What the outcomes of commands have in common: each is one, and what a stop in it leaves.
-use Rattle.std.proofs.Common.{[], ◌≡◌, ℕ, Option, Some, None, sym, ◌∙◌, inl, inr, List, subst, ◌∷◌, ap, ◌⊎◌, true, false, ◌++◌, append-nil, refl}
+use Rattle.std.proofs.Common.{[], ◌≡◌, ℕ, Option, Some, None, sym, ◌∙◌, inl, inr, List, subst, ◌∷◌, ap, ◌⊎◌, true, false, ◌++◌, append-nil}
+use Rattle.std.proofs.Common.{refl}
 use Rattle.cartridge_laws.proofs.FreshFront.{first_defect_is_none, first_defect_is_one}
 use Rattle.cartridge_laws.proofs.FreshMarks.{fresh_area_is_one}
 use Rattle.cartridge_laws.proofs.MountOnce.{mounts_is_function}
@@ -82,14 +83,16 @@ ScrubbingLeaves (Some c) left =
 -- ---- the machine is a function
 
 -- what a person's change of one sector does is determined
-pub lose_is_function : (segment sector : ℕ) (held : Option Cartridge) (a b : CommandOutcome) → LoseOutcome segment sector held a → LoseOutcome segment sector held b → a ≡ b
+pub lose_is_function : (segment sector : ℕ) (held : Option Cartridge) (a b : CommandOutcome) → LoseOutcome segment sector held a →
+    LoseOutcome segment sector held b → a ≡ b
 lose_is_function segment sector None a b one other = one ∙ sym other
 lose_is_function segment sector (Some c) a b (inl one) (inl other) = one.1 ∙ sym other.1
 lose_is_function segment sector (Some c) a b (inl one) (inr other) = absurd (one.0 other.0)
 lose_is_function segment sector (Some c) a b (inr one) (inl other) = absurd (other.0 one.0)
 lose_is_function segment sector (Some c) a b (inr one) (inr other) = one.1 ∙ sym other.1
 
-pub defect_is_function : (segment sector : ℕ) (held : Option Cartridge) (a b : CommandOutcome) → DefectOutcome segment sector held a → DefectOutcome segment sector held b → a ≡ b
+pub defect_is_function : (segment sector : ℕ) (held : Option Cartridge) (a b : CommandOutcome) → DefectOutcome segment sector held a →
+    DefectOutcome segment sector held b → a ≡ b
 defect_is_function segment sector None a b one other = one ∙ sym other
 defect_is_function segment sector (Some c) a b (inl one) (inl other) = one.1 ∙ sym other.1
 defect_is_function segment sector (Some c) a b (inl one) (inr (inl other)) = absurd (one.0 other.0)
@@ -102,17 +105,23 @@ defect_is_function segment sector (Some c) a b (inr (inr one)) (inr (inl other))
 defect_is_function segment sector (Some c) a b (inr (inr one)) (inr (inr other)) = one.2 ∙ sym other.2
 
 -- what a stop in the steps of an outcome leaves, a stop in the one step leaves
-pub only_step : (step : TapeStep) (held left : Option Cartridge) (a b : CommandOutcome) → a ≡ b → steps_of b.acts ≡ step ∷ [] → Torn (steps_of a.acts) held left → Torn (step ∷ []) held left
-only_step step held left a b same one torn = subst (λ (steps : List TapeStep). Torn steps held left) (ap (λ (o : CommandOutcome). steps_of o.acts) same ∙ one) torn
+pub only_step : (step : TapeStep) (held left : Option Cartridge) (a b : CommandOutcome) → a ≡ b → steps_of b.acts ≡ step ∷ [] →
+    Torn (steps_of a.acts) held left → Torn (step ∷ []) held left
+only_step step held left a b same one torn = subst (λ (steps : List TapeStep). Torn steps held left)
+    (ap (λ (o : CommandOutcome). steps_of o.acts) same ∙ one) torn
 
-one_act : (steps : List TapeStep) (held left : Option Cartridge) (a b : CommandOutcome) → a ≡ b → steps_of b.acts ≡ steps ++ [] → Torn (steps_of a.acts) held left → Torn steps held left
+one_act : (steps : List TapeStep) (held left : Option Cartridge) (a b : CommandOutcome) → a ≡ b → steps_of b.acts ≡ steps ++ [] →
+    Torn (steps_of a.acts) held left → Torn steps held left
 one_act steps held left a b same one torn =
     subst (λ (ss : List TapeStep). Torn ss held left) (ap (λ (o : CommandOutcome). steps_of o.acts) same ∙ one ∙ append-nil steps) torn
 
-pub stays : (held left : Option Cartridge) (a b : CommandOutcome) → a ≡ b → steps_of b.acts ≡ [] → Torn (steps_of a.acts) held left → left ≡ held
-stays held left a b same none torn = subst (λ (steps : List TapeStep). Torn steps held left) (ap (λ (o : CommandOutcome). steps_of o.acts) same ∙ none) torn
+pub stays : (held left : Option Cartridge) (a b : CommandOutcome) → a ≡ b → steps_of b.acts ≡ [] → Torn (steps_of a.acts) held left →
+    left ≡ held
+stays held left a b same none torn = subst (λ (steps : List TapeStep). Torn steps held left)
+    (ap (λ (o : CommandOutcome). steps_of o.acts) same ∙ none) torn
 
-pub opening_leaves : (prints : Printing) (held left : Option Cartridge) (outcome : CommandOutcome) → OpenOutcome (Shows prints) held outcome → Torn (steps_of outcome.acts) held left → OpeningLeaves held left
+pub opening_leaves : (prints : Printing) (held left : Option Cartridge) (outcome : CommandOutcome) →
+    OpenOutcome (Shows prints) held outcome → Torn (steps_of outcome.acts) held left → OpeningLeaves held left
 opening_leaves prints None left outcome plain torn = stays None left outcome _ plain refl torn
 opening_leaves prints (Some c) left outcome (mounting.NotFormatted, mounts, is) torn = inl (stays (Some c) left outcome _ is refl torn)
 opening_leaves prints (Some c) left outcome (mounting.Foreign fault, mounts, is) torn = inl (stays (Some c) left outcome _ is refl torn)
@@ -122,13 +131,15 @@ opening_leaves prints (Some c) left outcome (mounting.Mounted header words table
     inr (header, (words, (table, (entries, mounts, one_act (settling_steps table c) (Some c) left outcome _ is refl torn))))
 
 -- the steps of an act, and those of others behind it
-pub behind_leaves : (steps : List TapeStep) (acts : List Act) (held left : Option Cartridge) (a b : CommandOutcome) → a ≡ b → steps_of b.acts ≡ steps ++ steps_of acts →
+pub behind_leaves : (steps : List TapeStep) (acts : List Act) (held left : Option Cartridge) (a b : CommandOutcome) → a ≡ b →
+    steps_of b.acts ≡ steps ++ steps_of acts →
     Torn (steps_of a.acts) held left → Torn steps held left ⊎ Torn (steps_of acts) (effects steps held) left
 behind_leaves steps acts held left a b same one torn =
     Torn-append steps (steps_of acts) held left
     (subst (λ (ss : List TapeStep). Torn ss held left) (ap (λ (o : CommandOutcome). steps_of o.acts) same ∙ one) torn)
 
-pub restoring_leaves : (number : ℕ) (held left : Option Cartridge) (outcome : CommandOutcome) → RestoreOutcome number held outcome → Torn (steps_of outcome.acts) held left → OpeningLeaves held left
+pub restoring_leaves : (number : ℕ) (held left : Option Cartridge) (outcome : CommandOutcome) → RestoreOutcome number held outcome →
+    Torn (steps_of outcome.acts) held left → OpeningLeaves held left
 restoring_leaves number None left outcome plain torn = stays None left outcome _ plain refl torn
 restoring_leaves number (Some c) left outcome (mounting.NotFormatted, mounts, is) torn = inl (stays (Some c) left outcome _ is refl torn)
 restoring_leaves number (Some c) left outcome (mounting.Foreign fault, mounts, is) torn = inl (stays (Some c) left outcome _ is refl torn)
@@ -137,7 +148,8 @@ restoring_leaves number (Some c) left outcome (mounting.TableMismatch, mounts, i
 restoring_leaves number (Some c) left outcome (mounting.Mounted header words table entries, mounts, inl none) torn =
     inr (header, (words, (table, (entries, mounts, one_act (settling_steps table c) (Some c) left outcome _ none.1 refl torn))))
 restoring_leaves number (Some c) left outcome (mounting.Mounted header words table entries, mounts, inr found) torn =
-    let none : steps_of found.acts ≡ [] = restores_in_no_step (settled table c) words (pieces words found.entry) found.acts found.ending found.restores in
+    let none : steps_of found.acts ≡ [] = restores_in_no_step (settled table c) words
+    (pieces words found.entry) found.acts found.ending found.restores in
     inr (
       header,
       (
@@ -154,13 +166,18 @@ restoring_leaves number (Some c) left outcome (mounting.Mounted header words tab
       ),
     )
 
-pub scrubbing_leaves : (held left : Option Cartridge) (outcome : CommandOutcome) → ScrubOutcome held outcome → Torn (steps_of outcome.acts) held left → ScrubbingLeaves held left
+pub scrubbing_leaves : (held left : Option Cartridge) (outcome : CommandOutcome) → ScrubOutcome held outcome →
+    Torn (steps_of outcome.acts) held left → ScrubbingLeaves held left
 scrubbing_leaves None left outcome plain torn = stays None left outcome _ plain refl torn
 scrubbing_leaves (Some c) left outcome (inl (locked, is)) torn = inl (stays (Some c) left outcome _ is refl torn)
-scrubbing_leaves (Some c) left outcome (inr (free, (mounting.NotFormatted, mounts, is))) torn = inl (stays (Some c) left outcome _ is refl torn)
-scrubbing_leaves (Some c) left outcome (inr (free, (mounting.Foreign fault, mounts, is))) torn = inl (stays (Some c) left outcome _ is refl torn)
-scrubbing_leaves (Some c) left outcome (inr (free, (mounting.TableLost lost, mounts, is))) torn = inl (stays (Some c) left outcome _ is refl torn)
-scrubbing_leaves (Some c) left outcome (inr (free, (mounting.TableMismatch, mounts, is))) torn = inl (stays (Some c) left outcome _ is refl torn)
+scrubbing_leaves (Some c) left outcome (inr (free, (mounting.NotFormatted, mounts, is))) torn =
+    inl (stays (Some c) left outcome _ is refl torn)
+scrubbing_leaves (Some c) left outcome (inr (free, (mounting.Foreign fault, mounts, is))) torn =
+    inl (stays (Some c) left outcome _ is refl torn)
+scrubbing_leaves (Some c) left outcome (inr (free, (mounting.TableLost lost, mounts, is))) torn =
+    inl (stays (Some c) left outcome _ is refl torn)
+scrubbing_leaves (Some c) left outcome (inr (free, (mounting.TableMismatch, mounts, is))) torn =
+    inl (stays (Some c) left outcome _ is refl torn)
 scrubbing_leaves (Some c) left outcome (inr (free, (mounting.Mounted header words table entries, mounts, found))) torn =
     inr (
       header,
@@ -176,7 +193,8 @@ scrubbing_leaves (Some c) left outcome (inr (free, (mounting.Mounted header word
               found.scrubs,
               elim (behind_leaves (settling_steps table c) found.acts (Some c) left outcome _ found.is refl torn) [
                 | inl first ↦ inl first
-                | inr next ↦ inr (subst (λ (held : Option Cartridge). Torn (steps_of found.acts) held left) (settling_effects c table mounts.reads) next)
+                | inr next ↦ inr (subst (λ (held : Option Cartridge). Torn (steps_of found.acts) held left)
+                    (settling_effects c table mounts.reads) next)
               ],
             ),
           ),
@@ -184,27 +202,43 @@ scrubbing_leaves (Some c) left outcome (inr (free, (mounting.Mounted header word
       ),
     )
 
-pub appending_leaves : (goes : Going) (held left : Option Cartridge) (outcome : CommandOutcome) → WritableOutcome goes held outcome → Torn (steps_of outcome.acts) held left → AppendingLeaves held left
+pub appending_leaves : (goes : Going) (held left : Option Cartridge) (outcome : CommandOutcome) → WritableOutcome goes held outcome →
+    Torn (steps_of outcome.acts) held left → AppendingLeaves held left
 appending_leaves goes None left outcome plain torn = stays None left outcome _ plain refl torn
 appending_leaves goes (Some c) left outcome (inl (locked, is)) torn = λ mark. stays (Some c) left outcome _ is refl torn
 appending_leaves goes (Some c) left outcome (inr (free, opened)) torn = λ mark. absurd (cc)
 
-pub sent_leaves : (held left : Option Cartridge) (input : List ℕ) (outcome : CommandOutcome) → SentOutcome held input outcome → Torn (steps_of outcome.acts) held left → (left ≡ held) ⊎ (left ≡ effect SetReferenced held)
+pub sent_leaves : (held left : Option Cartridge) (input : List ℕ) (outcome : CommandOutcome) → SentOutcome held input outcome →
+    Torn (steps_of outcome.acts) held left → (left ≡ held) ⊎ (left ≡ effect SetReferenced held)
 sent_leaves held left input outcome plain torn =
     let same : steps_of outcome.acts ≡ steps_of (train_acts (power_on (info_of held)) plain.trains) =
     ap (λ (o : CommandOutcome). steps_of o.acts) plain.is in
     trains_leave (power_on (info_of held)) plain.trains held left (subst (λ (steps : List TapeStep). Torn steps held left) same torn)
 
-pub format_leaves : (label : List ℕ) (date : ℕ) (held left : Option Cartridge) (outcome : CommandOutcome) → FormatOutcome label date held outcome → Torn (steps_of outcome.acts) held left → FormatLeaves label date held left
+pub format_leaves : (label : List ℕ) (date : ℕ) (held left : Option Cartridge) (outcome : CommandOutcome) →
+    FormatOutcome label date held outcome → Torn (steps_of outcome.acts) held left → FormatLeaves label date held left
 format_leaves label date None left outcome plain torn = stays None left outcome _ plain refl torn
 format_leaves label date (Some c) left outcome (inl plain) torn = inl (plain.0, stays (Some c) left outcome _ plain.1 refl torn)
 format_leaves label date (Some c) left outcome (inr (inl (unlocked, (segment, first, is)))) torn =
     inr (inl (unlocked, one_act (clearing_steps c.info.segments_per_track) (Some c) left outcome _ is refl torn))
 format_leaves label date (Some c) left outcome (inr (inr (unlocked, none, (words, (area, fresh, is))))) torn =
-    inr (inr (unlocked, none, (words, (area, fresh, one_act (format_steps c.info.segments_per_track area) (Some c) left outcome _ is refl torn))))
+    inr (inr (
+      unlocked,
+      none,
+      (
+        words,
+        (
+          area,
+          fresh,
+          one_act (format_steps c.info.segments_per_track area)
+              (Some c) left outcome _ is refl torn,
+        ),
+      ),
+    ))
 
 -- what a stop in a change of one sector leaves
-sector_leaves : (step : TapeStep) (segment sector : ℕ) (c : Cartridge) (left : Option Cartridge) (a b : CommandOutcome) → HasPlace c segment sector → (Halfway step (Some c) left → ⊥) →
+sector_leaves : (step : TapeStep) (segment sector : ℕ) (c : Cartridge) (left : Option Cartridge) (a b : CommandOutcome) →
+    HasPlace c segment sector → (Halfway step (Some c) left → ⊥) →
     a ≡ b → steps_of b.acts ≡ step ∷ [] → Torn (steps_of a.acts) (Some c) left → SectorLeaves step segment sector (Some c) left
 sector_leaves step segment sector c left a b place whole same one torn =
     elim (only_step step (Some c) left a b same one torn) [
@@ -213,18 +247,23 @@ sector_leaves step segment sector c left a b place whole same one torn =
       | inr (inr behind) ↦ inr (place, behind)
     ]
 
-pub defect_leaves : (segment sector : ℕ) (held left : Option Cartridge) (outcome : CommandOutcome) → DefectOutcome segment sector held outcome → Torn (steps_of outcome.acts) held left →
+pub defect_leaves : (segment sector : ℕ) (held left : Option Cartridge) (outcome : CommandOutcome) →
+    DefectOutcome segment sector held outcome → Torn (steps_of outcome.acts) held left →
     SectorLeaves (Spoil segment sector) segment sector held left
 defect_leaves segment sector None left outcome plain torn = stays None left outcome _ plain refl torn
 defect_leaves segment sector (Some c) left outcome (inl plain) torn = inl (stays (Some c) left outcome _ plain.1 refl torn)
-defect_leaves segment sector (Some c) left outcome (inr (inl plain)) torn = sector_leaves (Spoil segment sector) segment sector c left outcome _ plain.0 (λ half. half) plain.2 refl torn
-defect_leaves segment sector (Some c) left outcome (inr (inr plain)) torn = sector_leaves (Spoil segment sector) segment sector c left outcome _ plain.0 (λ half. half) plain.2 refl torn
+defect_leaves segment sector (Some c) left outcome (inr (inl plain)) torn =
+    sector_leaves (Spoil segment sector) segment sector c left outcome _ plain.0 (λ half. half) plain.2 refl torn
+defect_leaves segment sector (Some c) left outcome (inr (inr plain)) torn =
+    sector_leaves (Spoil segment sector) segment sector c left outcome _ plain.0 (λ half. half) plain.2 refl torn
 
-pub lose_leaves : (segment sector : ℕ) (held left : Option Cartridge) (outcome : CommandOutcome) → LoseOutcome segment sector held outcome → Torn (steps_of outcome.acts) held left →
+pub lose_leaves : (segment sector : ℕ) (held left : Option Cartridge) (outcome : CommandOutcome) → LoseOutcome segment sector held outcome →
+    Torn (steps_of outcome.acts) held left →
     SectorLeaves (Wear segment sector) segment sector held left
 lose_leaves segment sector None left outcome plain torn = stays None left outcome _ plain refl torn
 lose_leaves segment sector (Some c) left outcome (inl plain) torn = inl (stays (Some c) left outcome _ plain.1 refl torn)
-lose_leaves segment sector (Some c) left outcome (inr plain) torn = sector_leaves (Wear segment sector) segment sector c left outcome _ plain.0 (λ half. half) plain.1 refl torn
+lose_leaves segment sector (Some c) left outcome (inr plain) torn =
+    sector_leaves (Wear segment sector) segment sector c left outcome _ plain.0 (λ half. half) plain.1 refl torn
 
 -- ---- mounting is a function
 
@@ -234,20 +273,23 @@ IsOne goes =
     (c : Cartridge) (header : Header) (ws : List ℕ) (table : List (List ℕ)) (entries : List Entry) (a b : CommandOutcome) →
     goes c header ws table entries a → goes c header ws table entries b → a ≡ b
 
-opened_is_function : (goes : Going) → IsOne goes → (c : Cartridge) (m : Mounting) (a b : CommandOutcome) → Opened goes c m a → Opened goes c m b → a ≡ b
+opened_is_function : (goes : Going) → IsOne goes → (c : Cartridge) (m : Mounting) (a b : CommandOutcome) → Opened goes c m a →
+    Opened goes c m b → a ≡ b
 opened_is_function goes one c mounting.NotFormatted a b is was = is ∙ sym was
 opened_is_function goes one c (mounting.Foreign fault) a b is was = is ∙ sym was
 opened_is_function goes one c (mounting.TableLost lost) a b is was = is ∙ sym was
 opened_is_function goes one c mounting.TableMismatch a b is was = is ∙ sym was
 opened_is_function goes one c (mounting.Mounted header ws table entries) a b is was = one c header ws table entries a b is was
 
-pub open_is_function : (goes : Going) → IsOne goes → (held : Option Cartridge) (a b : CommandOutcome) → OpenOutcome goes held a → OpenOutcome goes held b → a ≡ b
+pub open_is_function : (goes : Going) → IsOne goes → (held : Option Cartridge) (a b : CommandOutcome) → OpenOutcome goes held a →
+    OpenOutcome goes held b → a ≡ b
 open_is_function goes one None a b is was = is ∙ sym was
 open_is_function goes one (Some c) a b (m, mounts, is) (n, gives, was) =
     opened_is_function goes one c m a b is
     (subst (λ (k : Mounting). Opened goes c k b) (sym (mounts_is_function c m n mounts gives)) was)
 
-pub writable_is_function : (goes : Going) → IsOne goes → (held : Option Cartridge) (a b : CommandOutcome) → WritableOutcome goes held a → WritableOutcome goes held b → a ≡ b
+pub writable_is_function : (goes : Going) → IsOne goes → (held : Option Cartridge) (a b : CommandOutcome) → WritableOutcome goes held a →
+    WritableOutcome goes held b → a ≡ b
 writable_is_function goes one None a b is was = is ∙ sym was
 writable_is_function goes one (Some c) a b (inl is) (inl was) = is.1 ∙ sym was.1
 writable_is_function goes one (Some c) a b (inl is) (inr was) = let p = is.0 in let q = was.0 in absurd (cc)
@@ -295,7 +337,8 @@ making_one seed count c header ws table entries a b is was =
 
 -- ---- formatting is a function
 
-pub format_is_function : (label : List ℕ) (date : ℕ) (held : Option Cartridge) (a b : CommandOutcome) → FormatOutcome label date held a → FormatOutcome label date held b → a ≡ b
+pub format_is_function : (label : List ℕ) (date : ℕ) (held : Option Cartridge) (a b : CommandOutcome) → FormatOutcome label date held a →
+    FormatOutcome label date held b → a ≡ b
 format_is_function label date None a b one other = one ∙ sym other
 format_is_function label date (Some c) a b (inl one) (inl other) = one.1 ∙ sym other.1
 format_is_function label date (Some c) a b (inl one) (inr (inl other)) = let p = one.0 in let q = other.0 in absurd (cc)
@@ -308,13 +351,16 @@ format_is_function label date (Some c) a b (inr (inl (unlocked, (segment, first,
     absurd (first_defect_is_none c (record { segment = segment; is_first = first }) none)
 format_is_function label date (Some c) a b (inr (inr (free, none, rest))) (inr (inl (unlocked, (segment, first, is)))) =
     absurd (first_defect_is_none c (record { segment = segment; is_first = first }) none)
-format_is_function label date (Some c) a b (inr (inr (unlocked, none, (words, (area, fresh, is))))) (inr (inr (free, clear, (others, (other, news, was))))) =
+format_is_function label date (Some c) a b (inr (inr (unlocked, none, (words, (area, fresh, is)))))
+    (inr (inr (free, clear, (others, (other, news, was))))) =
     let same = fresh_area_is_one c label date words others area other fresh news in
-    is ∙ ap (λ (w : List ℕ). formatted c.info.segments_per_track w area) same.0 ∙ ap (formatted c.info.segments_per_track others) same.1 ∙ sym was
+    is ∙ ap (λ (w : List ℕ). formatted c.info.segments_per_track w area) same.0 ∙ ap (formatted c.info.segments_per_track others) same.1
+    ∙ sym was
 
 -- ---- trains of pulses are one
 
-pub sent_is_function : (held : Option Cartridge) (input : List ℕ) (a b : CommandOutcome) → SentOutcome held input a → SentOutcome held input b → a ≡ b
+pub sent_is_function : (held : Option Cartridge) (input : List ℕ) (a b : CommandOutcome) → SentOutcome held input a →
+    SentOutcome held input b → a ≡ b
 sent_is_function held input a b one other =
     let is = run_of held input a one in
     let was = run_of held input b other in
@@ -322,28 +368,34 @@ sent_is_function held input a b one other =
 
 -- ---- a protected cartridge
 
-pub writable_locked : (goes : Going) (c : Cartridge) (outcome : CommandOutcome) → c.info.protected ≡ true → WritableOutcome goes (Some c) outcome → outcome ≡ refused status.Protected
+pub writable_locked : (goes : Going) (c : Cartridge) (outcome : CommandOutcome) → c.info.protected ≡ true →
+    WritableOutcome goes (Some c) outcome → outcome ≡ refused status.Protected
 writable_locked goes c outcome locked (inl is) = is.1
 writable_locked goes c outcome locked (inr is) = let free = is.0 in absurd (cc)
 
-pub format_locked : (label : List ℕ) (date : ℕ) (c : Cartridge) (outcome : CommandOutcome) → c.info.protected ≡ true → FormatOutcome label date (Some c) outcome → outcome ≡ refused status.Protected
+pub format_locked : (label : List ℕ) (date : ℕ) (c : Cartridge) (outcome : CommandOutcome) → c.info.protected ≡ true →
+    FormatOutcome label date (Some c) outcome → outcome ≡ refused status.Protected
 format_locked label date c outcome locked (inl is) = is.1
 format_locked label date c outcome locked (inr (inl is)) = let free = is.0 in absurd (cc)
 format_locked label date c outcome locked (inr (inr is)) = let free = is.0 in absurd (cc)
 
 -- ---- an unformatted one, and one with a defect in front
 
-pub open_unformatted : (goes : Going) (c : Cartridge) (outcome : CommandOutcome) → IsUnformatted c → OpenOutcome goes (Some c) outcome → outcome ≡ refused status.NotFormatted
+pub open_unformatted : (goes : Going) (c : Cartridge) (outcome : CommandOutcome) → IsUnformatted c → OpenOutcome goes (Some c) outcome →
+    outcome ≡ refused status.NotFormatted
 open_unformatted goes c outcome bare (m, mounts, opened) =
     subst (λ (k : Mounting). Opened goes c k outcome) (mounts_is_function c m mounting.NotFormatted mounts bare) opened
 
-pub writable_unformatted : (goes : Going) (c : Cartridge) (outcome : CommandOutcome) → c.info.protected ≡ false → IsUnformatted c → WritableOutcome goes (Some c) outcome → outcome ≡ refused status.NotFormatted
+pub writable_unformatted : (goes : Going) (c : Cartridge) (outcome : CommandOutcome) → c.info.protected ≡ false → IsUnformatted c →
+    WritableOutcome goes (Some c) outcome → outcome ≡ refused status.NotFormatted
 writable_unformatted goes c outcome free bare (inl is) = let locked = is.0 in absurd (cc)
 writable_unformatted goes c outcome free bare (inr is) = open_unformatted goes c outcome bare is.1
 
-pub format_in_front : (label : List ℕ) (date : ℕ) (c : Cartridge) (segment : ℕ) (outcome : CommandOutcome) → c.info.protected ≡ false → IsFirstDefectInFront c segment →
+pub format_in_front : (label : List ℕ) (date : ℕ) (c : Cartridge) (segment : ℕ) (outcome : CommandOutcome) → c.info.protected ≡ false →
+    IsFirstDefectInFront c segment →
     FormatOutcome label date (Some c) outcome → outcome.status ≡ status.DefectInFront segment
 format_in_front label date c segment outcome free first (inl is) = let locked = is.0 in absurd (cc)
 format_in_front label date c segment outcome free first (inr (inl (unlocked, (other, second, is)))) =
     ap (λ (o : CommandOutcome). o.status) is ∙ ap status.DefectInFront (first_defect_is_one c other segment second first)
-format_in_front label date c segment outcome free first (inr (inr is)) = absurd (first_defect_is_none c (record { segment = segment; is_first = first }) is.1)
+format_in_front label date c segment outcome free first (inr (inr is)) =
+    absurd (first_defect_is_none c (record { segment = segment; is_first = first }) is.1)

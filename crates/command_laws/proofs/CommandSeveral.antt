@@ -1,5 +1,6 @@
 -- What runs of several items leave of the plain cartridge that a cartridge stands for: generated runs, and scripts.
-use Rattle.std.proofs.Common.{◌≡◌, inl, inr, ℕ, ◌⊎◌, Some, subst, ◌+◌, List, [], ◌∷◌, ◌++◌, Option, IsSomeAnd, refl, ap, ◌∙◌, None, true, is_some, ◌≢◌, sym, append-nil, ◌<◌, length, arith, false, ◌≤◌, append_assoc, take, IfSome}
+use Rattle.std.proofs.Common.{◌≡◌, inl, inr, ℕ, ◌⊎◌, Some, subst, ◌+◌, List, [], ◌∷◌, ◌++◌, Option, IsSomeAnd, refl, ap, ◌∙◌, None, true}
+use Rattle.std.proofs.Common.{is_some, ◌≢◌, sym, append-nil, ◌<◌, length, arith, false, ◌≤◌, append_assoc, take, IfSome}
 use Rattle.std.proofs.lemmas.List.{length-append}
 use Rattle.cartridge_laws.proofs.FormatWriting.{effects-some, some_and}
 use Rattle.cartridge_laws.proofs.MountKeeping.{stopped_stands}
@@ -75,12 +76,21 @@ never_heard : (lost : ℕ) → IsHeard (status.Lost 2 lost) → ⊥
 never_heard lost (inl done) = cc
 never_heard lost (inr (line, place, is)) = cc
 
-pub mounted_or_turned : (goes : Going) (c : Cartridge) (plain : Plain) (outcome : CommandOutcome) → Stands c plain → OpenOutcome goes (Some c) outcome →
+pub mounted_or_turned : (goes : Going) (c : Cartridge) (plain : Plain) (outcome : CommandOutcome) → Stands c plain →
+    OpenOutcome goes (Some c) outcome →
     WasTurned outcome ⊎ GoesOn goes c plain outcome
 mounted_or_turned goes c plain outcome stood (m, mounts, opened) =
     elim (standing_mounts_only_so c plain m stood mounts) [
-      | inl same ↦ inr (record { mounts = subst (Mounts c) same mounts; did = subst (λ (a : Mounting). Opened goes c a outcome) same opened })
-      | inr (n, same) ↦ inl (record { why = status.Lost 2 n; is = subst (λ (a : Mounting). Opened goes c a outcome) same opened; unheard = never_heard n; none_made = λ seed count words es other. absurd (other refl) })
+      | inl same ↦ inr (record {
+        mounts = subst (Mounts c) same mounts;
+        did = subst (λ (a : Mounting). Opened goes c a outcome) same opened;
+      })
+      | inr (n, same) ↦ inl (record {
+        why = status.Lost 2 n;
+        is = subst (λ (a : Mounting). Opened goes c a outcome) same opened;
+        unheard = never_heard n;
+        none_made = λ seed count words es other. absurd (other refl);
+      })
     ]
 
 -- ---- what acts print
@@ -122,17 +132,21 @@ module _ (c : Cartridge) (plain : Plain) (whole : IsCartridge c) (stood : Stands
       ]
 
   -- a front of the acts is none, or the settling and a front of those behind it
-  begun : (front rest acts : List Act) → front ++ rest ≡ settling ∷ acts → ((front ≡ []) × (rest ≡ settling ∷ acts)) ⊎ ((more : List Act) × (front ≡ settling ∷ more) × (more ++ rest ≡ acts))
+  begun : (front rest acts : List Act) → front ++ rest ≡ settling ∷ acts → ((front ≡ []) × (rest ≡ settling ∷ acts))
+      ⊎ ((more : List Act) × (front ≡ settling ∷ more) × (more ++ rest ≡ acts))
   begun [] rest acts parts = inl (refl, parts)
-  begun (x ∷ more) rest acts parts = let same : x ≡ settling = cc in let behind : more ++ rest ≡ acts = cc in inr (more, ap (λ (a : Act). a ∷ more) same, behind)
+  begun (x ∷ more) rest acts parts = let same : x ≡ settling = cc in let behind : more ++ rest ≡ acts = cc in
+      inr (more, ap (λ (a : Act). a ∷ more) same, behind)
 
   -- what stands behind the settling and a front
   pub behind_front : (more : List Act) → effects (steps_of (settling ∷ more)) (Some c) ≡ Some (changed_by (steps_of more) still)
   behind_front more =
-      effects-append (settling_steps plain.table_area c) (steps_of more) (Some c) ∙ ap (effects (steps_of more)) settled_now ∙ effects-some (steps_of more) still
+      effects-append (settling_steps plain.table_area c) (steps_of more) (Some c) ∙ ap (effects (steps_of more)) settled_now
+      ∙ effects-some (steps_of more) still
 
   -- acts that were cut off: in the settling, and then nothing was printed; or behind it
-  pub behind_then : (acts : List Act) (text : List ℕ) (left : Option Cartridge) → Behind c (settling ∷ acts) text left → Behind still acts text left
+  pub behind_then : (acts : List Act) (text : List ℕ) (left : Option Cartridge) → Behind c (settling ∷ acts) text left →
+      Behind still acts text left
   behind_then acts text left at =
       elim (begun at.front (at.act ∷ at.rest) acts at.parts) [
         | inl (none, all) ↦
@@ -144,7 +158,8 @@ module _ (c : Cartridge) (plain : Plain) (whole : IsCartridge c) (stood : Stands
           rest = at.rest;
           parts = parts;
           is = at.is ∙ ap (λ (xs : List Act). effects (steps_of xs ++ at.act.steps) (Some c)) is
-              ∙ ap (λ (ss : List TapeStep). effects ss (Some c)) (append_assoc (settling_steps plain.table_area c) (steps_of more) at.act.steps)
+              ∙ ap (λ (ss : List TapeStep). effects ss (Some c))
+              (append_assoc (settling_steps plain.table_area c) (steps_of more) at.act.steps)
               ∙ effects-append (settling_steps plain.table_area c) (steps_of more ++ at.act.steps) (Some c)
               ∙ ap (effects (steps_of more ++ at.act.steps)) settled_now;
           some = at.some;
@@ -170,20 +185,23 @@ module _ (c : Cartridge) (plain : Plain) (whole : IsCartridge c) (stood : Stands
           rest = at.rest;
           parts = parts;
           torn = subst (λ (held : Option Cartridge). Torn (next_steps at.rest) held left)
-              (ap (λ (xs : List Act). effects (steps_of xs) (Some c)) is ∙ effects-append (settling_steps plain.table_area c) (steps_of more) (Some c)
+              (ap (λ (xs : List Act). effects (steps_of xs) (Some c)) is ∙ effects-append (settling_steps plain.table_area c)
+              (steps_of more) (Some c)
               ∙ ap (effects (steps_of more)) settled_now) at.torn;
           is_text = at.is_text ∙ ap text_of is;
         }))
       ]
 
 -- a refusal leaves all as it was, and prints nothing
-pub turned_left : (c : Cartridge) (outcome : CommandOutcome) (text : List ℕ) (left : Option Cartridge) → WasTurned outcome → IsLeftBy c outcome.acts text left → (text ≡ []) × (left ≡ Some c)
+pub turned_left : (c : Cartridge) (outcome : CommandOutcome) (text : List ℕ) (left : Option Cartridge) → WasTurned outcome →
+    IsLeftBy c outcome.acts text left → (text ≡ []) × (left ≡ Some c)
 turned_left c outcome text left turned so = by_acts (subst (λ (o : CommandOutcome). IsLeftBy c o.acts text left) turned.is so)
   where
     by_acts : IsLeftBy c [] text left → (text ≡ []) × (left ≡ Some c)
     by_acts (inl at) = by_front at.front at.rest at.parts at.is_text at.torn
       where
-        by_front : (front rest : List Act) → front ++ rest ≡ [] → text ≡ text_of front → Torn (next_steps rest) (effects (steps_of front) (Some c)) left → (text ≡ []) × (left ≡ Some c)
+        by_front : (front rest : List Act) → front ++ rest ≡ [] → text ≡ text_of front →
+            Torn (next_steps rest) (effects (steps_of front) (Some c)) left → (text ≡ []) × (left ≡ Some c)
         by_front [] [] none is torn = (is, torn)
         by_front [] (x ∷ xs) none is torn = cc
         by_front (x ∷ xs) rest none is torn = cc
@@ -201,18 +219,21 @@ pub record HasPrinted (c : Cartridge) (acts : List Act) (left : Option Cartridge
   pub some : text_of front ≢ []
   pub torn : Torn (next_steps rest) (Some (changed_by (steps_of front) c)) left
 
-behind_printed : (c : Cartridge) (acts : List Act) (text : List ℕ) (left : Option Cartridge) → Behind c acts text left → HasPrinted c acts left
+behind_printed : (c : Cartridge) (acts : List Act) (text : List ℕ) (left : Option Cartridge) → Behind c acts text left →
+    HasPrinted c acts left
 behind_printed c acts text left at = record {
   front = at.front ++ at.act ∷ [];
   rest = at.rest;
   parts = append_assoc at.front (at.act ∷ []) at.rest ∙ at.parts;
   some = λ none. at.lacks (none_left at.front at.act at.some at.more at.written none);
   torn = subst (λ (held : Option Cartridge). Torn (next_steps at.rest) held left)
-      (at.is ∙ ap (λ (ss : List TapeStep). effects ss (Some c)) (sym (front_steps at.front at.act)) ∙ effects-some (steps_of (at.front ++ at.act ∷ [])) c)
+      (at.is ∙ ap (λ (ss : List TapeStep). effects ss (Some c)) (sym (front_steps at.front at.act))
+      ∙ effects-some (steps_of (at.front ++ at.act ∷ [])) c)
       (none_torn (next_steps at.rest) left);
 }
 
-left_printed : (c : Cartridge) (acts : List Act) (text : List ℕ) (left : Option Cartridge) → text ≢ [] → IsLeftBy c acts text left → HasPrinted c acts left
+left_printed : (c : Cartridge) (acts : List Act) (text : List ℕ) (left : Option Cartridge) → text ≢ [] → IsLeftBy c acts text left →
+    HasPrinted c acts left
 left_printed c acts text left some (inr at) = behind_printed c acts text left at
 left_printed c acts text left some (inl at) = record {
   front = at.front;
@@ -225,13 +246,15 @@ left_printed c acts text left some (inl at) = record {
 -- ---- what is told when a run is over
 
 -- something is told of what a told cartridge became
-still_told : (o : Option (Option Cartridge)) (P : Option Cartridge → Type 0) → is_some o ≡ true → ((left : Option Cartridge) → o ≡ Some left → P left) → IsSomeAnd o P
+pub still_told : (o : Option (Option Cartridge)) (P : Option Cartridge → Type 0) → is_some o ≡ true →
+    ((left : Option Cartridge) → o ≡ Some left → P left) → IsSomeAnd o P
 still_told None P some each = cc
 still_told (Some left) P some each = each left refl
 
 -- ---- how acts ended
 
-module _ {T S K : Type 0} (t : tapes.Meaning T) (s : sources.Meaning S) (k : sinks.Meaning K) (old new : Outside T S K) (c : Cartridge) (told : t.told old.tape ≡ Some (Some c)) where
+module _ {T S K : Type 0} (t : tapes.Meaning T) (s : sources.Meaning S) (k : sinks.Meaning K) (old new : Outside T S K) (c : Cartridge)
+    (told : t.told old.tape ≡ Some (Some c)) where
   -- how acts ended
   pub record WasLeft (acts : List Act) : Type 0 where
     pub text : List ℕ
@@ -241,7 +264,8 @@ module _ {T S K : Type 0} (t : tapes.Meaning T) (s : sources.Meaning S) (k : sin
   done_steps : (steps : List TapeStep) → tapes.Done t old.tape new.tape steps → t.told new.tape ≡ Some (effects steps (Some c))
   done_steps steps did = after_steps t old.tape new.tape steps (Some c) did told
 
-  left_done : (acts : List Act) (text : List ℕ) (steps : List TapeStep) → tapes.Done t old.tape new.tape steps → IsLeftBy c acts text (effects steps (Some c)) → ToldNow t new.tape (IsLeftBy c acts text)
+  left_done : (acts : List Act) (text : List ℕ) (steps : List TapeStep) → tapes.Done t old.tape new.tape steps →
+      IsLeftBy c acts text (effects steps (Some c)) → ToldNow t new.tape (IsLeftBy c acts text)
   left_done acts text steps did is =
       subst (λ (o : Option (Option Cartridge)). IsSomeAnd o (IsLeftBy c acts text)) (sym (done_steps steps did)) is
 
@@ -249,7 +273,8 @@ module _ {T S K : Type 0} (t : tapes.Meaning T) (s : sources.Meaning S) (k : sin
   went_left acts went = record {
     text = text_of acts;
     took = went.wrote.took;
-    each = left_done acts (text_of acts) (steps_of acts) went.did (inl (record { front = acts; rest = []; parts = append-nil acts; torn = refl; is_text = refl }));
+    each = left_done acts (text_of acts) (steps_of acts) went.did
+        (inl (record { front = acts; rest = []; parts = append-nil acts; torn = refl; is_text = refl }));
   }
 
   -- the sink broke a text off
@@ -266,7 +291,8 @@ module _ {T S K : Type 0} (t : tapes.Meaning T) (s : sources.Meaning S) (k : sin
         text = text;
         took = broke.took;
         each =
-            (subst (λ (o : Option (Option Cartridge)). IsSomeAnd o (Behind c acts text)) (sym (done_steps (steps_of at.front ++ at.act.steps) cut.did)) (record {
+            (subst (λ (o : Option (Option Cartridge)). IsSomeAnd o (Behind c acts text))
+            (sym (done_steps (steps_of at.front ++ at.act.steps) cut.did)) (record {
               front = at.front;
               act = at.act;
               rest = at.rest;
@@ -286,7 +312,13 @@ module _ {T S K : Type 0} (t : tapes.Meaning T) (s : sources.Meaning S) (k : sin
     took = cut.wrote.took;
     each =
         (still_told (t.told new.tape) (IsLeftBy c acts (text_of cut.front)) (cut.broke.tells ∙ ap is_some told)
-        (λ left is. inl (record { front = cut.front; rest = cut.rest; parts = cut.parts; torn = cut.here (Some c) left told is; is_text = refl })));
+        (λ left is. inl (record {
+          front = cut.front;
+          rest = cut.rest;
+          parts = cut.parts;
+          torn = cut.here (Some c) left told is;
+          is_text = refl;
+        })));
   }
   cut_left acts SourceFails cut = record {
     text = text_of cut.front;
@@ -304,7 +336,8 @@ module _ {T S K : Type 0} (t : tapes.Meaning T) (s : sources.Meaning S) (k : sin
       record { text = was.text; took = was.took; each = now_weaker t old.tape new.tape (λ left behind. inr behind) was.each }
 
 -- over what is told of a command: some input and its outcome, and how the acts of this ended
-pub record Ran {T S K : Type 0} (t : tapes.Meaning T) (s : sources.Meaning S) (k : sinks.Meaning K) (command : Words) (old new : Outside T S K) (answer : Status) (c : Cartridge) (told : t.told old.tape ≡ Some (Some c)) : Type 0 where
+pub record Ran {T S K : Type 0} (t : tapes.Meaning T) (s : sources.Meaning S) (k : sinks.Meaning K) (command : Words)
+    (old new : Outside T S K) (answer : Status) (c : Cartridge) (told : t.told old.tape ≡ Some (Some c)) : Type 0 where
   pub input : List ℕ
   pub is_told : IsInput (s.left old.source) input
   pub bytes : IsOfBytes command (s.left old.source) input
@@ -316,11 +349,13 @@ pub record Ran {T S K : Type 0} (t : tapes.Meaning T) (s : sources.Meaning S) (k
   pub broke : answer ≡ status.SinkFault → WasBroken t s k old new c told outcome.acts
 
 pub never_sink : (answer : Status) (command : Words) → may_come_from answer command ≡ true → answer ≢ status.SinkFault
-never_sink answer command sound is = let no : may_come_from status.SinkFault command ≡ true = subst (λ (a : Status). may_come_from a command ≡ true) is sound in absurd (cc)
+never_sink answer command sound is = let no : may_come_from status.SinkFault command ≡ true =
+    subst (λ (a : Status). may_come_from a command ≡ true) is sound in absurd (cc)
 
 -- no fault of the outside comes where the input was carried out
 pub heard_fault : (failing : Failing) (answer : Status) → answer ≡ fault_of failing → IsHeard answer → ⊥
-heard_fault failing answer is (inl done) = let fault : is_fault answer ≡ true = ap is_fault is ∙ is_a_fault failing in let no : is_fault answer ≡ false = ap is_fault done in cc
+heard_fault failing answer is (inl done) = let fault : is_fault answer ≡ true = ap is_fault is ∙ is_a_fault failing in
+    let no : is_fault answer ≡ false = ap is_fault done in cc
 heard_fault failing answer is (inr (line, place, named)) =
     let fault : is_fault answer ≡ true = ap is_fault is ∙ is_a_fault failing in let no : is_fault answer ≡ false = ap is_fault named in cc
 
@@ -329,8 +364,10 @@ sink_alone TapeFails answer is sink = let other : fault_of TapeFails ≡ status.
 sink_alone SourceFails answer is sink = let other : fault_of SourceFails ≡ status.SinkFault = sym is ∙ sink in absurd (cc)
 sink_alone SinkFails answer is sink = refl
 
-pub ends_ran : {T S K : Type 0} (t : tapes.Meaning T) (s : sources.Meaning S) (k : sinks.Meaning K) (command : Words) (old new : Outside T S K) (answer : Status) → Laws t s k old new → HasValues command →
-    CommandEnds t s k command old new answer → (c : Cartridge) (told : t.told old.tape ≡ Some (Some c)) → Ran t s k command old new answer c told
+pub ends_ran : {T S K : Type 0} (t : tapes.Meaning T) (s : sources.Meaning S) (k : sinks.Meaning K) (command : Words)
+    (old new : Outside T S K) (answer : Status) → Laws t s k old new → HasValues command →
+    CommandEnds t s k command old new answer → (c : Cartridge) (told : t.told old.tape ≡ Some (Some c)) →
+    Ran t s k command old new answer c told
 ends_ran t s k command old new answer laws values (inl finished) c told =
     let over = over_at (t.told old.tape) _ (Some c) finished.told told in record {
       input = over.0;
@@ -377,7 +414,8 @@ module _ (seed count : ℕ) (few : count ≤ 200) (c : Cartridge) (plain : Plain
   never_protected (inr (line, place, is)) = cc
 
   pub make_course : (outcome : CommandOutcome) → MakeOutcome seed count (Some c) outcome → WasTurned outcome ⊎ MakeRan outcome
-  make_course outcome (inl (locked, is)) = inl (record { why = status.Protected; is = is; unheard = never_protected; none_made = λ seed count words es. tt })
+  make_course outcome (inl (locked, is)) =
+      inl (record { why = status.Protected; is = is; unheard = never_protected; none_made = λ seed count words es. tt })
   make_course outcome (inr (free, opened)) =
       elim (mounted_or_turned (Making seed count) c plain outcome stood opened) [
         | inl turned ↦ inl turned
@@ -402,23 +440,31 @@ module _ (seed count : ℕ) (few : count ≤ 200) (c : Cartridge) (plain : Plain
   HasMade n left = IsSomeAnd left (λ d. Stands d (with_made plain seed n))
 
   -- a stop leaves some of the volumes
-  pub make_stopped : (outcome : CommandOutcome) (left : Option Cartridge) → IsTableLive c → MakeOutcome seed count (Some c) outcome → Torn (steps_of outcome.acts) (Some c) left →
+  pub make_stopped : (outcome : CommandOutcome) (left : Option Cartridge) → IsTableLive c → MakeOutcome seed count (Some c) outcome →
+      Torn (steps_of outcome.acts) (Some c) left →
       (n : ℕ) × (n ≤ count) × HasMade n left
   make_stopped outcome left live does torn =
       elim (make_course outcome does) [
-        | inl turned ↦
-            (0, omega arith, some_and (λ d. Stands d plain) c left stood (subst (λ (o : CommandOutcome). Torn (steps_of o.acts) (Some c) left) turned.is torn))
-        | inr run ↦ elim (stopped_first c plain whole stood run.mounts run.acts left (subst (λ (o : CommandOutcome). Torn (steps_of o.acts) (Some c) left) run.is torn)) [
-          | inl stands ↦ (0, omega arith, stands)
-          | inr behind ↦
-              let some = stopped_make_stands seed count (settled plain.table_area c) plain run.acts run.answer left few (kept_now outcome live run) run.makes behind in
-              (some.appended, some.within, some.stands)
-        ]
+        | inl turned ↦ (
+          0,
+          omega arith,
+          some_and (λ d. Stands d plain) c left stood
+              (subst (λ (o : CommandOutcome). Torn (steps_of o.acts) (Some c) left) turned.is torn),
+        )
+        | inr run ↦ elim (stopped_first c plain whole stood run.mounts run.acts left
+            (subst (λ (o : CommandOutcome). Torn (steps_of o.acts) (Some c) left) run.is torn)) [
+              | inl stands ↦ (0, omega arith, stands)
+              | inr behind ↦
+                  let some = stopped_make_stands seed count (settled plain.table_area c) plain run.acts run.answer left few
+                  (kept_now outcome live run) run.makes behind in
+                  (some.appended, some.within, some.stands)
+            ]
       ]
 
   -- its steps printed something, or the sink failed
   pub make_has_printed : (outcome : CommandOutcome) (text : List ℕ) (left : Option Cartridge) → MakeOutcome seed count (Some c) outcome →
-      ((text ≢ []) × IsLeftBy c outcome.acts text left) ⊎ Behind c outcome.acts text left → (run : MakeRan outcome) × HasPrinted (settled plain.table_area c) run.acts left
+      ((text ≢ []) × IsLeftBy c outcome.acts text left) ⊎ Behind c outcome.acts text left → (run : MakeRan outcome)
+      × HasPrinted (settled plain.table_area c) run.acts left
   make_has_printed outcome text left does which =
       elim (make_course outcome does) [
         | inl turned ↦ elim which [
@@ -426,17 +472,20 @@ module _ (seed count : ℕ) (few : count ≤ 200) (c : Cartridge) (plain : Plain
           | inr so ↦ none_behind (subst (λ (o : CommandOutcome). Behind c o.acts text left) turned.is so)
         ]
         | inr run ↦
-            let acts_are : outcome.acts ≡ quiet (settling_steps plain.table_area c) ∷ run.acts = ap (λ (o : CommandOutcome). o.acts) run.is in (
+            let acts_are : outcome.acts ≡ quiet (settling_steps plain.table_area c) ∷ run.acts =
+            ap (λ (o : CommandOutcome). o.acts) run.is in (
               run,
               elim which [
                 | inl (some, so) ↦
-                    elim (left_then c plain whole stood run.mounts run.acts text left (subst (λ (acts : List Act). IsLeftBy c acts text left) acts_are so)) [
+                    elim (left_then c plain whole stood run.mounts run.acts text left
+                    (subst (λ (acts : List Act). IsLeftBy c acts text left) acts_are so)) [
                       | inl (none, torn) ↦ absurd (some none)
                       | inr at ↦ left_printed (settled plain.table_area c) run.acts text left some at
                     ]
                 | inr so ↦
                     behind_printed (settled plain.table_area c) run.acts text left
-                    (behind_then c plain whole stood run.mounts run.acts text left (subst (λ (acts : List Act). Behind c acts text left) acts_are so))
+                    (behind_then c plain whole stood run.mounts run.acts text left
+                    (subst (λ (acts : List Act). Behind c acts text left) acts_are so))
               ],
             )
       ]
@@ -449,11 +498,13 @@ module _ (seed count : ℕ) (few : count ≤ 200) (c : Cartridge) (plain : Plain
           by_front (x ∷ xs) act rest none = cc
 
   -- once it did, or the sink failed, all of them are there
-  pub make_printed : (outcome : CommandOutcome) (text : List ℕ) (left : Option Cartridge) → IsTableLive c → MakeOutcome seed count (Some c) outcome →
+  pub make_printed : (outcome : CommandOutcome) (text : List ℕ) (left : Option Cartridge) → IsTableLive c →
+      MakeOutcome seed count (Some c) outcome →
       ((text ≢ []) × IsLeftBy c outcome.acts text left) ⊎ Behind c outcome.acts text left → HasMade count left
   make_printed outcome text left live does which =
       let (run, at) = make_has_printed outcome text left does which in
-      made_are_answered seed count (settled plain.table_area c) plain run.acts at.front at.rest run.answer left few (kept_now outcome live run) run.makes at.parts at.some at.torn
+      made_are_answered seed count (settled plain.table_area c) plain run.acts at.front at.rest run.answer left few
+      (kept_now outcome live run) run.makes at.parts at.some at.torn
 
   -- and where all acts went, as many as were appended by the answer, also where sectors of the table's segment take no write
   pub make_answered : (outcome : CommandOutcome) → MakeOutcome seed count (Some c) outcome →
@@ -463,29 +514,36 @@ module _ (seed count : ℕ) (few : count ≤ 200) (c : Cartridge) (plain : Plain
         | inl turned ↦ (
           0,
           appended_by seed count plain.words (entries_of plain) outcome.status 0 (omega arith)
-              (subst (λ (why : Status). AppendedFrom seed 1 count plain.words (entries_of plain) why 0) (sym (ap (λ (o : CommandOutcome). o.status) turned.is))
+              (subst (λ (why : Status). AppendedFrom seed 1 count plain.words (entries_of plain) why 0)
+              (sym (ap (λ (o : CommandOutcome). o.status) turned.is))
               (turned.none_made seed count plain.words (entries_of plain))),
-          some_and (λ d. Stands d plain) c (effects (steps_of outcome.acts) (Some c)) stood (ap (λ (o : CommandOutcome). effects (steps_of o.acts) (Some c)) turned.is),
+          some_and (λ d. Stands d plain) c (effects (steps_of outcome.acts) (Some c)) stood
+              (ap (λ (o : CommandOutcome). effects (steps_of o.acts) (Some c)) turned.is),
         )
         | inr run ↦
             let made = answered_make_stands seed count (settled plain.table_area c) plain run.acts run.answer few run.held run.makes in (
               made.0,
               appended_by seed count plain.words (entries_of plain) outcome.status made.0 made.1
-                  (subst (λ (why : Status). AppendedFrom seed 1 count plain.words (entries_of plain) why made.0) (sym (ap (λ (o : CommandOutcome). o.status) run.is)) made.2),
-              some_and (λ d. Stands d (with_made plain seed made.0)) (changed_by (steps_of run.acts) (settled plain.table_area c)) (effects (steps_of outcome.acts) (Some c))
-                  made.3 (ap (λ (o : CommandOutcome). effects (steps_of o.acts) (Some c)) run.is ∙ behind_front c plain whole stood run.mounts run.acts),
+                  (subst (λ (why : Status). AppendedFrom seed 1 count plain.words (entries_of plain) why made.0)
+                  (sym (ap (λ (o : CommandOutcome). o.status) run.is)) made.2),
+              some_and (λ d. Stands d (with_made plain seed made.0)) (changed_by (steps_of run.acts) (settled plain.table_area c))
+                  (effects (steps_of outcome.acts) (Some c))
+                  made.3 (ap (λ (o : CommandOutcome). effects (steps_of o.acts) (Some c)) run.is
+                  ∙ behind_front c plain whole stood run.mounts run.acts),
             )
       ]
 
   -- .. which are all once it was carried out
-  pub make_done : (outcome : CommandOutcome) → MakeOutcome seed count (Some c) outcome → outcome.status ≡ status.Done → HasMade count (effects (steps_of outcome.acts) (Some c))
+  pub make_done : (outcome : CommandOutcome) → MakeOutcome seed count (Some c) outcome → outcome.status ≡ status.Done →
+      HasMade count (effects (steps_of outcome.acts) (Some c))
   make_done outcome does is_done =
       let made = make_answered outcome does in
       subst (λ (n : ℕ). HasMade n (effects (steps_of outcome.acts) (Some c)))
       (subst (λ (why : Status). AppendedBy seed count plain.words (entries_of plain) why made.0) is_done made.1) made.2
 
 -- what is left by words of a generated run
-some_made : (told : Option (List ℕ)) (words : List (List ℕ)) (held left : Option Cartridge) → ((command : Words) → Spells words command → HasValues command) → IfSome held IsCartridge →
+some_made : (told : Option (List ℕ)) (words : List (List ℕ)) (held left : Option Cartridge) →
+    ((command : Words) → Spells words command → HasValues command) → IfSome held IsCartridge →
     WordsLeave told words held left → SomeMade words held left
 some_made told words held left values whole (inl same) seed count c plain is run live =
     (0, omega arith, some_and (λ d. Stands d plain) c left run.stands (same ∙ is))
@@ -493,15 +551,20 @@ some_made told words held left values whole (inr (command, spelled, leaves)) see
     let other : Words = commands.Make seed count in
     let same : command ≡ other = one_command words command other spelled run.spelled in
     let l : StopLeaves told other (Some c) left =
-    subst (λ (w : Words). StopLeaves told w (Some c) left) same (subst (λ (h : Option Cartridge). StopLeaves told command h left) is leaves) in
+    subst (λ (w : Words). StopLeaves told w (Some c) left) same (subst (λ (h : Option Cartridge). StopLeaves told command h left) is leaves)
+    in
     make_stopped seed count (values other run.spelled) c plain (whole_of held c whole is) run.stands l.outcome left live l.plain l.torn
 
-pub makes_stop : {T : Type 0} (t : tapes.Meaning T) (told : Option (List ℕ)) (words : List (List ℕ)) (a b : T) → tape_calls.IsToldRight (t.told a) (t.size a) →
+pub makes_stop : {T : Type 0} (t : tapes.Meaning T) (told : Option (List ℕ)) (words : List (List ℕ)) (a b : T) →
+    tape_calls.IsToldRight (t.told a) (t.size a) →
     ((other : Words) → Spells words other → HasValues other) → EachLeft t a b (WordsLeave told words) → EachLeft t a b (SomeMade words)
-makes_stop t told words a b right values leaves = each_weaker t a b right (λ held left whole is. some_made told words held left values whole is) leaves
+makes_stop t told words a b right values leaves = each_weaker t a b right
+    (λ held left whole is. some_made told words held left values whole is) leaves
 
-pub makes_volumes : {T S K : Type 0} (t : tapes.Meaning T) (s : sources.Meaning S) (k : sinks.Meaning K) (words : List (List ℕ)) (command : Words) (old new : Outside T S K) (answer : Status) →
-    Laws t s k old new → Spells words command → ((other : Words) → Spells words other → HasValues other) → CommandEnds t s k command old new answer →
+pub makes_volumes : {T S K : Type 0} (t : tapes.Meaning T) (s : sources.Meaning S) (k : sinks.Meaning K) (words : List (List ℕ))
+    (command : Words) (old new : Outside T S K) (answer : Status) →
+    Laws t s k old new → Spells words command → ((other : Words) → Spells words other → HasValues other) →
+    CommandEnds t s k command old new answer →
     (seed count : ℕ) (c : Cartridge) (plain : Plain) → t.told old.tape ≡ Some (Some c) → Generated words seed count c plain →
     AllMade t k new.tape old.sink new.sink answer seed count c plain
 makes_volumes t s k words command old new answer laws spelled values ends seed count c plain told run =
@@ -524,19 +587,23 @@ makes_volumes t s k words command old new answer laws spelled values ends seed c
           );
       all = λ live which. elim which [
         | inl some ↦ now_weaker t old.tape new.tape
-            (λ left is. make_printed seed count few c plain whole run.stands ran.outcome was.text left live ran.plain (inl (some, is))) was.each
+            (λ left is. make_printed seed count few c plain whole run.stands ran.outcome was.text left live ran.plain (inl (some, is)))
+            was.each
         | inr sink ↦
             let broken = ran.broke sink in
             now_weaker t old.tape new.tape
-            (λ left is. make_printed seed count few c plain whole run.stands ran.outcome broken.text left live ran.plain (inr is)) broken.each
+            (λ left is. make_printed seed count few c plain whole run.stands ran.outcome broken.text left live ran.plain (inr is))
+            broken.each
       ];
     }
 
 -- ---- a script
 
 -- what a stop in a script leaves is asked for its input; of other words nothing is
-pub over_stop : (told : Option (List ℕ)) (words : List (List ℕ)) (command : Words) (held left : Option Cartridge) (P : List ℕ → Type 0) → Spells words command → StopLeaves told command held left →
-    ((l : StopLeaves told commands.Script held left) → P l.input) → ((Spells words commands.Script → ⊥) → P (input_of told)) → OverInput told P
+pub over_stop : (told : Option (List ℕ)) (words : List (List ℕ)) (command : Words) (held left : Option Cartridge) (P : List ℕ → Type 0) →
+    Spells words command → StopLeaves told command held left →
+    ((l : StopLeaves told commands.Script held left) → P l.input) → ((Spells words commands.Script → ⊥) → P (input_of told)) →
+    OverInput told P
 over_stop told words commands.Script held left P spelled l asked other = (l.input, l.is_told, l.bytes refl, asked l)
 over_stop told words command held left P spelled l asked other = (
   input_of told,
@@ -549,7 +616,8 @@ over_stop told words command held left P spelled l asked other = (
 pub over_any : (told : Option (List ℕ)) (P : List ℕ → Type 0) → P (input_of told) → OverInput told P
 over_any told P holds = (input_of told, input_told told, input_bytes told, holds)
 
-module _ (input : List ℕ) (words : List (List ℕ)) (c : Cartridge) (plain : Plain) (whole : IsCartridge c) (script : Scripted input words c plain) where
+module _ (input : List ℕ) (words : List (List ℕ)) (c : Cartridge) (plain : Plain) (whole : IsCartridge c)
+    (script : Scripted input words c plain) where
   abbrev items : List Item
   items = script.does.items
 
@@ -573,7 +641,8 @@ module _ (input : List ℕ) (words : List (List ℕ)) (c : Cartridge) (plain : P
             inr (record {
               mounts = was.mounts;
               held = mounted_held c plain whole script.stands was.mounts;
-              acts = ap (λ (o : CommandOutcome). o.acts) did.is ∙ ap (λ (o : CommandOutcome). quiet (settling_steps plain.table_area c) ∷ o.acts) one;
+              acts = ap (λ (o : CommandOutcome). o.acts) did.is
+                  ∙ ap (λ (o : CommandOutcome). quiet (settling_steps plain.table_area c) ∷ o.acts) one;
             })
       ]
 
@@ -585,15 +654,23 @@ module _ (input : List ℕ) (words : List (List ℕ)) (c : Cartridge) (plain : P
 
   -- a stop leaves the plain cartridge behind some of the lines, if it didn't come behind the first ones, which spare header and table
   pub script_stopped : (outcome : CommandOutcome) (left : Option Cartridge) → IsTableLive c → ScriptOutcome (Some c) input outcome →
-      (count : ℕ) → FirstLinesSpare script count → Torn (steps_of outcome.acts) (Some c) left → StopsFurther count left ⊎ BehindSome count left
+      (count : ℕ) → FirstLinesSpare script count → Torn (steps_of outcome.acts) (Some c) left → StopsFurther count left
+      ⊎ BehindSome count left
   script_stopped outcome left live does count spares torn =
       elim (script_course outcome does) [
         | inl turned ↦
-            inr (0, omega arith, some_and (λ d. Stands d plain) c left script.stands (subst (λ (o : CommandOutcome). Torn (steps_of o.acts) (Some c) left) turned.is torn))
+            inr (
+              0,
+              omega arith,
+              some_and (λ d. Stands d plain) c left script.stands
+                  (subst (λ (o : CommandOutcome). Torn (steps_of o.acts) (Some c) left) turned.is torn),
+            )
         | inr run ↦
-            elim (stopped_first c plain whole script.stands run.mounts script.outcome.acts left (subst (λ (acts : List Act). Torn (steps_of acts) (Some c) left) run.acts torn)) [
+            elim (stopped_first c plain whole script.stands run.mounts script.outcome.acts left
+            (subst (λ (acts : List Act). Torn (steps_of acts) (Some c) left) run.acts torn)) [
               | inl stands ↦ inr (0, omega arith, stands)
-              | inr behind ↦ stopped_script_stands (settled plain.table_area c) plain input script.outcome left run.held (settled_live c plain.table_area run.mounts.reads live)
+              | inr behind ↦ stopped_script_stands (settled plain.table_area c) plain input script.outcome left run.held
+                  (settled_live c plain.table_area run.mounts.reads live)
                   script.does script.bytes count spares.0 spares.1 behind
             ]
       ]
@@ -601,14 +678,17 @@ module _ (input : List ℕ) (words : List (List ℕ)) (c : Cartridge) (plain : P
   -- once its input was carried out the plain cartridge behind all of the lines stands, also where sectors of the table's segment take
   -- no write
   script_heard : (outcome : CommandOutcome) → ScriptOutcome (Some c) input outcome → IsHeard outcome.status →
-      ItemsSpare (settled plain.table_area c) plain items dids → IsSomeAnd (effects (steps_of outcome.acts) (Some c)) (λ d. Stands d (plain_behind plain items dids))
+      ItemsSpare (settled plain.table_area c) plain items dids → IsSomeAnd (effects (steps_of outcome.acts) (Some c))
+      (λ d. Stands d (plain_behind plain items dids))
   script_heard outcome does heard spares =
       elim (script_course outcome does) [
         | inl turned ↦ absurd (turned.unheard (subst (λ (o : CommandOutcome). IsHeard o.status) turned.is heard))
         | inr run ↦
-            some_and (λ d. Stands d (plain_behind plain items dids)) (changed_by (steps_of script.outcome.acts) (settled plain.table_area c)) (effects (steps_of outcome.acts) (Some c))
+            some_and (λ d. Stands d (plain_behind plain items dids))
+            (changed_by (steps_of script.outcome.acts) (settled plain.table_area c)) (effects (steps_of outcome.acts) (Some c))
             (done_script_stands (settled plain.table_area c) plain input script.outcome run.held script.does script.bytes spares)
-            (ap (λ (acts : List Act). effects (steps_of acts) (Some c)) run.acts ∙ behind_front c plain whole script.stands run.mounts script.outcome.acts)
+            (ap (λ (acts : List Act). effects (steps_of acts) (Some c)) run.acts
+            ∙ behind_front c plain whole script.stands run.mounts script.outcome.acts)
       ]
 
   abbrev Answered : (text : List ℕ) → Option Cartridge → Type 0
@@ -632,8 +712,10 @@ module _ (input : List ℕ) (words : List (List ℕ)) (c : Cartridge) (plain : P
             let was = turned_left c outcome text left turned so in
             nothing_answered text left was.0 (some_and (λ d. Stands d plain) c left script.stands was.1)
         | inr run ↦
-            elim (left_then c plain whole script.stands run.mounts script.outcome.acts text left (subst (λ (acts : List Act). IsLeftBy c acts text left) run.acts so)) [
-              | inl (none, torn) ↦ nothing_answered text left none (stopped_stands c plain plain.table_area left script.stands run.mounts.reads torn)
+            elim (left_then c plain whole script.stands run.mounts script.outcome.acts text left
+            (subst (λ (acts : List Act). IsLeftBy c acts text left) run.acts so)) [
+              | inl (none, torn) ↦ nothing_answered text left none
+                  (stopped_stands c plain plain.table_area left script.stands run.mounts.reads torn)
               | inr at ↦ ran run at
             ]
       ]
@@ -642,24 +724,32 @@ module _ (input : List ℕ) (words : List (List ℕ)) (c : Cartridge) (plain : P
       ran run (inl at) =
           subst (λ (xs : List ℕ). Answered xs left) (sym at.is_text)
           (answered_between (settled plain.table_area c) plain input script.outcome at.front at.rest left run.held
-          (settled_live c plain.table_area run.mounts.reads live) script.does script.bytes (subst (λ (xs : List ℕ). NoFurther xs) at.is_text spares) at.parts
-          (subst (λ (held : Option Cartridge). Torn (next_steps at.rest) held left) (effects-some (steps_of at.front) (settled plain.table_area c)) at.torn))
+          (settled_live c plain.table_area run.mounts.reads live) script.does script.bytes
+          (subst (λ (xs : List ℕ). NoFurther xs) at.is_text spares) at.parts
+          (subst (λ (held : Option Cartridge). Torn (next_steps at.rest) held left)
+          (effects-some (steps_of at.front) (settled plain.table_area c)) at.torn))
       ran run (inr at) =
-          let texts : length text ≡ length (text_of at.front) + length at.some = ap length at.is_text ∙ length-append (text_of at.front) at.some in
-          let act_text : length at.act.text ≡ length at.some + length at.more = ap length (sym at.written) ∙ length-append at.some at.more in
+          let texts : length text ≡ length (text_of at.front) + length at.some = ap length at.is_text
+          ∙ length-append (text_of at.front) at.some in
+          let act_text : length at.act.text ≡ length at.some + length at.more = ap length (sym at.written)
+          ∙ length-append at.some at.more in
           answered_behind (settled plain.table_area c) plain input script.outcome at.front at.act at.rest left (length text) run.held
           (settled_live c plain.table_area run.mounts.reads live) script.does script.bytes spares at.parts
           (at.is ∙ effects-some (steps_of at.front ++ at.act.steps) (settled plain.table_area c)) (omega arith) (omega arith)
 
 -- what is left by words of a script, over this input
-lines_leave : (told : Option (List ℕ)) (words : List (List ℕ)) (held left : Option Cartridge) → IfSome held IsCartridge → Spells words commands.Script →
+lines_leave : (told : Option (List ℕ)) (words : List (List ℕ)) (held left : Option Cartridge) → IfSome held IsCartridge →
+    Spells words commands.Script →
     (l : StopLeaves told commands.Script held left) → LinesLeave l.input words held left
 lines_leave told words held left whole spelled l c plain is script live count spares =
-    let yields : ScriptOutcome (Some c) l.input l.outcome = subst (λ (h : Option Cartridge). ScriptOutcome h l.input l.outcome) is l.plain in
-    let torn : Torn (steps_of l.outcome.acts) (Some c) left = subst (λ (h : Option Cartridge). Torn (steps_of l.outcome.acts) h left) is l.torn in
+    let yields : ScriptOutcome (Some c) l.input l.outcome =
+    subst (λ (h : Option Cartridge). ScriptOutcome h l.input l.outcome) is l.plain in
+    let torn : Torn (steps_of l.outcome.acts) (Some c) left =
+    subst (λ (h : Option Cartridge). Torn (steps_of l.outcome.acts) h left) is l.torn in
     script_stopped l.input words c plain (whole_of held c whole is) script l.outcome left live yields count spares torn
 
-pub some_scripted : (told : Option (List ℕ)) (words : List (List ℕ)) (held left : Option Cartridge) → IfSome held IsCartridge → WordsLeave told words held left → SomeScripted told words held left
+pub some_scripted : (told : Option (List ℕ)) (words : List (List ℕ)) (held left : Option Cartridge) → IfSome held IsCartridge →
+    WordsLeave told words held left → SomeScripted told words held left
 some_scripted told words held left whole (inl same) =
     over_any told (λ input. LinesLeave input words held left)
     (λ c plain is script live count spares. inr (0, omega arith, some_and (λ d. Stands d plain) c left script.stands (same ∙ is)))
@@ -668,14 +758,18 @@ some_scripted told words held left whole (inr (command, spelled, leaves)) =
     (λ l c plain is script live count spares. lines_leave told words held left whole script.spelled l c plain is script live count spares)
     (λ other c plain is script. absurd (other script.spelled))
 
-pub scripts_stop : {T : Type 0} (t : tapes.Meaning T) (told : Option (List ℕ)) (words : List (List ℕ)) (a b : T) → tape_calls.IsToldRight (t.told a) (t.size a) →
+pub scripts_stop : {T : Type 0} (t : tapes.Meaning T) (told : Option (List ℕ)) (words : List (List ℕ)) (a b : T) →
+    tape_calls.IsToldRight (t.told a) (t.size a) →
     EachLeft t a b (WordsLeave told words) → EachLeft t a b (SomeScripted told words)
-scripts_stop t told words a b right leaves = each_weaker t a b right (λ held left whole is. some_scripted told words held left whole is) leaves
+scripts_stop t told words a b right leaves = each_weaker t a b right (λ held left whole is. some_scripted told words held left whole is)
+    leaves
 
-pub carries_out_lines : {T S K : Type 0} (t : tapes.Meaning T) (s : sources.Meaning S) (k : sinks.Meaning K) (words : List (List ℕ)) (command : Words) (old new : Outside T S K) (answer : Status) →
+pub carries_out_lines : {T S K : Type 0} (t : tapes.Meaning T) (s : sources.Meaning S) (k : sinks.Meaning K) (words : List (List ℕ))
+    (command : Words) (old new : Outside T S K) (answer : Status) →
     Laws t s k old new → Spells words command → CommandEnds t s k command old new answer →
     (c : Cartridge) (plain : Plain) → t.told old.tape ≡ Some (Some c) →
-    OverInput (s.left old.source) (λ input. (script : Scripted input words c plain) → AllAnswered t k new.tape old.sink new.sink answer script)
+    OverInput (s.left old.source) (λ input. (script : Scripted input words c plain) →
+    AllAnswered t k new.tape old.sink new.sink answer script)
 carries_out_lines t s k words commands.Script old new answer laws spelled ends c plain told =
     let whole : IsCartridge c = told_whole (Some c) (t.told old.tape) (t.size old.tape) laws.right told in
     let ran = ends_ran t s k commands.Script old new answer laws tt ends c told in
@@ -687,36 +781,46 @@ carries_out_lines t s k words commands.Script old new answer laws spelled ends c
         text = was.text;
         took = was.took;
         answered = λ live count further spares. now_weaker t old.tape new.tape
-            (λ left is. script_answered ran.input words c plain whole script ran.outcome was.text left live ran.plain (count, spares.0, further, spares.1) is) was.each;
+            (λ left is. script_answered ran.input words c plain whole script ran.outcome was.text left live ran.plain
+            (count, spares.0, further, spares.1) is) was.each;
         all = λ heard spares.
             let all = ran.heard heard in
             now_weaker t old.tape new.tape
-            (λ left is. subst (λ (o : Option Cartridge). IsSomeAnd o (λ d. Stands d (plain_behind plain script.does.items script.does.dids))) (sym is)
+            (λ left is. subst (λ (o : Option Cartridge). IsSomeAnd o
+            (λ d. Stands d (plain_behind plain script.does.items script.does.dids))) (sym is)
             (script_heard ran.input words c plain whole script ran.outcome ran.plain (subst IsHeard (sym all.0) heard) spares))
             (done_now t old.tape new.tape (steps_of ran.outcome.acts) (Some c) all.1 told);
       },
     )
 carries_out_lines t s k words command old new answer laws spelled ends c plain told =
-    over_any (s.left old.source) (λ input. (script : Scripted input words c plain) → AllAnswered t k new.tape old.sink new.sink answer script)
+    over_any (s.left old.source) (λ input. (script : Scripted input words c plain) →
+    AllAnswered t k new.tape old.sink new.sink answer script)
     (λ script. absurd (let same : command ≡ commands.Script = one_command words command commands.Script spelled script.spelled in cc))
 
 -- ---- a run that touched nothing
 
-pub untouched_now : {T : Type 0} (t : tapes.Meaning T) (a : T) (c : Cartridge) (P : Option Cartridge → Type 0) → t.told a ≡ Some (Some c) → P (Some c) → ToldNow t a P
+pub untouched_now : {T : Type 0} (t : tapes.Meaning T) (a : T) (c : Cartridge) (P : Option Cartridge → Type 0) → t.told a ≡ Some (Some c) →
+    P (Some c) → ToldNow t a P
 untouched_now t a c P told holds = subst (λ (o : Option (Option Cartridge)). IsSomeAnd o P) (sym told) holds
 
 pub none_made : {T K : Type 0} (t : tapes.Meaning T) (k : sinks.Meaning K) (words : List (List ℕ)) (a : T) (x : K) (answer : Status) →
-    k.took x [] x → (IsCarriedOut answer → ⊥) → ((seed count : ℕ) (words : List ℕ) (es : List Entry) → AppendedFrom seed 1 count words es answer 0) →
-    (seed count : ℕ) (c : Cartridge) (plain : Plain) → t.told a ≡ Some (Some c) → Generated words seed count c plain → AllMade t k a x x answer seed count c plain
+    k.took x [] x → (IsCarriedOut answer → ⊥) →
+    ((seed count : ℕ) (words : List ℕ) (es : List Entry) → AppendedFrom seed 1 count words es answer 0) →
+    (seed count : ℕ) (c : Cartridge) (plain : Plain) → t.told a ≡ Some (Some c) → Generated words seed count c plain →
+    AllMade t k a x x answer seed count c plain
 none_made t k words a x answer nothing never unmade seed count c plain is run = record {
   text = [];
   took = nothing;
-  answered = λ sound.
-      (0, appended_by seed count plain.words (entries_of plain) answer 0 (omega arith) (unmade seed count plain.words (entries_of plain)), untouched_now t a c (λ left. IsSomeAnd left (λ d. Stands d plain)) is run.stands);
+  answered = λ sound. (
+    0,
+    appended_by seed count plain.words (entries_of plain) answer 0 (omega arith) (unmade seed count plain.words (entries_of plain)),
+    untouched_now t a c (λ left. IsSomeAnd left (λ d. Stands d plain)) is run.stands,
+  );
   all = λ live which. elim which [ inl some ↦ absurd (some refl) | inr sink ↦ absurd (never (inr sink)) ];
 }
 
-pub none_scripted : {T K : Type 0} (t : tapes.Meaning T) (k : sinks.Meaning K) (told : Option (List ℕ)) (words : List (List ℕ)) (a : T) (x : K) (answer : Status) →
+pub none_scripted : {T K : Type 0} (t : tapes.Meaning T) (k : sinks.Meaning K) (told : Option (List ℕ)) (words : List (List ℕ)) (a : T)
+    (x : K) (answer : Status) →
     k.took x [] x → (IsHeard answer → ⊥) → (c : Cartridge) (plain : Plain) → t.told a ≡ Some (Some c) →
     OverInput told (λ input. (script : Scripted input words c plain) → AllAnswered t k a x x answer script)
 none_scripted t k told words a x answer nothing unheard c plain is =

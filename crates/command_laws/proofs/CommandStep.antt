@@ -37,11 +37,13 @@ module _ (step : Step) (text : Cartridge → List ℕ) where
   step_is_one None a b is was = is ∙ sym was
   step_is_one (Some c) a b is was = is ∙ sym was
 
-  pub step_no_renew : KeepsAll step → (held : Option Cartridge) (outcome : CommandOutcome) → StepOutcome step text held outcome → HasNoRenew (steps_of outcome.acts)
+  pub step_no_renew : KeepsAll step → (held : Option Cartridge) (outcome : CommandOutcome) → StepOutcome step text held outcome →
+      HasNoRenew (steps_of outcome.acts)
   step_no_renew keeps None outcome is = by_outcome outcome _ is tt
   step_no_renew keeps (Some c) outcome is = by_outcome outcome _ is keeps.no_renew
 
-  pub step_leaves : (P : Cartridge → Type 0) → KeepsAll step → (c : Cartridge) (outcome : CommandOutcome) (left : Option Cartridge) → P c → P (changed step c) →
+  pub step_leaves : (P : Cartridge → Type 0) → KeepsAll step → (c : Cartridge) (outcome : CommandOutcome) (left : Option Cartridge) → P c →
+      P (changed step c) →
       StepOutcome step text (Some c) outcome → Torn (steps_of outcome.acts) (Some c) left → IsSomeAnd left P
   step_leaves P keeps c outcome left before behind is torn =
       elim (only_step step (Some c) left outcome _ is refl torn) [
@@ -50,21 +52,28 @@ module _ (step : Step) (text : Cartridge → List ℕ) where
         | inr (inr done) ↦ some_and P (changed step c) left behind done
       ]
 
-  pub step_stands : KeepsAll step → (c : Cartridge) (plain : Plain) → Stands c plain → (outcome : CommandOutcome) (left : Option Cartridge) →
+  pub step_stands : KeepsAll step → (c : Cartridge) (plain : Plain) → Stands c plain →
+      (outcome : CommandOutcome) (left : Option Cartridge) →
       StepOutcome step text (Some c) outcome → Torn (steps_of outcome.acts) (Some c) left → IsSomeAnd left (λ d. Stands d plain)
-  step_stands keeps c plain stood outcome left is torn = step_leaves (λ d. Stands d plain) keeps c outcome left stood (keeps.stands c plain stood) is torn
+  step_stands keeps c plain stood outcome left is torn = step_leaves (λ d. Stands d plain) keeps c outcome left stood
+      (keeps.stands c plain stood) is torn
 
   pub step_mounts : KeepsAll step → (c : Cartridge) (header : Header) (map_words : List ℕ) (table : List (List ℕ)) (entries : List Entry) →
       Mounts c (Mounted header map_words table entries) → (outcome : CommandOutcome) (left : Option Cartridge) →
-      StepOutcome step text (Some c) outcome → Torn (steps_of outcome.acts) (Some c) left → IsSomeAnd left (λ d. Mounts d (Mounted header map_words table entries))
+      StepOutcome step text (Some c) outcome → Torn (steps_of outcome.acts) (Some c) left →
+      IsSomeAnd left (λ d. Mounts d (Mounted header map_words table entries))
   step_mounts keeps c header map_words table entries mounts outcome left is torn =
-      step_leaves (λ d. Mounts d (Mounted header map_words table entries)) keeps c outcome left mounts (keeps.mounts c header map_words table entries mounts) is torn
+      step_leaves (λ d. Mounts d (Mounted header map_words table entries)) keeps c outcome left mounts
+      (keeps.mounts c header map_words table entries mounts) is torn
 
-  pub step_clean : KeepsAll step → (c : Cartridge) (area : List (List ℕ)) → IsArea area → HasCleanCopies c area → (outcome : CommandOutcome) (left : Option Cartridge) →
+  pub step_clean : KeepsAll step → (c : Cartridge) (area : List (List ℕ)) → IsArea area → HasCleanCopies c area →
+      (outcome : CommandOutcome) (left : Option Cartridge) →
       StepOutcome step text (Some c) outcome → Torn (steps_of outcome.acts) (Some c) left → IsSomeAnd left (λ d. HasCleanCopies d area)
   step_clean keeps c area is_area clean outcome left is torn =
-      step_leaves (λ d. HasCleanCopies d area) keeps c outcome left clean (clean_from_less area is_area c (changed step c) (keeps.reads c) clean) is torn
+      step_leaves (λ d. HasCleanCopies d area) keeps c outcome left clean
+      (clean_from_less area is_area c (changed step c) (keeps.reads c) clean) is torn
 
   pub step_bare : KeepsAll step → (c : Cartridge) → HasNoHeader c → (outcome : CommandOutcome) (left : Option Cartridge) →
       StepOutcome step text (Some c) outcome → Torn (steps_of outcome.acts) (Some c) left → IsSomeAnd left HasNoHeader
-  step_bare keeps c bare outcome left is torn = step_leaves HasNoHeader keeps c outcome left bare (no_header_less c (changed step c) (keeps.reads c) bare) is torn
+  step_bare keeps c bare outcome left is torn = step_leaves HasNoHeader keeps c outcome left bare
+      (no_header_less c (changed step c) (keeps.reads c) bare) is torn

@@ -1,12 +1,14 @@
 -- What words that append leave comes back where one sector more of the table's segment is lost.
-use Rattle.std.proofs.Common.{◌≤◌, ◌≡◌, ℕ, List, Option, Some, IfSome, refl, ◌∙◌, subst, inl, inr, IsSomeAnd, sym, ap, [], arith, length, ◌⊎◌, take, false}
+use Rattle.std.proofs.Common.{◌≤◌, ◌≡◌, ℕ, List, Option, Some, IfSome, refl, ◌∙◌, subst, inl, inr, IsSomeAnd, sym, ap, [], arith, length}
+use Rattle.std.proofs.Common.{◌⊎◌, take, false}
 use Rattle.cartridge_laws.proofs.FormatWriting.{some_weaker}
 use Rattle.cartridge_spec.specs.Appending.{with_bytes}
 use Rattle.cartridge_spec.specs.TableSegment.{IsTableLive, LosesOneAlone}
 use Rattle.cartridge_spec.specs.Mounting.{settled, ComesBackAs}
 use Rattle.cartridge_spec.specs.Settling.{settling_steps}
 use Rattle.cartridge_spec.specs.Volumes.{Plain, Stands}
-use Rattle.command_laws.proofs.CommandComesBack.{make_comes_back, make_comes_done, make_comes_printed, none_answered, script_comes_answered, script_comes_back, script_comes_heard}
+use Rattle.command_laws.proofs.CommandComesBack.{make_comes_back, make_comes_done, make_comes_printed, none_answered, script_comes_answered}
+use Rattle.command_laws.proofs.CommandComesBack.{script_comes_back, script_comes_heard}
 use Rattle.command_laws.proofs.CommandEnds.{Laws, told_whole}
 use Rattle.command_laws.proofs.CommandOneLoss.{append_comes_back, nothing_torn, done_comes_back}
 use Rattle.command_laws.proofs.CommandSeveral.{ends_ran, untouched_now, over_any, over_stop}
@@ -18,7 +20,8 @@ use Rattle.command_spec.specs.Headline.{StopLeaves, WordsLeave, EachLeft, ToldNo
 use Rattle.command_spec.specs.Several.{IsHeard, FirstLinesSpare, OverInput, Scripted}
 use Rattle.command_laws.specs.CommandFields.{Yields}
 use Rattle.command_spec.specs.Machine.{HasValues, Spells, CommandEnds, is_fault, IsOfBytes}
-use Rattle.command_spec.specs.OneLoss.{SurvivesOneLoss, AppendingLeaves, AppendingLeft, LeftComesBack, SomeComeBack, with_one, StoppedComesBack}
+use Rattle.command_spec.specs.OneLoss.{SurvivesOneLoss, AppendingLeaves, AppendingLeft, LeftComesBack, SomeComeBack, with_one}
+use Rattle.command_spec.specs.OneLoss.{StoppedComesBack}
 use Rattle.command_spec.specs.Volumes.{IsCarriedOut}
 use Rattle.command_spec.specs.declared.status.Status.{Status}
 use Rattle.command_spec.specs.declared.words.Words.{Words}
@@ -42,12 +45,14 @@ use Rattle.command_spec.specs.declared.status.Status.TheVariants as status
 -- by words of a script over an input
 abbrev ScriptComes : List ℕ → List (List ℕ) → Cartridge → Plain → Option Cartridge → Type 0
 ScriptComes input words c plain left =
-    (script : Scripted input words c plain) → c.info.protected ≡ false → (count : ℕ) → FirstLinesSpare script count → ItemsSpareTable (take count script.does.items) →
+    (script : Scripted input words c plain) → c.info.protected ≡ false → (count : ℕ) → FirstLinesSpare script count →
+    ItemsSpareTable (take count script.does.items) →
     CameFurther (settled plain.table_area c) script.does.items script.does.dids script.does.last count left
     ⊎ LeftComesBack c (with_items plain script.does.items script.does.dids) 0 count left
 
 -- what stood
-untouched : (told : Option (List ℕ)) (words : List (List ℕ)) (c : Cartridge) (plain : Plain) (left : Option Cartridge) → left ≡ Some c → AppendingLeaves told words c plain left
+untouched : (told : Option (List ℕ)) (words : List (List ℕ)) (c : Cartridge) (plain : Plain) (left : Option Cartridge) → left ≡ Some c →
+    AppendingLeaves told words c plain left
 untouched told words c plain left is =
     let here : Torn (settling_steps plain.table_area c) (Some c) left = nothing_torn c (settling_steps plain.table_area c) left is in
     record {
@@ -57,8 +62,10 @@ untouched told words c plain left is =
     }
 
 -- what a stop in a command leaves
-left_by : (told : Option (List ℕ)) (words : List (List ℕ)) (command : Words) (c : Cartridge) (plain : Plain) (left : Option Cartridge) → ((other : Words) → Spells words other → HasValues other) →
-    IsCartridge c → Spells words command → StopLeaves told command (Some c) left → Stands c plain → IsTableLive c → AppendingLeaves told words c plain left
+left_by : (told : Option (List ℕ)) (words : List (List ℕ)) (command : Words) (c : Cartridge) (plain : Plain) (left : Option Cartridge) →
+    ((other : Words) → Spells words other → HasValues other) →
+    IsCartridge c → Spells words command → StopLeaves told command (Some c) left → Stands c plain → IsTableLive c →
+    AppendingLeaves told words c plain left
 left_by told words command c plain left values whole spelled leaves stood live = record {
   append = λ name date spells bytes.
       let other : Words = commands.Append name date in
@@ -66,36 +73,51 @@ left_by told words command c plain left values whole spelled leaves stood live =
       let l : StopLeaves told other (Some c) left = as_other other spells in (
         l.input,
         l.is_told,
-        elim (append_comes_back name date l.input c plain l.outcome left known.0 known.1 (of_bytes told l.input bytes l.is_told (l.bytes refl)) whole stood live l.plain l.torn) [
-          | inl settling ↦ inl (refl, settling)
-          | inr back ↦ inr (record { one = 0; other = 1; from = omega arith; next = (omega arith, omega arith); within = omega arith; comes = back })
-        ],
+        elim (append_comes_back name date l.input c plain l.outcome left known.0 known.1
+            (of_bytes told l.input bytes l.is_told (l.bytes refl)) whole stood live l.plain l.torn) [
+              | inl settling ↦ inl (refl, settling)
+              | inr back ↦ inr (record {
+                one = 0;
+                other = 1;
+                from = omega arith;
+                next = (omega arith, omega arith);
+                within = omega arith;
+                comes = back;
+              })
+            ],
       );
   make = λ seed count spells.
       let other : Words = commands.Make seed count in
       let l : StopLeaves told other (Some c) left = as_other other spells in
       make_comes_back seed count (values other spells) c plain whole stood live l.outcome left l.plain l.torn;
   script = over_stop told words command (Some c) left (λ input. ScriptComes input words c plain left) spelled leaves
-      (λ l script free count spares table. script_comes_back l.input words c plain whole script live free l.outcome l.plain left count spares table l.torn)
+      (λ l script free count spares table. script_comes_back l.input words c plain whole script live free l.outcome l.plain left count
+      spares table l.torn)
       (λ other script. absurd (other script.spelled));
 } where
   as_other : (other : Words) → Spells words other → StopLeaves told other (Some c) left
   as_other other spells = subst (λ (w : Words). StopLeaves told w (Some c) left) (one_command words command other spelled spells) leaves
 
-pub stopped_comes_back : (told : Option (List ℕ)) (words : List (List ℕ)) (held left : Option Cartridge) → ((command : Words) → Spells words command → HasValues command) →
+pub stopped_comes_back : (told : Option (List ℕ)) (words : List (List ℕ)) (held left : Option Cartridge) →
+    ((command : Words) → Spells words command → HasValues command) →
     IfSome held IsCartridge → WordsLeave told words held left → StoppedComesBack told words held left
 stopped_comes_back told words held left values whole (inl same) c plain is stood live = untouched told words c plain left (same ∙ is)
 stopped_comes_back told words held left values whole (inr (command, spelled, leaves)) c plain is stood live =
-    left_by told words command c plain left values (whole_of held c whole is) spelled (subst (λ (h : Option Cartridge). StopLeaves told command h left) is leaves) stood live
+    left_by told words command c plain left values (whole_of held c whole is) spelled
+    (subst (λ (h : Option Cartridge). StopLeaves told command h left) is leaves) stood live
 
-all_come_back : {T : Type 0} (t : tapes.Meaning T) (told : Option (List ℕ)) (words : List (List ℕ)) (a b : T) → tape_calls.IsToldRight (t.told a) (t.size a) →
-    ((command : Words) → Spells words command → HasValues command) → EachLeft t a b (WordsLeave told words) → EachLeft t a b (StoppedComesBack told words)
-all_come_back t told words a b right values leaves = each_weaker t a b right (λ held left whole is. stopped_comes_back told words held left values whole is) leaves
+all_come_back : {T : Type 0} (t : tapes.Meaning T) (told : Option (List ℕ)) (words : List (List ℕ)) (a b : T) →
+    tape_calls.IsToldRight (t.told a) (t.size a) →
+    ((command : Words) → Spells words command → HasValues command) → EachLeft t a b (WordsLeave told words) →
+    EachLeft t a b (StoppedComesBack told words)
+all_come_back t told words a b right values leaves = each_weaker t a b right
+    (λ held left whole is. stopped_comes_back told words held left values whole is) leaves
 
 -- ---- when a run is over
 
 -- by words of a script over an input, and what was printed; and once it was carried out
-abbrev AnswersScript : {T K : Type 0} (t : tapes.Meaning T) (k : sinks.Meaning K) (words : List (List ℕ)) (new : T) (text : List ℕ) → Cartridge → Plain → List ℕ → Type 0
+abbrev AnswersScript : {T K : Type 0} (t : tapes.Meaning T) (k : sinks.Meaning K) (words : List (List ℕ)) (new : T) (text : List ℕ) →
+    Cartridge → Plain → List ℕ → Type 0
 AnswersScript t k words new text c plain input =
     (script : Scripted input words c plain) → c.info.protected ≡ false → (answered count : ℕ) → answered ≤ length script.does.items →
     printed_by script.does.dids answered ≤ length text → GoesNoFurther script.does.items script.does.dids count (length text) →
@@ -109,14 +131,18 @@ HeardScript t words new answer c plain input =
     ToldNow t new (SomeComeBack (with_items plain script.does.items script.does.dids) (length script.does.items) (length script.does.items))
 
 -- the input of a script; of other words nothing is asked
-over_command : (told : Option (List ℕ)) (words : List (List ℕ)) (command : Words) (input : List ℕ) (P : List ℕ → Type 0) → Spells words command → IsInput told input →
+over_command : (told : Option (List ℕ)) (words : List (List ℕ)) (command : Words) (input : List ℕ) (P : List ℕ → Type 0) →
+    Spells words command → IsInput told input →
     IsOfBytes command told input → P input → ((Spells words commands.Script → ⊥) → P (input_of told)) → OverInput told P
 over_command told words commands.Script input P spelled is_told bytes asked other = (input, is_told, bytes refl, asked)
 over_command told words command input P spelled is_told bytes asked other =
-    over_any told P (other (λ script. let same : command ≡ commands.Script = one_command words command commands.Script spelled script in cc))
+    over_any told P (other (λ script. let same : command ≡ commands.Script = one_command words command commands.Script spelled script in
+    cc))
 
-module _ {T S K : Type 0} (t : tapes.Meaning T) (s : sources.Meaning S) (k : sinks.Meaning K) (words : List (List ℕ)) (command : Words) (old new : Outside T S K) (answer : Status)
-    (laws : Laws t s k old new) (spelled : Spells words command) (values : HasValues command) (all : (other : Words) → Spells words other → HasValues other)
+module _ {T S K : Type 0} (t : tapes.Meaning T) (s : sources.Meaning S) (k : sinks.Meaning K) (words : List (List ℕ)) (command : Words)
+    (old new : Outside T S K) (answer : Status)
+    (laws : Laws t s k old new) (spelled : Spells words command) (values : HasValues command)
+    (all : (other : Words) → Spells words other → HasValues other)
     (ends : CommandEnds t s k command old new answer) where
   abbrev ScriptAnswers : (text : List ℕ) → Cartridge → Plain → List ℕ → Type 0
   ScriptAnswers text c plain input = AnswersScript t k words new.tape text c plain input
@@ -130,7 +156,8 @@ module _ {T S K : Type 0} (t : tapes.Meaning T) (s : sources.Meaning S) (k : sin
       let whole : IsCartridge c = told_whole (Some c) (t.told old.tape) (t.size old.tape) laws.right told in
       let ran = ends_ran t s k command old new answer laws values ends c told in
       let as_other : (other : Words) → Spells words other → Yields other (Some c) ran.input ran.outcome =
-      λ other spells. subst (λ (w : Words). Yields w (Some c) ran.input ran.outcome) (one_command words command other spelled spells) ran.plain in
+      λ other spells. subst (λ (w : Words). Yields w (Some c) ran.input ran.outcome)
+      (one_command words command other spelled spells) ran.plain in
       record {
         text = ran.was.text;
         took = ran.was.took;
@@ -142,7 +169,8 @@ module _ {T S K : Type 0} (t : tapes.Meaning T) (s : sources.Meaning S) (k : sin
             (subst (λ (w : Words). CommandEnds t s k w old new answer) (one_command words command other spelled spells) ends) in
             let back : IsSomeAnd (effects (steps_of d.outcome.acts) (Some c))
             (λ e. (f : Cartridge) (lost : ℕ) → LosesOneAlone e f lost → ComesBackAs f (with_bytes plain name date d.input)) =
-            done_comes_back name date d.input c plain d.outcome known.0 known.1 (of_bytes (s.left old.source) d.input bytes d.is_told (d.bytes refl))
+            done_comes_back name date d.input c plain d.outcome known.0 known.1
+            (of_bytes (s.left old.source) d.input bytes d.is_told (d.bytes refl))
             whole stood live d.plain d.sound in (
               d.input,
               d.is_told,
@@ -157,7 +185,8 @@ module _ {T S K : Type 0} (t : tapes.Meaning T) (s : sources.Meaning S) (k : sin
             let does = as_other (commands.Make seed count) spells in
             elim which [
               | inl some ↦ now_weaker t old.tape new.tape
-                  (λ left is. make_comes_printed seed count few c plain whole stood live ran.outcome ran.was.text left does (inl (some, is))) ran.was.each
+                  (λ left is. make_comes_printed seed count few c plain whole stood live ran.outcome ran.was.text left does
+                  (inl (some, is))) ran.was.each
               | inr (inl is_done) ↦
                   let went = ran.sound (ap is_fault is_done) in
                   now_weaker t old.tape new.tape
@@ -167,20 +196,24 @@ module _ {T S K : Type 0} (t : tapes.Meaning T) (s : sources.Meaning S) (k : sin
               | inr (inr sink) ↦
                   let broken = ran.broke sink in
                   now_weaker t old.tape new.tape
-                  (λ left is. make_comes_printed seed count few c plain whole stood live ran.outcome broken.text left does (inr is)) broken.each
+                  (λ left is. make_comes_printed seed count few c plain whole stood live ran.outcome broken.text left does (inr is))
+                  broken.each
             ];
         script = over_command (s.left old.source) words command ran.input (ScriptAnswers ran.was.text c plain) spelled ran.is_told ran.bytes
             (λ script free answered count known written further spares table.
             now_weaker t old.tape new.tape
-            (λ left is. script_comes_answered ran.input words c plain whole script live free ran.outcome (as_other commands.Script script.spelled) ran.was.text left
+            (λ left is. script_comes_answered ran.input words c plain whole script live free ran.outcome
+            (as_other commands.Script script.spelled) ran.was.text left
             answered count known written further spares table is) ran.was.each)
             (λ other script. absurd (other script.spelled));
         heard = over_command (s.left old.source) words command ran.input (ScriptHeard c plain) spelled ran.is_told ran.bytes
             (λ script free which spares table.
             let went = ran.heard which in
             now_weaker t old.tape new.tape
-            (λ left is. subst (SomeComeBack (with_items plain script.does.items script.does.dids) (length script.does.items) (length script.does.items)) (sym is)
-            (script_comes_heard ran.input words c plain whole script live free ran.outcome (as_other commands.Script script.spelled) (subst IsHeard (sym went.0) which) spares table))
+            (λ left is. subst (SomeComeBack (with_items plain script.does.items script.does.dids) (length script.does.items)
+            (length script.does.items)) (sym is)
+            (script_comes_heard ran.input words c plain whole script live free ran.outcome (as_other commands.Script script.spelled)
+            (subst IsHeard (sym went.0) which) spares table))
             (done_now t old.tape new.tape (steps_of ran.outcome.acts) (Some c) went.1 told))
             (λ other script. absurd (other script.spelled));
       }
@@ -193,9 +226,11 @@ module _ {T S K : Type 0} (t : tapes.Meaning T) (s : sources.Meaning S) (k : sin
   }
 
 -- words of no command leave all as it was, and want of memory
-pub none_survives : {T K : Type 0} (t : tapes.Meaning T) (k : sinks.Meaning K) (told : Option (List ℕ)) (words : List (List ℕ)) (a : T) (x : K) (answer : Status) →
+pub none_survives : {T K : Type 0} (t : tapes.Meaning T) (k : sinks.Meaning K) (told : Option (List ℕ)) (words : List (List ℕ)) (a : T)
+    (x : K) (answer : Status) →
     tape_calls.IsToldRight (t.told a) (t.size a) → k.took x [] x → (IsCarriedOut answer → ⊥) → (IsHeard answer → ⊥) →
-    ((command : Words) → Spells words command → HasValues command) → EachLeft t a a (WordsLeave told words) → SurvivesOneLoss t k told words a a x x answer
+    ((command : Words) → Spells words command → HasValues command) → EachLeft t a a (WordsLeave told words) →
+    SurvivesOneLoss t k told words a a x x answer
 none_survives t k told words a x answer right nothing never unheard values leaves = record {
   stopped = all_come_back t told words a a right values leaves;
   over = λ c plain is stood live. record {

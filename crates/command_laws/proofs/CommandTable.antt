@@ -11,6 +11,7 @@ pub mod NewCommand
 pub mod ProtectCommand
 pub mod PulsesCommand
 pub mod RestoreCommand
+pub mod RoomCommand
 pub mod ScriptCommand
 pub mod ScrubCommand
 pub mod UpgradeCommand
@@ -28,6 +29,7 @@ use Rattle.command_laws.proofs.CommandTable.NewCommand.{new_laws, new_read, new_
 use Rattle.command_laws.proofs.CommandTable.ProtectCommand.{protect_laws, protect_read, protect_reading}
 use Rattle.command_laws.proofs.CommandTable.PulsesCommand.{pulses_laws, pulses_read, pulses_reading}
 use Rattle.command_laws.proofs.CommandTable.RestoreCommand.{restore_laws, restore_read, restore_reading}
+use Rattle.command_laws.proofs.CommandTable.RoomCommand.{room_laws, room_read, room_reading}
 use Rattle.command_laws.proofs.CommandTable.ScriptCommand.{script_laws, script_read, script_reading}
 use Rattle.command_laws.proofs.CommandTable.ScrubCommand.{scrub_laws, scrub_read, scrub_reading}
 use Rattle.command_laws.proofs.TextCommands.{IsRead, Reading}
@@ -46,8 +48,9 @@ use Rattle.command_spec.specs.declared.words.Words.TheVariants as words
 -- the readings of all commands
 abbrev pub readings : List Reading
 readings =
-    new_reading ∷ defect_reading ∷ lose_reading ∷ protect_reading ∷ format_reading ∷ info_reading ∷ append_reading ∷ list_reading ∷ restore_reading
-    ∷ scrub_reading ∷ pulses_reading ∷ script_reading ∷ make_reading ∷ upgrade_reading ∷ []
+    new_reading ∷ defect_reading ∷ lose_reading ∷ protect_reading ∷ format_reading ∷ info_reading ∷ append_reading ∷ list_reading ∷
+    restore_reading
+    ∷ scrub_reading ∷ pulses_reading ∷ script_reading ∷ make_reading ∷ upgrade_reading ∷ room_reading ∷ []
 
 -- the command that the first of them reads, whose word the words begin with
 abbrev pub read_among : List Reading → (first : List ℕ) → (behind : List (List ℕ)) → Words
@@ -71,19 +74,41 @@ record Described (command : Words) : Type 0 where
 described : (command : Words) → Described command
 unfolding guess
 described (words.New segments) = record { laws = new_laws segments; read = read_by new_reading (λ behind. refl) (new_read segments) }
-described (words.Defect segment sector) = record { laws = defect_laws segment sector; read = read_by defect_reading (λ behind. refl) (defect_read segment sector) }
-described (words.Lose segment sector) = record { laws = lose_laws segment sector; read = read_by lose_reading (λ behind. refl) (lose_read segment sector) }
+described (words.Defect segment sector) =
+    record { laws = defect_laws segment sector; read = read_by defect_reading (λ behind. refl) (defect_read segment sector) }
+described (words.Lose segment sector) = record {
+  laws = lose_laws segment sector;
+  read = read_by lose_reading (λ behind. refl)
+      (lose_read segment sector);
+}
 described (words.Protect on) = record { laws = protect_laws on; read = read_by protect_reading (λ behind. refl) (protect_read on) }
-described (words.Format label date) = record { laws = format_laws label date; read = read_by format_reading (λ behind. refl) (format_read label date) }
+described (words.Format label date) = record {
+  laws = format_laws label date;
+  read = read_by format_reading (λ behind. refl)
+      (format_read label date);
+}
 described words.Info = record { laws = info_laws; read = read_by info_reading (λ behind. refl) info_read }
-described (words.Append name date) = record { laws = append_laws name date; read = read_by append_reading (λ behind. refl) (append_read name date) }
+described words.Room = record { laws = room_laws; read = read_by room_reading (λ behind. refl) room_read }
+described (words.Append name date) = record {
+  laws = append_laws name date;
+  read = read_by append_reading (λ behind. refl)
+      (append_read name date);
+}
 described words.List = record { laws = list_laws; read = read_by list_reading (λ behind. refl) list_read }
-described (words.Restore number) = record { laws = restore_laws number; read = read_by restore_reading (λ behind. refl) (restore_read number) }
+described (words.Restore number) = record {
+  laws = restore_laws number;
+  read = read_by restore_reading (λ behind. refl)
+      (restore_read number);
+}
 described words.Scrub = record { laws = scrub_laws; read = read_by scrub_reading (λ behind. refl) scrub_read }
 described words.ScrubDeep = record { laws = deep_scrub_laws; read = read_by scrub_reading (λ behind. refl) deep_scrub_read }
 described words.Pulses = record { laws = pulses_laws; read = read_by pulses_reading (λ behind. refl) pulses_read }
 described words.Script = record { laws = script_laws; read = read_by script_reading (λ behind. refl) script_read }
-described (words.Make seed count) = record { laws = make_laws seed count; read = read_by make_reading (λ behind. refl) (make_read seed count) }
+described (words.Make seed count) = record {
+  laws = make_laws seed count;
+  read = read_by make_reading (λ behind. refl)
+      (make_read seed count);
+}
 described words.Upgrade = record { laws = upgrade_laws; read = read_by upgrade_reading (λ behind. refl) upgrade_read }
 
 pub laws_of : (command : Words) → CommandLaws (command_of command)
@@ -100,7 +125,8 @@ pub has_values : (words : List (List ℕ)) (command : Words) → Spells words co
 has_values words command spelled = (laws_of command).values words spelled
 
 -- each has an outcome over what a drive can hold, and one alone
-pub plain_answers : (command : Words) (held : Option Cartridge) (input : List ℕ) → HasValues command → IfSome held IsCartridge → (outcome : CommandOutcome) × Yields command held input outcome
+pub plain_answers : (command : Words) (held : Option Cartridge) (input : List ℕ) → HasValues command → IfSome held IsCartridge →
+    (outcome : CommandOutcome) × Yields command held input outcome
 plain_answers command held input values whole = (laws_of command).answers held input values whole
 
 pub plain_is_function : OneOutcome
@@ -113,7 +139,8 @@ pub only_new_renews : OnlyNewRenews
 only_new_renews command held input outcome keeps plain = (laws_of command).live held input outcome keeps plain
 
 pub copies_stay_clean : CopiesStayClean
-copies_stay_clean command c input outcome area left keeps plain is_area clean torn = (laws_of command).clean c area keeps is_area clean input outcome left plain torn
+copies_stay_clean command c input outcome area left keeps plain is_area clean torn =
+    (laws_of command).clean c area keeps is_area clean input outcome left plain torn
 
 pub copies_stay_bare : CopiesStayBare
 copies_stay_bare command c input outcome left keeps plain bare torn = (laws_of command).bare c keeps bare input outcome left plain torn

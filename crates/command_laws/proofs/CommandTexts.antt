@@ -24,4 +24,5 @@ module _ (prints : List ℕ → Type 0) where
 
   -- nothing is printed where it was refused
   pub plain_texts : (text : List ℕ) → prints text → TextLaws prints Fronts (λ answer shown. shown ≡ [])
-  plain_texts text is = fronted (λ answer shown. shown ≡ []) text is (λ answer. refl) (λ answer front none. subst Fronts (sym none) (text, is))
+  plain_texts text is = fronted (λ answer shown. shown ≡ []) text is (λ answer. refl)
+      (λ answer front none. subst Fronts (sym none) (text, is))

@@ -34,7 +34,8 @@ pub lose_answers : (segment sector : ℕ) (held : Option Cartridge) → (outcome
 lose_answers segment sector None = (_, refl)
 lose_answers segment sector (Some c) = by_place (place_or_not c.info.segments_per_track segment sector)
   where
-    by_place : HasPlace c segment sector ⊎ ¬ (HasPlace c segment sector) → (outcome : CommandOutcome) × LoseOutcome segment sector (Some c) outcome
+    by_place : HasPlace c segment sector ⊎ ¬ (HasPlace c segment sector) → (outcome : CommandOutcome)
+        × LoseOutcome segment sector (Some c) outcome
     by_place (inl place) = (_, inr (place, refl))
     by_place (inr none) = (_, inl (none, refl))
 
@@ -42,35 +43,41 @@ pub defect_answers : (segment sector : ℕ) (held : Option Cartridge) → (outco
 defect_answers segment sector None = (_, refl)
 defect_answers segment sector (Some c) = by_place (place_or_not c.info.segments_per_track segment sector)
   where
-    by_view : HasPlace c segment sector → (b : Bool) → spoil_answer (view_at c segment sector) ≡ b → (outcome : CommandOutcome) × DefectOutcome segment sector (Some c) outcome
+    by_view : HasPlace c segment sector → (b : Bool) → spoil_answer (view_at c segment sector) ≡ b → (outcome : CommandOutcome)
+        × DefectOutcome segment sector (Some c) outcome
     by_view place true is = (_, inr (inr (place, is, refl)))
     by_view place false is = (_, inr (inl (place, is, refl)))
 
-    by_place : HasPlace c segment sector ⊎ ¬ (HasPlace c segment sector) → (outcome : CommandOutcome) × DefectOutcome segment sector (Some c) outcome
+    by_place : HasPlace c segment sector ⊎ ¬ (HasPlace c segment sector) → (outcome : CommandOutcome)
+        × DefectOutcome segment sector (Some c) outcome
     by_place (inl place) = by_view place (spoil_answer (view_at c segment sector)) refl
     by_place (inr none) = (_, inl (none, refl))
 
 -- each cartridge that is mounted has one
 abbrev pub Answers : Going → Type 0
 Answers goes =
-    (c : Cartridge) (header : Header) (ws : List ℕ) (table : List (List ℕ)) (entries : List Entry) → IsCartridge c → Mounts c (mounting.Mounted header ws table entries) →
+    (c : Cartridge) (header : Header) (ws : List ℕ) (table : List (List ℕ)) (entries : List Entry) → IsCartridge c →
+    Mounts c (mounting.Mounted header ws table entries) →
     (outcome : CommandOutcome) × goes c header ws table entries outcome
 
-opened_answers : (goes : Going) → Answers goes → (c : Cartridge) (m : Mounting) → IsCartridge c → Mounts c m → (outcome : CommandOutcome) × Opened goes c m outcome
+opened_answers : (goes : Going) → Answers goes → (c : Cartridge) (m : Mounting) → IsCartridge c → Mounts c m → (outcome : CommandOutcome)
+    × Opened goes c m outcome
 opened_answers goes each c mounting.NotFormatted whole mounts = (_, refl)
 opened_answers goes each c (mounting.Foreign fault) whole mounts = (_, refl)
 opened_answers goes each c (mounting.TableLost lost) whole mounts = (_, refl)
 opened_answers goes each c mounting.TableMismatch whole mounts = (_, refl)
 opened_answers goes each c (mounting.Mounted header ws table entries) whole mounts = each c header ws table entries whole mounts
 
-pub open_answers : (goes : Going) → Answers goes → (held : Option Cartridge) → IfSome held IsCartridge → (outcome : CommandOutcome) × OpenOutcome goes held outcome
+pub open_answers : (goes : Going) → Answers goes → (held : Option Cartridge) → IfSome held IsCartridge → (outcome : CommandOutcome)
+    × OpenOutcome goes held outcome
 open_answers goes each None whole = (_, refl)
 open_answers goes each (Some c) whole =
     let some = mounts_always c whole in
     let outcome = opened_answers goes each c some.0 whole some.1 in
     (outcome.0, (some.0, some.1, outcome.1))
 
-pub writable_answers : (goes : Going) → Answers goes → (held : Option Cartridge) → IfSome held IsCartridge → (outcome : CommandOutcome) × WritableOutcome goes held outcome
+pub writable_answers : (goes : Going) → Answers goes → (held : Option Cartridge) → IfSome held IsCartridge → (outcome : CommandOutcome)
+    × WritableOutcome goes held outcome
 writable_answers goes each None whole = (_, refl)
 writable_answers goes each (Some c) whole = by_mark c.info.protected refl
   where
@@ -87,7 +94,8 @@ appends_answers name date input c header ws table entries whole reads = (_, refl
 pub gives_answers : (number : ℕ) → Answers (Gives number)
 gives_answers number c header ws table entries whole mounts = by_volume (volume_at entries number) refl
   where
-    by_volume : (found : Option Entry) → volume_at entries number ≡ found → (outcome : CommandOutcome) × Gives number c header ws table entries outcome
+    by_volume : (found : Option Entry) → volume_at entries number ≡ found → (outcome : CommandOutcome)
+        × Gives number c header ws table entries outcome
     by_volume None is = (_, inl (is, refl))
     by_volume (Some e) is =
         let some = restores_always (settled table c) ws (pieces ws e) (settled_is_cartridge c table whole mounts.reads) in
@@ -108,11 +116,13 @@ making_answers seed count few c header ws table entries whole mounts =
     let some = makes_something seed count (settled table c) ws entries (mounted_listed c header ws table entries whole mounts) few in
     (_, record { acts = some.0; answer = some.1; makes = some.2; is = refl })
 
-pub format_answers : (label : List ℕ) (date : ℕ) (held : Option Cartridge) → IsLabel label → date < 2 ^ 32 → IfSome held IsCartridge → (outcome : CommandOutcome) × FormatOutcome label date held outcome
+pub format_answers : (label : List ℕ) (date : ℕ) (held : Option Cartridge) → IsLabel label → date < 2 ^ 32 → IfSome held IsCartridge →
+    (outcome : CommandOutcome) × FormatOutcome label date held outcome
 format_answers label date None is few whole = (_, refl)
 format_answers label date (Some c) is few whole = by_mark c.info.protected refl
   where
-    by_front : c.info.protected ≡ false → HasDefectInFront c ⊎ HasNoDefectInFront c → (outcome : CommandOutcome) × FormatOutcome label date (Some c) outcome
+    by_front : c.info.protected ≡ false → HasDefectInFront c ⊎ HasNoDefectInFront c → (outcome : CommandOutcome)
+        × FormatOutcome label date (Some c) outcome
     by_front unlocked (inl found) = (_, inr (inl (unlocked, (found.segment, found.is_first, refl))))
     by_front unlocked (inr none) =
         let some = fresh_area_exists c label date whole is few in

@@ -1,5 +1,6 @@
 -- What a run leaves of what a cartridge stands for, by what a stop in its command leaves.
-use Rattle.std.proofs.Common.{[], ◌≡◌, List, Option, Some, IsSomeAnd, sym, ◌∙◌, subst, refl, ℕ, IfSome, ap, inl, inr, false, Bool, true, ◌∷◌, ◌⊎◌, ◌<◌, All, IfNone, None, append-nil, arith}
+use Rattle.std.proofs.Common.{[], ◌≡◌, List, Option, Some, IsSomeAnd, sym, ◌∙◌, subst, refl, ℕ, IfSome, ap, inl, inr, false, Bool, true}
+use Rattle.std.proofs.Common.{◌∷◌, ◌⊎◌, ◌<◌, All, IfNone, None, append-nil, arith}
 use Rattle.cartridge_laws.proofs.ChangeLive.{steps_keep_live}
 use Rattle.cartridge_laws.proofs.FormatClearing.{clearing_clears, cleared_copies_are_zero}
 use Rattle.cartridge_laws.proofs.FormatCopies.{unformatted_from_bare}
@@ -7,7 +8,8 @@ use Rattle.cartridge_laws.proofs.FormatDone.{formatting_formats, formatted_stand
 use Rattle.cartridge_laws.proofs.FormatStops.{stopped_clearing, stopped_format, stopped_clearing_new, stopped_format_new}
 use Rattle.cartridge_laws.proofs.FormatWriting.{some_and, some_weaker, effects-some}
 use Rattle.cartridge_spec.specs.Appending.{with_bytes}
-use Rattle.cartridge_spec.specs.Formatting.{HasNoDefectInFront, IsFreshFor, IsFreshWith, StandsCleanly, HasNoHeader, HasCleanCopies, format_steps, clearing_steps}
+use Rattle.cartridge_spec.specs.Formatting.{HasNoDefectInFront, IsFreshFor, IsFreshWith, StandsCleanly, HasNoHeader, HasCleanCopies}
+use Rattle.cartridge_spec.specs.Formatting.{format_steps, clearing_steps}
 use Rattle.cartridge_spec.specs.Header.{Header}
 use Rattle.cartridge_spec.specs.HeaderCopies.{IsUnformatted}
 use Rattle.cartridge_spec.specs.Shape.{IsArea}
@@ -30,7 +32,8 @@ use Rattle.command_spec.specs.Headline.{ToldNow, EachLeft, StopLeaves, WordsLeav
 use Rattle.command_laws.specs.CommandFields.{Yields}
 use Rattle.command_spec.specs.Machine.{HasValues, Spells, IsOfBytes, fault_of, may_come_from, IsCutOff, Finished, CommandEnds, is_fault}
 use Rattle.command_spec.specs.Outcome.{CommandOutcome}
-use Rattle.command_spec.specs.Volumes.{IsCarriedOut, StandsEmpty, FormatsOrNot, TellsBytes, StandsAppended, AppendedOrNot, IsChanged, StillHolds}
+use Rattle.command_spec.specs.Volumes.{IsCarriedOut, StandsEmpty, FormatsOrNot, TellsBytes, StandsAppended, AppendedOrNot, IsChanged}
+use Rattle.command_spec.specs.Volumes.{StillHolds}
 use Rattle.command_spec.specs.declared.status.Status.{Status}
 use Rattle.command_spec.specs.declared.words.Words.{Words}
 use Rattle.qic_base.proofs.Steps.{Done-nothing}
@@ -56,18 +59,23 @@ may_change answer = false
 -- ---- each that is left
 
 -- a fact of each cartridge that is left follows from another, over a whole cartridge or none
-pub each_weaker : {T : Type 0} {P Q : (held left : Option Cartridge) → Type 0} (t : tapes.Meaning T) (a b : T) → tape_calls.IsToldRight (t.told a) (t.size a) →
+pub each_weaker : {T : Type 0} {P Q : (held left : Option Cartridge) → Type 0} (t : tapes.Meaning T) (a b : T) →
+    tape_calls.IsToldRight (t.told a) (t.size a) →
     ((held left : Option Cartridge) → IfSome held IsCartridge → P held left → Q held left) → EachLeft t a b P → EachLeft t a b Q
 each_weaker t a b right follows each = record {
-  told = λ held told. told_weaker (t.told b) (λ left is. follows held left (told_whole held (t.told a) (t.size a) right told) is) (each.told held told);
-  since = λ held left telling told is. follows held left (told_whole held (t.told a) (t.size a) right told) (each.since held left telling told is);
+  told = λ held told. told_weaker (t.told b) (λ left is. follows held left (told_whole held (t.told a) (t.size a) right told) is)
+      (each.told held told);
+  since = λ held left telling told is. follows held left (told_whole held (t.told a) (t.size a) right told)
+      (each.since held left telling told is);
 }
 
 -- ---- what a command keeps
 
-module _ {T : Type 0} (t : tapes.Meaning T) (told : Option (List ℕ)) (words : List (List ℕ)) (a b : T) (right : tape_calls.IsToldRight (t.told a) (t.size a)) (leaves : EachLeft t a b (WordsLeave told words)) where
+module _ {T : Type 0} (t : tapes.Meaning T) (told : Option (List ℕ)) (words : List (List ℕ)) (a b : T)
+    (right : tape_calls.IsToldRight (t.told a) (t.size a)) (leaves : EachLeft t a b (WordsLeave told words)) where
   still_holds : (keeps : Command → Cartridge → Type 0) (Holds : Cartridge → Type 0) →
-      ((command : Words) (c : Cartridge) (input : List ℕ) (outcome : CommandOutcome) (left : Option Cartridge) → keeps (command_of command) c → Holds c →
+      ((command : Words) (c : Cartridge) (input : List ℕ) (outcome : CommandOutcome) (left : Option Cartridge) →
+      keeps (command_of command) c → Holds c →
       Yields command (Some c) input outcome → Torn (steps_of outcome.acts) (Some c) left → IsSomeAnd left Holds) →
       EachLeft t a b (StillHolds words keeps Holds)
   still_holds keeps Holds follows = each_weaker t a b right (λ held left whole is. by_left held left is) leaves
@@ -88,7 +96,8 @@ module _ {T : Type 0} (t : tapes.Meaning T) (told : Option (List ℕ)) (words : 
       EachLeft t a b (StillHolds words (λ command c. command.keeps_list c) (λ c. Mounts c (Mounted header map_words table entries)))
   list_stays header map_words table entries =
       still_holds (λ command c. command.keeps_list c) (λ c. Mounts c (Mounted header map_words table entries))
-      (λ command c input outcome left keep mounts yields torn. (laws_of command).mounts c header map_words table entries keep mounts input outcome left yields torn)
+      (λ command c input outcome left keep mounts yields torn. (laws_of command).mounts c header map_words table entries keep mounts input
+      outcome left yields torn)
 
   pub stays_live : EachLeft t a b (StillHolds words (λ command c. command.keeps_live) IsTableLive)
   stays_live =
@@ -96,10 +105,12 @@ module _ {T : Type 0} (t : tapes.Meaning T) (told : Option (List ℕ)) (words : 
       (λ command c input outcome left keep live yields torn.
       steps_keep_live (steps_of outcome.acts) c left ((laws_of command).live (Some c) input outcome keep yields) live torn)
 
-  pub stays_clean : (area : List (List ℕ)) → IsArea area → EachLeft t a b (StillHolds words (λ command c. command.keeps_copies c) (λ c. HasCleanCopies c area))
+  pub stays_clean : (area : List (List ℕ)) → IsArea area →
+      EachLeft t a b (StillHolds words (λ command c. command.keeps_copies c) (λ c. HasCleanCopies c area))
   stays_clean area is_area =
       still_holds (λ command c. command.keeps_copies c) (λ c. HasCleanCopies c area)
-      (λ command c input outcome left keep clean yields torn. (laws_of command).clean c area keep is_area clean input outcome left yields torn)
+      (λ command c input outcome left keep clean yields torn. (laws_of command).clean c area keep is_area clean input outcome left yields
+      torn)
 
   pub stays_bare : EachLeft t a b (StillHolds words (λ command c. command.keeps_copies c) HasNoHeader)
   stays_bare =
@@ -108,12 +119,15 @@ module _ {T : Type 0} (t : tapes.Meaning T) (told : Option (List ℕ)) (words : 
 
 -- ---- formatting
 
-fresh_for : (c : Cartridge) (label : List ℕ) (date : ℕ) (words : List ℕ) (area : List (List ℕ)) → HasNoDefectInFront c → IsFreshWith c label date words area →
+fresh_for : (c : Cartridge) (label : List ℕ) (date : ℕ) (words : List ℕ) (area : List (List ℕ)) → HasNoDefectInFront c →
+    IsFreshWith c label date words area →
     IsFreshFor c label date words area
 fresh_for c label date words area none fresh = record { fresh = fresh; front = none }
 
-pub format_standing : (label : List ℕ) (date : ℕ) (c : Cartridge) (plain : Plain) (left : Option Cartridge) → IsCartridge c → StandsCleanly c plain →
-    FormatLeaves label date (Some c) left → IsSomeAnd left (λ d. StandsCleanly d plain ⊎ IsUnformatted d ⊎ StandsEmpty Stands c label date d)
+pub format_standing : (label : List ℕ) (date : ℕ) (c : Cartridge) (plain : Plain) (left : Option Cartridge) → IsCartridge c →
+    StandsCleanly c plain →
+    FormatLeaves label date (Some c) left →
+    IsSomeAnd left (λ d. StandsCleanly d plain ⊎ IsUnformatted d ⊎ StandsEmpty Stands c label date d)
 format_standing label date c plain left whole stood (inl (locked, same)) =
     some_and (λ d. StandsCleanly d plain ⊎ IsUnformatted d ⊎ StandsEmpty Stands c label date d) c left (inl stood) same
 format_standing label date c plain left whole stood (inr (inl (free, torn))) =
@@ -145,20 +159,23 @@ format_bare label date c left whole bare unformatted (inr (inr (free, none, (wor
     (stopped_format_new c label date words area left whole bare is_fresh torn)
 
 -- what words of formatting leave: what the drive held, or what a stop in the formatting leaves
-left_by_format : (told : Option (List ℕ)) (words : List (List ℕ)) (held left : Option Cartridge) (label : List ℕ) (date : ℕ) (c : Cartridge) → Spells words (commands.Format label date) → held ≡ Some c →
+left_by_format : (told : Option (List ℕ)) (words : List (List ℕ)) (held left : Option Cartridge) (label : List ℕ) (date : ℕ)
+    (c : Cartridge) → Spells words (commands.Format label date) → held ≡ Some c →
     WordsLeave told words held left → (left ≡ Some c) ⊎ FormatLeaves label date (Some c) left
 left_by_format told words held left label date c spells is (inl same) = inl (same ∙ is)
 left_by_format told words held left label date c spells is (inr (command, spelled, leaves)) =
     let other : Words = commands.Format label date in
     let same : command ≡ other = one_command words command other spelled spells in
     let l : StopLeaves told other (Some c) left =
-    subst (λ (w : Words). StopLeaves told w (Some c) left) same (subst (λ (h : Option Cartridge). StopLeaves told command h left) is leaves) in
+    subst (λ (w : Words). StopLeaves told w (Some c) left) same (subst (λ (h : Option Cartridge). StopLeaves told command h left) is leaves)
+    in
     inr (format_leaves label date (Some c) left l.outcome l.plain l.torn)
 
 pub whole_of : (held : Option Cartridge) (c : Cartridge) → IfSome held IsCartridge → held ≡ Some c → IsCartridge c
 whole_of held c whole is = subst (λ (h : Option Cartridge). IfSome h IsCartridge) is whole
 
-formats_or_not : (told : Option (List ℕ)) (words : List (List ℕ)) (held left : Option Cartridge) → IfSome held IsCartridge → WordsLeave told words held left → FormatsOrNot words held left
+formats_or_not : (told : Option (List ℕ)) (words : List (List ℕ)) (held left : Option Cartridge) → IfSome held IsCartridge →
+    WordsLeave told words held left → FormatsOrNot words held left
 formats_or_not told words held left whole leaves = record {
   standing = λ label date c plain spells is stood.
       elim (left_by_format told words held left label date c spells is leaves) [
@@ -172,18 +189,22 @@ formats_or_not told words held left whole leaves = record {
       ];
 }
 
-pub stops_format : {T : Type 0} (t : tapes.Meaning T) (told : Option (List ℕ)) (words : List (List ℕ)) (a b : T) → tape_calls.IsToldRight (t.told a) (t.size a) → EachLeft t a b (WordsLeave told words) → EachLeft t a b (FormatsOrNot words)
-stops_format t told words a b right leaves = each_weaker t a b right (λ held left whole is. formats_or_not told words held left whole is) leaves
+pub stops_format : {T : Type 0} (t : tapes.Meaning T) (told : Option (List ℕ)) (words : List (List ℕ)) (a b : T) →
+    tape_calls.IsToldRight (t.told a) (t.size a) → EachLeft t a b (WordsLeave told words) → EachLeft t a b (FormatsOrNot words)
+stops_format t told words a b right leaves = each_weaker t a b right (λ held left whole is. formats_or_not told words held left whole is)
+    leaves
 
 -- ---- appending
 
 -- an input is one of bytes, told or not
-pub of_bytes : (told : Option (List ℕ)) (input : List ℕ) → TellsBytes told → IsInput told input → IfNone told (All (λ b. b < 256) input) → All (λ b. b < 256) input
+pub of_bytes : (told : Option (List ℕ)) (input : List ℕ) → TellsBytes told → IsInput told input → IfNone told (All (λ b. b < 256) input) →
+    All (λ b. b < 256) input
 of_bytes None input known is given = given
 of_bytes (Some bytes) input known is given = subst (λ (xs : List ℕ). All (λ b. b < 256) xs) (sym is) known
 
 -- what is left by words of appending
-appended_or_not : (told : Option (List ℕ)) (words : List (List ℕ)) (held left : Option Cartridge) → ((command : Words) → Spells words command → HasValues command) → IfSome held IsCartridge →
+appended_or_not : (told : Option (List ℕ)) (words : List (List ℕ)) (held left : Option Cartridge) →
+    ((command : Words) → Spells words command → HasValues command) → IfSome held IsCartridge →
     WordsLeave told words held left → AppendedOrNot told words held left
 appended_or_not told words held left values whole (inl same) name date c plain spells is bytes stood live =
     some_and (λ d. Stands d plain ⊎ StandsAppended told name date c plain d) c left (inl stood) (same ∙ is)
@@ -192,28 +213,37 @@ appended_or_not told words held left values whole (inr (command, spelled, leaves
     let same : command ≡ other = one_command words command other spelled spells in
     let known : HasValues other = values other spells in
     let l : StopLeaves told other (Some c) left =
-    subst (λ (w : Words). StopLeaves told w (Some c) left) same (subst (λ (h : Option Cartridge). StopLeaves told command h left) is leaves) in
+    subst (λ (w : Words). StopLeaves told w (Some c) left) same (subst (λ (h : Option Cartridge). StopLeaves told command h left) is leaves)
+    in
     some_weaker left
     (λ d stands. elim stands [ inl old ↦ inl old | inr new ↦ inr (record { input = l.input; is_told = l.is_told; stands = new }) ])
-    (append_stopped name date l.input c plain l.outcome left known.0 known.1 (of_bytes told l.input bytes l.is_told (l.bytes refl)) (whole_of held c whole is) stood live l.plain l.torn)
+    (append_stopped name date l.input c plain l.outcome left known.0 known.1 (of_bytes told l.input bytes l.is_told (l.bytes refl))
+    (whole_of held c whole is) stood live l.plain l.torn)
 
-pub stops_append : {T : Type 0} (t : tapes.Meaning T) (told : Option (List ℕ)) (words : List (List ℕ)) (a b : T) → tape_calls.IsToldRight (t.told a) (t.size a) →
-    ((command : Words) → Spells words command → HasValues command) → EachLeft t a b (WordsLeave told words) → EachLeft t a b (AppendedOrNot told words)
-stops_append t told words a b right values leaves = each_weaker t a b right (λ held left whole is. appended_or_not told words held left values whole is) leaves
+pub stops_append : {T : Type 0} (t : tapes.Meaning T) (told : Option (List ℕ)) (words : List (List ℕ)) (a b : T) →
+    tape_calls.IsToldRight (t.told a) (t.size a) →
+    ((command : Words) → Spells words command → HasValues command) → EachLeft t a b (WordsLeave told words) →
+    EachLeft t a b (AppendedOrNot told words)
+stops_append t told words a b right values leaves = each_weaker t a b right
+    (λ held left whole is. appended_or_not told words held left values whole is) leaves
 
 -- ---- when a run is over
 
 -- what stands behind steps that were done
-pub done_now : {T : Type 0} (t : tapes.Meaning T) (a b : T) (steps : List TapeStep) (held : Option Cartridge) → tapes.Done t a b steps → t.told a ≡ Some held →
+pub done_now : {T : Type 0} (t : tapes.Meaning T) (a b : T) (steps : List TapeStep) (held : Option Cartridge) → tapes.Done t a b steps →
+    t.told a ≡ Some held →
     ToldNow t b (λ left. left ≡ effects steps held)
 done_now t a b steps held did told =
-    subst (λ (o : Option (Option Cartridge)). IsSomeAnd o (λ left. left ≡ effects steps held)) (sym (after_steps t a b steps held did told)) refl
+    subst (λ (o : Option (Option Cartridge)). IsSomeAnd o (λ left. left ≡ effects steps held))
+    (sym (after_steps t a b steps held did told)) refl
 
-pub now_weaker : {T : Type 0} {P Q : (left : Option Cartridge) → Type 0} (t : tapes.Meaning T) (a b : T) → ((left : Option Cartridge) → P left → Q left) → ToldNow t b P → ToldNow t b Q
+pub now_weaker : {T : Type 0} {P Q : (left : Option Cartridge) → Type 0} (t : tapes.Meaning T) (a b : T) →
+    ((left : Option Cartridge) → P left → Q left) → ToldNow t b P → ToldNow t b Q
 now_weaker t a b follows each = told_weaker (t.told b) follows each
 
 -- over what was told, an outcome with this status was done
-pub record Did {T : Type 0} (t : tapes.Meaning T) (told : Option (List ℕ)) (command : Words) (a b : T) (held : Option Cartridge) (is : Status) : Type 0 where
+pub record Did {T : Type 0} (t : tapes.Meaning T) (told : Option (List ℕ)) (command : Words) (a b : T) (held : Option Cartridge)
+    (is : Status) : Type 0 where
   pub input : List ℕ
   pub is_told : IsInput told input
   pub bytes : IsOfBytes command told input
@@ -222,8 +252,10 @@ pub record Did {T : Type 0} (t : tapes.Meaning T) (told : Option (List ℕ)) (co
   pub plain : Yields command held input outcome
   pub did : tapes.Done t a b (steps_of outcome.acts)
 
-module _ {T S K : Type 0} (t : tapes.Meaning T) (s : sources.Meaning S) (k : sinks.Meaning K) (command : Words) (old new : Outside T S K) (answer : Status) where
-  finished_did : (held : Option Cartridge) (is : Status) → t.told old.tape ≡ Some held → Finished t s k command old new answer → answer ≡ is →
+module _ {T S K : Type 0} (t : tapes.Meaning T) (s : sources.Meaning S) (k : sinks.Meaning K) (command : Words) (old new : Outside T S K)
+    (answer : Status) where
+  finished_did : (held : Option Cartridge) (is : Status) → t.told old.tape ≡ Some held → Finished t s k command old new answer →
+      answer ≡ is →
       Did t (s.left old.source) command old.tape new.tape held is
   finished_did held is told finished same =
       let over = over_at (t.told old.tape) _ held finished.told told in record {
@@ -254,7 +286,8 @@ module _ {T S K : Type 0} (t : tapes.Meaning T) (s : sources.Meaning S) (k : sin
       let sink : failing ≡ SinkFails = not_otherwise failing which is in
       let over = over_at (t.told old.tape) _ held stopped.told told in
       let some = plain_answers command held over.0 values whole in
-      let off : IsCutOff t s k command old new SinkFails some.0 = subst (λ (f : Failing). IsCutOff t s k command old new f some.0) sink (over.2.1 some.0 some.1) in
+      let off : IsCutOff t s k command old new SinkFails some.0 = subst (λ (f : Failing). IsCutOff t s k command old new f some.0) sink
+      (over.2.1 some.0 some.1) in
       let all = off.done refl still in record {
         input = over.0;
         is_told = over.1;
@@ -269,10 +302,12 @@ pub renewed_effect : (segments : ℕ) (held : Option Cartridge) → effects (Ren
 renewed_effect segments None = refl
 renewed_effect segments (Some c) = refl
 
-pub formatted_fresh : (label : List ℕ) (date : ℕ) (c : Cartridge) (outcome : CommandOutcome) → IsCartridge c → FormatOutcome label date (Some c) outcome → outcome.status ≡ status.Done →
+pub formatted_fresh : (label : List ℕ) (date : ℕ) (c : Cartridge) (outcome : CommandOutcome) → IsCartridge c →
+    FormatOutcome label date (Some c) outcome → outcome.status ≡ status.Done →
     IsSomeAnd (effects (steps_of outcome.acts) (Some c)) (StandsEmpty StandsCleanly c label date)
 formatted_fresh label date c outcome whole (inl (locked, is)) done = let other = ap (λ (o : CommandOutcome). o.status) is in absurd (cc)
-formatted_fresh label date c outcome whole (inr (inl (free, (segment, first, is)))) done = let other = ap (λ (o : CommandOutcome). o.status) is in absurd (cc)
+formatted_fresh label date c outcome whole (inr (inl (free, (segment, first, is)))) done = let other =
+    ap (λ (o : CommandOutcome). o.status) is in absurd (cc)
 formatted_fresh label date c outcome whole (inr (inr (free, none, (words, (area, fresh, is))))) done =
     let n : ℕ = c.info.segments_per_track in
     let is_fresh : IsFreshFor c label date words area = fresh_for c label date words area none fresh in
@@ -281,10 +316,12 @@ formatted_fresh label date c outcome whole (inr (inr (free, none, (words, (area,
       words = words;
       area = area;
       fresh = is_fresh;
-      stands = formatted_stands c (changed_by (format_steps n area) c) label date words area whole is_fresh (formatting_formats c area whole fresh.size none);
+      stands = formatted_stands c (changed_by (format_steps n area) c) label date words area whole is_fresh
+          (formatting_formats c area whole fresh.size none);
       live = formatted_is_live c (changed_by (format_steps n area) c) area whole none (formatting_formats c area whole fresh.size none);
     })
-    (ap (λ (o : CommandOutcome). effects (steps_of o.acts) (Some c)) is ∙ ap (λ (steps : List TapeStep). effects steps (Some c)) (append-nil (format_steps n area)) ∙ effects-some (format_steps n area) c)
+    (ap (λ (o : CommandOutcome). effects (steps_of o.acts) (Some c)) is ∙ ap (λ (steps : List TapeStep). effects steps (Some c))
+    (append-nil (format_steps n area)) ∙ effects-some (format_steps n area) c)
 
 cleared_bare : (c : Cartridge) → IsCartridge c → IsBare (changed_by (clearing_steps c.info.segments_per_track) c)
 cleared_bare c whole =
@@ -295,18 +332,24 @@ cleared_bare c whole =
     } in
     (bare, unformatted_from_bare d bare)
 
-pub cleared_is_bare : (label : List ℕ) (date front : ℕ) (c : Cartridge) (outcome : CommandOutcome) → IsCartridge c → FormatOutcome label date (Some c) outcome → outcome.status ≡ status.DefectInFront front →
+pub cleared_is_bare : (label : List ℕ) (date front : ℕ) (c : Cartridge) (outcome : CommandOutcome) → IsCartridge c →
+    FormatOutcome label date (Some c) outcome → outcome.status ≡ status.DefectInFront front →
     IsSomeAnd (effects (steps_of outcome.acts) (Some c)) IsBare
-cleared_is_bare label date front c outcome whole (inl (locked, is)) done = let other = ap (λ (o : CommandOutcome). o.status) is in absurd (cc)
+cleared_is_bare label date front c outcome whole (inl (locked, is)) done = let other = ap (λ (o : CommandOutcome). o.status) is in
+    absurd (cc)
 cleared_is_bare label date front c outcome whole (inr (inl (free, (segment, first, is)))) done =
     let n : ℕ = c.info.segments_per_track in
     some_and IsBare (changed_by (clearing_steps n) c) (effects (steps_of outcome.acts) (Some c)) (cleared_bare c whole)
-    (ap (λ (o : CommandOutcome). effects (steps_of o.acts) (Some c)) is ∙ ap (λ (steps : List TapeStep). effects steps (Some c)) (append-nil (clearing_steps n)) ∙ effects-some (clearing_steps n) c)
-cleared_is_bare label date front c outcome whole (inr (inr (free, none, (words, (area, fresh, is))))) done = let other = ap (λ (o : CommandOutcome). o.status) is in absurd (cc)
+    (ap (λ (o : CommandOutcome). effects (steps_of o.acts) (Some c)) is ∙ ap (λ (steps : List TapeStep). effects steps (Some c))
+    (append-nil (clearing_steps n)) ∙ effects-some (clearing_steps n) c)
+cleared_is_bare label date front c outcome whole (inr (inr (free, none, (words, (area, fresh, is))))) done = let other =
+    ap (λ (o : CommandOutcome). o.status) is in absurd (cc)
 
 -- an append that was refused, or whose input failed
-append_unchanged : {T S K : Type 0} (t : tapes.Meaning T) (s : sources.Meaning S) (k : sinks.Meaning K) (name : List ℕ) (date : ℕ) (old new : Outside T S K) (answer : Status) (c : Cartridge) (plain : Plain) →
-    Laws t s k old new → HasValues (commands.Append name date) → IsCartridge c → Stands c plain → t.told old.tape ≡ Some (Some c) → WasNotDone answer → CommandEnds t s k (commands.Append name date) old new answer →
+append_unchanged : {T S K : Type 0} (t : tapes.Meaning T) (s : sources.Meaning S) (k : sinks.Meaning K) (name : List ℕ) (date : ℕ)
+    (old new : Outside T S K) (answer : Status) (c : Cartridge) (plain : Plain) →
+    Laws t s k old new → HasValues (commands.Append name date) → IsCartridge c → Stands c plain → t.told old.tape ≡ Some (Some c) →
+    WasNotDone answer → CommandEnds t s k (commands.Append name date) old new answer →
     ToldNow t new.tape (λ left. IsSomeAnd left (λ d. Stands d plain))
 append_unchanged t s k name date old new answer c plain laws values whole stood told not (inl finished) =
     let d : Did t (s.left old.source) (commands.Append name date) old.tape new.tape (Some c) answer =
@@ -328,8 +371,10 @@ append_unchanged t s k name date old new answer c plain laws values whole stood 
     (append_unanswered name date over.0 c plain some.0 cut.front cut.rest whole stood some.1 cut.parts (off.silent refl)))
     (done_now t old.tape new.tape (steps_of cut.front) (Some c) cut.did told)
 
-pub is_changed : {T S K : Type 0} (t : tapes.Meaning T) (s : sources.Meaning S) (k : sinks.Meaning K) (words : List (List ℕ)) (command : Words) (old new : Outside T S K) (answer : Status) →
-    Laws t s k old new → Spells words command → HasValues command → CommandEnds t s k command old new answer → IsChanged t (s.left old.source) words old.tape new.tape answer
+pub is_changed : {T S K : Type 0} (t : tapes.Meaning T) (s : sources.Meaning S) (k : sinks.Meaning K) (words : List (List ℕ))
+    (command : Words) (old new : Outside T S K) (answer : Status) →
+    Laws t s k old new → Spells words command → HasValues command → CommandEnds t s k command old new answer →
+    IsChanged t (s.left old.source) words old.tape new.tape answer
 is_changed t s k words command old new answer laws spelled values ends = record {
   renewed = λ segments held which spells told.
       let other : Words = commands.New segments in
@@ -357,8 +402,10 @@ is_changed t s k words command old new answer laws spelled values ends = record 
       let same : command ≡ other = one_command words command other spelled spells in
       let whole : IsCartridge c = told_whole (Some c) (t.told old.tape) (t.size old.tape) laws.right told in
       let finished : Finished t s k other old new answer =
-      ends_finished t s k words other old new answer (subst (λ (w : Words). CommandEnds t s k w old new answer) same ends) (ap is_fault front) in
-      let d : Did t (s.left old.source) other old.tape new.tape (Some c) (status.DefectInFront segment) = finished_did t s k other old new answer (Some c) (status.DefectInFront segment) told finished front in
+      ends_finished t s k words other old new answer (subst (λ (w : Words). CommandEnds t s k w old new answer) same ends)
+      (ap is_fault front) in
+      let d : Did t (s.left old.source) other old.tape new.tape (Some c) (status.DefectInFront segment) =
+      finished_did t s k other old new answer (Some c) (status.DefectInFront segment) told finished front in
       let none : IsSomeAnd (effects (steps_of d.outcome.acts) (Some c)) IsBare =
       cleared_is_bare label date segment c d.outcome whole d.plain d.sound in
       now_weaker t old.tape new.tape
@@ -370,18 +417,22 @@ is_changed t s k words command old new answer laws spelled values ends = record 
       let whole : IsCartridge c = told_whole (Some c) (t.told old.tape) (t.size old.tape) laws.right told in
       let known : HasValues other = subst HasValues same values in
       let d : Did t (s.left old.source) other old.tape new.tape (Some c) status.Done =
-      carried_out_did t s k other old new answer (Some c) whole known refl told which (subst (λ (w : Words). CommandEnds t s k w old new answer) same ends) in
+      carried_out_did t s k other old new answer (Some c) whole known refl told which
+      (subst (λ (w : Words). CommandEnds t s k w old new answer) same ends) in
       let left : IsSomeAnd (effects (steps_of d.outcome.acts) (Some c)) (λ e. Stands e (with_bytes plain name date d.input)) =
-      append_done name date d.input c plain d.outcome known.0 known.1 (of_bytes (s.left old.source) d.input bytes d.is_told (d.bytes refl)) whole stood d.plain d.sound in
+      append_done name date d.input c plain d.outcome known.0 known.1 (of_bytes (s.left old.source) d.input bytes d.is_told (d.bytes refl))
+      whole stood d.plain d.sound in
       now_weaker t old.tape new.tape
       (λ l is. subst (λ (o : Option Cartridge). IsSomeAnd o (StandsAppended (s.left old.source) name date c plain)) (sym is)
-      (some_weaker (effects (steps_of d.outcome.acts) (Some c)) (λ e stands. record { input = d.input; is_told = d.is_told; stands = stands }) left))
+      (some_weaker (effects (steps_of d.outcome.acts) (Some c))
+      (λ e stands. record { input = d.input; is_told = d.is_told; stands = stands }) left))
       (done_now t old.tape new.tape (steps_of d.outcome.acts) (Some c) d.did told);
   unchanged = λ name date c plain not_done no_sink no_tape spells told stood.
       let other : Words = commands.Append name date in
       let same : command ≡ other = one_command words command other spelled spells in
       let whole : IsCartridge c = told_whole (Some c) (t.told old.tape) (t.size old.tape) laws.right told in
-      append_unchanged t s k name date old new answer c plain laws (subst HasValues same values) whole stood told (not_done, no_sink, no_tape) (subst (λ (w : Words). CommandEnds t s k w old new answer) same ends);
+      append_unchanged t s k name date old new answer c plain laws (subst HasValues same values) whole stood told
+      (not_done, no_sink, no_tape) (subst (λ (w : Words). CommandEnds t s k w old new answer) same ends);
 }
 
 -- words of no command change nothing, and want of memory

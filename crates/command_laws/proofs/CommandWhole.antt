@@ -1,5 +1,6 @@
 -- Each command leaves a whole cartridge where it began with one, done or stopped.
-use Rattle.std.proofs.Common.{◌≡◌, ℕ, ◌<◌, ◌≤◌, ◌^◌, List, [], ◌∷◌, ◌++◌, All, false, Option, Some, None, IsSomeAnd, IfSome, inl, inr, refl, sym, ap, ◌∙◌, subst, arith, append_assoc, append-nil, drop, length}
+use Rattle.std.proofs.Common.{◌≡◌, ℕ, ◌<◌, ◌≤◌, ◌^◌, List, [], ◌∷◌, ◌++◌, All, false, Option, Some, None, IsSomeAnd, IfSome, inl, inr, refl}
+use Rattle.std.proofs.Common.{sym, ap, ◌∙◌, subst, arith, append_assoc, append-nil, drop, length}
 use Rattle.std.proofs.lemmas.List.Elements.{All-drop}
 use Rattle.cartridge_laws.proofs.FormatWriting.{some_and}
 use Rattle.cartridge_laws.proofs.MountSettled.{settled_keeps_table}
@@ -9,7 +10,8 @@ use Rattle.cartridge_spec.specs.Mounting.{Mounts, settled}
 use Rattle.cartridge_spec.specs.Settling.{changed_by}
 use Rattle.cartridge_spec.specs.Table.{Entry}
 use Rattle.cartridge_spec.specs.Volumes.{volume_length}
-use Rattle.command_laws.proofs.CommandClean.{GoesLeaving, Leaves, acts_leave, leaves_by, leaves_done, none_leaves, refused_leaves, wear_leaves}
+use Rattle.command_laws.proofs.CommandClean.{GoesLeaving, Leaves, acts_leave, leaves_by, leaves_done, none_leaves, refused_leaves}
+use Rattle.command_laws.proofs.CommandClean.{wear_leaves}
 use Rattle.command_laws.proofs.MadeOutcomes.{CanDo, CanRun, can_make, made_behind}
 use Rattle.command_laws.proofs.MadeStops.{made_content, made_label, sum_in_no_step}
 use Rattle.command_laws.proofs.MountedListed.{append_listed, mounted_listed, scrub_listed, wear_listed}
@@ -24,13 +26,16 @@ use Rattle.command_spec.specs.Append.{AppendOutcome, Fits, Kept, Taking, TooLong
 use Rattle.command_spec.specs.Single.{FormatOutcome}
 use Rattle.command_laws.specs.MadeTerms.{made_acts}
 use Rattle.command_laws.specs.AppendTerms.{silently}
-use Rattle.command_spec.specs.Make.{made_bytes, made_length, AppendMade, Making, MakeStep, Runs, ScrubAll, StepDoes, SumVolume, WearSector, after_item, made_name, making}
+use Rattle.command_spec.specs.Make.{made_bytes, made_length, AppendMade, Making, MakeStep, Runs, ScrubAll, StepDoes, SumVolume, WearSector}
+use Rattle.command_spec.specs.Make.{after_item, made_name, making}
 use Rattle.command_spec.specs.Input.{AtEnd, AtFault, AtStop, Ending, Item}
 use Rattle.command_spec.specs.Lines.{reply_behind}
 use Rattle.command_laws.specs.Outcomes.{NewOutcome, Printing, Mends, Appends}
 use Rattle.command_spec.specs.Outcome.{CommandOutcome, Opened, Shows, StepOutcome}
 use Rattle.command_spec.specs.Restore.{GivingEnd, Gives, LostIn, MismatchIn, Restored, framed, pieces}
-use Rattle.command_spec.specs.Script.{Did, EndDoes, Finds, ItemsDo, LineDoes, Meeting, Meets, Refuses, Scripting, acts_of, acts_on, append_did, cartridge_behind, entries_behind, given_as, line_refused, place_behind, refusal_line, reply, taken_as}
+use Rattle.command_spec.specs.Script.{Did, EndDoes, Finds, ItemsDo, LineDoes, Meeting, Meets, Refuses, Scripting, acts_of, acts_on}
+use Rattle.command_spec.specs.Script.{append_did, cartridge_behind, entries_behind, given_as, line_refused, place_behind, refusal_line}
+use Rattle.command_spec.specs.Script.{reply, taken_as}
 use Rattle.command_spec.specs.declared.line.Line.{Line}
 use Rattle.gf256_qic.proofs.Parities.{all_right}
 use Rattle.qic_base.specs.Acts.{Act, steps_of, text_of}
@@ -51,7 +56,8 @@ Whole c steps = Leaves IsCartridge c steps
 
 -- the outcome has these acts
 whole_outcome : (c : Cartridge) (a b : CommandOutcome) → a ≡ b → Whole c (steps_of b.acts) → Whole c (steps_of a.acts)
-whole_outcome c a b same leaves = leaves_by IsCartridge c (steps_of a.acts) (steps_of b.acts) (ap (λ (o : CommandOutcome). steps_of o.acts) same) leaves
+whole_outcome c a b same leaves = leaves_by IsCartridge c (steps_of a.acts) (steps_of b.acts)
+    (ap (λ (o : CommandOutcome). steps_of o.acts) same) leaves
 
 -- no steps
 still_whole : (c : Cartridge) (steps : List Step) → IsCartridge c → steps ≡ [] → Whole c steps
@@ -59,15 +65,18 @@ still_whole c steps whole none = none_leaves IsCartridge c steps whole none
 
 -- ---- formatting
 
-pub format_whole : (label : List ℕ) (date : ℕ) (c : Cartridge) (outcome : CommandOutcome) → FormatOutcome label date (Some c) outcome → IsCartridge c → Whole c (steps_of outcome.acts)
+pub format_whole : (label : List ℕ) (date : ℕ) (c : Cartridge) (outcome : CommandOutcome) → FormatOutcome label date (Some c) outcome →
+    IsCartridge c → Whole c (steps_of outcome.acts)
 format_whole label date c outcome (inl is) whole = refused_leaves IsCartridge c outcome _ is.1 refl whole
 format_whole label date c outcome (inr (inl (free, (segment, first, is)))) whole =
     whole_outcome c outcome _ is
-    (leaves_by IsCartridge c (clearing_steps c.info.segments_per_track ++ []) (clearing_steps c.info.segments_per_track) (append-nil (clearing_steps c.info.segments_per_track))
+    (leaves_by IsCartridge c (clearing_steps c.info.segments_per_track ++ []) (clearing_steps c.info.segments_per_track)
+    (append-nil (clearing_steps c.info.segments_per_track))
     (clearing_leaves c.info.segments_per_track c whole))
 format_whole label date c outcome (inr (inr (free, none, (words, (area, fresh, is))))) whole =
     whole_outcome c outcome _ is
-    (leaves_by IsCartridge c (format_steps c.info.segments_per_track area ++ []) (format_steps c.info.segments_per_track area) (append-nil (format_steps c.info.segments_per_track area))
+    (leaves_by IsCartridge c (format_steps c.info.segments_per_track area ++ []) (format_steps c.info.segments_per_track area)
+    (append-nil (format_steps c.info.segments_per_track area))
     (format_steps_leave c.info.segments_per_track area c whole fresh.size))
 
 -- ---- over a mounted cartridge
@@ -82,7 +91,8 @@ gives_whole number c header ws table entries outcome mounts (inl is) whole =
 gives_whole number c header ws table entries outcome mounts (inr found) whole =
     whole_outcome c outcome _ found.is
     (behind_leave c table (steps_of found.acts) whole mounts.reads (λ still.
-    still_whole (settled table c) (steps_of found.acts) still (restores_in_no_step (settled table c) ws (pieces ws found.entry) found.acts found.ending found.restores)))
+    still_whole (settled table c) (steps_of found.acts) still
+    (restores_in_no_step (settled table c) ws (pieces ws found.entry) found.acts found.ending found.restores)))
 
 pub mends_whole : GoesLeaving IsCartridge Mends
 mends_whole c header ws table entries outcome mounts found whole =
@@ -90,7 +100,8 @@ mends_whole c header ws table entries outcome mounts found whole =
     (behind_leave c table (steps_of found.acts) whole mounts.reads (λ still left torn.
     stopped_form_is_cartridge Shallow (settled table c) ws entries found.acts left still found.scrubs torn))
 
-listed_still : (c : Cartridge) (header : Header) (ws : List ℕ) (table : List (List ℕ)) (entries : List Entry) → IsCartridge c → Mounts c (mounting.Mounted header ws table entries) →
+listed_still : (c : Cartridge) (header : Header) (ws : List ℕ) (table : List (List ℕ)) (entries : List Entry) → IsCartridge c →
+    Mounts c (mounting.Mounted header ws table entries) →
     IsListed (settled table c) ws entries
 listed_still c header ws table entries whole mounts = mounted_listed c header ws table entries whole mounts
 
@@ -105,27 +116,34 @@ line_by : (c : Cartridge) (ws : List ℕ) (a b : Did) → a ≡ b → LineLeaves
 line_by c ws a b same leaves = subst (LineLeaves c ws) (sym same) leaves
 
 -- no step was done, and the list is as it was
-line_still : (c : Cartridge) (ws : List ℕ) (entries : List Entry) (acts : List Act) → IsCartridge c → IsListed c ws entries → steps_of acts ≡ [] →
+line_still : (c : Cartridge) (ws : List ℕ) (entries : List Entry) (acts : List Act) → IsCartridge c → IsListed c ws entries →
+    steps_of acts ≡ [] →
     LineLeaves c ws (record { acts = acts; entries = entries })
 line_still c ws entries acts whole listed none = record {
   leaves = still_whole c (steps_of acts) whole none;
   listed = listed_by c ws entries (steps_of acts) [] none listed;
 }
 
-taken_whole : (c : Cartridge) (kept : Kept) (name : List ℕ) (date : ℕ) (acts : List Act) (taken : Taking) → Whole c (steps_of acts) → Whole c (steps_of (taken_as kept name date acts taken).acts)
+taken_whole : (c : Cartridge) (kept : Kept) (name : List ℕ) (date : ℕ) (acts : List Act) (taken : Taking) → Whole c (steps_of acts) →
+    Whole c (steps_of (taken_as kept name date acts taken).acts)
 taken_whole c kept name date acts (Fits bytes) leaves = leaves
 taken_whole c kept name date acts (TooLong need have) leaves =
     leaves_by IsCartridge c (steps_of (line_refused acts kept.entries (why.Full need have)).acts) (steps_of acts) (replied acts _) leaves
 taken_whole c kept name date acts (TooShort promised read) leaves = leaves
 
-acts_on_whole : (c : Cartridge) (ws : List ℕ) (entries : List Entry) (name : List ℕ) (promised date : ℕ) (bytes : List ℕ) (meeting : Meeting) → IsCartridge c → IsListed c ws entries →
-    IsLabel name → date < 2 ^ 32 → All (λ b. b < 256) bytes → Meets c meeting → Whole c (steps_of (acts_on c ws entries name promised date bytes meeting))
+acts_on_whole : (c : Cartridge) (ws : List ℕ) (entries : List Entry) (name : List ℕ) (promised date : ℕ) (bytes : List ℕ)
+    (meeting : Meeting) → IsCartridge c → IsListed c ws entries →
+    IsLabel name → date < 2 ^ 32 → All (λ b. b < 256) bytes → Meets c meeting →
+    Whole c (steps_of (acts_on c ws entries name promised date bytes meeting))
 acts_on_whole c ws entries name promised date bytes (Refuses refusal) whole listed label word content meets = still_whole c [] whole refl
 acts_on_whole c ws entries name promised date bytes (Finds table) whole listed label word content meets =
-    append_leaves c ws entries table listed meets.0 meets.1 whole name date (Some promised) (reply_behind (length entries)) bytes label word content
+    append_leaves c ws entries table listed meets.0 meets.1 whole name date (Some promised)
+    (reply_behind (length entries)) bytes label word content
 
-append_line : (c : Cartridge) (ws : List ℕ) (entries : List Entry) (name : List ℕ) (promised date : ℕ) (bytes : List ℕ) (meeting : Meeting) → IsCartridge c → IsListed c ws entries →
-    IsLabel name → date < 2 ^ 32 → All (λ b. b < 256) bytes → Meets c meeting → LineLeaves c ws (append_did c ws entries name promised date bytes meeting)
+append_line : (c : Cartridge) (ws : List ℕ) (entries : List Entry) (name : List ℕ) (promised date : ℕ) (bytes : List ℕ)
+    (meeting : Meeting) → IsCartridge c → IsListed c ws entries →
+    IsLabel name → date < 2 ^ 32 → All (λ b. b < 256) bytes → Meets c meeting →
+    LineLeaves c ws (append_did c ws entries name promised date bytes meeting)
 append_line c ws entries name promised date bytes (Refuses refusal) whole listed label word content meets =
     line_still c ws entries ([] ++ reply (refusal_line refusal) ∷ []) whole listed refl
 append_line c ws entries name promised date bytes (Finds table) whole listed label word content meets =
@@ -133,36 +151,45 @@ append_line c ws entries name promised date bytes (Finds table) whole listed lab
     let acts : List Act = acts_on c ws entries name promised date bytes (Finds table) in
     let took : Taking = taking (room_in kept) (Some promised) bytes in
     record {
-      leaves = taken_whole c kept name date acts took (acts_on_whole c ws entries name promised date bytes (Finds table) whole listed label word content meets);
+      leaves = taken_whole c kept name date acts took
+          (acts_on_whole c ws entries name promised date bytes (Finds table) whole listed label word content meets);
       listed = taken_listed c ws kept name date acts took
-          (append_listed c ws entries table name date (Some promised) (reply_behind (length entries)) bytes listed meets.0 meets.1 label word);
+          (append_listed c ws entries table name date (Some promised) (reply_behind (length entries)) bytes listed meets.0 meets.1 label
+          word);
     }
 
-given_steps : (ws : List ℕ) (entries : List Entry) (number : ℕ) (e : Entry) (parts : List Act) (ending : GivingEnd) → steps_of parts ≡ [] → steps_of (given_as ws entries number e parts ending).acts ≡ []
+given_steps : (ws : List ℕ) (entries : List Entry) (number : ℕ) (e : Entry) (parts : List Act) (ending : GivingEnd) → steps_of parts ≡ [] →
+    steps_of (given_as ws entries number e parts ending).acts ≡ []
 given_steps ws entries number e parts Restored none = replied parts _ ∙ none
 given_steps ws entries number e parts (LostIn segment lost) none = replied parts _ ∙ none
 given_steps ws entries number e parts (MismatchIn segment) none = replied parts _ ∙ none
 
-line_leaves : (c : Cartridge) (ws : List ℕ) (entries : List Entry) (asked : Line) (bytes : List ℕ) (did : Did) → IsCartridge c → IsListed c ws entries → LineHasBytes asked bytes →
+line_leaves : (c : Cartridge) (ws : List ℕ) (entries : List Entry) (asked : Line) (bytes : List ℕ) (did : Did) → IsCartridge c →
+    IsListed c ws entries → LineHasBytes asked bytes →
     LineDoes c ws entries asked bytes did → LineLeaves c ws did
 line_leaves c ws entries (line.Append name promised date) bytes did whole listed has (meeting, meets, is) =
-    line_by c ws did _ is (append_line c ws entries name promised date bytes meeting whole listed has.0.label has.0.word has.0.content meets)
+    line_by c ws did _ is (append_line c ws entries name promised date bytes meeting whole listed has.0.label has.0.word has.0.content
+    meets)
 line_leaves c ws entries line.List bytes did whole listed has is = line_by c ws did _ is (line_still c ws entries _ whole listed refl)
-line_leaves c ws entries (line.Restore number) bytes did whole listed has (inl is) = line_by c ws did _ is.1 (line_still c ws entries _ whole listed refl)
+line_leaves c ws entries (line.Restore number) bytes did whole listed has (inl is) = line_by c ws did _ is.1
+    (line_still c ws entries _ whole listed refl)
 line_leaves c ws entries (line.Restore number) bytes did whole listed has (inr found) =
     let still = framed_in_no_step c ws (pieces ws found.entry) found.acts found.ending found.restores in
     let parts : List Act = framed (pieces ws found.entry) found.acts in
     line_by c ws did _ found.is (record {
-      leaves = still_whole c (steps_of (given_as ws entries number found.entry parts found.ending).acts) whole (given_steps ws entries number found.entry parts found.ending still.0);
+      leaves = still_whole c (steps_of (given_as ws entries number found.entry parts found.ending).acts) whole
+          (given_steps ws entries number found.entry parts found.ending still.0);
       listed = given_listed c ws entries number found.entry parts found.ending still.0 listed;
     })
-line_leaves c ws entries line.Scrub bytes did whole listed has (inl is) = line_by c ws did _ is.1 (line_still c ws entries _ whole listed refl)
+line_leaves c ws entries line.Scrub bytes did whole listed has (inl is) = line_by c ws did _ is.1
+    (line_still c ws entries _ whole listed refl)
 line_leaves c ws entries line.Scrub bytes did whole listed has (inr (free, (acts, scrubs, is))) =
     line_by c ws did _ is (record {
       leaves = λ left torn. stopped_form_is_cartridge Shallow c ws entries acts left whole scrubs torn;
       listed = scrub_listed c ws entries acts listed free scrubs;
     })
-line_leaves c ws entries (line.Lose segment sector) bytes did whole listed has (inl is) = line_by c ws did _ is.1 (line_still c ws entries _ whole listed refl)
+line_leaves c ws entries (line.Lose segment sector) bytes did whole listed has (inl is) = line_by c ws did _ is.1
+    (line_still c ws entries _ whole listed refl)
 line_leaves c ws entries (line.Lose segment sector) bytes did whole listed has (inr is) =
     line_by c ws did _ is.1 (record {
       leaves = wear_leaves IsCartridge segment sector c whole (worn_whole c segment sector whole);
@@ -170,17 +197,21 @@ line_leaves c ws entries (line.Lose segment sector) bytes did whole listed has (
     })
 line_leaves c ws entries line.End bytes did whole listed has none = absurd none
 
-items_leave : (c : Cartridge) (ws : List ℕ) (entries : List Entry) (items : List Item) (dids : List Did) (rest : List ℕ) (ending : Ending) (last : List Act) → IsCartridge c →
+items_leave : (c : Cartridge) (ws : List ℕ) (entries : List Entry) (items : List Item) (dids : List Did) (rest : List ℕ) (ending : Ending)
+    (last : List Act) → IsCartridge c →
     IsListed c ws entries → HaveBytes items → All (λ b. b < 256) rest → ItemsDo c ws entries items dids →
     EndDoes (cartridge_behind c dids) ws (entries_behind entries dids) rest ending last → Whole c (steps_of (acts_of dids ++ last))
 items_leave c ws entries [] [] rest AtEnd last whole listed has content done is = still_whole c (steps_of last) whole (ap steps_of is)
 items_leave c ws entries [] [] rest AtStop last whole listed has content done is = still_whole c (steps_of last) whole (ap steps_of is)
-items_leave c ws entries [] [] rest (AtFault number place) last whole listed has content done (inl (within, (early, (meeting, meets, is)))) =
+items_leave c ws entries [] [] rest (AtFault number place) last whole listed has content done
+    (inl (within, (early, (meeting, meets, is)))) =
     let values = append_values early.text early.name early.promised early.date early.lined in
-    leaves_by IsCartridge c (steps_of last) (steps_of (acts_on c ws entries early.name early.promised early.date early.bytes meeting)) (ap steps_of is)
+    leaves_by IsCartridge c (steps_of last) (steps_of (acts_on c ws entries early.name early.promised early.date early.bytes meeting))
+    (ap steps_of is)
     (acts_on_whole c ws entries early.name early.promised early.date early.bytes meeting whole listed values.0 values.1
     (all_right (λ b. b < 256) early.text early.bytes (subst (All (λ b. b < 256)) early.parts content)) meets)
-items_leave c ws entries [] [] rest (AtFault number place) last whole listed has content done (inr (never, is)) = still_whole c (steps_of last) whole (ap steps_of is)
+items_leave c ws entries [] [] rest (AtFault number place) last whole listed has content done (inr (never, is)) =
+    still_whole c (steps_of last) whole (ap steps_of is)
 items_leave c ws entries [] (did ∷ dids) rest ending last whole listed has content done ends = absurd done
 items_leave c ws entries (item ∷ items) [] rest ending last whole listed has content done ends = absurd done
 items_leave c ws entries (item ∷ items) (did ∷ dids) rest ending last whole listed has content done ends =
@@ -189,96 +220,125 @@ items_leave c ws entries (item ∷ items) (did ∷ dids) rest ending last whole 
     leaves_by IsCartridge c (steps_of (did.acts ++ acts_of dids ++ last)) (steps_of (did.acts ++ (acts_of dids ++ last)))
     (ap steps_of (append_assoc did.acts (acts_of dids) last))
     (acts_leave IsCartridge c did.acts (acts_of dids ++ last) first.leaves
-    (items_leave d ws did.entries items dids rest ending last (leaves_done IsCartridge c (steps_of did.acts) first.leaves) first.listed has.1 content done.1 ends))
+    (items_leave d ws did.entries items dids rest ending last (leaves_done IsCartridge c (steps_of did.acts) first.leaves) first.listed
+    has.1 content done.1 ends))
 
 pub scripting_whole : (input : List ℕ) → All (λ b. b < 256) input → GoesLeaving IsCartridge (Scripting input)
 scripting_whole input content c header ws table entries outcome mounts found whole =
     let does = found.does in
     whole_outcome c outcome _ found.is
     (behind_leave c table (steps_of found.came.acts) whole mounts.reads (λ still.
-    leaves_by IsCartridge (settled table c) (steps_of found.came.acts) (steps_of (acts_of does.dids ++ does.last)) (ap (λ (r : CommandOutcome). steps_of r.acts) does.is)
-    (items_leave (settled table c) ws entries does.items does.dids (drop (place_behind 1 0 input does.items does.ending does.read) input) does.ending does.last still
+    leaves_by IsCartridge (settled table c) (steps_of found.came.acts) (steps_of (acts_of does.dids ++ does.last))
+    (ap (λ (r : CommandOutcome). steps_of r.acts) does.is)
+    (items_leave (settled table c) ws entries does.items does.dids (drop (place_behind 1 0 input does.items does.ending does.read) input)
+    does.ending does.last still
     (listed_still c header ws table entries whole mounts) (items_have_bytes input does.items does.ending does.read content)
     (All-drop (λ b. b < 256) (place_behind 1 0 input does.items does.ending does.read) input content) does.did does.ends)))
 
 -- ---- an append
 
-appends_whole : (name : List ℕ) (date : ℕ) (input : List ℕ) → IsLabel name → date < 2 ^ 32 → All (λ b. b < 256) input → (c : Cartridge) (m : mounting.Mounting) (outcome : CommandOutcome) →
+appends_whole : (name : List ℕ) (date : ℕ) (input : List ℕ) → IsLabel name → date < 2 ^ 32 → All (λ b. b < 256) input →
+    (c : Cartridge) (m : mounting.Mounting) (outcome : CommandOutcome) →
     c.info.protected ≡ false → Mounts c m → Opened (Appends name date input) c m outcome → IsCartridge c → Whole c (steps_of outcome.acts)
-appends_whole name date input label word content c mounting.NotFormatted outcome free mounts is whole = refused_leaves IsCartridge c outcome _ is refl whole
-appends_whole name date input label word content c (mounting.Foreign fault) outcome free mounts is whole = refused_leaves IsCartridge c outcome _ is refl whole
-appends_whole name date input label word content c (mounting.TableLost lost) outcome free mounts is whole = refused_leaves IsCartridge c outcome _ is refl whole
-appends_whole name date input label word content c mounting.TableMismatch outcome free mounts is whole = refused_leaves IsCartridge c outcome _ is refl whole
+appends_whole name date input label word content c mounting.NotFormatted outcome free mounts is whole =
+    refused_leaves IsCartridge c outcome _ is refl whole
+appends_whole name date input label word content c (mounting.Foreign fault) outcome free mounts is whole =
+    refused_leaves IsCartridge c outcome _ is refl whole
+appends_whole name date input label word content c (mounting.TableLost lost) outcome free mounts is whole =
+    refused_leaves IsCartridge c outcome _ is refl whole
+appends_whole name date input label word content c mounting.TableMismatch outcome free mounts is whole =
+    refused_leaves IsCartridge c outcome _ is refl whole
 appends_whole name date input label word content c (mounting.Mounted header ws table entries) outcome free mounts is whole =
     let s : Cartridge = settled table c in
     let known = settled_keeps_table c table mounts.reads in
     let acts : List Act = append_acts (kept_over s ws entries table) name date None (reply_behind (length entries)) input in
     whole_outcome c outcome _ is
     (behind_leave c table (steps_of acts) whole mounts.reads (λ still.
-    append_leaves s ws entries table (listed_still c header ws table entries whole mounts) (ap (λ (i : TapeInfo). i.protected) known.info ∙ free) known.table still
+    append_leaves s ws entries table (listed_still c header ws table entries whole mounts)
+    (ap (λ (i : TapeInfo). i.protected) known.info ∙ free) known.table still
     name date None (reply_behind (length entries)) input label word content))
 
-pub append_whole : (name : List ℕ) (date : ℕ) (input : List ℕ) → IsLabel name → date < 2 ^ 32 → All (λ b. b < 256) input → (c : Cartridge) (outcome : CommandOutcome) →
+pub append_whole : (name : List ℕ) (date : ℕ) (input : List ℕ) → IsLabel name → date < 2 ^ 32 → All (λ b. b < 256) input →
+    (c : Cartridge) (outcome : CommandOutcome) →
     AppendOutcome name date (Some c) input outcome → IsCartridge c → Whole c (steps_of outcome.acts)
 append_whole name date input label word content c outcome (inl is) whole = refused_leaves IsCartridge c outcome _ is.1 refl whole
-append_whole name date input label word content c outcome (inr (free, (m, mounts, opened))) whole = appends_whole name date input label word content c m outcome free mounts opened whole
+append_whole name date input label word content c outcome (inr (free, (m, mounts, opened))) whole =
+    appends_whole name date input label word content c m outcome free mounts opened whole
 
 -- ---- a generated run
 
-step_leaves : (seed : ℕ) (c : Cartridge) (ws : List ℕ) (entries : List Entry) (item : MakeStep) (acts : List Act) (answer : Status) → IsCartridge c → IsListed c ws entries → CanDo entries item →
+step_leaves : (seed : ℕ) (c : Cartridge) (ws : List ℕ) (entries : List Entry) (item : MakeStep) (acts : List Act) (answer : Status) →
+    IsCartridge c → IsListed c ws entries → CanDo entries item →
     StepDoes seed c ws entries item acts answer → Whole c (steps_of acts)
-step_leaves seed c ws entries (AppendMade volume) acts answer whole listed can (inl refused) = still_whole c (steps_of acts) whole (ap steps_of refused.1)
+step_leaves seed c ws entries (AppendMade volume) acts answer whole listed can (inl refused) = still_whole c (steps_of acts) whole
+    (ap steps_of refused.1)
 step_leaves seed c ws entries (AppendMade volume) acts answer whole listed can (inr (free, inl appended)) =
     leaves_by IsCartridge c (steps_of acts) (steps_of (made_acts seed c ws entries appended.table volume)) (ap steps_of appended.does)
-    (append_leaves c ws entries appended.table listed free appended.reads whole (made_name volume) 0 (Some (made_length seed volume)) silently (made_bytes seed volume)
+    (append_leaves c ws entries appended.table listed free appended.reads whole (made_name volume) 0
+    (Some (made_length seed volume)) silently (made_bytes seed volume)
     (made_label volume can) (omega arith) (made_content seed volume))
-step_leaves seed c ws entries (AppendMade volume) acts answer whole listed can (inr (free, inr lost)) = still_whole c (steps_of acts) whole (ap steps_of lost.2)
+step_leaves seed c ws entries (AppendMade volume) acts answer whole listed can (inr (free, inr lost)) = still_whole c (steps_of acts) whole
+    (ap steps_of lost.2)
 step_leaves seed c ws entries (WearSector segment sector) acts answer whole listed can worn =
-    leaves_by IsCartridge c (steps_of acts) (Wear segment sector ∷ []) (ap steps_of worn.0) (wear_leaves IsCartridge segment sector c whole (worn_whole c segment sector whole))
-step_leaves seed c ws entries ScrubAll acts answer whole listed can (inl refused) = still_whole c (steps_of acts) whole (ap steps_of refused.1)
-step_leaves seed c ws entries ScrubAll acts answer whole listed can (inr (free, scrubbed)) = λ left torn. stopped_form_is_cartridge Shallow c ws entries acts left whole scrubbed.0 torn
+    leaves_by IsCartridge c (steps_of acts) (Wear segment sector ∷ []) (ap steps_of worn.0)
+    (wear_leaves IsCartridge segment sector c whole (worn_whole c segment sector whole))
+step_leaves seed c ws entries ScrubAll acts answer whole listed can (inl refused) = still_whole c (steps_of acts) whole
+    (ap steps_of refused.1)
+step_leaves seed c ws entries ScrubAll acts answer whole listed can (inr (free, scrubbed)) =
+    λ left torn. stopped_form_is_cartridge Shallow c ws entries acts left whole scrubbed.0 torn
 step_leaves seed c ws entries (SumVolume number) acts answer whole listed can summed =
-    still_whole c (steps_of acts) whole (ap steps_of summed.is.0 ∙ sum_in_no_step number (volume_length ws summed.entry) (text_of summed.acts) summed.ending)
+    still_whole c (steps_of acts) whole (ap steps_of summed.is.0 ∙ sum_in_no_step number (volume_length ws summed.entry)
+    (text_of summed.acts) summed.ending)
 
-step_listed : (seed : ℕ) (c : Cartridge) (ws : List ℕ) (entries : List Entry) (item : MakeStep) (acts : List Act) → IsListed c ws entries → CanDo entries item →
+step_listed : (seed : ℕ) (c : Cartridge) (ws : List ℕ) (entries : List Entry) (item : MakeStep) (acts : List Act) → IsListed c ws entries →
+    CanDo entries item →
     StepDoes seed c ws entries item acts status.Done → IsListed (changed_by (steps_of acts) c) ws (after_item seed ws entries item)
 step_listed seed c ws entries (AppendMade volume) acts listed can (inl refused) = absurd (let same = refused.2 in cc)
 step_listed seed c ws entries (AppendMade volume) acts listed can (inr (free, inl appended)) =
     let table : List (List ℕ) = appended.table in
-    subst (λ (es : List Entry). IsListed (changed_by (steps_of acts) c) ws es) (made_behind seed c ws entries listed table volume (sym appended.answered))
-    (listed_by c ws (listed_behind (kept_over c ws entries table) (made_name volume) 0 (taking (room_in (kept_over c ws entries table)) (Some (made_length seed volume)) (made_bytes seed volume)))
+    subst (λ (es : List Entry). IsListed (changed_by (steps_of acts) c) ws es)
+    (made_behind seed c ws entries listed table volume (sym appended.answered))
+    (listed_by c ws (listed_behind (kept_over c ws entries table) (made_name volume) 0
+    (taking (room_in (kept_over c ws entries table)) (Some (made_length seed volume)) (made_bytes seed volume)))
     (steps_of acts) (steps_of (made_acts seed c ws entries table volume)) (ap steps_of appended.does)
-    (append_listed c ws entries table (made_name volume) 0 (Some (made_length seed volume)) silently (made_bytes seed volume) listed free appended.reads (made_label volume can) (omega arith)))
+    (append_listed c ws entries table (made_name volume) 0 (Some (made_length seed volume)) silently
+    (made_bytes seed volume) listed free appended.reads (made_label volume can) (omega arith)))
 step_listed seed c ws entries (AppendMade volume) acts listed can (inr (free, inr lost)) = absurd (let same = lost.3 in cc)
 step_listed seed c ws entries (WearSector segment sector) acts listed can worn =
     listed_by c ws entries (steps_of acts) (Wear segment sector ∷ []) (ap steps_of worn.0) (wear_listed c ws entries segment sector listed)
 step_listed seed c ws entries ScrubAll acts listed can (inl refused) = absurd (let same = refused.2 in cc)
 step_listed seed c ws entries ScrubAll acts listed can (inr (free, scrubbed)) = scrub_listed c ws entries acts listed free scrubbed.0
 step_listed seed c ws entries (SumVolume number) acts listed can summed =
-    listed_by c ws entries (steps_of acts) [] (ap steps_of summed.is.0 ∙ sum_in_no_step number (volume_length ws summed.entry) (text_of summed.acts) summed.ending) listed
+    listed_by c ws entries (steps_of acts) []
+    (ap steps_of summed.is.0 ∙ sum_in_no_step number (volume_length ws summed.entry) (text_of summed.acts) summed.ending) listed
 
-runs_leave : (seed : ℕ) (c : Cartridge) (ws : List ℕ) (entries : List Entry) (items : List MakeStep) (acts : List Act) (answer : Status) → IsCartridge c → IsListed c ws entries →
+runs_leave : (seed : ℕ) (c : Cartridge) (ws : List ℕ) (entries : List Entry) (items : List MakeStep) (acts : List Act) (answer : Status) →
+    IsCartridge c → IsListed c ws entries →
     CanRun seed ws entries items → Runs seed c ws entries items acts answer → Whole c (steps_of acts)
 runs_leave seed c ws entries [] acts answer whole listed can is = still_whole c (steps_of acts) whole (ap steps_of is.0)
-runs_leave seed c ws entries (item ∷ items) acts answer whole listed can (inl (other, does)) = step_leaves seed c ws entries item acts answer whole listed can.0 does
+runs_leave seed c ws entries (item ∷ items) acts answer whole listed can (inl (other, does)) =
+    step_leaves seed c ws entries item acts answer whole listed can.0 does
 runs_leave seed c ws entries (item ∷ items) acts answer whole listed can (inr (first, rest, parts, does, runs)) =
     let now : Whole c (steps_of first) = step_leaves seed c ws entries item first status.Done whole listed can.0 does in
     leaves_by IsCartridge c (steps_of acts) (steps_of (first ++ rest)) (ap steps_of (sym parts))
     (acts_leave IsCartridge c first rest now
-    (runs_leave seed (changed_by (steps_of first) c) ws (after_item seed ws entries item) items rest answer (leaves_done IsCartridge c (steps_of first) now)
+    (runs_leave seed (changed_by (steps_of first) c) ws (after_item seed ws entries item) items rest answer
+    (leaves_done IsCartridge c (steps_of first) now)
     (step_listed seed c ws entries item first listed can.0 does) can.1 runs))
 
 pub making_whole : (seed count : ℕ) → count ≤ 200 → GoesLeaving IsCartridge (Making seed count)
 making_whole seed count few c header ws table entries outcome mounts found whole =
     whole_outcome c outcome _ found.is
     (behind_leave c table (steps_of found.acts) whole mounts.reads (λ still.
-    runs_leave seed (settled table c) ws entries (making seed count ws entries) found.acts found.answer still (listed_still c header ws table entries whole mounts)
+    runs_leave seed (settled table c) ws entries (making seed count ws entries) found.acts found.answer still
+    (listed_still c header ws table entries whole mounts)
     (can_make seed count ws entries few) found.makes))
 
 -- ---- one step
 
 -- a mark, or the version
-pub step_whole : (step : Step) (text : Cartridge → List ℕ) (c : Cartridge) (outcome : CommandOutcome) → StepOutcome step text (Some c) outcome → IsCartridge c → IsCartridge (changed step c) →
+pub step_whole : (step : Step) (text : Cartridge → List ℕ) (c : Cartridge) (outcome : CommandOutcome) →
+    StepOutcome step text (Some c) outcome → IsCartridge c → IsCartridge (changed step c) →
     ((left : Option Cartridge) → Halfway step (Some c) left → ⊥) → Whole c (steps_of outcome.acts)
 step_whole step text c outcome is whole behind never = whole_outcome c outcome _ is by_stop
   where
@@ -288,9 +348,11 @@ step_whole step text c outcome is whole behind never = whole_outcome c outcome _
     by_stop left (inr (inr done)) = some_and IsCartridge (changed step c) left behind done
 
 -- a new cartridge
-pub renewed_whole : (n : ℕ) (held left : Option Cartridge) (outcome : CommandOutcome) → IsLength n → IfSome held IsCartridge → NewOutcome n outcome → Torn (steps_of outcome.acts) held left →
+pub renewed_whole : (n : ℕ) (held left : Option Cartridge) (outcome : CommandOutcome) → IsLength n → IfSome held IsCartridge →
+    NewOutcome n outcome → Torn (steps_of outcome.acts) held left →
     IfSome left IsCartridge
-renewed_whole n held left outcome long whole is torn = by_held held whole (subst (λ (o : CommandOutcome). Torn (steps_of o.acts) held left) is torn)
+renewed_whole n held left outcome long whole is torn =
+    by_held held whole (subst (λ (o : CommandOutcome). Torn (steps_of o.acts) held left) is torn)
   where
     by_none : left ≡ None → IfSome left IsCartridge
     by_none same = subst (λ (o : Option Cartridge). IfSome o IsCartridge) (sym same) tt

@@ -1,5 +1,6 @@
 -- A copy is Done where all is there that it needs.
-use Rattle.std.proofs.Common.{◌≡◌, ℕ, zero, suc, ◌+◌, ◌-◌, arith, true, false, List, [], ◌∷◌, length, take, drop, All, Option, Some, inl, inr, refl, sym, ap, ◌∙◌, subst, get_or, get_or-drop, slice_get}
+use Rattle.std.proofs.Common.{◌≡◌, ℕ, zero, suc, ◌+◌, ◌-◌, arith, true, false, List, [], ◌∷◌, length, take, drop, All, Option, Some, inl}
+use Rattle.std.proofs.Common.{inr, refl, sym, ap, ◌∙◌, subst, get_or, get_or-drop, slice_get}
 use Rattle.std.proofs.lemmas.List.{length-drop}
 use Rattle.std.proofs.lemmas.List.Elements.{All-drop, All-get_or, All-head, All-tail}
 use Rattle.std.proofs.lemmas.Option.{slice_get-get_or}
@@ -36,7 +37,8 @@ use Rattle.command_spec.specs.declared.status.Status.TheVariants as answers
 
 -- the volume is given whole by this cartridge
 abbrev GivesWhole : Cartridge → Plain → Volume → Type 0
-GivesWhole c one volume = (read : List Act) (ending : GivingEnd) → Restores c one.words (pieces_in one volume) read ending → ending ≡ Restored
+GivesWhole c one volume = (read : List Act) (ending : GivingEnd) → Restores c one.words (pieces_in one volume) read ending →
+    ending ≡ Restored
 
 restored_is_done : (ending : GivingEnd) → ending_status ending ≡ answers.Done → ending ≡ Restored
 restored_is_done Restored is = refl
@@ -47,27 +49,34 @@ module _ (c : Cartridge) (one : Plain) (reads : ReadsAs c one) where
   mounts_so : Mounts c (mounted_as one)
   mounts_so = standing_mounts c one reads.stands reads.reads
 
-  given_all : (place : ℕ) (volume : Volume) → slice_get one.volumes place ≡ Some volume → All (LosesFew c one.words) (pieces_in one volume) → GivesWhole (settled one.table_area c) one volume
+  given_all : (place : ℕ) (volume : Volume) → slice_get one.volumes place ≡ Some volume →
+      All (LosesFew c one.words) (pieces_in one volume) → GivesWhole (settled one.table_area c) one volume
   given_all place volume at few read ending restores =
       let has : HasNumber c one (suc place) volume = record { stands = reads.stands; reads = reads.reads; is = at } in
       restored_is_done ending
-      (given_whole (suc place) c one volume (record { acts = settling_act one.table_area c ∷ read; taken = 0; status = ending_status ending }) has
+      (given_whole (suc place) c one volume
+      (record { acts = settling_act one.table_area c ∷ read; taken = 0; status = ending_status ending }) has
       (record { table = mounts_so.reads; acts = read; ending = ending; restores = restores; is = refl }) few).0
 
   -- so are all volumes behind some first ones
-  all_given : (n : ℕ) → All (λ volume. All (LosesFew c one.words) (pieces_in one volume)) (drop n one.volumes) → All (GivesWhole (settled one.table_area c) one) (drop n one.volumes)
+  all_given : (n : ℕ) → All (λ volume. All (LosesFew c one.words) (pieces_in one volume)) (drop n one.volumes) →
+      All (GivesWhole (settled one.table_area c) one) (drop n one.volumes)
   all_given n few = λ i d within.
       let volume : Volume = get_or (drop n one.volumes) i d in
       let rest : length (drop n one.volumes) ≡ length one.volumes - n = length-drop n one.volumes in
       let at : slice_get one.volumes (n + i) ≡ Some volume =
       slice_get-get_or one.volumes (n + i) d (omega arith) ∙ ap (λ (v : Volume). Some v) (sym (get_or-drop n one.volumes i d)) in
-      given_all (n + i) volume at (All-get_or (λ volume. All (LosesFew c one.words) (pieces_in one volume)) (drop n one.volumes) i d within few)
+      given_all (n + i) volume at (All-get_or (λ volume. All (LosesFew c one.words) (pieces_in one volume))
+      (drop n one.volumes) i d within few)
 
 -- ---- one volume
 
-volume_goes : (c : Cartridge) (one : Plain) (volume : Volume) (original : IsOriginal c one volume) (d : Cartridge) (p : Plain) (held : IsOpen d p) (acts : List Act) (answer : CopyStatus) →
-    GivesWhole c one volume → has_room p (volume_length one.words volume.entry) ≡ true → CopiesVolume (side_for c one) volume.entry (side_for d p) acts answer → answer ≡ status.Done
-volume_goes c one volume original d p held acts answer gives room (inl lost) = absurd (not_lost d p.table_area lost.lost held.table lost.says)
+volume_goes : (c : Cartridge) (one : Plain) (volume : Volume) (original : IsOriginal c one volume) (d : Cartridge) (p : Plain)
+    (held : IsOpen d p) (acts : List Act) (answer : CopyStatus) →
+    GivesWhole c one volume → has_room p (volume_length one.words volume.entry) ≡ true → CopiesVolume (side_for c one) volume.entry
+    (side_for d p) acts answer → answer ≡ status.Done
+volume_goes c one volume original d p held acts answer gives room (inl lost) =
+    absurd (not_lost d p.table_area lost.lost held.table lost.says)
 volume_goes c one volume original d p held acts answer gives room (inr (table, reads, inl full)) =
     let enough : has_room_for (side_for c one) volume.entry (side_for d p) ≡ true =
     room_is c one volume original d p held ∙ ap (has_room p) (volume_is_long c one volume original.has) ∙ room in
@@ -80,24 +89,31 @@ volume_goes c one volume original d p held acts answer gives room (inr (table, r
 -- each has room when its turn comes
 abbrev HaveRoom : (one : Plain) → List Volume → Plain → Type 0
 HaveRoom one [] p = Unit {0}
-HaveRoom one (volume ∷ volumes) p = (has_room p (volume_length one.words volume.entry) ≡ true) × HaveRoom one volumes (with_volume one p volume)
+HaveRoom one (volume ∷ volumes) p = (has_room p (volume_length one.words volume.entry) ≡ true)
+    × HaveRoom one volumes (with_volume one p volume)
 
 have_room : (one : Plain) (volumes : List Volume) (p : Plain) →
-    ((k : ℕ) (volume : Volume) → slice_get volumes k ≡ Some volume → has_room (with_all p (contents_of one.words (take k volumes))) (volume_length one.words volume.entry) ≡ true) →
+    ((k : ℕ) (volume : Volume) → slice_get volumes k ≡ Some volume → has_room (with_all p (contents_of one.words (take k volumes)))
+    (volume_length one.words volume.entry) ≡ true) →
     HaveRoom one volumes p
 have_room one [] p each = tt
-have_room one (volume ∷ volumes) p each = (each 0 volume refl, have_room one volumes (with_volume one p volume) (λ k v at. each (suc k) v at))
+have_room one (volume ∷ volumes) p each =
+    (each 0 volume refl, have_room one volumes (with_volume one p volume) (λ k v at. each (suc k) v at))
 
-copies_go : (c : Cartridge) (one : Plain) (volumes : List Volume) → All (IsOriginal c one) volumes → All (GivesWhole c one) volumes → (d : Cartridge) (p : Plain) → IsOpen d p → HaveRoom one volumes p →
+copies_go : (c : Cartridge) (one : Plain) (volumes : List Volume) → All (IsOriginal c one) volumes → All (GivesWhole c one) volumes →
+    (d : Cartridge) (p : Plain) → IsOpen d p → HaveRoom one volumes p →
     (acts : List Act) (answer : CopyStatus) → Copies (side_for c one) (entries_in volumes) (side_for d p) acts answer → answer ≡ status.Done
 copies_go c one [] are give d p held room acts answer (does, done) = done
 copies_go c one (volume ∷ volumes) are give d p held room acts answer (inl (other, does)) =
-    absurd (other (volume_goes c one volume (All-head (IsOriginal c one) volume volumes are) d p held acts answer (All-head (GivesWhole c one) volume volumes give) room.0 does))
+    absurd (other (volume_goes c one volume (All-head (IsOriginal c one) volume volumes are) d p held acts answer
+    (All-head (GivesWhole c one) volume volumes give) room.0 does))
 copies_go c one (volume ∷ volumes) are give d p held room acts answer (inr (first, rest, parts, does, behind)) =
     let original : IsOriginal c one volume = All-head (IsOriginal c one) volume volumes are in
-    copies_go c one volumes (All-tail (IsOriginal c one) volume volumes are) (All-tail (GivesWhole c one) volume volumes give) (changed_by (steps_of first) d) (with_volume one p volume)
+    copies_go c one volumes (All-tail (IsOriginal c one) volume volumes are) (All-tail (GivesWhole c one) volume volumes give)
+    (changed_by (steps_of first) d) (with_volume one p volume)
     (open_behind c one volume original d p held first does) room.1 rest answer
-    (subst (λ (side : Side). Copies (side_for c one) (entries_in volumes) side rest answer) (side_behind c one volume original d p held first) behind)
+    (subst (λ (side : Side). Copies (side_for c one) (entries_in volumes) side rest answer)
+    (side_behind c one volume original d p held first) behind)
 
 -- ---- the outcome
 
@@ -120,20 +136,26 @@ copy_with_room_is_done c one d other outcome whole can (m, mounts, does) =
     let did : FromMounted c (mounted_as one) (Some d) outcome = subst (λ (k : Mounting). FromMounted c k (Some d) outcome) is does in
     let reads : Mounts d (mounted_as other) = standing_mounts d other can.target.stands can.target.reads in
     let found : did.1.0 ≡ mounted_as other = mounts_is_function d did.1.0 (mounted_as other) did.1.1 reads in
-    by_mark reads (subst (λ (k : Mounting). ToMounted (side_for (settled one.table_area c) one) d k outcome.acts outcome.status) found did.1.2)
+    by_mark reads (subst (λ (k : Mounting). ToMounted (side_for (settled one.table_area c) one) d k outcome.acts outcome.status) found
+    did.1.2)
   where
-    by_mark : Mounts d (mounted_as other) → ToMounted (side_for (settled one.table_area c) one) d (mounted_as other) outcome.acts outcome.status → outcome.status ≡ status.Done
+    by_mark : Mounts d (mounted_as other) → ToMounted (side_for (settled one.table_area c) one) d
+        (mounted_as other) outcome.acts outcome.status → outcome.status ≡ status.Done
     by_mark reads (inl locked) = absurd (never_unlocked d locked.0 can.unprotected)
     by_mark reads (inr (free, (rest, acts, compares))) =
         let still : Cartridge = settled one.table_area c in
         let stays : Stands still one = settled_stands c one one.table_area can.source.stands (mounts_so c one can.source).reads in
-        let copies : Copies (side_for still one) (missing (side_for still one) (side_for (settled other.table_area d) other)) (side_for (settled other.table_area d) other) rest outcome.status =
-        subst (λ (o : Option ℕ). Compares (side_for still one) (side_for (settled other.table_area d) other) o rest outcome.status) can.like compares in
+        let copies : Copies (side_for still one) (missing (side_for still one) (side_for (settled other.table_area d) other))
+        (side_for (settled other.table_area d) other) rest outcome.status =
+        subst (λ (o : Option ℕ). Compares (side_for still one) (side_for (settled other.table_area d) other) o rest outcome.status) can.like
+        compares in
         copies_go still one (behind one other)
         (All-drop (IsOriginal still one) (length other.volumes) one.volumes (originals still one stays))
         (all_given c one can.source (length other.volumes) can.few)
         (settled other.table_area d) other (mounted_open d other whole can.target.stands reads can.unprotected)
-        (have_room one (behind one other) other (λ k volume at. subst (λ (p : Plain). has_room p (volume_length one.words volume.entry) ≡ true) (copied_some one other k)
+        (have_room one (behind one other) other
+        (λ k volume at. subst (λ (p : Plain). has_room p (volume_length one.words volume.entry) ≡ true) (copied_some one other k)
         (can.room (length other.volumes + k) volume (omega arith) (slice_behind (length other.volumes) k one.volumes volume at))))
         rest outcome.status
-        (subst (λ (es : List Entry). Copies (side_for still one) es (side_for (settled other.table_area d) other) rest outcome.status) (missing_is one other can.like still (settled other.table_area d)) copies)
+        (subst (λ (es : List Entry). Copies (side_for still one) es (side_for (settled other.table_area d) other) rest outcome.status)
+        (missing_is one other can.like still (settled other.table_area d)) copies)

@@ -1,5 +1,6 @@
 -- A copy that goes on behind some of the missing volumes.
-use Rattle.std.proofs.Common.{◌≡◌, ℕ, zero, suc, ◌+◌, ◌-◌, ◌≤◌, ◌==◌, ◌&&◌, arith, Bool, true, false, cond, List, [], ◌∷◌, ◌++◌, map, length, take, drop, Some, None, refl, sym, ap, ◌∙◌, subst, eq-eqb, length-append, length-drop}
+use Rattle.std.proofs.Common.{◌≡◌, ℕ, zero, suc, ◌+◌, ◌-◌, ◌≤◌, ◌==◌, ◌&&◌, arith, Bool, true, false, cond, List, [], ◌∷◌, ◌++◌, map}
+use Rattle.std.proofs.Common.{length, take, drop, Some, None, refl, sym, ap, ◌∙◌, subst, eq-eqb, length-append, length-drop}
 use Rattle.std.specs.Str.{bytes_eq}
 use Rattle.std.proofs.lemmas.List.{drop-map, length-map, length-take-le, map-append}
 use Rattle.std.proofs.lemmas.Slice.Eq.{bytes_eq-Decides}
@@ -19,7 +20,8 @@ use Rattle.qic_base.specs.CartridgeTerms.{IsCartridge}
 -- ---- the volumes that both have
 
 -- those of the first list that begins like the second are no fewer
-pub like_within : (words : List ℕ) (es : List Entry) (words' : List ℕ) (fs : List Entry) (number : ℕ) → difference words es words' fs number ≡ None → length fs ≤ length es
+pub like_within : (words : List ℕ) (es : List Entry) (words' : List ℕ) (fs : List Entry) (number : ℕ) →
+    difference words es words' fs number ≡ None → length fs ≤ length es
 like_within words es words' [] number like = omega arith
 like_within words [] words' (f ∷ fs) number like = absurd (cc)
 like_within words (e ∷ es) words' (f ∷ fs) number like =
@@ -31,8 +33,10 @@ like_within words (e ∷ es) words' (f ∷ fs) number like =
     by_first false more rest = absurd (cc)
 
 -- one more is like the next one
-like_more : (words : List ℕ) (es : List Entry) (words' : List ℕ) (fs : List Entry) (number : ℕ) (e : Entry) (rest : List Entry) (f : Entry) →
-    difference words es words' fs number ≡ None → drop (length fs) es ≡ e ∷ rest → is_alike words e words' f ≡ true → difference words es words' (fs ++ f ∷ []) number ≡ None
+like_more : (words : List ℕ) (es : List Entry) (words' : List ℕ) (fs : List Entry) (number : ℕ) (e : Entry) (rest : List Entry)
+    (f : Entry) →
+    difference words es words' fs number ≡ None → drop (length fs) es ≡ e ∷ rest → is_alike words e words' f ≡ true →
+    difference words es words' (fs ++ f ∷ []) number ≡ None
 like_more words es words' [] number e rest f like next alike =
     ap (λ (xs : List Entry). difference words xs words' (f ∷ []) number) next
     ∙ ap (λ (b : Bool). cond b None (Some number)) alike
@@ -40,8 +44,10 @@ like_more words [] words' (x ∷ fs) number e rest f like next alike = absurd (c
 like_more words (y ∷ es) words' (x ∷ fs) number e rest f like next alike =
     by_first (is_alike words y words' x) (λ behind. like_more words es words' fs (number + 1) e rest f behind next alike) like
   where
-    by_first : (b : Bool) → (difference words es words' fs (number + 1) ≡ None → difference words es words' (fs ++ f ∷ []) (number + 1) ≡ None) →
-        cond b (difference words es words' fs (number + 1)) (Some number) ≡ None → cond b (difference words es words' (fs ++ f ∷ []) (number + 1)) (Some number) ≡ None
+    by_first : (b : Bool) → (difference words es words' fs (number + 1) ≡ None → difference words es words' (fs ++ f ∷ [])
+        (number + 1) ≡ None) →
+        cond b (difference words es words' fs (number + 1)) (Some number) ≡ None →
+        cond b (difference words es words' (fs ++ f ∷ []) (number + 1)) (Some number) ≡ None
     by_first true more behind = more behind
     by_first false more behind = absurd (cc)
 
@@ -87,20 +93,25 @@ module _ (c : Cartridge) (one : Plain) (volume : Volume) (original : IsOriginal 
       let new : volume_length p.words (appended_volume p volume.entry.name volume.entry.date bytes).entry ≡ length bytes =
       (done_bytes d p volume.entry.name volume.entry.date bytes may).0 in
       let old : length bytes ≡ volume_length one.words volume.entry = volume_is_long c one volume original.has in
-      ap (λ (b : Bool). b && (volume.entry.date == volume.entry.date && volume_length one.words volume.entry == volume_length p.words (appended_volume p volume.entry.name volume.entry.date bytes).entry)) same_name
-      ∙ ap (λ (b : Bool). b && volume_length one.words volume.entry == volume_length p.words (appended_volume p volume.entry.name volume.entry.date bytes).entry) (eq-eqb volume.entry.date volume.entry.date refl)
+      ap (λ (b : Bool). b && (volume.entry.date == volume.entry.date && volume_length one.words volume.entry == volume_length p.words
+      (appended_volume p volume.entry.name volume.entry.date bytes).entry)) same_name
+      ∙ ap (λ (b : Bool). b && volume_length one.words volume.entry == volume_length p.words
+      (appended_volume p volume.entry.name volume.entry.date bytes).entry) (eq-eqb volume.entry.date volume.entry.date refl)
       ∙ eq-eqb _ _ (sym (new ∙ old))
 
-  pub next_like : (d : Cartridge) (rest : List Volume) → IsCartridge d → Stands d p → has_room p (length bytes) ≡ true → BeginsLike one p → behind one p ≡ volume ∷ rest → BeginsLike one next
+  pub next_like : (d : Cartridge) (rest : List Volume) → IsCartridge d → Stands d p → has_room p (length bytes) ≡ true → BeginsLike one p →
+      behind one p ≡ volume ∷ rest → BeginsLike one next
   next_like d rest whole stands room like is =
       let new : Entry = (appended_volume p volume.entry.name volume.entry.date bytes).entry in
       let list : entries_of next ≡ entries_of p ++ new ∷ [] =
       map-append (λ (v : Volume). v.entry) p.volumes (appended_volume p volume.entry.name volume.entry.date bytes ∷ []) in
       let there : drop (length (entries_of p)) (entries_of one) ≡ volume.entry ∷ map (λ (v : Volume). v.entry) rest =
       ap (λ (n : ℕ). drop n (entries_of one)) (length-map p.volumes (λ (v : Volume). v.entry))
-      ∙ drop-map (λ (v : Volume). v.entry) (length p.volumes) one.volumes ∙ ap (λ (vs : List Volume). map (λ (v : Volume). v.entry) vs) is in
+      ∙ drop-map (λ (v : Volume). v.entry) (length p.volumes) one.volumes
+      ∙ ap (λ (vs : List Volume). map (λ (v : Volume). v.entry) vs) is in
       ap (λ (fs : List Entry). difference one.words (entries_of one) p.words fs 1) list
-      ∙ like_more one.words (entries_of one) p.words (entries_of p) 1 volume.entry (map (λ (v : Volume). v.entry) rest) new like there (next_alike d whole stands room)
+      ∙ like_more one.words (entries_of one) p.words (entries_of p) 1 volume.entry (map (λ (v : Volume). v.entry) rest) new like there
+      (next_alike d whole stands room)
 
 -- ---- several
 
@@ -130,11 +141,15 @@ parted (x ∷ xs) zero (suc j) (suc n) low high = ap (λ (vs : List Volume). x �
 parted (x ∷ xs) (suc i) (suc j) zero low high = absurd (omega arith)
 parted (x ∷ xs) (suc i) (suc j) (suc n) low high = parted xs i j n (omega arith) (omega arith)
 
-copied_count : (one other : Plain) (upto : ℕ) → length other.volumes ≤ upto → upto ≤ length one.volumes → length (copied one other upto).volumes ≡ upto
+copied_count : (one other : Plain) (upto : ℕ) → length other.volumes ≤ upto → upto ≤ length one.volumes →
+    length (copied one other upto).volumes ≡ upto
 copied_count one other upto low high =
-    let count : length (copied one other upto).volumes ≡ length other.volumes + length (missing_contents one other upto) = with_all-count other (missing_contents one other upto) in
-    let contents : length (missing_contents one other upto) ≡ length (drop (length other.volumes) (take upto one.volumes)) = length-map (drop (length other.volumes) (take upto one.volumes)) _ in
-    let rest : length (drop (length other.volumes) (take upto one.volumes)) ≡ length (take upto one.volumes) - length other.volumes = length-drop (length other.volumes) (take upto one.volumes) in
+    let count : length (copied one other upto).volumes ≡ length other.volumes + length (missing_contents one other upto) =
+    with_all-count other (missing_contents one other upto) in
+    let contents : length (missing_contents one other upto) ≡ length (drop (length other.volumes) (take upto one.volumes)) =
+    length-map (drop (length other.volumes) (take upto one.volumes)) _ in
+    let rest : length (drop (length other.volumes) (take upto one.volumes)) ≡ length (take upto one.volumes) - length other.volumes =
+    length-drop (length other.volumes) (take upto one.volumes) in
     let all : length (take upto one.volumes) ≡ upto = length-take-le upto one.volumes high in
     omega arith
 
@@ -145,4 +160,5 @@ copy_goes_on one other upto n low high within =
     ap (λ (vs : List Volume). contents_of one.words vs) (parted one.volumes (length other.volumes) upto n low high)
     ∙ map-append _ (drop (length other.volumes) (take upto one.volumes)) (drop upto (take n one.volumes)) in
     ap (λ (m : ℕ). with_all some (contents_of one.words (drop m (take n one.volumes)))) (copied_count one other upto low within)
-    ∙ sym (ap (λ (xs : List Content). with_all other xs) pieces ∙ with_all-append other (missing_contents one other upto) (contents_of one.words (drop upto (take n one.volumes))))
+    ∙ sym (ap (λ (xs : List Content). with_all other xs) pieces ∙ with_all-append other (missing_contents one other upto)
+    (contents_of one.words (drop upto (take n one.volumes))))

@@ -12,7 +12,9 @@ use Rattle.command_laws.proofs.RestoreEndings.{restores_is_function}
 use Rattle.command_laws.proofs.RestoreGiven.{given_is_function}
 use Rattle.command_laws.proofs.ScriptActs.{input_texts}
 use Rattle.command_laws.specs.CopyLaws.{CopiesAlike, CopiesOneThing}
-use Rattle.command_spec.specs.Copying.{Compares, Copies, CopiesVolume, CopyOutcome, DoneOf, FromMounted, IsBegun, IsFull, IsGiven, Side, ToDoes, ToMounted, behind_copy, first_difference, giving_status, has_room_for, kept_on, length_on, missing, side_of}
+use Rattle.command_spec.specs.Copying.{Compares, Copies, CopiesVolume, CopyOutcome, DoneOf, FromMounted, IsBegun, IsFull, IsGiven, Side}
+use Rattle.command_spec.specs.Copying.{ToDoes, ToMounted, behind_copy, first_difference, giving_status, has_room_for, kept_on, length_on}
+use Rattle.command_spec.specs.Copying.{missing, side_of}
 use Rattle.command_spec.specs.Outcome.{settling_act}
 use Rattle.command_spec.specs.Restore.{GivingEnd, LostIn, MismatchIn, Restored, pieces}
 use Rattle.command_spec.specs.declared.copy_status.CopyStatus.{CopyStatus}
@@ -46,21 +48,27 @@ done_or_not status.SinkFault = inr (λ is. cc)
 -- ---- one volume
 
 -- acts that were begun print nothing
-pub begun_text : (from : Side) (e : Entry) (to : Side) (table : List (List ℕ)) (bytes : List ℕ) (acts : List Act) → IsBegun from e to table bytes acts → text_of acts ≡ []
+pub begun_text : (from : Side) (e : Entry) (to : Side) (table : List (List ℕ)) (bytes : List ℕ) (acts : List Act) →
+    IsBegun from e to table bytes acts → text_of acts ≡ []
 begun_text from e to table bytes acts begun =
     quiet_front acts begun.rest _ begun.parts (input_texts (kept_on to table) (Some (length_on from e)) bytes)
 
 module _ (from : Side) (e : Entry) (to : Side) where
-  one_given : (table : List (List ℕ)) (a b : List Act) (x y : CopyStatus) → IsGiven from e to table a x → IsGiven from e to table b y → Same a b x y
+  one_given : (table : List (List ℕ)) (a b : List Act) (x y : CopyStatus) → IsGiven from e to table a x → IsGiven from e to table b y →
+      Same a b x y
   one_given table a b x y one other =
-      let bytes : one.bytes ≡ other.bytes = given_is_function from.cartridge from.words (pieces from.words e) one.bytes other.bytes one.given other.given in
+      let bytes : one.bytes ≡ other.bytes = given_is_function from.cartridge from.words
+      (pieces from.words e) one.bytes other.bytes one.given other.given in
       let ending : one.ending ≡ other.ending =
-      (restores_is_function from.cartridge from.words (pieces from.words e) one.read other.read one.ending other.ending one.restores other.restores).1 in
+      (restores_is_function from.cartridge from.words (pieces from.words e) one.read other.read one.ending other.ending one.restores
+      other.restores).1 in
       by_ending other.ending
-      (subst (λ (bs : List ℕ). DoneOf from e to table bs other.ending a) bytes (subst (λ (end : GivingEnd). DoneOf from e to table one.bytes end a) ending one.does))
+      (subst (λ (bs : List ℕ). DoneOf from e to table bs other.ending a) bytes
+      (subst (λ (end : GivingEnd). DoneOf from e to table one.bytes end a) ending one.does))
       other.does (one.answered ∙ ap giving_status ending) other.answered
     where
-      by_ending : (ending : GivingEnd) → DoneOf from e to table other.bytes ending a → DoneOf from e to table other.bytes ending b → x ≡ giving_status ending →
+      by_ending : (ending : GivingEnd) → DoneOf from e to table other.bytes ending a → DoneOf from e to table other.bytes ending b →
+          x ≡ giving_status ending →
           y ≡ giving_status ending → Same a b x y
       by_ending Restored p q is was = same_all a b x y (p ∙ sym q) (is ∙ sym was)
       by_ending (LostIn segment lost) p q is was = record {
@@ -87,7 +95,8 @@ module _ (from : Side) (e : Entry) (to : Side) where
   pub volume_one : (a b : List Act) (x y : CopyStatus) → CopiesVolume from e to a x → CopiesVolume from e to b y → Same a b x y
   volume_one a b x y (inl one) (inl other) =
       let lost : ByCode (LostSectors one.lost) ≡ ByCode (LostSectors other.lost) =
-      table_says_is_function (table_cells to.cartridge) (ByCode (LostSectors one.lost)) (ByCode (LostSectors other.lost)) one.says other.says in
+      table_says_is_function (table_cells to.cartridge) (ByCode (LostSectors one.lost))
+      (ByCode (LostSectors other.lost)) one.says other.says in
       let same : one.lost ≡ other.lost = cc in
       same_all a b x y (one.does ∙ sym other.does) (one.answered ∙ ap (λ (n : ℕ). status.To (fault.Lost 2 n)) same ∙ sym other.answered)
   volume_one a b x y (inl one) (inr (table, reads, other)) = absurd (not_lost to.cartridge table one.lost reads one.says)
@@ -98,7 +107,8 @@ module _ (from : Side) (e : Entry) (to : Side) where
 
 -- ---- volumes one after the other
 
-copies_one : (from : Side) (es : List Entry) (to : Side) (a b : List Act) (x y : CopyStatus) → Copies from es to a x → Copies from es to b y → Same a b x y
+copies_one : (from : Side) (es : List Entry) (to : Side) (a b : List Act) (x y : CopyStatus) → Copies from es to a x →
+    Copies from es to b y → Same a b x y
 copies_one from [] to a b x y one other = same_all a b x y (one.0 ∙ sym other.0) (one.1 ∙ sym other.1)
 copies_one from (e ∷ es) to a b x y (inl (p, one)) (inl (q, other)) = volume_one from e to a b x y one other
 copies_one from (e ∷ es) to a b x y (inl (p, one)) (inr (first, rest, parts, does, more)) =
@@ -118,18 +128,21 @@ copies_one from (e ∷ es) to a b x y (inr (first, rest, parts, does, more)) (in
 
 -- ---- the outcome
 
-compares_one : (from to : Side) (difference : Option ℕ) (a b : List Act) (x y : CopyStatus) → Compares from to difference a x → Compares from to difference b y → Same a b x y
+compares_one : (from to : Side) (difference : Option ℕ) (a b : List Act) (x y : CopyStatus) → Compares from to difference a x →
+    Compares from to difference b y → Same a b x y
 compares_one from to (Some number) a b x y one other = same_all a b x y (one.0 ∙ sym other.0) (one.1 ∙ sym other.1)
 compares_one from to None a b x y one other = copies_one from (missing from to) to a b x y one other
 
-same_behind : (act : Act) (a b more rest : List Act) (x y : CopyStatus) → a ≡ act ∷ more → b ≡ act ∷ rest → Same more rest x y → Same a b x y
+same_behind : (act : Act) (a b more rest : List Act) (x y : CopyStatus) → a ≡ act ∷ more → b ≡ act ∷ rest → Same more rest x y →
+    Same a b x y
 same_behind act a b more rest x y p q same = record {
   answer = same.answer;
   text = ap text_of p ∙ ap (λ (text : List ℕ). act.text ++ text) same.text ∙ sym (ap text_of q);
   acts = λ done. p ∙ ap (λ (zs : List Act). act ∷ zs) (same.acts done) ∙ sym q;
 }
 
-to_mounted_one : (from : Side) (c : Cartridge) (m : Mounting) (a b : List Act) (x y : CopyStatus) → ToMounted from c m a x → ToMounted from c m b y → Same a b x y
+to_mounted_one : (from : Side) (c : Cartridge) (m : Mounting) (a b : List Act) (x y : CopyStatus) → ToMounted from c m a x →
+    ToMounted from c m b y → Same a b x y
 to_mounted_one from c mounting.NotFormatted a b x y one other = same_all a b x y (one.0 ∙ sym other.0) (one.1 ∙ sym other.1)
 to_mounted_one from c (mounting.Foreign found) a b x y one other = same_all a b x y (one.0 ∙ sym other.0) (one.1 ∙ sym other.1)
 to_mounted_one from c (mounting.TableLost lost) a b x y one other = same_all a b x y (one.0 ∙ sym other.0) (one.1 ∙ sym other.1)
@@ -155,7 +168,8 @@ same_outcome one other is = record {
   settling = ap (λ (o : CopyOutcome). o.settling) is;
 }
 
-from_mounted_one : (c : Cartridge) (m : Mounting) (to : Option Cartridge) (one other : CopyOutcome) → FromMounted c m to one → FromMounted c m to other → CopiesAlike one other
+from_mounted_one : (c : Cartridge) (m : Mounting) (to : Option Cartridge) (one other : CopyOutcome) → FromMounted c m to one →
+    FromMounted c m to other → CopiesAlike one other
 from_mounted_one c mounting.NotFormatted to one other p q = same_outcome one other (p ∙ sym q)
 from_mounted_one c (mounting.Foreign found) to one other p q = same_outcome one other (p ∙ sym q)
 from_mounted_one c (mounting.TableLost lost) to one other p q = same_outcome one other (p ∙ sym q)

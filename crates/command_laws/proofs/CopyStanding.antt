@@ -1,5 +1,6 @@
 -- What a copy leaves of a target that stands for a plain cartridge, done or stopped.
-use Rattle.std.proofs.Common.{◌⊎◌, ◌≡◌, ℕ, suc, ◌+◌, ◌-◌, ◌<◌, ◌≤◌, nat_lt, arith, Bool, true, cond, List, [], ◌∷◌, ◌++◌, map, length, take, All, Option, Some, IsSomeAnd, inl, inr, refl, sym, ap, ◌∙◌, subst, append-nil}
+use Rattle.std.proofs.Common.{◌⊎◌, ◌≡◌, ℕ, suc, ◌+◌, ◌-◌, ◌<◌, ◌≤◌, nat_lt, arith, Bool, true, cond, List, [], ◌∷◌, ◌++◌, map, length, take}
+use Rattle.std.proofs.Common.{All, Option, Some, IsSomeAnd, inl, inr, refl, sym, ap, ◌∙◌, subst, append-nil}
 use Rattle.std.proofs.lemmas.List.{length-map, map-append, take_all}
 use Rattle.std.proofs.lemmas.List.Elements.{All-head, All-tail, All-weaker}
 use Rattle.cartridge_laws.proofs.AppendSegments.{carrying_from}
@@ -24,10 +25,12 @@ use Rattle.command_laws.proofs.MountedStanding.{all_writes, kept_appended, open_
 use Rattle.command_laws.proofs.RestoreStanding.{volume_is_long}
 use Rattle.command_laws.proofs.ScriptActs.{fits_acts, front_acts, full_acts, input_texts, last_act, replied_steps, replied_text}
 use Rattle.command_laws.specs.MountedKept.{IsKept, IsOpen, settle_and_append}
-use Rattle.command_spec.specs.Append.{Fits, Kept, TooLong, TooShort, append_acts, has_promised_room, input_acts, input_writes, kept_over, room_in, taking}
+use Rattle.command_spec.specs.Append.{Fits, Kept, TooLong, TooShort, append_acts, has_promised_room, input_acts, input_writes, kept_over}
+use Rattle.command_spec.specs.Append.{room_in, taking}
 use Rattle.command_laws.specs.AppendTerms.{free_in}
 use Rattle.command_spec.specs.Copied.{BeginsLike, contents_of}
-use Rattle.command_spec.specs.Copying.{Copies, CopiesVolume, DoneOf, IsBegun, IsFull, IsGiven, Side, behind_copy, copied_behind, copied_entry, copied_line, copy_acts, giving_status, has_room_for, length_on}
+use Rattle.command_spec.specs.Copying.{Copies, CopiesVolume, DoneOf, IsBegun, IsFull, IsGiven, Side, behind_copy, copied_behind}
+use Rattle.command_spec.specs.Copying.{copied_entry, copied_line, copy_acts, giving_status, has_room_for, length_on}
 use Rattle.command_spec.specs.Restore.{GivingEnd, LostIn, MismatchIn, Restored, Restores, pieces_in}
 use Rattle.command_spec.specs.declared.copy_status.CopyStatus.{CopyStatus}
 use Rattle.qic_base.proofs.Joins.{steps_of-append}
@@ -46,16 +49,19 @@ side_for c plain = record { cartridge = c; words = plain.words; entries = entrie
 
 -- ---- segments written behind the volumes
 
-pub behind_last : (kept : Kept) (n : ℕ) (bytes : List ℕ) → AreWrites (IsFree (last_end kept.entries)) (steps_of (input_writes kept.words kept.entries (Some n) bytes))
+pub behind_last : (kept : Kept) (n : ℕ) (bytes : List ℕ) → AreWrites (IsFree (last_end kept.entries))
+    (steps_of (input_writes kept.words kept.entries (Some n) bytes))
 behind_last kept n bytes =
     free_if (last_end kept.entries) (has_promised_room (room_in kept) (Some n)) (input_acts kept.words (free_in kept) n true bytes)
     (input_is_free (last_end kept.entries) kept.words (free_in kept) n true bytes
-    (All-weaker (λ (s : ℕ). last_end kept.entries + 1 ≤ s) (λ (s : ℕ). last_end kept.entries < s) (λ s (h : last_end kept.entries + 1 ≤ s). omega arith) (free_in kept)
+    (All-weaker (λ (s : ℕ). last_end kept.entries + 1 ≤ s) (λ (s : ℕ). last_end kept.entries < s)
+    (λ s (h : last_end kept.entries + 1 ≤ s). omega arith) (free_in kept)
     (carrying_from kept.words (last_end kept.entries + 1) (length kept.words - 1))))
 
 -- ---- one volume
 
-module _ (c : Cartridge) (one : Plain) (volume : Volume) (original : IsOriginal c one volume) (d : Cartridge) (p : Plain) (held : IsOpen d p) where
+module _ (c : Cartridge) (one : Plain) (volume : Volume) (original : IsOriginal c one volume) (d : Cartridge) (p : Plain)
+    (held : IsOpen d p) where
   abbrev e : Entry
   e = volume.entry
 
@@ -85,7 +91,8 @@ module _ (c : Cartridge) (one : Plain) (volume : Volume) (original : IsOriginal 
   room_is = ap (λ (n : ℕ). has_promised_room (room_in kept) (Some n)) (sym long)
 
   -- its acts, where so many bytes are promised
-  acts_are : (table : List (List ℕ)) → table ≡ p.table_area → copy_acts from e to table bytes ≡ append_acts kept e.name e.date (Some (length bytes)) replies bytes
+  acts_are : (table : List (List ℕ)) → table ≡ p.table_area → copy_acts from e to table bytes ≡ append_acts kept e.name e.date
+      (Some (length bytes)) replies bytes
   acts_are table area =
       ap (λ (t : List (List ℕ)). copy_acts from e to t bytes) area
       ∙ ap (λ (n : ℕ). append_acts kept e.name e.date (Some n) replies bytes) (sym long)
@@ -106,7 +113,8 @@ module _ (c : Cartridge) (one : Plain) (volume : Volume) (original : IsOriginal 
   steps_are : has_room p (length bytes) ≡ true → steps_of its_acts ≡ all_steps
   steps_are enough =
       sym (replied_steps kept e.name e.date (length bytes) bytes bytes (fits enough) replies)
-      ∙ ap (λ (rest : List Step). settling_steps p.table_area d ++ rest) (all_writes p e.name e.date bytes (settling_steps p.table_area d) enough)
+      ∙ ap (λ (rest : List Step). settling_steps p.table_area d ++ rest)
+      (all_writes p e.name e.date bytes (settling_steps p.table_area d) enough)
 
   -- where it was carried out there was room, and all its acts were done
   done_given : (table : List (List ℕ)) (acts : List Act) (ending : GivingEnd) (given : List ℕ) (read : List Act) →
@@ -118,7 +126,8 @@ module _ (c : Cartridge) (one : Plain) (volume : Volume) (original : IsOriginal 
   done_given table acts (LostIn segment lost) given read area room answered same does = absurd (cc)
   done_given table acts (MismatchIn segment) given read area room answered same does = absurd (cc)
 
-  given_is : (acts : List Act) (answer : CopyStatus) (table : List (List ℕ)) → (is : IsGiven from e to table acts answer) → is.ending ≡ Restored → is.bytes ≡ bytes
+  given_is : (acts : List Act) (answer : CopyStatus) (table : List (List ℕ)) → (is : IsGiven from e to table acts answer) →
+      is.ending ≡ Restored → is.bytes ≡ bytes
   given_is acts answer table is ended =
       given_whole c one volume is.read is.bytes original.has is.given
       (subst (λ (end : GivingEnd). Restores c one.words (pieces_in one volume) is.read end) ended is.restores)
@@ -127,9 +136,11 @@ module _ (c : Cartridge) (one : Plain) (volume : Volume) (original : IsOriginal 
   done_acts acts (inl lost) = absurd (let is = lost.answered in cc)
   done_acts acts (inr (table, reads, inl full)) = absurd (let is = full.answered in cc)
   done_acts acts (inr (table, reads, inr is)) =
-      done_given table acts is.ending is.bytes is.read (standing_data d p table held.stands reads) is.room is.answered (given_is acts status.Done table is) is.does
+      done_given table acts is.ending is.bytes is.read (standing_data d p table held.stands reads) is.room is.answered
+      (given_is acts status.Done table is) is.does
 
-  pub done_volume : (acts : List Act) → CopiesVolume from e to acts status.Done → (has_room p (length bytes) ≡ true) × (steps_of acts ≡ all_steps)
+  pub done_volume : (acts : List Act) → CopiesVolume from e to acts status.Done → (has_room p (length bytes) ≡ true)
+      × (steps_of acts ≡ all_steps)
   done_volume acts does =
       let did = done_acts acts does in
       (did.0, ap steps_of did.1 ∙ steps_are did.0)
@@ -149,7 +160,8 @@ module _ (c : Cartridge) (one : Plain) (volume : Volume) (original : IsOriginal 
   pub quiet_text : text_of quiet_acts ≡ []
   quiet_text = input_texts kept (Some (length bytes)) bytes
 
-  pub done_text : (acts : List Act) → CopiesVolume from e to acts status.Done → text_of acts ≡ copied_line (length p.volumes + 1) (volume_length one.words e)
+  pub done_text : (acts : List Act) → CopiesVolume from e to acts status.Done → text_of acts ≡ copied_line (length p.volumes + 1)
+      (volume_length one.words e)
   done_text acts does =
       let did = done_acts acts does in
       ap text_of did.1 ∙ replied_text kept e.name e.date (length bytes) bytes bytes (fits did.0) replies
@@ -159,7 +171,8 @@ module _ (c : Cartridge) (one : Plain) (volume : Volume) (original : IsOriginal 
   pub open_behind : (acts : List Act) → CopiesVolume from e to acts status.Done → IsOpen (changed_by (steps_of acts) d) more
   open_behind acts does =
       let did = done_volume acts does in
-      subst (λ (steps : List Step). IsOpen (changed_by steps d) more) (sym did.1) (open_appended d p e.name e.date bytes held original.may did.0)
+      subst (λ (steps : List Step). IsOpen (changed_by steps d) more) (sym did.1)
+      (open_appended d p e.name e.date bytes held original.may did.0)
 
   -- the target as the next volume finds it
   pub side_behind : (acts : List Act) → behind_copy from e to acts ≡ side_for (changed_by (steps_of acts) d) more
@@ -204,14 +217,16 @@ pub data StoppedIn (p : Plain) (size : ℕ) (next : Plain) (left : Option Cartri
   Before : IsSomeAnd left (λ f. Stands f p) → StoppedIn p size next left
   After : has_room p size ≡ true → IsSomeAnd left (λ f. Stands f next) → StoppedIn p size next left
 
-stopped_in : (p : Plain) (size : ℕ) (next : Plain) (left : Option Cartridge) → has_room p size ≡ true → IsSomeAnd left (λ f. Stands f p ⊎ Stands f next) → StoppedIn p size next left
+stopped_in : (p : Plain) (size : ℕ) (next : Plain) (left : Option Cartridge) → has_room p size ≡ true →
+    IsSomeAnd left (λ f. Stands f p ⊎ Stands f next) → StoppedIn p size next left
 stopped_in p size next left room stands = elim (some_split (λ f. Stands f p) (λ f. Stands f next) left stands) [
   | inl before ↦ Before before
   | inr after ↦ After room after
 ]
 
 -- where each sector of the table's segment takes a write
-module _ (c : Cartridge) (one : Plain) (volume : Volume) (original : IsOriginal c one volume) (d : Cartridge) (p : Plain) (held : IsKept d p) where
+module _ (c : Cartridge) (one : Plain) (volume : Volume) (original : IsOriginal c one volume) (d : Cartridge) (p : Plain)
+    (held : IsKept d p) where
   abbrev opened : IsOpen d p
   opened = kept_open d p held
 
@@ -221,7 +236,8 @@ module _ (c : Cartridge) (one : Plain) (volume : Volume) (original : IsOriginal 
   abbrev content : List ℕ
   content = volume_bytes one.words volume
 
-  pub kept_behind : (acts : List Act) → CopiesVolume (side_for c one) volume.entry (side_for d p) acts status.Done → IsKept (changed_by (steps_of acts) d) next
+  pub kept_behind : (acts : List Act) → CopiesVolume (side_for c one) volume.entry (side_for d p) acts status.Done →
+      IsKept (changed_by (steps_of acts) d) next
   kept_behind acts does =
       let did = done_volume c one volume original d p opened acts does in
       subst (λ (steps : List Step). IsKept (changed_by steps d) next) (sym did.1)
@@ -234,20 +250,23 @@ module _ (c : Cartridge) (one : Plain) (volume : Volume) (original : IsOriginal 
   stopped_given table acts given Restored left area room same does torn =
       let did = done_given c one volume original d p opened table acts Restored given [] area room refl same does in
       stopped_in p (length content) next left did.0
-      (stopped_appended volume.entry.name volume.entry.date content original.may.label original.may.word original.may.content d p held left did.0
+      (stopped_appended volume.entry.name volume.entry.date content original.may.label original.may.word original.may.content d p held left
+      did.0
       (subst (λ (steps : List Step). Torn steps (Some d) left) (ap steps_of did.1 ∙ steps_are c one volume original d p opened did.0) torn))
   stopped_given table acts given (LostIn segment lost) left area room same does torn =
       Before (begun_stands c one volume original d p opened table given acts left area does torn)
   stopped_given table acts given (MismatchIn segment) left area room same does torn =
       Before (begun_stands c one volume original d p opened table given acts left area does torn)
 
-  pub stopped_volume : (acts : List Act) (answer : CopyStatus) (left : Option Cartridge) → CopiesVolume (side_for c one) volume.entry (side_for d p) acts answer →
+  pub stopped_volume : (acts : List Act) (answer : CopyStatus) (left : Option Cartridge) → CopiesVolume (side_for c one) volume.entry
+      (side_for d p) acts answer →
       Torn (steps_of acts) (Some d) left → StoppedIn p (length content) next left
   stopped_volume acts answer left (inl lost) torn = absurd (not_lost d p.table_area lost.lost held.table lost.says)
   stopped_volume acts answer left (inr (table, reads, inl full)) torn =
       Before (full_stands c one volume original d p opened table acts answer left (standing_data d p table held.stands reads) full torn)
   stopped_volume acts answer left (inr (table, reads, inr is)) torn =
-      stopped_given table acts is.bytes is.ending left (standing_data d p table held.stands reads) is.room (given_is c one volume original d p opened acts answer table is) is.does torn
+      stopped_given table acts is.bytes is.ending left (standing_data d p table held.stands reads) is.room
+      (given_is c one volume original d p opened acts answer table is) is.does torn
 
 -- ---- volumes one after the other
 
@@ -261,7 +280,8 @@ pub record StandsWith (one : Plain) (volumes : List Volume) (p : Plain) (left : 
 abbrev pub entries_in : List Volume → List Entry
 entries_in volumes = map (λ volume. volume.entry) volumes
 
-pub stands_none : (one : Plain) (volumes : List Volume) (p : Plain) (left : Option Cartridge) → BeginsLike one p → IsSomeAnd left (λ d. Stands d p) → StandsWith one volumes p left
+pub stands_none : (one : Plain) (volumes : List Volume) (p : Plain) (left : Option Cartridge) → BeginsLike one p →
+    IsSomeAnd left (λ d. Stands d p) → StandsWith one volumes p left
 stands_none one volumes p left like stands = record { count = 0; within = omega arith; stands = stands; like = like }
 
 abbrev pub with_volume : (one : Plain) → Plain → Volume → Plain
@@ -274,7 +294,8 @@ stands_more one volume volumes p left behind =
 
 module _ (c : Cartridge) (one : Plain) where
   -- the next volume, where these are missing
-  module _ (volume : Volume) (volumes : List Volume) (are : All (IsOriginal c one) (volume ∷ volumes)) (d : Cartridge) (p : Plain) (held : IsOpen d p) (like : BeginsLike one p) (is : behind one p ≡ volume ∷ volumes) where
+  module _ (volume : Volume) (volumes : List Volume) (are : All (IsOriginal c one) (volume ∷ volumes)) (d : Cartridge) (p : Plain)
+      (held : IsOpen d p) (like : BeginsLike one p) (is : behind one p ≡ volume ∷ volumes) where
     abbrev pub first_is : IsOriginal c one volume
     first_is = All-head (IsOriginal c one) volume volumes are
 
@@ -284,21 +305,28 @@ module _ (c : Cartridge) (one : Plain) where
     pub is_next : behind one (with_volume one p volume) ≡ volumes
     is_next = next_behind c one volume first_is p volumes is
 
-    pub stands_either : (left : Option Cartridge) → StoppedIn p (length (volume_bytes one.words volume)) (with_volume one p volume) left → StandsWith one (volume ∷ volumes) p left
+    pub stands_either : (left : Option Cartridge) → StoppedIn p (length (volume_bytes one.words volume)) (with_volume one p volume) left →
+        StandsWith one (volume ∷ volumes) p left
     stands_either left (Before stands) = stands_none one (volume ∷ volumes) p left like stands
-    stands_either left (After room stands) = stands_more one volume volumes p left (stands_none one volumes (with_volume one p volume) left (like_next room) stands)
+    stands_either left (After room stands) = stands_more one volume volumes p left
+        (stands_none one volumes (with_volume one p volume) left (like_next room) stands)
 
     -- what is copied behind it
-    pub copies_next : (first rest : List Act) (answer : CopyStatus) → Copies (side_for c one) (entries_in volumes) (behind_copy (side_for c one) volume.entry (side_for d p) first) rest answer →
+    pub copies_next : (first rest : List Act) (answer : CopyStatus) → Copies (side_for c one) (entries_in volumes)
+        (behind_copy (side_for c one) volume.entry (side_for d p) first) rest answer →
         Copies (side_for c one) (entries_in volumes) (side_for (changed_by (steps_of first) d) (with_volume one p volume)) rest answer
     copies_next first rest answer behind =
-        subst (λ (side : Side). Copies (side_for c one) (entries_in volumes) side rest answer) (side_behind c one volume first_is d p held first) behind
+        subst (λ (side : Side). Copies (side_for c one) (entries_in volumes) side rest answer)
+        (side_behind c one volume first_is d p held first) behind
 
-  pub copies_stopped : (volumes : List Volume) → All (IsOriginal c one) volumes → (d : Cartridge) (p : Plain) → IsKept d p → BeginsLike one p → behind one p ≡ volumes →
-      (acts : List Act) (answer : CopyStatus) (left : Option Cartridge) → Copies (side_for c one) (entries_in volumes) (side_for d p) acts answer →
+  pub copies_stopped : (volumes : List Volume) → All (IsOriginal c one) volumes → (d : Cartridge) (p : Plain) → IsKept d p →
+      BeginsLike one p → behind one p ≡ volumes →
+      (acts : List Act) (answer : CopyStatus) (left : Option Cartridge) → Copies (side_for c one) (entries_in volumes)
+      (side_for d p) acts answer →
       Torn (steps_of acts) (Some d) left → StandsWith one volumes p left
   copies_stopped [] are d p held like is acts answer left (does, done) torn =
-      stands_none one [] p left like (some_and (λ f. Stands f p) d left held.stands (subst (λ (zs : List Act). Torn (steps_of zs) (Some d) left) does torn))
+      stands_none one [] p left like (some_and (λ f. Stands f p) d left held.stands
+      (subst (λ (zs : List Act). Torn (steps_of zs) (Some d) left) does torn))
   copies_stopped (volume ∷ volumes) are d p held like is acts answer left (inl (other, does)) torn =
       stands_either volume volumes are d p (kept_open d p held) like is left
       (stopped_volume c one volume (All-head (IsOriginal c one) volume volumes are) d p held acts answer left does torn)
@@ -306,16 +334,21 @@ module _ (c : Cartridge) (one : Plain) where
       let original : IsOriginal c one volume = All-head (IsOriginal c one) volume volumes are in
       let opened : IsOpen d p = kept_open d p held in
       elim (acts_stopped first rest acts d left parts torn) [
-        | inl here ↦ stands_either volume volumes are d p opened like is left (stopped_volume c one volume original d p held first status.Done left does here)
+        | inl here ↦ stands_either volume volumes are d p opened like is left
+            (stopped_volume c one volume original d p held first status.Done left does here)
         | inr later ↦ stands_more one volume volumes p left
-            (copies_stopped volumes (All-tail (IsOriginal c one) volume volumes are) (changed_by (steps_of first) d) (with_volume one p volume)
+            (copies_stopped volumes (All-tail (IsOriginal c one) volume volumes are) (changed_by (steps_of first) d)
+            (with_volume one p volume)
             (kept_behind c one volume original d p held first does)
-            (like_next volume volumes are d p opened like is (done_volume c one volume original d p opened first does).0) (is_next volume volumes are d p opened like is)
+            (like_next volume volumes are d p opened like is (done_volume c one volume original d p opened first does).0)
+            (is_next volume volumes are d p opened like is)
             rest answer left (copies_next volume volumes are d p opened like is first rest answer behind) later)
       ]
 
-  pub copies_done : (volumes : List Volume) → All (IsOriginal c one) volumes → (d : Cartridge) (p : Plain) → IsOpen d p → (acts : List Act) →
-      Copies (side_for c one) (entries_in volumes) (side_for d p) acts status.Done → IsOpen (changed_by (steps_of acts) d) (with_all p (contents_of one.words volumes))
+  pub copies_done : (volumes : List Volume) → All (IsOriginal c one) volumes → (d : Cartridge) (p : Plain) → IsOpen d p →
+      (acts : List Act) →
+      Copies (side_for c one) (entries_in volumes) (side_for d p) acts status.Done → IsOpen (changed_by (steps_of acts) d)
+      (with_all p (contents_of one.words volumes))
   copies_done [] are d p held acts (is, done) = subst (λ (zs : List Act). IsOpen (changed_by (steps_of zs) d) p) (sym is) held
   copies_done (volume ∷ volumes) are d p held acts (inl (other, does)) = absurd (other refl)
   copies_done (volume ∷ volumes) are d p held acts (inr (first, rest, parts, does, behind)) =
@@ -323,7 +356,9 @@ module _ (c : Cartridge) (one : Plain) where
       let next : Plain = with_volume one p volume in
       let f : Cartridge = changed_by (steps_of first) d in
       let now : IsOpen (changed_by (steps_of rest) f) (with_all next (contents_of one.words volumes)) =
-      copies_done volumes (All-tail (IsOriginal c one) volume volumes are) f next (open_behind c one volume original d p held first does) rest
-      (subst (λ (side : Side). Copies (side_for c one) (entries_in volumes) side rest status.Done) (side_behind c one volume original d p held first) behind) in
+      copies_done volumes (All-tail (IsOriginal c one) volume volumes are) f next
+      (open_behind c one volume original d p held first does) rest
+      (subst (λ (side : Side). Copies (side_for c one) (entries_in volumes) side rest status.Done)
+      (side_behind c one volume original d p held first) behind) in
       subst (λ (g : Cartridge). IsOpen g (with_all next (contents_of one.words volumes)))
       (sym (ap (λ (zs : List Act). changed_by (steps_of zs) d) (sym parts) ∙ changed_by_acts first rest d)) now

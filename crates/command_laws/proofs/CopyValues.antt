@@ -1,8 +1,10 @@
 -- The volumes of a cartridge that stands for a plain one can be appended to another one: their names, dates and bytes.
-use Rattle.std.proofs.Common.{◌≡◌, ℕ, ◌-◌, ◌*◌, ◌/◌, ◌%◌, ◌^◌, ◌<◌, ◌≤◌, List, [], ◌∷◌, ◌++◌, All, Contains, Some, refl, sym, ap, ◌∙◌, subst, arith, get_or, slice_get, length, drop, inl, inr}
+use Rattle.std.proofs.Common.{◌≡◌, ℕ, ◌-◌, ◌*◌, ◌/◌, ◌%◌, ◌^◌, ◌<◌, ◌≤◌, List, [], ◌∷◌, ◌++◌, All, Contains, Some, refl, sym, ap, ◌∙◌}
+use Rattle.std.proofs.Common.{subst, arith, get_or, slice_get, length, drop, inl, inr}
 use Rattle.std.specs.Option.{option_map}
 use Rattle.std.proofs.lemmas.List.{append-nil, length-drop, length-map, length-take-le}
-use Rattle.std.proofs.lemmas.List.Elements.{All-append, All-contains_itself, All-drop, All-from_get_or, All-get_or, All-head, All-tail, All-take, All-contains}
+use Rattle.std.proofs.lemmas.List.Elements.{All-append, All-contains_itself, All-drop, All-from_get_or, All-get_or, All-head, All-tail}
+use Rattle.std.proofs.lemmas.List.Elements.{All-take, All-contains}
 use Rattle.std.proofs.lemmas.Option.{slice_get-get_or, slice_get-map, get_or_from_slice_get, unwrap_or-slice_get}
 use Rattle.cartridge_spec.specs.Volumes.{bytes_in, volume_bytes, Plain, Stands, Volume, entries_of, volume_length}
 use Rattle.cartridge_spec.specs.Formatting.{IsLabel}
@@ -69,7 +71,8 @@ slot_has area i is within = record { label = name_is area is i within; word = da
 pub shown_values : (area : List (List ℕ)) (entries : List Entry) → IsArea area → Shows area entries → All HasValues entries
 shown_values area entries is shown = λ i d within.
     let few : length entries ≤ 232 = shown.room in
-    subst HasValues (sym (get_or_from_slice_get entries i (entry_in (slot area i)) d (shown.shown i within))) (slot_has area i is (omega arith))
+    subst HasValues (sym (get_or_from_slice_get entries i (entry_in (slot area i)) d (shown.shown i within)))
+    (slot_has area i is (omega arith))
 
 -- ---- a volume's bytes
 
@@ -91,14 +94,17 @@ module _ (c : Cartridge) (one : Plain) (stands : Stands c one) where
   values i d within =
       let long : length (entries_of one) ≡ length one.volumes = length-map one.volumes (λ (v : Volume). v.entry) in
       let here : slice_get (entries_of one) i ≡ Some (get_or one.volumes i d).entry =
-      slice_get-map (λ (v : Volume). v.entry) one.volumes i ∙ ap (option_map (λ (v : Volume). v.entry)) (slice_get-get_or one.volumes i d within) in
+      slice_get-map (λ (v : Volume). v.entry) one.volumes i ∙ ap (option_map (λ (v : Volume). v.entry))
+      (slice_get-get_or one.volumes i d within) in
       subst HasValues (get_or_from_slice_get (entries_of one) i (get_or one.volumes i d).entry d.entry here)
-      (All-get_or HasValues (entries_of one) i d.entry (omega arith) (shown_values one.table_area (entries_of one) stands.whole.table_area stands.shown))
+      (All-get_or HasValues (entries_of one) i d.entry (omega arith)
+      (shown_values one.table_area (entries_of one) stands.whole.table_area stands.shown))
 
   original : (i : ℕ) (d : Volume) → i < length one.volumes → IsOriginal c one (get_or one.volumes i d)
   original i d within =
       let volume : Volume = get_or one.volumes i d in
-      let among : Contains one.volumes volume = All-get_or (Contains one.volumes) one.volumes i d within (All-contains_itself one.volumes) in
+      let among : Contains one.volumes volume = All-get_or (Contains one.volumes) one.volumes i d within
+      (All-contains_itself one.volumes) in
       let has : HasValues volume.entry = values i d within in
       record {
         has = record { stands = stands; among = among };
@@ -115,7 +121,8 @@ module _ (c : Cartridge) (one : Plain) (stands : Stands c one) where
 
 -- what is given of a volume that was read whole is its bytes
 pub given_whole : (c : Cartridge) (one : Plain) (volume : Volume) (read : List Act) (bytes : List ℕ) → HasVolume c one volume →
-    GivenBytes c one.words (pieces_in one volume) bytes → Restores c one.words (pieces_in one volume) read Restored → bytes ≡ volume_bytes one.words volume
+    GivenBytes c one.words (pieces_in one volume) bytes → Restores c one.words (pieces_in one volume) read Restored →
+    bytes ≡ volume_bytes one.words volume
 given_whole c one volume read bytes has given restores =
     let front = given_begins_restored c one.words (pieces_in one volume) read Restored bytes restores given in
     let all : bytes ≡ text_of read = front.1 ∙ ap (λ (rest : List ℕ). text_of read ++ rest) (front.2 refl) ∙ append-nil (text_of read) in

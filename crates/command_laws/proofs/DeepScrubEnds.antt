@@ -63,27 +63,38 @@ deep_scrub_mends k c plain input outcome stood known silent free (inl is) = let 
 deep_scrub_mends k c plain input outcome stood known silent free (inr (unlocked, (m, mounts, opened))) =
     let as_plain : Mounts c (mounted_as plain) = silent_sectors_are_mounted k c plain stood (stood_mounts k plain stood known) silent in
     let same : m ≡ mounted_as plain = mounts_is_function c m (mounted_as plain) mounts as_plain in
-    let on : ScrubsBy Deep c plain.header plain.words plain.table_area (entries_of plain) outcome = subst (λ (a : Mounting). Opened MendsDeep c a outcome) same opened in
+    let on : ScrubsBy Deep c plain.header plain.words plain.table_area (entries_of plain) outcome =
+    subst (λ (a : Mounting). Opened MendsDeep c a outcome) same opened in
     (ap (λ (o : CommandOutcome). o.status) on.is, silent_sectors_end k c plain outcome stood known free silent on)
 
 -- ---- stopped
 
-still_scrubbed : (c : Cartridge) (header : Header) (ws : List ℕ) (table : List (List ℕ)) (entries : List Entry) (acts : List Act) (left : Option Cartridge) →
-    Mounts c (mounting.Mounted header ws table entries) → ScrubsAs Deep (settled table c) ws entries acts → Torn (steps_of acts) (Some (settled table c)) left →
+still_scrubbed : (c : Cartridge) (header : Header) (ws : List ℕ) (table : List (List ℕ)) (entries : List Entry) (acts : List Act)
+    (left : Option Cartridge) →
+    Mounts c (mounting.Mounted header ws table entries) → ScrubsAs Deep (settled table c) ws entries acts →
+    Torn (steps_of acts) (Some (settled table c)) left →
     IsSomeAnd left (IsBeingScrubbedDeep (settled table c) ws entries)
 still_scrubbed c header ws table entries acts left mounts scrubs torn =
     let e : Cartridge = settled table c in
     let order = mounted_order e header ws table entries (settled_mounts c header ws table entries mounts) in
     some_weaker left
-    (λ d is. record { findings = scrubs.findings; found = (finds_at_once_is Deep e ws entries (last_segment e) acts order scrubs).0; scrubbed = is })
+    (λ d is. record {
+      findings = scrubs.findings;
+      found = (finds_at_once_is Deep e ws entries (last_segment e) acts order scrubs).0;
+      scrubbed = is;
+    })
     (stopped_in_form Deep e ws entries (last_segment e) acts left order scrubs torn)
 
 pub deep_scrub_stopped : DeepScrubStopped
 deep_scrub_stopped c input outcome left (inl is) torn = inl (stays (Some c) left outcome _ is.1 refl torn)
-deep_scrub_stopped c input outcome left (inr (free, (mounting.NotFormatted, mounts, is))) torn = inl (stays (Some c) left outcome _ is refl torn)
-deep_scrub_stopped c input outcome left (inr (free, (mounting.Foreign fault, mounts, is))) torn = inl (stays (Some c) left outcome _ is refl torn)
-deep_scrub_stopped c input outcome left (inr (free, (mounting.TableLost lost, mounts, is))) torn = inl (stays (Some c) left outcome _ is refl torn)
-deep_scrub_stopped c input outcome left (inr (free, (mounting.TableMismatch, mounts, is))) torn = inl (stays (Some c) left outcome _ is refl torn)
+deep_scrub_stopped c input outcome left (inr (free, (mounting.NotFormatted, mounts, is))) torn =
+    inl (stays (Some c) left outcome _ is refl torn)
+deep_scrub_stopped c input outcome left (inr (free, (mounting.Foreign fault, mounts, is))) torn =
+    inl (stays (Some c) left outcome _ is refl torn)
+deep_scrub_stopped c input outcome left (inr (free, (mounting.TableLost lost, mounts, is))) torn =
+    inl (stays (Some c) left outcome _ is refl torn)
+deep_scrub_stopped c input outcome left (inr (free, (mounting.TableMismatch, mounts, is))) torn =
+    inl (stays (Some c) left outcome _ is refl torn)
 deep_scrub_stopped c input outcome left (inr (free, (mounting.Mounted header ws table entries, mounts, on))) torn =
     inr (record {
       header = header;
@@ -102,7 +113,8 @@ deep_scrub_stopped c input outcome left (inr (free, (mounting.Mounted header ws 
 
 module _ {T S K : Type 0} (t : tapes.Meaning T) (s : sources.Meaning S) (k : sinks.Meaning K) where
   -- one that was carried out was not over a protected cartridge
-  was_free : (c : Cartridge) (input : List ℕ) (outcome : CommandOutcome) → outcome.status ≡ status.Done → Yields words.ScrubDeep (Some c) input outcome →
+  was_free : (c : Cartridge) (input : List ℕ) (outcome : CommandOutcome) → outcome.status ≡ status.Done →
+      Yields words.ScrubDeep (Some c) input outcome →
       c.info.protected ≡ false
   was_free c input outcome done does =
       elim (cases_Bool c.info.protected) [
@@ -112,9 +124,11 @@ module _ {T S K : Type 0} (t : tapes.Meaning T) (s : sources.Meaning S) (k : sin
             absurd (cc)
       ]
 
-  by_step : (ws : List (List ℕ)) (input : List ℕ) (old new : Outside T S K) (answer : Status) (whole c : Cartridge) (plain : Plain) → Spells ws words.ScrubDeep →
+  by_step : (ws : List (List ℕ)) (input : List ℕ) (old new : Outside T S K) (answer : Status) (whole c : Cartridge) (plain : Plain) →
+      Spells ws words.ScrubDeep →
       answer ≡ status.Done → Stands whole plain → IsSettledFor whole plain.table_area → DiffersSilently whole c plain →
-      (answer ≡ status.NoMemory) ⊎ Stepped t s k ws (Some c) input old new answer → ToldNow t new.tape (λ left. IsSomeAnd left (λ d. Stands d plain))
+      (answer ≡ status.NoMemory) ⊎ Stepped t s k ws (Some c) input old new answer →
+      ToldNow t new.tape (λ left. IsSomeAnd left (λ d. Stands d plain))
   by_step ws input old new answer whole c plain spelled done stood known silent (inl none) = absurd (cc)
   by_step ws input old new answer whole c plain spelled done stood known silent (inr stepped) =
       elim stepped.step [
@@ -122,9 +136,11 @@ module _ {T S K : Type 0} (t : tapes.Meaning T) (s : sources.Meaning S) (k : sin
         | inr some ↦
             let same : some.0 ≡ words.ScrubDeep = sym (guess_is ws some.0 some.1) ∙ guess_is ws words.ScrubDeep spelled in
             let outcome : CommandOutcome = some.2.0 in
-            let does : Yields words.ScrubDeep (Some c) input outcome = subst (λ (w : Words). Yields w (Some c) input outcome) same some.2.1 in
+            let does : Yields words.ScrubDeep (Some c) input outcome =
+            subst (λ (w : Words). Yields w (Some c) input outcome) same some.2.1 in
             let finished : outcome.status ≡ status.Done = sym some.2.5 ∙ done in
-            let stands = (deep_scrub_mends whole c plain input outcome stood known silent (was_free c input outcome finished does) does).1 in
+            let stands = (deep_scrub_mends whole c plain input outcome stood known silent (was_free c input outcome finished does) does).1
+            in
             let told : t.told new.tape ≡ Some (Some (changed_by (steps_of outcome.acts) c)) =
             stepped.tape ∙ ap (λ (h : Option Cartridge). Some h) (some.2.2 ∙ effects-some (steps_of outcome.acts) c) in
             subst (λ (o : Option (Option Cartridge)). IsSomeAnd o (λ left. IsSomeAnd left (λ d. Stands d plain))) (sym told) stands

@@ -49,7 +49,8 @@ abbrev NoneWrongIn : Cartridge → ℕ → Type 0
 NoneWrongIn c copy = (sector : ℕ) (sectors : List (List ℕ)) → IsWrong c (whole_segment copy) sector sectors → ⊥
 
 -- is as it was before the first write, and what is mended of it is mended as by a scrub
-seen_copy : (depth : Depth) (c e : Cartridge) (looked : List Looked) (fs : List Finding) (copy : ℕ) → Rise looked → Contains looked (whole_segment copy) →
+seen_copy : (depth : Depth) (c e : Cartridge) (looked : List Looked) (fs : List Finding) (copy : ℕ) → Rise looked →
+    Contains looked (whole_segment copy) →
     IsSeen depth c e looked fs → NoneWrongIn c copy → IsSameIn c e copy
 seen_copy depth c e looked fs copy rise among seen none i h =
     elim (seen.each copy i h) [
@@ -60,7 +61,8 @@ seen_copy depth c e looked fs copy rise among seen none i h =
           absurd (none i found.sectors (subst (λ (l : Looked). IsWrong c l i found.sectors) at found.wrong))
     ]
 
-left_copy : (looked : List Looked) (c e d : Cartridge) (copy : ℕ) → IsSameIn c e copy → (left : IsLeft looked c e d) → IsSameIn left.other d copy
+left_copy : (looked : List Looked) (c e d : Cartridge) (copy : ℕ) → IsSameIn c e copy → (left : IsLeft looked c e d) →
+    IsSameIn left.other d copy
 left_copy looked c e d copy same left i h =
     elim (left.behind.each copy i h) [
       | inl is ↦ is
@@ -81,7 +83,8 @@ none_same : (c d : Cartridge) (copy : ℕ) → IsSameIn c d copy → CopyDoesNot
 none_same c d copy same none area reads = none area (reads_same d c copy area (same_back c d copy same) reads)
 
 clean_not_wrong : (c : Cartridge) (copy : ℕ) (area : List (List ℕ)) → IsArea area → IsCleanCopy c copy area → NoneWrongIn c copy
-clean_not_wrong c copy area is_area (inl written) sector ds wrong = written_not_wrong c (whole_segment copy) area sector ds is_area.sectors written wrong
+clean_not_wrong c copy area is_area (inl written) sector ds wrong =
+    written_not_wrong c (whole_segment copy) area sector ds is_area.sectors written wrong
 clean_not_wrong c copy area is_area (inr zeros) sector ds wrong = zero_not_wrong c copy sector ds zeros wrong
 
 read_not_wrong : (c : Cartridge) (copy : ℕ) (area : List (List ℕ)) → CopyReads c copy area → NoneWrongIn c copy
@@ -91,15 +94,19 @@ read_not_wrong c copy area reads sector ds wrong =
 
 -- ---- header copies
 
-copy_left : (depth : Depth) (c e d : Cartridge) (looked : List Looked) (fs : List Finding) (copy : ℕ) (area : List (List ℕ)) → copy < 2 → IsArea area → Rise looked →
-    Contains looked (whole_segment copy) → IsSeen depth c e looked fs → IsCleanCopy c copy area → IsLeft looked c e d → IsCleanCopy d copy area
+copy_left : (depth : Depth) (c e d : Cartridge) (looked : List Looked) (fs : List Finding) (copy : ℕ) (area : List (List ℕ)) → copy < 2 →
+    IsArea area → Rise looked →
+    Contains looked (whole_segment copy) → IsSeen depth c e looked fs → IsCleanCopy c copy area → IsLeft looked c e d →
+    IsCleanCopy d copy area
 copy_left depth c e d looked fs copy area small is_area rise among seen clean left =
     let same : IsSameIn c e copy = seen_copy depth c e looked fs copy rise among seen (clean_not_wrong c copy area is_area clean) in
     clean_same left.other d copy area (left_copy looked c e d copy same left)
     (clean_copy looked e left.other copy area small rise among left.way is_area (clean_same c e copy area same clean))
 
-form_clean : (depth : Depth) (c : Cartridge) (ws : List ℕ) (entries : List Entry) (last : ℕ) (acts : List Act) (area : List (List ℕ)) → IsArea area →
-    IsSoundList last entries → ScrubsAs depth c ws entries acts → HasCleanCopies c area → Leaves (λ d. HasCleanCopies d area) c (steps_of acts)
+form_clean : (depth : Depth) (c : Cartridge) (ws : List ℕ) (entries : List Entry) (last : ℕ) (acts : List Act) (area : List (List ℕ)) →
+    IsArea area →
+    IsSoundList last entries → ScrubsAs depth c ws entries acts → HasCleanCopies c area → Leaves (λ d. HasCleanCopies d area) c
+    (steps_of acts)
 form_clean depth c ws entries last acts area is_area order scrubs clean left torn =
     let looked : List Looked = looked_at ws entries in
     let fs : List Finding = scrubs.findings in
@@ -119,7 +126,8 @@ force_same c d area first second (inl reads) = inl (reads_same c d 0 area first 
 force_same c d area first second (inr other) = inr (none_same c d 0 first other.0, reads_same c d 1 area second other.1)
 
 -- the header in force is so still: where it is that of the second copy, no sector of that one is wrong
-force_left : (depth : Depth) (c e d : Cartridge) (ws : List ℕ) (entries : List Entry) (fs : List Finding) (area : List (List ℕ)) → Rise (looked_at ws entries) →
+force_left : (depth : Depth) (c e d : Cartridge) (ws : List ℕ) (entries : List Entry) (fs : List Finding) (area : List (List ℕ)) →
+    Rise (looked_at ws entries) →
     IsSeen depth c e (looked_at ws entries) fs → NoneWrongIn c 0 → IsLeft (looked_at ws entries) c e d → IsInForce c area → IsInForce d area
 force_left depth c e d ws entries fs area rise seen none left (inl reads) =
     let looked : List Looked = looked_at ws entries in
@@ -135,7 +143,8 @@ force_left depth c e d ws entries fs area rise seen none left (inr other) =
     force_same left.other d area (left_copy looked c e d 0 first left) (left_copy looked c e d 1 second left)
     (in_force looked e left.other area front left.way (force_same c e area first second (inr other)))
 
-table_left : (depth : Depth) (c e d : Cartridge) (ws : List ℕ) (entries : List Entry) (fs : List Finding) (area : List (List ℕ)) → Rise (looked_at ws entries) →
+table_left : (depth : Depth) (c e d : Cartridge) (ws : List ℕ) (entries : List Entry) (fs : List Finding) (area : List (List ℕ)) →
+    Rise (looked_at ws entries) →
     IsSeen depth c e (looked_at ws entries) fs → IsLeft (looked_at ws entries) c e d → TableIs c area → TableIs d area
 table_left depth c e d ws entries fs area rise seen left reads =
     let looked : List Looked = looked_at ws entries in
@@ -143,8 +152,10 @@ table_left depth c e d ws entries fs area rise seen left reads =
     table_same left.other d area (left_table looked c e d same left)
     (table_kept looked e left.other area (looks_in_front ws entries rise) left.way (table_same c e area same reads))
 
-form_mounts : (depth : Depth) (c : Cartridge) (header : Header) (ws : List ℕ) (table : List (List ℕ)) (entries : List Entry) (acts : List Act) → NoneWrongIn c 0 →
-    IsMounted c header ws table entries → ScrubsAs depth c ws entries acts → Leaves (λ d. IsMounted d header ws table entries) c (steps_of acts)
+form_mounts : (depth : Depth) (c : Cartridge) (header : Header) (ws : List ℕ) (table : List (List ℕ)) (entries : List Entry)
+    (acts : List Act) → NoneWrongIn c 0 →
+    IsMounted c header ws table entries → ScrubsAs depth c ws entries acts → Leaves (λ d. IsMounted d header ws table entries) c
+    (steps_of acts)
 form_mounts depth c header ws table entries acts none mounted scrubs left torn =
     let looked : List Looked = looked_at ws entries in
     let fs : List Finding = scrubs.findings in
@@ -172,32 +183,38 @@ form_mounts depth c header ws table entries acts none mounted scrubs left torn =
 -- ---- the command
 
 -- the settling, and the scrubbing behind it
-module _ (P : Cartridge → Type 0) (c : Cartridge) (header : Header) (ws : List ℕ) (table : List (List ℕ)) (entries : List Entry) (outcome : CommandOutcome) where
-  both_parts : Mounts c (Mounted header ws table entries) → (on : ScrubsBy Deep c header ws table entries outcome) → Leaves P c (settling_steps table c) →
+module _ (P : Cartridge → Type 0) (c : Cartridge) (header : Header) (ws : List ℕ) (table : List (List ℕ)) (entries : List Entry)
+    (outcome : CommandOutcome) where
+  both_parts : Mounts c (Mounted header ws table entries) → (on : ScrubsBy Deep c header ws table entries outcome) →
+      Leaves P c (settling_steps table c) →
       Leaves P (settled table c) (steps_of on.acts) → Leaves P c (steps_of outcome.acts)
   both_parts mounts on first next =
-      leaves_by P c (steps_of outcome.acts) (settling_steps table c ++ steps_of on.acts) (ap (λ (o : CommandOutcome). steps_of o.acts) on.is)
+      leaves_by P c (steps_of outcome.acts) (settling_steps table c ++ steps_of on.acts)
+      (ap (λ (o : CommandOutcome). steps_of o.acts) on.is)
       (both_leave P c (settling_steps table c) (steps_of on.acts) first
       (subst (λ (d : Cartridge). Leaves P d (steps_of on.acts)) (sym (settling_settles c table mounts.reads)) next))
 
 pub deep_stands : (plain : Plain) → GoesLeaving (λ d. Stands d plain) MendsDeep
 deep_stands plain c header ws table entries outcome mounts on stood =
     let m : Mounting = Mounted header ws table entries in
-    let same : m ≡ mounted_as plain = elim (standing_mounts_only_so c plain m stood mounts) [ inl is ↦ is | inr lost ↦ let no : m ≡ TableLost lost.0 = lost.1 in absurd (cc) ] in
+    let same : m ≡ mounted_as plain = elim (standing_mounts_only_so c plain m stood mounts)
+    [ inl is ↦ is | inr lost ↦ let no : m ≡ TableLost lost.0 = lost.1 in absurd (cc) ] in
     let map : ws ≡ plain.words = cc in
     let list : entries ≡ entries_of plain = cc in
     let e : Cartridge = settled table c in
     both_parts (λ d. Stands d plain) c header ws table entries outcome mounts on
     (λ left torn. stopped_stands c plain table left stood mounts.reads torn)
     (λ left torn. stopped_form_stands Deep e plain on.acts left (settled_stands c plain table stood mounts.reads)
-    (subst (λ (es : List Entry). ScrubsAs Deep e plain.words es on.acts) list (subst (λ (w : List ℕ). ScrubsAs Deep e w entries on.acts) map on.scrubs)) torn)
+    (subst (λ (es : List Entry). ScrubsAs Deep e plain.words es on.acts) list
+    (subst (λ (w : List ℕ). ScrubsAs Deep e w entries on.acts) map on.scrubs)) torn)
 
 pub deep_clean : (area : List (List ℕ)) → IsArea area → GoesLeaving (λ d. HasCleanCopies d area) MendsDeep
 deep_clean area is_area c header ws table entries outcome mounts on clean =
     let P : Cartridge → Type 0 = λ d. HasCleanCopies d area in
     let first = settling_leaves area is_area table c clean in
     both_parts P c header ws table entries outcome mounts on first
-    (form_clean Deep (settled table c) ws entries (last_segment c) on.acts area is_area (mounted_order c header ws table entries mounts) on.scrubs
+    (form_clean Deep (settled table c) ws entries (last_segment c) on.acts area is_area
+    (mounted_order c header ws table entries mounts) on.scrubs
     (subst P (settling_settles c table mounts.reads) (leaves_done P c (settling_steps table c) first)))
 
 -- the settling leaves the header copies
@@ -207,15 +224,18 @@ settled_right c table reads none sector ds wrong =
     let same : IsSameIn c e 0 = λ i h. (settled_keeps_table c table reads).others 0 i h (λ is. omega arith) in
     none sector ds (wrong_same e c (whole_segment 0) sector ds (same_back c e 0 same) wrong)
 
-deep_goes_mounted : (c : Cartridge) (header : Header) (ws : List ℕ) (table : List (List ℕ)) (entries : List Entry) (outcome : CommandOutcome) → NoneWrongIn c 0 →
+deep_goes_mounted : (c : Cartridge) (header : Header) (ws : List ℕ) (table : List (List ℕ)) (entries : List Entry)
+    (outcome : CommandOutcome) → NoneWrongIn c 0 →
     Mounts c (Mounted header ws table entries) → MendsDeep c header ws table entries outcome →
     Leaves (λ d. Mounts d (Mounted header ws table entries)) c (steps_of outcome.acts)
 deep_goes_mounted c header ws table entries outcome none mounts on =
     both_parts (λ d. Mounts d (Mounted header ws table entries)) c header ws table entries outcome mounts on
     (λ left torn. stopped_mounts c header ws table entries left mounts torn)
-    (form_mounts Deep (settled table c) header ws table entries on.acts (settled_right c table mounts.reads none) (settled_mounts c header ws table entries mounts) on.scrubs)
+    (form_mounts Deep (settled table c) header ws table entries on.acts (settled_right c table mounts.reads none)
+    (settled_mounts c header ws table entries mounts) on.scrubs)
 
-pub deep_mounts : (c : Cartridge) (header : Header) (ws : List ℕ) (table : List (List ℕ)) (entries : List Entry) (outcome : CommandOutcome) →
+pub deep_mounts : (c : Cartridge) (header : Header) (ws : List ℕ) (table : List (List ℕ)) (entries : List Entry)
+    (outcome : CommandOutcome) →
     (c.info.protected ≡ true) ⊎ IsFirstCopyRight c → Mounts c (Mounted header ws table entries) → DeepScrubOutcome (Some c) outcome →
     Leaves (λ d. Mounts d (Mounted header ws table entries)) c (steps_of outcome.acts)
 deep_mounts c header ws table entries outcome keeps mounts (inl is) =

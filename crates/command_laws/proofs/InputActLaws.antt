@@ -1,5 +1,6 @@
 -- The laws of the acts of a volume.
-use Rattle.std.proofs.Common.{◌≡◌, Bool, true, false, cond, List, [], refl, ℕ, ◌∷◌, ◌++◌, length, drop, sym, ap, ◌∙◌, nat_le, ◌&&◌, take, nat_lt, All, ◌<◌, subst, arith, append-nil}
+use Rattle.std.proofs.Common.{◌≡◌, Bool, true, false, cond, List, [], refl, ℕ, ◌∷◌, ◌++◌, length, drop, sym, ap, ◌∙◌, nat_le, ◌&&◌, take}
+use Rattle.std.proofs.Common.{nat_lt, All, ◌<◌, subst, arith, append-nil}
 use Rattle.std.proofs.lemmas.List.Elements.{All-head, All-tail, All-nil, All-cons, All-append, All-drop, All-take}
 use Rattle.std.proofs.lemmas.List.{take_all}
 use Rattle.cartridge_laws.proofs.AppendBySegments.{writes_by_segment}
@@ -11,7 +12,8 @@ use Rattle.cartridge_spec.specs.Appending.{part_writes, in_sectors}
 use Rattle.cartridge_spec.specs.Code.{parity_sectors}
 use Rattle.cartridge_spec.specs.Says.{with_parity}
 use Rattle.cartridge_spec.specs.Shape.{mask_at, capacity, data_count, usable_places}
-use Rattle.command_laws.specs.InputLaws.{VolumeIsWrites, VolumePrintsNothing, FilledPrintsNothing, InputPrintsNothing, VolumeIsFree, FilledIsFree, InputIsFree, VolumeIsOfSectors, FilledIsOfSectors, InputIsOfSectors}
+use Rattle.command_laws.specs.InputLaws.{VolumeIsWrites, VolumePrintsNothing, FilledPrintsNothing, InputPrintsNothing, VolumeIsFree}
+use Rattle.command_laws.specs.InputLaws.{FilledIsFree, InputIsFree, VolumeIsOfSectors, FilledIsOfSectors, InputIsOfSectors}
 use Rattle.command_spec.specs.Append.{segment_act, volume_acts, filled_acts, input_acts}
 use Rattle.gf256_qic.proofs.Parities.{parity_sectors-are_sectors}
 use Rattle.qic_base.specs.Acts.{Act, steps_of, text_of}
@@ -70,13 +72,17 @@ module _ (of : ℕ → ℕ → List ℕ → Type 0) where
   writes_both [] ys first next = next
   writes_both (x ∷ xs) ys first next = (first.0, writes_both xs ys first.1 next)
 
-  writes_by : (b : Bool) (xs ys : List Act) → AreWrites of (steps_of xs) → AreWrites of (steps_of ys) → AreWrites of (steps_of (cond b xs ys))
+  writes_by : (b : Bool) (xs ys : List Act) → AreWrites of (steps_of xs) → AreWrites of (steps_of ys) →
+      AreWrites of (steps_of (cond b xs ys))
   writes_by true xs ys first other = first
   writes_by false xs ys first other = other
 
   -- the acts of a volume and those of segments that are filled, where each segment's are such
-  module _ (At : ℕ → Type 0) (Of : List ℕ → Type 0) (each : (words : List ℕ) (s : ℕ) (bytes : List ℕ) → At s → Of bytes → AreWrites of (segment_act words s bytes).steps) (behind : (n : ℕ) (bytes : List ℕ) → Of bytes → Of (drop n bytes)) where
-    volume_writes : (words segments bytes : List ℕ) → All At segments → Of bytes → AreWrites of (steps_of (volume_acts words segments bytes))
+  module _ (At : ℕ → Type 0) (Of : List ℕ → Type 0)
+      (each : (words : List ℕ) (s : ℕ) (bytes : List ℕ) → At s → Of bytes → AreWrites of (segment_act words s bytes).steps)
+      (behind : (n : ℕ) (bytes : List ℕ) → Of bytes → Of (drop n bytes)) where
+    volume_writes : (words segments bytes : List ℕ) → All At segments → Of bytes →
+        AreWrites of (steps_of (volume_acts words segments bytes))
     volume_writes words [] bytes are is = tt
     volume_writes words (s ∷ ss) bytes are is =
         let cap : ℕ = capacity (mask_at words s) in
@@ -85,15 +91,18 @@ module _ (of : ℕ → ℕ → List ℕ → Type 0) where
         (writes_by (nat_le (length bytes) cap) [] (volume_acts words ss (drop cap bytes)) tt
         (volume_writes words ss (drop cap bytes) (All-tail At s ss are) (behind cap bytes is)))
 
-    filled_writes : (words segments bytes : List ℕ) → All At segments → Of bytes → AreWrites of (steps_of (filled_acts words segments bytes))
+    filled_writes : (words segments bytes : List ℕ) → All At segments → Of bytes →
+        AreWrites of (steps_of (filled_acts words segments bytes))
     filled_writes words [] bytes are is = tt
     filled_writes words (s ∷ ss) bytes are is =
         let cap : ℕ = capacity (mask_at words s) in
         writes_by (nat_le cap (length bytes)) (segment_act words s bytes ∷ filled_acts words ss (drop cap bytes)) []
-        (writes_both (segment_act words s bytes).steps (steps_of (filled_acts words ss (drop cap bytes))) (each words s bytes (All-head At s ss are) is)
+        (writes_both (segment_act words s bytes).steps (steps_of (filled_acts words ss (drop cap bytes)))
+        (each words s bytes (All-head At s ss are) is)
         (filled_writes words ss (drop cap bytes) (All-tail At s ss are) (behind cap bytes is))) tt
 
-    input_writes : (words segments : List ℕ) (most : ℕ) (exact : Bool) (input : List ℕ) → All At segments → Of input → Of (take most input) →
+    input_writes : (words segments : List ℕ) (most : ℕ) (exact : Bool) (input : List ℕ) → All At segments → Of input →
+        Of (take most input) →
         AreWrites of (steps_of (input_acts words segments most exact input))
     input_writes words segments most exact input are is front =
         writes_by (exact && nat_lt (length input) most) (filled_acts words segments input) (volume_acts words segments (take most input))
@@ -105,13 +114,15 @@ module _ (of : ℕ → ℕ → List ℕ → Type 0) where
 abbrev Any : List ℕ → Type 0
 Any bytes = Unit {0}
 
-act_free : (before : ℕ) (words : List ℕ) (s : ℕ) (bytes : List ℕ) → before < s → Any bytes → AreWrites (IsFree before) (segment_act words s bytes).steps
+act_free : (before : ℕ) (words : List ℕ) (s : ℕ) (bytes : List ℕ) → before < s → Any bytes →
+    AreWrites (IsFree before) (segment_act words s bytes).steps
 act_free before words s bytes past any =
     let n : ℕ = data_count (mask_at words s) in
     let area : List (List ℕ) = in_sectors n bytes in
     let steps : List (List ℕ) → List Step = λ sectors. part_writes words (record { segment = s; sectors = sectors }) in
     let of_area : AreWrites (IsFree before) (steps (take n area) ++ []) =
-    parts_of_segments (λ t. before < t) words (s ∷ []) area (All-cons (λ (t : ℕ). before < t) s [] past (All-nil (λ (t : ℕ). before < t))) in
+    parts_of_segments (λ t. before < t) words (s ∷ []) area (All-cons (λ (t : ℕ). before < t) s [] past (All-nil (λ (t : ℕ). before < t)))
+    in
     let whole : take n area ≡ area = take_all n area (let size = length-in_sectors n bytes in omega arith) in
     subst (AreWrites (IsFree before)) (append-nil (steps (take n area)) ∙ ap steps whole) of_area
 

@@ -1,5 +1,6 @@
 -- What leaves a whole table whole: appends, sectors that are worn behind it, and scrubs.
-use Rattle.std.proofs.Common.{if◌then◌else◌, ◌≡◌, ◌∙◌, ◌++◌, ◌≤◌, ℕ, List, [], Bool, false, Option, Some, IsSomeAnd, inl, inr, ap, sym, subst, arith, suc}
+use Rattle.std.proofs.Common.{if◌then◌else◌, ◌≡◌, ◌∙◌, ◌++◌, ◌≤◌, ℕ, List, [], Bool, false, Option, Some, IsSomeAnd, inl, inr, ap, sym}
+use Rattle.std.proofs.Common.{subst, arith, suc}
 use Rattle.std.proofs.lemmas.Bool.{cases_Bool, cases_lt}
 use Rattle.cartridge_laws.proofs.AppendVolume.{old_order}
 use Rattle.cartridge_laws.proofs.ChangeViews.{view_of_other}
@@ -57,21 +58,32 @@ whole_needs_no_steps c area whole free =
     ap (λ (b : Bool). if b then [] else block_writes (with_parity area) (settling_places c area)) free ∙ no_place_by c area whole
 
 pub intact_comes_back : IntactComesBack
-intact_comes_back c plain f lost intact loses = whole_comes_back c plain intact.kept.stands intact.table intact.kept.stands.whole.table_area f lost loses
+intact_comes_back c plain f lost intact loses = whole_comes_back c plain intact.kept.stands intact.table intact.kept.stands.whole.table_area
+    f lost loses
 
 -- .. as one of two, the first of which it is
-pub intact_is_one : (c : Cartridge) (plain other : Plain) (left : Option Cartridge) → IsIntact c plain → left ≡ Some c → IsSomeAnd left (ComesBackAsOneOf plain other)
+pub intact_is_one : (c : Cartridge) (plain other : Plain) (left : Option Cartridge) → IsIntact c plain → left ≡ Some c →
+    IsSomeAnd left (ComesBackAsOneOf plain other)
 intact_is_one c plain other left intact is =
     some_and (ComesBackAsOneOf plain other) c left (λ f lost loses. inl (intact_comes_back c plain f lost intact loses)) is
 
 -- ---- of several plain cartridges
 
 -- as the first, or as the next one
-pub one_comes : (standing : ℕ → Plain) (n : ℕ) (left : Option Cartridge) → IsSomeAnd left (ComesBackAsOneOf (standing n) (standing n)) → SomeComeBack standing n n left
-one_comes standing n left comes = record { one = n; other = n; from = omega arith; next = (omega arith, omega arith); within = omega arith; comes = comes }
+pub one_comes : (standing : ℕ → Plain) (n : ℕ) (left : Option Cartridge) → IsSomeAnd left (ComesBackAsOneOf (standing n) (standing n)) →
+    SomeComeBack standing n n left
+one_comes standing n left comes = record {
+  one = n;
+  other = n;
+  from = omega arith;
+  next = (omega arith, omega arith);
+  within = omega arith;
+  comes = comes;
+}
 
 -- from fewer volumes on
-pub less_comes : (standing : ℕ → Plain) (fewer least most : ℕ) (left : Option Cartridge) → fewer ≤ least → SomeComeBack standing least most left → SomeComeBack standing fewer most left
+pub less_comes : (standing : ℕ → Plain) (fewer least most : ℕ) (left : Option Cartridge) → fewer ≤ least →
+    SomeComeBack standing least most left → SomeComeBack standing fewer most left
 less_comes standing fewer least most left less back = record {
   one = back.one;
   other = back.other;
@@ -82,7 +94,8 @@ less_comes standing fewer least most left less back = record {
 }
 
 -- behind one volume more
-pub next_comes : (standing : ℕ → Plain) (least most : ℕ) (left : Option Cartridge) → SomeComeBack (λ n. standing (suc n)) least most left → SomeComeBack standing (suc least) (suc most) left
+pub next_comes : (standing : ℕ → Plain) (least most : ℕ) (left : Option Cartridge) → SomeComeBack (λ n. standing (suc n)) least most left →
+    SomeComeBack standing (suc least) (suc most) left
 next_comes standing least most left back = record {
   one = suc back.one;
   other = suc back.other;
@@ -119,7 +132,8 @@ appends_leave_intact c plain name date bytes intact may enough = record {
   stopped = λ left torn. elim (appends_survive c plain name date bytes left intact.kept may enough torn) [
     | inl settling ↦
         intact_is_one c plain (with_bytes plain name date bytes) left intact
-        (subst (λ (ss : List Step). Torn ss (Some c) left) (whole_needs_no_steps c plain.table_area intact.table intact.kept.unprotected) settling)
+        (subst (λ (ss : List Step). Torn ss (Some c) left) (whole_needs_no_steps c plain.table_area intact.table intact.kept.unprotected)
+        settling)
     | inr comes ↦ comes
   ];
 }
@@ -142,11 +156,13 @@ scrubs_leave_intact c plain acts intact scrubs =
     record {
       done = record {
         kept = scrubbed_kept c plain acts intact.kept scrubs;
-        table = whole (changed_by (steps_of acts) c) (done_being_mended c plain.words (entries_of plain) (last_segment c) acts order plainly);
+        table = whole (changed_by (steps_of acts) c)
+            (done_being_mended c plain.words (entries_of plain) (last_segment c) acts order plainly);
       };
       stopped = λ left torn.
           some_weaker left
           (λ d way f lost loses. inl (whole_comes_back d plain
-          (mending_stands c d plain (looked_rise plain.words (last_segment c) (entries_of plain) order) intact.kept.stands way) (whole d way) intact.kept.stands.whole.table_area f lost loses))
+          (mending_stands c d plain (looked_rise plain.words (last_segment c) (entries_of plain) order) intact.kept.stands way)
+          (whole d way) intact.kept.stands.whole.table_area f lost loses))
           (stopped_scrub c plain.words (entries_of plain) (last_segment c) acts left order plainly torn);
     }

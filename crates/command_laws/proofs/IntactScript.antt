@@ -1,5 +1,6 @@
 -- A script, done or stopped, on a cartridge whose whole table holds what it should.
-use Rattle.std.proofs.Common.{◌≡◌, ◌∙◌, ◌++◌, ◌+◌, ◌<◌, zero, suc, ℕ, List, [], ◌∷◌, All, Option, Some, IsSomeAnd, inl, inr, ap, sym, subst, refl, arith, length, take, drop, append-nil, ◌≤◌, ◌⊎◌}
+use Rattle.std.proofs.Common.{◌≡◌, ◌∙◌, ◌++◌, ◌+◌, ◌<◌, zero, suc, ℕ, List, [], ◌∷◌, All, Option, Some, IsSomeAnd, inl, inr, ap, sym, subst}
+use Rattle.std.proofs.Common.{refl, arith, length, take, drop, append-nil, ◌≤◌, ◌⊎◌}
 use Rattle.std.proofs.lemmas.Bool.{cases_lt}
 use Rattle.std.proofs.lemmas.List.{drop_all, take_all, length-append, length-take-le, take-take}
 use Rattle.cartridge_laws.proofs.AppendVolume.{free_writes_stand, last_end_least}
@@ -15,7 +16,8 @@ use Rattle.command_laws.proofs.CommandOneLoss.{kept_whole}
 use Rattle.command_laws.proofs.IntactKeeping.{intact_is_one, whole_needs_no_steps, less_comes, next_comes, one_comes}
 use Rattle.command_laws.proofs.MountedFronts.{ends_in}
 use Rattle.command_laws.proofs.MountedKeeping.{changed_by_acts}
-use Rattle.command_laws.proofs.ScriptAnswered.{parted_stop, StopsBehind, Tears, acts_are, first_do, first_have, first_speak, long, more_printed, speak, stops_behind}
+use Rattle.command_laws.proofs.ScriptAnswered.{parted_stop, StopsBehind, Tears, acts_are, first_do, first_have, first_speak, long}
+use Rattle.command_laws.proofs.ScriptAnswered.{more_printed, speak, stops_behind}
 use Rattle.command_laws.proofs.ScriptReached.{AllLeave, Reached, leave_weaker, reached_behind, reached_between}
 use Rattle.command_laws.proofs.ScriptReading.{cartridge_is}
 use Rattle.command_laws.proofs.ScriptSpeaking.{AllSpeak}
@@ -28,7 +30,8 @@ use Rattle.command_spec.specs.Append.{Kept, entry_acts, input_writes, kept_over,
 use Rattle.command_spec.specs.Input.{AtEnd, AtFault, AtStop, Ending, Item}
 use Rattle.command_spec.specs.Lines.{reply_behind}
 use Rattle.command_spec.specs.OneLoss.{ComesBackAsOneOf, SomeComeBack}
-use Rattle.command_spec.specs.Script.{Did, EndDoes, Finds, ItemsDo, Meeting, Meets, Refuses, ScriptDoes, acts_of, acts_on, cartridge_behind, entries_behind, place_behind}
+use Rattle.command_spec.specs.Script.{Did, EndDoes, Finds, ItemsDo, Meeting, Meets, Refuses, ScriptDoes, acts_of, acts_on, cartridge_behind}
+use Rattle.command_spec.specs.Script.{entries_behind, place_behind}
 use Rattle.command_laws.specs.ScriptTerms.{FaultDoes}
 use Rattle.command_spec.specs.Outcome.{CommandOutcome}
 use Rattle.command_spec.specs.ScriptLists.{ItemsSpare, ItemsSpareTable, CameFurther, GoesNoFurther, printed_by, with_items, plain_behind}
@@ -49,9 +52,12 @@ is_held c plain intact = record { cartridge = intact.kept.cartridge; stands = in
 abbrev Apart : Cartridge → Plain → List Item → List Did → Type 0
 Apart c plain items dids = ItemsSpare c plain items dids × ItemsSpareTable items
 
-leaves : (c : Cartridge) (plain : Plain) (item : Item) (items : List Item) (did : Did) (dids : List Did) → IsIntact c plain → HaveBytes (item ∷ items) →
-    ItemsDo c plain.words (entries_of plain) (item ∷ items) (did ∷ dids) → Apart c plain (item ∷ items) (did ∷ dids) → ItemLeaves c plain item did
-leaves c plain item items did dids intact has ran behind = item_leaves c plain item did (is_held c plain intact) has.0 (line_spares c plain item.line behind.0.0) ran.0
+leaves : (c : Cartridge) (plain : Plain) (item : Item) (items : List Item) (did : Did) (dids : List Did) → IsIntact c plain →
+    HaveBytes (item ∷ items) →
+    ItemsDo c plain.words (entries_of plain) (item ∷ items) (did ∷ dids) → Apart c plain (item ∷ items) (did ∷ dids) →
+    ItemLeaves c plain item did
+leaves c plain item items did dids intact has ran behind = item_leaves c plain item did (is_held c plain intact) has.0
+    (line_spares c plain item.line behind.0.0) ran.0
 
 -- behind so many items it is whole, with the list and the map that the items go by
 record IsIntactBehind (c : Cartridge) (plain : Plain) (items : List Item) (dids : List Did) : Type 0 where
@@ -59,7 +65,8 @@ record IsIntactBehind (c : Cartridge) (plain : Plain) (items : List Item) (dids 
   entries : entries_of (plain_behind plain items dids) ≡ entries_behind (entries_of plain) dids
   words : (plain_behind plain items dids).words ≡ plain.words
 
-all_intact : (items : List Item) (dids : List Did) (c : Cartridge) (plain : Plain) → IsIntact c plain → HaveBytes items → ItemsDo c plain.words (entries_of plain) items dids →
+all_intact : (items : List Item) (dids : List Did) (c : Cartridge) (plain : Plain) → IsIntact c plain → HaveBytes items →
+    ItemsDo c plain.words (entries_of plain) items dids →
     Apart c plain items dids → IsIntactBehind c plain items dids
 all_intact [] [] c plain intact has ran behind = record { intact = intact; entries = refl; words = refl }
 all_intact [] (did ∷ dids) c plain intact has ran behind = absurd ran
@@ -69,7 +76,8 @@ all_intact (item ∷ items) (did ∷ dids) c plain intact has ran behind =
     let now = one.intact (spares_table item.line behind.1.0) intact in
     let d : Cartridge = changed_by (steps_of did.acts) c in
     let next : Plain = plain_after plain item did in
-    let rest = all_intact items dids d next now.done has.1 (next_do d plain next items did.entries dids one.entries one.words ran.1) (behind.0.1, behind.1.1) in
+    let rest = all_intact items dids d next now.done has.1 (next_do d plain next items did.entries dids one.entries one.words ran.1)
+    (behind.0.1, behind.1.1) in
     let same = next_is plain item did items dids one.entries in
     record {
       intact = subst (λ (p : Plain). IsIntact (cartridge_behind d dids) p) same rest.intact;
@@ -82,21 +90,26 @@ abbrev EndComes : Cartridge → Plain → List Act → Type 0
 EndComes d p last = (left : Option Cartridge) → Torn (steps_of last) (Some d) left → IsSomeAnd left (ComesBackAsOneOf p p)
 
 -- so many items, and acts behind them, leave what comes back behind some of the items, by how much was printed
-items_come : (n : ℕ) (items : List Item) (dids : List Did) (c : Cartridge) (plain : Plain) (last : List Act) → n ≤ length items → IsIntact c plain → HaveBytes items →
-    ItemsDo c plain.words (entries_of plain) items dids → Apart c plain (take n items) (take n dids) → EndComes (cartridge_behind c (take n dids)) (with_items plain items dids n) last →
+items_come : (n : ℕ) (items : List Item) (dids : List Did) (c : Cartridge) (plain : Plain) (last : List Act) → n ≤ length items →
+    IsIntact c plain → HaveBytes items →
+    ItemsDo c plain.words (entries_of plain) items dids → Apart c plain (take n items) (take n dids) →
+    EndComes (cartridge_behind c (take n dids)) (with_items plain items dids n) last →
     AllLeave Tears (λ m. SomeComeBack (with_items plain items dids) m n) c (take n dids) last
 items_come zero items dids c plain last some intact has ran behind ends =
     λ front rest left parts torn. one_comes (with_items plain items dids) 0 left (ends left (torn_behind front rest last c left parts torn))
 items_come (suc n) [] dids c plain last some intact has ran behind ends = absurd (omega arith)
 items_come (suc n) (item ∷ items) [] c plain last some intact has ran behind ends = absurd ran
 items_come (suc n) (item ∷ items) (did ∷ dids) c plain last some intact has ran behind ends =
-    let one : ItemLeaves c plain item did = item_leaves c plain item did (is_held c plain intact) has.0 (line_spares c plain item.line behind.0.0) ran.0 in
+    let one : ItemLeaves c plain item did = item_leaves c plain item did (is_held c plain intact) has.0
+    (line_spares c plain item.line behind.0.0) ran.0 in
     let now = one.intact (spares_table item.line behind.1.0) intact in
     let d : Cartridge = changed_by (steps_of did.acts) c in
     let next : Plain = plain_after plain item did in
     let all : ℕ → Plain = with_items plain (item ∷ items) (did ∷ dids) in
-    let same : (m : ℕ) → with_items next items dids m ≡ all (suc m) = λ m. next_is plain item did (take m items) (take m dids) one.entries in
-    let shift : (m : ℕ) (left : Option Cartridge) → SomeComeBack (with_items next items dids) m n left → SomeComeBack all (suc m) (suc n) left =
+    let same : (m : ℕ) → with_items next items dids m ≡ all (suc m) = λ m. next_is plain item did (take m items)
+    (take m dids) one.entries in
+    let shift : (m : ℕ) (left : Option Cartridge) → SomeComeBack (with_items next items dids) m n left →
+    SomeComeBack all (suc m) (suc n) left =
     λ m left back. next_comes all m n left (record {
       one = back.one;
       other = back.other;
@@ -125,15 +138,19 @@ items_come (suc n) (item ∷ items) (did ∷ dids) c plain last some intact has 
               (now.stopped left (torn_behind front (act ∷ rest) did.acts c left whole torn));
         });
       },
-      leave_weaker Tears (λ m. SomeComeBack (with_items next items dids) m n) (λ m. SomeComeBack all (suc m) (suc n)) shift d (take n dids) last
-          (items_come n items dids d next last (omega arith) now.done has.1 (next_do d plain next items did.entries dids one.entries one.words ran.1) (behind.0.1, behind.1.1)
+      leave_weaker Tears (λ m. SomeComeBack (with_items next items dids) m n) (λ m. SomeComeBack all (suc m) (suc n)) shift d
+          (take n dids) last
+          (items_come n items dids d next last (omega arith) now.done has.1
+          (next_do d plain next items did.entries dids one.entries one.words ran.1) (behind.0.1, behind.1.1)
           (subst (λ (p : Plain). EndComes (cartridge_behind d (take n dids)) p last) (sym (same n)) ends)),
     )
 
 -- ---- the last acts
 
-early_comes : (c : Cartridge) (plain : Plain) (name : List ℕ) (n date : ℕ) (bytes : List ℕ) (m : Meeting) (left : Option Cartridge) → IsIntact c plain → Meets c m → length bytes < n →
-    Torn (steps_of (acts_on c plain.words (entries_of plain) name n date bytes m)) (Some c) left → IsSomeAnd left (ComesBackAsOneOf plain plain)
+early_comes : (c : Cartridge) (plain : Plain) (name : List ℕ) (n date : ℕ) (bytes : List ℕ) (m : Meeting) (left : Option Cartridge) →
+    IsIntact c plain → Meets c m → length bytes < n →
+    Torn (steps_of (acts_on c plain.words (entries_of plain) name n date bytes m)) (Some c) left →
+    IsSomeAnd left (ComesBackAsOneOf plain plain)
 early_comes c plain name n date bytes (Refuses w) left intact meets short torn = intact_is_one c plain plain left intact torn
 early_comes c plain name n date bytes (Finds table) left intact meets short torn =
     let area : table ≡ plain.table_area = standing_data c plain table intact.kept.stands meets.1 in
@@ -144,26 +161,33 @@ early_comes c plain name n date bytes (Finds table) left intact meets short torn
     let writes : List Act = input_writes kept.words kept.entries (Some n) bytes in
     let entry : List Act = entry_acts kept name date replies (taking (room_in kept) (Some n) bytes) in
     let rear : steps_of (writes ++ entry) ≡ steps_of writes =
-    steps_of-append writes entry ∙ ap (λ (ss : List Step). steps_of writes ++ ss) (early_entry kept name date n replies bytes short) ∙ append-nil (steps_of writes) in
+    steps_of-append writes entry ∙ ap (λ (ss : List Step). steps_of writes ++ ss) (early_entry kept name date n replies bytes short)
+    ∙ append-nil (steps_of writes) in
     let now : Torn (steps_of writes) (Some c) left =
     subst (λ (ss : List Step). Torn ss (Some c) left) (ap (λ (ss : List Step). ss ++ steps_of (writes ++ entry)) none ∙ rear) torn in
     some_weaker left
     (λ d known f lost loses. inl (whole_comes_back d plain known.0
-    (kept_whole c d plain.table_area (last_end (entries_of plain)) (last_end_least c plain intact.kept.stands) known.1 intact.table) intact.kept.stands.whole.table_area f lost loses))
+    (kept_whole c d plain.table_area (last_end (entries_of plain)) (last_end_least c plain intact.kept.stands) known.1 intact.table)
+    intact.kept.stands.whole.table_area f lost loses))
     (free_writes_stand c plain (steps_of writes) left intact.kept.stands (behind_last kept n bytes) now)
 
 fault_comes : (c : Cartridge) (plain : Plain) (number : ℕ) (rest : List ℕ) (acts : List Act) (left : Option Cartridge) → IsIntact c plain →
-    FaultDoes c plain.words (entries_of plain) number rest acts → Torn (steps_of acts) (Some c) left → IsSomeAnd left (ComesBackAsOneOf plain plain)
+    FaultDoes c plain.words (entries_of plain) number rest acts → Torn (steps_of acts) (Some c) left →
+    IsSomeAnd left (ComesBackAsOneOf plain plain)
 fault_comes c plain number rest acts left intact (inl (below, (early, (m, meets, is)))) torn =
     early_comes c plain early.name early.promised early.date early.bytes m left intact meets early.short
     (subst (λ (xs : List Act). Torn (steps_of xs) (Some c) left) is torn)
 fault_comes c plain number rest acts left intact (inr (none, is)) torn =
     intact_is_one c plain plain left intact (subst (λ (xs : List Act). Torn (steps_of xs) (Some c) left) is torn)
 
-last_comes : (c : Cartridge) (plain : Plain) (rest : List ℕ) (ending : Ending) (acts : List Act) (left : Option Cartridge) → IsIntact c plain →
-    EndDoes c plain.words (entries_of plain) rest ending acts → Torn (steps_of acts) (Some c) left → IsSomeAnd left (ComesBackAsOneOf plain plain)
-last_comes c plain rest AtEnd acts left intact is torn = intact_is_one c plain plain left intact (subst (λ (xs : List Act). Torn (steps_of xs) (Some c) left) is torn)
-last_comes c plain rest AtStop acts left intact is torn = intact_is_one c plain plain left intact (subst (λ (xs : List Act). Torn (steps_of xs) (Some c) left) is torn)
+last_comes : (c : Cartridge) (plain : Plain) (rest : List ℕ) (ending : Ending) (acts : List Act) (left : Option Cartridge) →
+    IsIntact c plain →
+    EndDoes c plain.words (entries_of plain) rest ending acts → Torn (steps_of acts) (Some c) left →
+    IsSomeAnd left (ComesBackAsOneOf plain plain)
+last_comes c plain rest AtEnd acts left intact is torn = intact_is_one c plain plain left intact
+    (subst (λ (xs : List Act). Torn (steps_of xs) (Some c) left) is torn)
+last_comes c plain rest AtStop acts left intact is torn = intact_is_one c plain plain left intact
+    (subst (λ (xs : List Act). Torn (steps_of xs) (Some c) left) is torn)
 last_comes c plain rest (AtFault number place) acts left intact does torn = fault_comes c plain number rest acts left intact does torn
 
 -- ---- a script
@@ -195,13 +219,16 @@ module _ (c : Cartridge) (plain : Plain) (input : List ℕ) (outcome : CommandOu
   parted : (n : ℕ) → outcome.acts ≡ acts_of (take n dids) ++ rear n
   parted n = acts_are c plain input outcome held intact.kept.live does content n
 
-  none_behind : (n : ℕ) → n ≤ length items → Apart c plain (take n items) (take n dids) → EndComes (cartridge_behind c (take n dids)) (standing n) []
+  none_behind : (n : ℕ) → n ≤ length items → Apart c plain (take n items) (take n dids) → EndComes (cartridge_behind c (take n dids))
+      (standing n) []
   none_behind n some behind left is =
-      let known = all_intact (take n items) (take n dids) c plain intact (first_have n items has) (first_do n items dids c plain.words (entries_of plain) does.did) behind in
+      let known = all_intact (take n items) (take n dids) c plain intact (first_have n items has)
+      (first_do n items dids c plain.words (entries_of plain) does.did) behind in
       intact_is_one (cartridge_behind c (take n dids)) (standing n) (standing n) left known.intact is
 
   -- behind all items
-  all_behind : (n : ℕ) → n ≡ length items → Apart c plain (take n items) (take n dids) → EndComes (cartridge_behind c (take n dids)) (standing n) (rear n)
+  all_behind : (n : ℕ) → n ≡ length items → Apart c plain (take n items) (take n dids) → EndComes (cartridge_behind c (take n dids))
+      (standing n) (rear n)
   all_behind n all behind left torn =
       let every : take n items ≡ items = take_all n items (omega arith) in
       let did : take n dids ≡ dids = take_all n dids (let many = as_long in omega arith) in
@@ -212,38 +239,46 @@ module _ (c : Cartridge) (plain : Plain) (input : List ℕ) (outcome : CommandOu
       let rest : List ℕ = drop (place_behind 1 0 input items does.ending does.read) input in
       let ends : EndDoes (cartridge_behind c dids) p.words (entries_of p) rest does.ending does.last =
       subst (λ (ws : List ℕ). EndDoes (cartridge_behind c dids) ws (entries_of p) rest does.ending does.last) (sym known.words)
-      (subst (λ (es : List Entry). EndDoes (cartridge_behind c dids) plain.words es rest does.ending does.last) (sym known.entries) does.ends) in
+      (subst (λ (es : List Entry). EndDoes (cartridge_behind c dids) plain.words es rest does.ending does.last)
+      (sym known.entries) does.ends) in
       let now : Torn (steps_of does.last) (Some (cartridge_behind c dids)) left =
       subst (λ (ds : List Did). Torn (steps_of (acts_of ds ++ does.last)) (Some (cartridge_behind c dids)) left) none
       (subst (λ (ds : List Did). Torn (steps_of (rear n)) (Some (cartridge_behind c ds)) left) did torn) in
-      let comes : IsSomeAnd left (ComesBackAsOneOf p p) = last_comes (cartridge_behind c dids) p rest does.ending does.last left known.intact ends now in
+      let comes : IsSomeAnd left (ComesBackAsOneOf p p) =
+      last_comes (cartridge_behind c dids) p rest does.ending does.last left known.intact ends now in
       let same : p ≡ standing n =
-      ap (λ (xs : List Item). plain_behind plain xs dids) (sym every) ∙ ap (λ (ds : List Did). plain_behind plain (take n items) ds) (sym did) in
+      ap (λ (xs : List Item). plain_behind plain xs dids) (sym every) ∙ ap (λ (ds : List Did). plain_behind plain (take n items) ds)
+      (sym did) in
       subst (λ (q : Plain). IsSomeAnd left (ComesBackAsOneOf q q)) same comes
 
   -- a stop among the acts of the first items
-  first_come_back : (n : ℕ) (left : Option Cartridge) → n ≤ length items → Apart c plain (take n items) (take n dids) → Torn (steps_of (acts_of (take n dids))) (Some c) left → SomeComeBack standing 0 n left
+  first_come_back : (n : ℕ) (left : Option Cartridge) → n ≤ length items → Apart c plain (take n items) (take n dids) →
+      Torn (steps_of (acts_of (take n dids))) (Some c) left → SomeComeBack standing 0 n left
   first_come_back n left some behind torn =
       let s : StopsBehind (acts_of (take n dids)) c left = stops_behind (acts_of (take n dids)) c left torn in
       let r = reached_between Tears (λ m. SomeComeBack standing m n) (take n dids) c [] s.front s.rest left
       (first_speak n dids (speak c plain input outcome held intact.kept.live does content))
-      (items_come n items dids c plain [] some intact has does.did behind (none_behind n some behind)) (s.parts ∙ sym (append-nil (acts_of (take n dids)))) s.torn in
+      (items_come n items dids c plain [] some intact has does.did behind (none_behind n some behind))
+      (s.parts ∙ sym (append-nil (acts_of (take n dids)))) s.torn in
       less_comes standing 0 r.count n left (omega arith) r.holds
 
-  stopped_comes : (n : ℕ) (left : Option Cartridge) → n ≤ length items → Apart c plain (take n items) (take n dids) → Torn (steps_of outcome.acts) (Some c) left →
+  stopped_comes : (n : ℕ) (left : Option Cartridge) → n ≤ length items → Apart c plain (take n items) (take n dids) →
+      Torn (steps_of outcome.acts) (Some c) left →
       CameFurther c items dids does.last n left ⊎ SomeComeBack standing 0 n left
   stopped_comes n left some behind torn =
       elim (parted_stop c plain input outcome held intact.kept.live does content n left torn) [
         | inl first ↦ inr (first_come_back n left some behind first)
         | inr rest ↦ elim (cases_lt n (length items)) [
           | inl more ↦ inl (record { more = more; torn = rest })
-          | inr all ↦ inr (less_comes standing 0 n n left (omega arith) (one_comes standing n left (all_behind n (omega arith) behind left rest)))
+          | inr all ↦ inr (less_comes standing 0 n n left (omega arith)
+              (one_comes standing n left (all_behind n (omega arith) behind left rest)))
         ]
       ]
 
   -- ---- by what was printed
 
-  module _ (answered n : ℕ) (known : answered ≤ length items) (some : n ≤ length items) (behind : Apart c plain (take n items) (take n dids)) where
+  module _ (answered n : ℕ) (known : answered ≤ length items) (some : n ≤ length items)
+      (behind : Apart c plain (take n items) (take n dids)) where
     spoken : AllSpeak (take n dids)
     spoken = first_speak n dids (speak c plain input outcome held intact.kept.live does content)
 
@@ -270,14 +305,16 @@ module _ (c : Cartridge) (plain : Plain) (input : List ℕ) (outcome : CommandOu
     first_come = items_come n items dids c plain [] some intact has does.did behind (none_behind n some behind)
 
     -- no act behind the first items had a part of its text written
-    too_far : (front : List Act) (next : List Act) (printed : ℕ) → front ≡ acts_of (take n dids) ++ next → length (text_of front) ≤ printed → printed < printed_by dids n → ⊥
+    too_far : (front : List Act) (next : List Act) (printed : ℕ) → front ≡ acts_of (take n dids) ++ next →
+        length (text_of front) ≤ printed → printed < printed_by dids n → ⊥
     too_far front next printed is above less =
         let text : length (text_of front) ≡ printed_by dids n + length (text_of next) =
         ap (λ (xs : List Act). length (text_of xs)) is ∙ ap (λ (t : List ℕ). length t) (text_of-append (acts_of (take n dids)) next)
         ∙ length-append (text_of (acts_of (take n dids))) (text_of next) in
         absurd (omega arith)
 
-    between_comes : (text : List ℕ) (left : Option Cartridge) → printed_by dids answered ≤ length text → GoesNoFurther items dids n (length text) → Between c outcome.acts text left →
+    between_comes : (text : List ℕ) (left : Option Cartridge) → printed_by dids answered ≤ length text →
+        GoesNoFurther items dids n (length text) → Between c outcome.acts text left →
         SomeComeBack standing answered n left
     between_comes text left written further at =
         let there : Torn (next_steps at.rest) (Some (changed_by (steps_of at.front) c)) left =
@@ -287,7 +324,8 @@ module _ (c : Cartridge) (plain : Plain) (input : List ℕ) (outcome : CommandOu
         (subst (λ (m : ℕ). Reached (λ k. SomeComeBack standing k n) (take n dids) m left) (sym long_text)
         (elim further [
           | inl all ↦
-              reached_between Tears (λ m. SomeComeBack standing m n) (take n dids) c (rear n) at.front at.rest left spoken (all_come all) (at.parts ∙ parted n) there
+              reached_between Tears (λ m. SomeComeBack standing m n) (take n dids) c (rear n) at.front at.rest left spoken (all_come all)
+              (at.parts ∙ parted n) there
           | inr less ↦ elim (ends_in at.front at.rest (acts_of (take n dids)) (rear n) (at.parts ∙ parted n)) [
             | inl w ↦
                 reached_between Tears (λ m. SomeComeBack standing m n) (take n dids) c [] at.front (w.act ∷ w.behind) left spoken first_come
@@ -297,29 +335,37 @@ module _ (c : Cartridge) (plain : Plain) (input : List ℕ) (outcome : CommandOu
           ]
         ]))
 
-    behind_comes : (text : List ℕ) (left : Option Cartridge) → printed_by dids answered ≤ length text → GoesNoFurther items dids n (length text) → Behind c outcome.acts text left →
+    behind_comes : (text : List ℕ) (left : Option Cartridge) → printed_by dids answered ≤ length text →
+        GoesNoFurther items dids n (length text) → Behind c outcome.acts text left →
         SomeComeBack standing answered n left
     behind_comes text left written further at =
-        let there : left ≡ Some (changed_by (steps_of at.front ++ at.act.steps) c) = at.is ∙ effects-some (steps_of at.front ++ at.act.steps) c in
-        let long_text : length text ≡ length (text_of at.front) + length at.some = ap (λ (t : List ℕ). length t) at.is_text ∙ length-append (text_of at.front) at.some in
-        let act_text : length at.act.text ≡ length at.some + length at.more = ap (λ (t : List ℕ). length t) (sym at.written) ∙ length-append at.some at.more in
+        let there : left ≡ Some (changed_by (steps_of at.front ++ at.act.steps) c) = at.is
+        ∙ effects-some (steps_of at.front ++ at.act.steps) c in
+        let long_text : length text ≡ length (text_of at.front) + length at.some = ap (λ (t : List ℕ). length t) at.is_text
+        ∙ length-append (text_of at.front) at.some in
+        let act_text : length at.act.text ≡ length at.some + length at.more = ap (λ (t : List ℕ). length t) (sym at.written)
+        ∙ length-append at.some at.more in
         by_reached (length text) left written further
         (elim further [
           | inl all ↦
-              reached_behind Tears (λ ss d. Torn-nothing ss (Some d)) (λ m. SomeComeBack standing m n) (take n dids) c (rear n) at.front at.act at.rest left (length text) spoken (all_come all)
+              reached_behind Tears (λ ss d. Torn-nothing ss (Some d)) (λ m. SomeComeBack standing m n) (take n dids) c
+              (rear n) at.front at.act at.rest left (length text) spoken (all_come all)
               (at.parts ∙ parted n) there (omega arith) (omega arith)
           | inr less ↦ elim (ends_in at.front (at.act ∷ at.rest) (acts_of (take n dids)) (rear n) (at.parts ∙ parted n)) [
             | inl w ↦
                 let rest_is : at.act ∷ at.rest ≡ w.act ∷ (w.behind ++ rear n) = w.rest_is in
                 let same : at.act ≡ w.act = cc in
-                reached_behind Tears (λ ss d. Torn-nothing ss (Some d)) (λ m. SomeComeBack standing m n) (take n dids) c [] at.front at.act w.behind left (length text) spoken first_come
-                (ap (λ (a : Act). at.front ++ a ∷ w.behind) same ∙ w.whole ∙ sym (append-nil (acts_of (take n dids)))) there (omega arith) (omega arith)
+                reached_behind Tears (λ ss d. Torn-nothing ss (Some d)) (λ m. SomeComeBack standing m n)
+                (take n dids) c [] at.front at.act w.behind left (length text) spoken first_come
+                (ap (λ (a : Act). at.front ++ a ∷ w.behind) same ∙ w.whole ∙ sym (append-nil (acts_of (take n dids)))) there (omega arith)
+                (omega arith)
             | inr p ↦ absurd (too_far at.front p.next (length text) p.front_is (omega arith) less)
           ]
         ])
 
 pub stopped_script_comes_back : StoppedScriptComesBack
-stopped_script_comes_back c plain input outcome left intact does content n some spares table torn = stopped_comes c plain input outcome intact does content n left some (spares, table) torn
+stopped_script_comes_back c plain input outcome left intact does content n some spares table torn =
+    stopped_comes c plain input outcome intact does content n left some (spares, table) torn
 
 pub answered_script_comes_back : AnsweredScriptComesBack
 answered_script_comes_back c plain input outcome text left intact does content answered n known written some further spares table (inl at) =
@@ -331,16 +377,19 @@ pub done_script_comes_back : DoneScriptComesBack
 done_script_comes_back c plain input outcome intact does content spares table =
     let n : ℕ = length does.items in
     let first : take n does.items ≡ does.items = take_all n does.items (omega arith) in
-    let all : take n does.dids ≡ does.dids = take_all n does.dids (let many = as_long c plain input outcome intact does content in omega arith) in
+    let all : take n does.dids ≡ does.dids = take_all n does.dids (let many = as_long c plain input outcome intact does content in
+    omega arith) in
     let left : Option Cartridge = Some (changed_by (steps_of outcome.acts) c) in
-    let there : cartridge_behind c (take n does.dids) ≡ changed_by (steps_of (acts_of (take n does.dids))) c = cartridge_is c (take n does.dids) in
+    let there : cartridge_behind c (take n does.dids) ≡ changed_by (steps_of (acts_of (take n does.dids))) c =
+    cartridge_is c (take n does.dids) in
     let rest : List Act = rear c plain input outcome intact does content n in
     let whole : changed_by (steps_of outcome.acts) c ≡ changed_by (steps_of rest) (cartridge_behind c (take n does.dids)) =
     ap (λ (acts : List Act). changed_by (steps_of acts) c) (parted c plain input outcome intact does content n)
     ∙ changed_by_acts (acts_of (take n does.dids)) rest c ∙ ap (λ (d : Cartridge). changed_by (steps_of rest) d) (sym there) in
     one_comes (with_items plain does.items does.dids) n left
     (all_behind c plain input outcome intact does content n refl
-    (subst (λ (ds : List Did). Apart c plain (take n does.items) ds) (sym all) (subst (λ (xs : List Item). Apart c plain xs does.dids) (sym first) (spares, table))) left
+    (subst (λ (ds : List Did). Apart c plain (take n does.items) ds) (sym all)
+    (subst (λ (xs : List Item). Apart c plain xs does.dids) (sym first) (spares, table))) left
     (subst (λ (o : Option Cartridge). Torn (steps_of rest) (Some (cartridge_behind c (take n does.dids))) o)
     (effects-some (steps_of rest) (cartridge_behind c (take n does.dids)) ∙ ap (λ (d : Cartridge). Some d) (sym whole))
     (Torn-all (steps_of rest) (Some (cartridge_behind c (take n does.dids))))))

@@ -9,7 +9,9 @@ pub mod CommandEndings
 pub mod CommandEnds
 pub mod CommandGivenBack
 pub mod CommandKeeping
+pub mod CommandLeft
 pub mod CommandListing
+pub mod CommandLooking
 pub mod CommandMachineLaws
 pub mod CommandOneLoss
 pub mod CommandOpened
@@ -26,8 +28,7 @@ pub mod CommandTotals
 pub mod CommandUnread
 pub mod CommandValues
 pub mod CommandVolumes
-pub mod DeepScrubEnds
-pub mod DeepScrubKept
+pub mod CommandWhole
 pub mod CopyComplete
 pub mod CopyGoing
 pub mod CopyLeaving
@@ -37,6 +38,9 @@ pub mod CopyPrinted
 pub mod CopyStanding
 pub mod CopySteps
 pub mod CopyValues
+pub mod CutRuns
+pub mod DeepScrubEnds
+pub mod DeepScrubKept
 pub mod InputActLaws
 pub mod IntactKeeping
 pub mod IntactMade
@@ -44,6 +48,8 @@ pub mod IntactScript
 pub mod LifeFormats
 pub mod LifeGrowing
 pub mod LifeLaws
+pub mod LifeReopened
+pub mod LifeReopening
 pub mod LifeRuns
 pub mod LifeUnformatted
 pub mod LineListings
@@ -119,8 +125,12 @@ pub mod ScrubSeen
 pub mod ScrubSettled
 pub mod ScrubStanding
 pub mod ScrubTurns
+pub mod SilentElse
+pub mod SilentFound
 pub mod SilentMended
+pub mod SilentRest
 pub mod SilentSettled
+pub mod SilentWhole
 pub mod StoreAgain
 pub mod StoreBehind
 pub mod StoreEnding
@@ -141,5 +151,3 @@ pub mod TextReadings
 pub mod TextTrimmed
 pub mod TextWords
 pub mod WholeSteps
-pub mod CommandWhole
-pub mod CommandLeft

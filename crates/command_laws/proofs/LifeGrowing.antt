@@ -1,5 +1,6 @@
 -- Which runs are runs of a life, how a life begins, and that it keeps its volumes and gives them back.
-use Rattle.std.proofs.Common.{IsSomeAnd, ◌<◌, arith, min, slice_get, ◌≡◌, ◌++◌, ◌+◌, ◌∙◌, ℕ, suc, append-nil, append_assoc, ap, sym, subst, refl, inl, inr, Bool, true, false, List, [], ◌∷◌, Option, Some, None, IfSome, length, take}
+use Rattle.std.proofs.Common.{IsSomeAnd, ◌<◌, arith, min, slice_get, ◌≡◌, ◌++◌, ◌+◌, ◌∙◌, ℕ, suc, append-nil, append_assoc, ap, sym, subst}
+use Rattle.std.proofs.Common.{refl, inl, inr, Bool, true, false, List, [], ◌∷◌, Option, Some, None, IfSome, length, take}
 use Rattle.std.proofs.lemmas.List.{get_or_append_left, length-append}
 use Rattle.std.proofs.lemmas.Option.{slice_get-get_or, slice_get_within}
 use Rattle.std.proofs.Math.Seq.{get_or-append_seam}
@@ -17,7 +18,8 @@ use Rattle.command_laws.proofs.LifeFormats.{torn_by}
 use Rattle.command_laws.proofs.LifeLaws.{event_makes}
 use Rattle.command_laws.proofs.WholeSteps.{new_whole}
 use Rattle.command_laws.specs.Life.{Answered, Becomes, Ended, Event, Happens, IsEmptied, IsSound, Lives, Loses, Runs, Stopped, begun_behind}
-use Rattle.command_laws.specs.LifeLaws.{AnsweredRuns, AreKeeping, BackupsAreGivenBack, FormatBegins, GivesBytes, HasGrown, IsKeeping, NewAndFormatBegin, StoppedRuns, VolumesAreGivenBack, VolumesAreKept, run_of}
+use Rattle.command_laws.specs.LifeLaws.{AnsweredRuns, AreKeeping, BackupsAreGivenBack, FormatBegins, GivesBytes, HasGrown, IsKeeping}
+use Rattle.command_laws.specs.LifeLaws.{NewAndFormatBegin, StoppedRuns, VolumesAreGivenBack, VolumesAreKept, run_of}
 use Rattle.command_spec.specs.Append.{room_in}
 use Rattle.command_laws.specs.CommandFields.{Yields}
 use Rattle.command_spec.specs.Make.{made_contents}
@@ -38,17 +40,35 @@ use Rattle.command_spec.specs.declared.words.Words.TheVariants as words
 pub answered_runs : AnsweredRuns
 answered_runs ws input output taken answer held left (inl none) = inl (none.0, none.1)
 answered_runs ws input output taken answer held left (inr (command, spelled, (outcome, plain, is_left, is_output, is_taken, is_answer))) =
-    inr (command, spelled, record { values = has_values ws command spelled; outcome = outcome; plain = plain; leaves = (sym is_answer, sym is_output, is_left) })
+    inr (
+      command,
+      spelled,
+      record {
+        values = has_values ws command spelled;
+        outcome = outcome;
+        plain = plain;
+        leaves = (sym is_answer, sym is_output, is_left);
+      },
+    )
 
 pub stopped_runs : StoppedRuns
 stopped_runs ws told held left (inl same) = inl same
 stopped_runs ws told held left (inr (command, spelled, l)) =
-    inr (l.input, l.is_told, (command, spelled, record { values = has_values ws command spelled; outcome = l.outcome; plain = l.plain; leaves = l.torn }))
+    inr (
+      l.input,
+      l.is_told,
+      (
+        command,
+        spelled,
+        record { values = has_values ws command spelled; outcome = l.outcome; plain = l.plain; leaves = l.torn },
+      ),
+    )
 
 -- ---- the beginning of a life
 
 -- what stands fresh is sound
-fresh_begins : (label : List ℕ) (date : ℕ) (c : Cartridge) (left : Option Cartridge) → IfSome left IsCartridge → IsSomeAnd left (StandsEmpty StandsCleanly c label date) →
+fresh_begins : (label : List ℕ) (date : ℕ) (c : Cartridge) (left : Option Cartridge) → IfSome left IsCartridge →
+    IsSomeAnd left (StandsEmpty StandsCleanly c label date) →
     (after : Option Plain) × IsEmptied c label date after × IsSound false left after
 fresh_begins label date c None whole fresh = absurd fresh
 fresh_begins label date c (Some d) whole fresh = (
@@ -72,7 +92,8 @@ new_and_format_begin segments label date answer input other printed text begun h
     let is_new : life.0 ≡ Some (new_cartridge segments) =
     first.leaves.2 ∙ ap (λ (o : CommandOutcome). effects (steps_of o.acts) held) first.plain ∙ renewed_effect segments held in
     format_begins label date other text false (new_cartridge segments) left (new_whole segments first.values)
-    (subst (λ (o : Option Cartridge). Lives (Runs (run_of (words.Format label date) other (Answered status.Done text)) ∷ []) false o left) is_new life.2)
+    (subst (λ (o : Option Cartridge). Lives (Runs (run_of (words.Format label date) other (Answered status.Done text)) ∷ []) false o left)
+    is_new life.2)
 
 -- ---- volumes in a life
 
@@ -80,7 +101,12 @@ grown_none : (plain : Plain) → HasGrown plain plain
 grown_none plain = record { header_area = refl; words = refl; more = []; volumes = sym (append-nil plain.volumes) }
 
 grown_one : (plain : Plain) (name : List ℕ) (date : ℕ) (bytes : List ℕ) → HasGrown plain (with_bytes plain name date bytes)
-grown_one plain name date bytes = record { header_area = refl; words = refl; more = appended_volume plain name date bytes ∷ []; volumes = refl }
+grown_one plain name date bytes = record {
+  header_area = refl;
+  words = refl;
+  more = appended_volume plain name date bytes ∷ [];
+  volumes = refl;
+}
 
 grown_both : (a b c : Plain) → HasGrown a b → HasGrown b c → HasGrown a c
 grown_both a b c one other = record {
@@ -106,19 +132,28 @@ same_list plain after is = record { later = plain; is = is; grown = grown_none p
 
 append_grows : (name : List ℕ) (date : ℕ) (c : Cartridge) (input : List ℕ) (ended : Ended) (plain : Plain) (after : Option Plain) →
     Becomes (words.Append name date) (Some c) input ended (Some plain) after → GrownTo plain after
-append_grows name date c input (Answered answer printed) plain after (inl (done, is)) = record { later = _; is = is; grown = grown_one plain name date input }
+append_grows name date c input (Answered answer printed) plain after (inl (done, is)) =
+    record { later = _; is = is; grown = grown_one plain name date input }
 append_grows name date c input (Answered answer printed) plain after (inr (other, is)) = same_list plain after is
 append_grows name date c input (Stopped printed) plain after (inl is) = same_list plain after is
-append_grows name date c input (Stopped printed) plain after (inr is) = record { later = _; is = is; grown = grown_one plain name date input }
+append_grows name date c input (Stopped printed) plain after (inr is) =
+    record { later = _; is = is; grown = grown_one plain name date input }
 
-command_grows : (command : Words) (c : Cartridge) (input : List ℕ) (ended : Ended) (plain : Plain) (after : Option Plain) → IsKeeping command →
+command_grows : (command : Words) (c : Cartridge) (input : List ℕ) (ended : Ended) (plain : Plain) (after : Option Plain) →
+    IsKeeping command →
     Becomes command (Some c) input ended (Some plain) after → GrownTo plain after
 command_grows (words.New segments) c input ended plain after keeping is = absurd keeping
 command_grows (words.Format label date) c input ended plain after keeping is = absurd keeping
 command_grows (words.Append name date) c input ended plain after keeping is = append_grows name date c input ended plain after is
-command_grows (words.Make seed count) c input ended plain after keeping some = record { later = _; is = some.is; grown = all_grow plain (made_contents seed 1 some.made) }
+command_grows (words.Make seed count) c input ended plain after keeping some =
+    record { later = _; is = some.is; grown = all_grow plain (made_contents seed 1 some.made) }
 command_grows words.Script c input ended plain after keeping (inl some) =
-    record { later = _; is = some.is; grown = all_grow plain (all_added (entries_of plain) (take some.count some.does.items) (take some.count some.does.dids)) }
+    record {
+      later = _;
+      is = some.is;
+      grown =
+          all_grow plain (all_added (entries_of plain) (take some.count some.does.items) (take some.count some.does.dids));
+    }
 command_grows words.Script c input ended plain after keeping (inr turned) = same_list plain after turned.2
 command_grows command c input ended plain after keeping is = same_list plain after is
 
@@ -128,13 +163,18 @@ record Next (event : Event) (begun : Bool) (plain : Plain) (left : Option Cartri
   grown : HasGrown plain later
   sound : IsSound (begun_behind event begun) left (Some later)
 
-event_grows : (event : Event) (events : List Event) (begun : Bool) (held left : Option Cartridge) (plain : Plain) → AreKeeping (event ∷ events) → IsSound begun held (Some plain) →
+event_grows : (event : Event) (events : List Event) (begun : Bool) (held left : Option Cartridge) (plain : Plain) →
+    AreKeeping (event ∷ events) → IsSound begun held (Some plain) →
     Happens event begun held left → Next event begun plain left
 event_grows event events begun None left plain keeping sound happens = absurd sound
 event_grows (Runs run) events begun (Some c) left plain keeping sound happens =
     let made = event_makes (Runs run) begun (Some c) left (Some plain) sound happens in
     let to : GrownTo plain made.0 = command_grows run.command c run.input run.ended plain made.0 keeping.0 made.1 in
-    record { later = to.later; grown = to.grown; sound = subst (λ (o : Option Plain). IsSound (begun_behind (Runs run) begun) left o) to.is made.2 }
+    record {
+      later = to.later;
+      grown = to.grown;
+      sound = subst (λ (o : Option Plain). IsSound (begun_behind (Runs run) begun) left o) to.is made.2;
+    }
 event_grows (Loses segment sector) events begun (Some c) left plain keeping sound happens =
     let made = event_makes (Loses segment sector) begun (Some c) left (Some plain) sound happens in
     record { later = plain; grown = grown_none plain; sound = subst (λ (o : Option Plain). IsSound begun left o) made.1 made.2 }
@@ -148,7 +188,8 @@ volumes_are_kept [] begun held left plain keeping sound life =
     (plain, grown_none plain, subst (λ (o : Option Cartridge). IsSound begun o (Some plain)) (sym life) sound)
 volumes_are_kept (event ∷ events) begun held left plain keeping sound life =
     let next = event_grows event events begun held life.0 plain keeping sound life.1 in
-    let rest = volumes_are_kept events (begun_behind event begun) life.0 left next.later (rest_keeping event events keeping) next.sound life.2 in
+    let rest = volumes_are_kept events (begun_behind event begun) life.0 left next.later
+    (rest_keeping event events keeping) next.sound life.2 in
     (rest.0, grown_both plain next.later rest.0 next.grown rest.1, rest.2)
 
 -- ---- volumes, given back
@@ -160,7 +201,8 @@ behind_get front rest volume =
     slice_get-get_or (front ++ volume ∷ rest) (length front) volume (omega arith) ∙ ap Some (get_or-append_seam front volume rest volume)
 
 -- a volume has the same number, also with more of them behind
-front_get : (front rest : List Volume) (place : ℕ) (volume : Volume) → slice_get front place ≡ Some volume → slice_get (front ++ rest) place ≡ Some volume
+front_get : (front rest : List Volume) (place : ℕ) (volume : Volume) → slice_get front place ≡ Some volume →
+    slice_get (front ++ rest) place ≡ Some volume
 front_get front rest place volume at =
     let within : place < length front = slice_get_within front place volume at in
     let long : length (front ++ rest) ≡ length front + length rest = length-append front rest in
@@ -169,7 +211,8 @@ front_get front rest place volume at =
     ∙ sym (slice_get-get_or front place volume within)
     ∙ at
 
-gives_bytes : (c : Cartridge) (plain later : Plain) (place : ℕ) (volume : Volume) → Stands c later → HasGrown plain later → slice_get plain.volumes place ≡ Some volume →
+gives_bytes : (c : Cartridge) (plain later : Plain) (place : ℕ) (volume : Volume) → Stands c later → HasGrown plain later →
+    slice_get plain.volumes place ≡ Some volume →
     GivesBytes c later (suc place) volume (volume_bytes plain.words volume)
 gives_bytes c plain later place volume stood grown at input outcome reads few yields =
     let there : slice_get later.volumes place ≡ Some volume =
@@ -202,10 +245,13 @@ its_bytes : (name : List ℕ) (date : ℕ) (bytes : List ℕ) (b : Cartridge) (p
 its_bytes name date bytes b plain may =
     (done_bytes b plain name date bytes may).1
 
-done_sound : (name : List ℕ) (date : ℕ) (bytes printed : List ℕ) (begun : Bool) (b : Cartridge) (plain : Plain) (next : Option Cartridge) → IsSound begun (Some b) (Some plain) →
-    Happens (Runs (run_of (words.Append name date) bytes (Answered status.Done printed))) begun (Some b) next → IsSound begun next (Some (with_bytes plain name date bytes))
+done_sound : (name : List ℕ) (date : ℕ) (bytes printed : List ℕ) (begun : Bool) (b : Cartridge) (plain : Plain) (next : Option Cartridge) →
+    IsSound begun (Some b) (Some plain) →
+    Happens (Runs (run_of (words.Append name date) bytes (Answered status.Done printed))) begun (Some b) next →
+    IsSound begun next (Some (with_bytes plain name date bytes))
 done_sound name date bytes printed begun b plain next sound happens =
-    let made = event_makes (Runs (run_of (words.Append name date) bytes (Answered status.Done printed))) begun (Some b) next (Some plain) sound happens in
+    let made = event_makes (Runs (run_of (words.Append name date) bytes (Answered status.Done printed))) begun (Some b) next
+    (Some plain) sound happens in
     elim made.1 [
       | inl done ↦ subst (λ (o : Option Plain). IsSound begun next o) done.1 made.2
       | inr other ↦ absurd (other.0 refl)

@@ -11,7 +11,8 @@ use Rattle.command_laws.proofs.LifeFormats.{Makes, format_makes, new_makes, torn
 use Rattle.command_laws.proofs.LifeRuns.{append_makes, keeping, make_makes, none_of_none, script_makes, without_stays, others_keep_live}
 use Rattle.command_laws.proofs.CommandUnread.{worn_neither}
 use Rattle.command_laws.proofs.WholeSteps.{worn_whole}
-use Rattle.command_laws.specs.Life.{ALife, CommandSpares, Ended, Event, EventBecomes, Happens, IsSound, Leaves, LossSpares, Loses, MayEnd, Runs, begun_behind, begun_by}
+use Rattle.command_laws.specs.Life.{ALife, CommandSpares, Ended, Event, EventBecomes, Happens, IsSound, Leaves, LossSpares, Loses, MayEnd}
+use Rattle.command_laws.specs.Life.{Runs, begun_behind, begun_by}
 use Rattle.command_spec.specs.Machine.{HasValues}
 use Rattle.command_laws.specs.CommandFields.{Yields}
 use Rattle.command_spec.specs.Outcome.{CommandOutcome}
@@ -25,8 +26,10 @@ use Rattle.command_spec.specs.declared.words.Words.TheVariants as words
 
 -- ---- a run
 
-command_makes : (command : Words) (input : List ℕ) (ended : Ended) (begun : Bool) (held left : Option Cartridge) (before : Option Plain) (outcome : CommandOutcome) →
-    IsSound begun held before → HasValues command → All (λ b. b < 256) input → Yields command held input outcome → Leaves ended outcome held left → IfSome left IsCartridge →
+command_makes : (command : Words) (input : List ℕ) (ended : Ended) (begun : Bool) (held left : Option Cartridge) (before : Option Plain)
+    (outcome : CommandOutcome) →
+    IsSound begun held before → HasValues command → All (λ b. b < 256) input → Yields command held input outcome →
+    Leaves ended outcome held left → IfSome left IsCartridge →
     IfSome held (CommandSpares command ended input left) → MayEnd command ended begun → Makes command input ended begun held left before
 command_makes (words.New segments) input ended begun held left before outcome sound values bytes yields leaves whole spares may =
     new_makes segments input ended begun held left before outcome sound yields leaves whole
@@ -35,37 +38,46 @@ command_makes (words.Format label date) input ended begun (Some c) left before o
 command_makes command input ended begun None left (Some plain) outcome sound values bytes yields leaves whole spares may = absurd sound
 command_makes command input ended begun None left None outcome sound values bytes yields leaves whole spares may =
     let none : left ≡ None =
-    none_of_none (steps_of outcome.acts) left (only_new_renews command None input outcome (others_keep_live command (λ segments is. cc)) yields) (torn_by ended outcome None left leaves) in
+    none_of_none (steps_of outcome.acts) left
+    (only_new_renews command None input outcome (others_keep_live command (λ segments is. cc)) yields)
+    (torn_by ended outcome None left leaves) in
     (None, refl, subst (λ (o : Option Cartridge). IsSound (begun_by command ended begun) o None) (sym none) tt)
 command_makes command input ended begun (Some c) left None outcome sound values bytes yields leaves whole spares may = (
   None,
   refl,
   without_stays command ended c input begun left outcome tt spares sound yields (torn_by ended outcome (Some c) left leaves) whole,
 )
-command_makes (words.Append name date) input ended begun (Some c) left (Some plain) outcome sound values bytes yields leaves whole spares may =
+command_makes (words.Append name date) input ended begun (Some c) left (Some plain) outcome sound values bytes yields leaves whole spares
+    may =
     append_makes name date c input begun plain left outcome values bytes sound yields whole ended leaves
-command_makes (words.Make seed count) input ended begun (Some c) left (Some plain) outcome sound values bytes yields leaves whole spares may =
+command_makes (words.Make seed count) input ended begun (Some c) left (Some plain) outcome sound values bytes yields leaves whole spares
+    may =
     make_makes seed count c input begun plain left outcome values sound yields whole ended leaves
 command_makes words.Script input ended begun (Some c) left (Some plain) outcome sound values bytes yields leaves whole spares may =
     script_makes c input begun plain left outcome bytes sound yields whole ended spares leaves
-command_makes (words.Lose segment sector) input ended begun (Some c) left (Some plain) outcome sound values bytes yields leaves whole spares may = (
-  Some plain,
-  refl,
-  keeping (words.Lose segment sector) c input begun plain left outcome (λ segments is. cc) (λ place. (spares place).volumes plain sound.stands) tt sound yields
-      (torn_by ended outcome (Some c) left leaves) whole,
-)
+command_makes (words.Lose segment sector) input ended begun (Some c) left (Some plain) outcome sound values bytes yields leaves whole spares
+    may = (
+      Some plain,
+      refl,
+      keeping (words.Lose segment sector) c input begun plain left outcome (λ segments is. cc)
+          (λ place. (spares place).volumes plain sound.stands) tt sound yields
+          (torn_by ended outcome (Some c) left leaves) whole,
+    )
 command_makes command input ended begun (Some c) left (Some plain) outcome sound values bytes yields leaves whole spares may = (
   Some plain,
   refl,
-  keeping command c input begun plain left outcome (λ segments is. cc) tt tt sound yields (torn_by ended outcome (Some c) left leaves) whole,
+  keeping command c input begun plain left outcome (λ segments is. cc) tt tt sound yields
+      (torn_by ended outcome (Some c) left leaves) whole,
 )
 
 -- ---- a sector that is lost between runs
 
-worn_sound : (segment sector : ℕ) (begun : Bool) (c : Cartridge) (before : Option Plain) → sector < 32 → IsCartridge (worn segment sector c) → LossSpares c segment sector →
+worn_sound : (segment sector : ℕ) (begun : Bool) (c : Cartridge) (before : Option Plain) → sector < 32 →
+    IsCartridge (worn segment sector c) → LossSpares c segment sector →
     IsSound begun (Some c) before → IsSound begun (Some (worn segment sector c)) before
 worn_sound segment sector begun c None small whole spares sound =
-    let none : NeitherReads (worn segment sector c) = worn_neither c segment sector small (spares.copies sound.first sound.second) (sound.first, sound.second) in
+    let none : NeitherReads (worn segment sector c) = worn_neither c segment sector small (spares.copies sound.first sound.second)
+    (sound.first, sound.second) in
     record { whole = whole; first = none.0; second = none.1; bare = λ is. worn_is_bare c segment sector (sound.bare is) }
 worn_sound segment sector begun c (Some plain) small whole spares sound = record {
   whole = whole;
@@ -78,29 +90,34 @@ worn_sound segment sector begun c (Some plain) small whole spares sound = record
 }
 
 -- what is sound is whole
-sound_whole : (begun : Bool) (held : Option Cartridge) (before : Option Plain) → IsSound begun held before → IfSome held IsCartridge
+pub sound_whole : (begun : Bool) (held : Option Cartridge) (before : Option Plain) → IsSound begun held before → IfSome held IsCartridge
 sound_whole begun None before sound = tt
 sound_whole begun (Some c) None sound = sound.whole
 sound_whole begun (Some c) (Some plain) sound = sound.whole
 
-lost_sound : (segment sector : ℕ) (begun : Bool) (held left : Option Cartridge) (before : Option Plain) → sector < 32 → left ≡ effect (Wear segment sector) held →
+pub lost_sound : (segment sector : ℕ) (begun : Bool) (held left : Option Cartridge) (before : Option Plain) → sector < 32 →
+    left ≡ effect (Wear segment sector) held →
     IfSome held (λ c. LossSpares c segment sector) → IsSound begun held before → IsSound begun left before
-lost_sound segment sector begun None left before small is spares sound = subst (λ (o : Option Cartridge). IsSound begun o before) (sym is) sound
+lost_sound segment sector begun None left before small is spares sound = subst (λ (o : Option Cartridge). IsSound begun o before)
+    (sym is) sound
 lost_sound segment sector begun (Some c) left before small is spares sound =
     subst (λ (o : Option Cartridge). IsSound begun o before) (sym is)
     (worn_sound segment sector begun c before small (worn_whole c segment sector (sound_whole begun (Some c) before sound)) spares sound)
 
 -- ---- a life
 
-pub event_makes : (event : Event) (begun : Bool) (held left : Option Cartridge) (before : Option Plain) → IsSound begun held before → Happens event begun held left →
+pub event_makes : (event : Event) (begun : Bool) (held left : Option Cartridge) (before : Option Plain) → IsSound begun held before →
+    Happens event begun held left →
     (after : Option Plain) × EventBecomes event held before after × IsSound (begun_behind event begun) left after
 event_makes (Runs run) begun held left before sound ran =
     let did = ran.0 in
     let within = ran.1 in
     command_makes run.command run.input run.ended begun held left before did.outcome sound did.values within.bytes did.plain did.leaves
-    (leaves_whole run.command held left run.input did.outcome did.values within.bytes (sound_whole begun held before sound) did.plain (torn_by run.ended did.outcome held left did.leaves))
+    (leaves_whole run.command held left run.input did.outcome did.values within.bytes (sound_whole begun held before sound) did.plain
+    (torn_by run.ended did.outcome held left did.leaves))
     within.spares within.may_end
-event_makes (Loses segment sector) begun held left before sound lost = (before, refl, lost_sound segment sector begun held left before lost.0 lost.1 lost.2 sound)
+event_makes (Loses segment sector) begun held left before sound lost =
+    (before, refl, lost_sound segment sector begun held left before lost.0 lost.1 lost.2 sound)
 
 pub a_life : ALife
 a_life [] begun held left before sound life = (before, refl, subst (λ (o : Option Cartridge). IsSound begun o before) (sym life) sound)

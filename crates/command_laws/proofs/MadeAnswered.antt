@@ -1,5 +1,6 @@
 -- A run of `make` prints nothing before all its appends are done, so what was printed tells that all made volumes stand.
-use Rattle.std.proofs.Common.{◌≡◌, ℕ, ◌+◌, List, [], ◌∷◌, ◌++◌, refl, sym, ap, ◌∙◌, Option, inl, inr, Some, subst, ◌⊎◌, ◌≢◌, zero, suc, ◌≤◌, IsSomeAnd, arith, length, drop}
+use Rattle.std.proofs.Common.{◌≡◌, ℕ, ◌+◌, List, [], ◌∷◌, ◌++◌, refl, sym, ap, ◌∙◌, Option, inl, inr, Some, subst, ◌⊎◌, ◌≢◌, zero, suc, ◌≤◌}
+use Rattle.std.proofs.Common.{IsSomeAnd, arith, length, drop}
 use Rattle.cartridge_laws.proofs.FormatWriting.{effects-some}
 use Rattle.cartridge_spec.specs.Appending.{with_all, with_bytes}
 use Rattle.cartridge_spec.specs.Settling.{changed_by}
@@ -9,9 +10,11 @@ use Rattle.command_laws.proofs.MadeStops.{StillBehind, behind_next, done_append_
 use Rattle.command_laws.proofs.MountedKeeping.{changed_by_acts, kept_open}
 use Rattle.command_laws.specs.MadeLaws.{MadeAreAnswered}
 use Rattle.command_laws.specs.MountedKept.{IsKept}
-use Rattle.command_spec.specs.Append.{Kept, input_writes, room_in, Taking, Fits, TooLong, TooShort, entry_acts, append_acts, taking, kept_over}
+use Rattle.command_spec.specs.Append.{Kept, input_writes, room_in, Taking, Fits, TooLong, TooShort, entry_acts, append_acts, taking}
+use Rattle.command_spec.specs.Append.{kept_over}
 use Rattle.command_laws.specs.AppendTerms.{silently}
-use Rattle.command_spec.specs.Make.{made_length, made_bytes, made_contents, AppendMade, made_name, StepDoes, MakeStep, appending, Runs, ScrubAll, wearing_volumes, summing, made_list}
+use Rattle.command_spec.specs.Make.{made_length, made_bytes, made_contents, AppendMade, made_name, StepDoes, MakeStep, appending, Runs}
+use Rattle.command_spec.specs.Make.{ScrubAll, wearing_volumes, summing, made_list}
 use Rattle.qic_base.proofs.Joins.{text_of-append, steps_of-append}
 use Rattle.qic_base.proofs.Steps.{Torn-front, Torn-behind}
 use Rattle.qic_base.specs.Acts.{Act, text_of, steps_of, next_steps}
@@ -29,14 +32,16 @@ no_front (x ∷ xs) ys none = absurd (cc)
 
 -- a front of acts that print nothing
 pub quiet_front : (front rest acts : List Act) → front ++ rest ≡ acts → text_of acts ≡ [] → text_of front ≡ []
-quiet_front front rest acts parts quiet = no_front (text_of front) (text_of rest) (sym (text_of-append front rest) ∙ ap text_of parts ∙ quiet)
+quiet_front front rest acts parts quiet = no_front (text_of front) (text_of rest)
+    (sym (text_of-append front rest) ∙ ap text_of parts ∙ quiet)
 
 entry_texts : (kept : Kept) (name : List ℕ) (date : ℕ) (became : Taking) → text_of (entry_acts kept name date silently became) ≡ []
 entry_texts kept name date (Fits bytes) = refl
 entry_texts kept name date (TooLong need have) = refl
 entry_texts kept name date (TooShort asked read) = refl
 
-quiet_acts : (kept : Kept) (name : List ℕ) (date : ℕ) (promised : Option ℕ) (input : List ℕ) → text_of (append_acts kept name date promised silently input) ≡ []
+quiet_acts : (kept : Kept) (name : List ℕ) (date : ℕ) (promised : Option ℕ) (input : List ℕ) →
+    text_of (append_acts kept name date promised silently input) ≡ []
 quiet_acts kept name date promised input =
     let last : List Act = entry_acts kept name date silently (taking (room_in kept) promised input) in
     text_of-append (input_writes kept.words kept.entries promised input) last
@@ -47,7 +52,8 @@ pub append_prints_nothing : (seed : ℕ) (c : Cartridge) (words : List ℕ) (es 
     StepDoes seed c words es (AppendMade volume) acts answer → text_of acts ≡ []
 append_prints_nothing seed c words es volume acts answer (inl refused) = ap text_of refused.1
 append_prints_nothing seed c words es volume acts answer (inr (free, inl appended)) =
-    ap text_of appended.does ∙ quiet_acts (kept_over c words es appended.table) (made_name volume) 0 (Some (made_length seed volume)) (made_bytes seed volume)
+    ap text_of appended.does ∙ quiet_acts (kept_over c words es appended.table) (made_name volume) 0 (Some (made_length seed volume))
+    (made_bytes seed volume)
 append_prints_nothing seed c words es volume acts answer (inr (free, inr lost)) = ap text_of lost.2
 
 -- ---- a stop behind a front of acts
@@ -80,15 +86,20 @@ two_fronts (x ∷ xs) ys (u ∷ us) vs same =
 -- ---- the appends, and what comes behind them
 
 module _ (seed : ℕ) (rest : List MakeStep) where
-  appends_answered : (n : ℕ) (c : Cartridge) (plain : Plain) (volume : ℕ) (acts front rear : List Act) (answer : Status) (left : Option Cartridge) → volume + n ≤ 201 → IsKept c plain →
+  appends_answered : (n : ℕ) (c : Cartridge) (plain : Plain) (volume : ℕ) (acts front rear : List Act) (answer : Status)
+      (left : Option Cartridge) → volume + n ≤ 201 → IsKept c plain →
       StillBehind seed plain.words (entries_of plain) volume n rest →
       Runs seed c plain.words (entries_of plain) (appending volume n ++ rest) acts answer → front ++ rear ≡ acts → text_of front ≢ [] →
-      Torn (next_steps rear) (Some (changed_by (steps_of front) c)) left → IsSomeAnd left (λ d. Stands d (with_all plain (made_contents seed volume n)))
+      Torn (next_steps rear) (Some (changed_by (steps_of front) c)) left →
+      IsSomeAnd left (λ d. Stands d (with_all plain (made_contents seed volume n)))
   appends_answered zero c plain volume acts front rear answer left few held still runs parts printed torn =
-      stills_stopped seed rest c plain acts answer left (still c plain held.stands refl refl) (kept_open c plain held) runs (torn_behind front rear acts c left parts torn)
+      stills_stopped seed rest c plain acts answer left (still c plain held.stands refl refl) (kept_open c plain held) runs
+      (torn_behind front rear acts c left parts torn)
   appends_answered (suc n) c plain volume acts front rear answer left few held still (inl (other, does)) parts printed torn =
-      absurd (printed (quiet_front front rear acts parts (append_prints_nothing seed c plain.words (entries_of plain) volume acts answer does)))
-  appends_answered (suc n) c plain volume acts front rear answer left few held still (inr (first, behind, joined, does, more)) parts printed torn =
+      absurd (printed (quiet_front front rear acts parts
+      (append_prints_nothing seed c plain.words (entries_of plain) volume acts answer does)))
+  appends_answered (suc n) c plain volume acts front rear answer left few held still
+      (inr (first, behind, joined, does, more)) parts printed torn =
       let next : Plain = with_bytes plain (made_name volume) 0 (made_bytes seed volume) in
       let quiet : text_of first ≡ [] = append_prints_nothing seed c plain.words (entries_of plain) volume first status.Done does in
       elim (two_fronts front rear first behind (parts ∙ sym joined)) [
@@ -96,9 +107,11 @@ module _ (seed : ℕ) (rest : List MakeStep) where
         | inr (later, is, parted) ↦
             appends_answered n (changed_by (steps_of first) c) next (volume + 1) behind later rear answer left (omega arith)
             (done_append_kept seed c plain held volume (omega arith) first does) (behind_next seed rest plain volume n still)
-            (subst (λ (es : List Entry). Runs seed (changed_by (steps_of first) c) plain.words es (appending (volume + 1) n ++ rest) behind answer)
+            (subst (λ (es : List Entry). Runs seed (changed_by (steps_of first) c) plain.words es
+            (appending (volume + 1) n ++ rest) behind answer)
             (sym (entries_more seed plain volume)) more) parted
-            (λ none. printed (ap text_of (sym is) ∙ text_of-append first later ∙ ap (λ (text : List ℕ). text ++ text_of later) quiet ∙ none))
+            (λ none. printed (ap text_of (sym is) ∙ text_of-append first later ∙ ap (λ (text : List ℕ). text ++ text_of later) quiet
+            ∙ none))
             (subst (λ (d : Cartridge). Torn (next_steps rear) (Some d) left)
             (ap (λ (zs : List Act). changed_by (steps_of zs) c) (sym is) ∙ changed_by_acts first later c) torn)
       ]
@@ -107,5 +120,8 @@ module _ (seed : ℕ) (rest : List MakeStep) where
 
 pub made_are_answered : MadeAreAnswered
 made_are_answered seed count c plain acts front rest answer left few held makes parts printed torn =
-    let behind : List MakeStep = wearing_volumes plain.words (drop (length (entries_of plain)) (made_list seed count plain.words (entries_of plain))) ++ ScrubAll ∷ summing (length (entries_of plain) + 1) count in
-    appends_answered seed behind count c plain 1 acts front rest answer left (omega arith) held (behind_is_still seed count plain.words (entries_of plain)) makes parts printed torn
+    let behind : List MakeStep = wearing_volumes plain.words
+    (drop (length (entries_of plain)) (made_list seed count plain.words (entries_of plain))) ++ ScrubAll ∷ summing
+    (length (entries_of plain) + 1) count in
+    appends_answered seed behind count c plain 1 acts front rest answer left (omega arith) held
+    (behind_is_still seed count plain.words (entries_of plain)) makes parts printed torn

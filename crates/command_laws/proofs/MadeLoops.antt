@@ -6,7 +6,8 @@ use Rattle.command_laws.proofs.MadeMachineLaws.{after_items-append}
 use Rattle.command_laws.specs.MadeTerms.{made_entry, first_two, after_items, wearing}
 use Rattle.command_spec.specs.Make.{appending, MakeStep, wearing_in, wearing_volumes}
 
-pub length-made : (seed : ℕ) (words : List ℕ) (es : List Entry) (v n : ℕ) → length (after_items seed words es (appending v n)) ≡ length es + n
+pub length-made : (seed : ℕ) (words : List ℕ) (es : List Entry) (v n : ℕ) →
+    length (after_items seed words es (appending v n)) ≡ length es + n
 length-made seed words es v zero = omega arith
 length-made seed words es v (suc n) =
     let e : Entry = made_entry seed words es v in
@@ -21,7 +22,8 @@ length-made seed words es v (suc n) =
 
 -- ---- steps that leave the list
 
-pub after_wearing : (seed : ℕ) (words : List ℕ) (es : List Entry) (segment : ℕ) (sectors : List ℕ) → after_items seed words es (wearing segment sectors) ≡ es
+pub after_wearing : (seed : ℕ) (words : List ℕ) (es : List Entry) (segment : ℕ) (sectors : List ℕ) →
+    after_items seed words es (wearing segment sectors) ≡ es
 after_wearing seed words es segment [] = refl
 after_wearing seed words es segment (sector ∷ sectors) = after_wearing seed words es segment sectors
 
@@ -30,12 +32,14 @@ after_if : (seed : ℕ) (words : List ℕ) (es : List Entry) (items : List MakeS
 after_if seed words es items true kept = kept
 after_if seed words es items false kept = refl
 
-after_both : (seed : ℕ) (words : List ℕ) (es : List Entry) (xs ys : List MakeStep) → after_items seed words es xs ≡ es → after_items seed words es ys ≡ es →
+after_both : (seed : ℕ) (words : List ℕ) (es : List Entry) (xs ys : List MakeStep) → after_items seed words es xs ≡ es →
+    after_items seed words es ys ≡ es →
     after_items seed words es (xs ++ ys) ≡ es
 after_both seed words es xs ys one other =
     after_items-append seed words es xs ys ∙ ap (λ (now : List Entry). after_items seed words now ys) one ∙ other
 
-pub after_wearing_in : (seed : ℕ) (words : List ℕ) (es : List Entry) (segments : List ℕ) → after_items seed words es (wearing_in words segments) ≡ es
+pub after_wearing_in : (seed : ℕ) (words : List ℕ) (es : List Entry) (segments : List ℕ) →
+    after_items seed words es (wearing_in words segments) ≡ es
 after_wearing_in seed words es [] = refl
 after_wearing_in seed words es (s ∷ ss) =
     after_both seed words es (cond (s % 100 == 0) (wearing s (first_two words s)) []) (wearing_in words ss)

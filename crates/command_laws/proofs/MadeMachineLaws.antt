@@ -1,12 +1,14 @@
 -- The plain machine of `make`: it does one thing, and how its steps join.
-use Rattle.std.proofs.Common.{◌≡◌, List, sym, ◌∙◌, true, false, inl, inr, ℕ, ◌⊎◌, [], ap, Some, subst, ◌∷◌, ◌++◌, refl, append_assoc, append-nil, ◌≢◌}
+use Rattle.std.proofs.Common.{◌≡◌, List, sym, ◌∙◌, true, false, inl, inr, ℕ, ◌⊎◌, [], ap, Some, subst, ◌∷◌, ◌++◌, refl, append_assoc}
+use Rattle.std.proofs.Common.{append-nil, ◌≢◌}
 use Rattle.cartridge_laws.proofs.MountOnce.{one_table, not_lost, one_loss}
 use Rattle.cartridge_spec.specs.Settling.{changed_by}
 use Rattle.cartridge_spec.specs.Table.{Entry}
 use Rattle.cartridge_spec.specs.Volumes.{volume_length}
 use Rattle.command_laws.proofs.MountedKeeping.{changed_by_acts}
 use Rattle.command_laws.proofs.RestoreEndings.{restores_is_function}
-use Rattle.command_spec.specs.Make.{IsAppended, IsTableLost, made_answer, sum_acts, MakeStep, AppendMade, WearSector, ScrubAll, SumVolume, StepDoes, after_item, Runs}
+use Rattle.command_spec.specs.Make.{IsAppended, IsTableLost, made_answer, sum_acts, MakeStep, AppendMade, WearSector, ScrubAll, SumVolume}
+use Rattle.command_spec.specs.Make.{StepDoes, after_item, Runs}
 use Rattle.command_laws.specs.MadeTerms.{IsSummed, made_acts, after_items}
 use Rattle.command_spec.specs.Restore.{GivingEnd, Restores, pieces, ending_status}
 use Rattle.qic_base.specs.Acts.{Act, text_of, steps_of}
@@ -22,7 +24,8 @@ use Rattle.command_spec.specs.declared.status.Status.TheVariants as status
 abbrev pub Same : (a b : List Act) → (x y : Status) → Type 0
 Same a b x y = (a ≡ b) × (x ≡ y)
 
-both_are : (a b : List Act) (x y : Status) (acts : List Act) (answer : Status) → a ≡ acts → b ≡ acts → x ≡ answer → y ≡ answer → Same a b x y
+both_are : (a b : List Act) (x y : Status) (acts : List Act) (answer : Status) → a ≡ acts → b ≡ acts → x ≡ answer → y ≡ answer →
+    Same a b x y
 both_are a b x y acts answer p q r s = (p ∙ sym q, r ∙ sym s)
 
 pub never_unlocked : (c : Cartridge) → c.info.protected ≡ true → c.info.protected ≡ false → ⊥
@@ -83,7 +86,8 @@ pub runs_both : (seed : ℕ) (c : Cartridge) (words : List ℕ) (es : List Entry
     Runs seed c words es xs a status.Done → Runs seed (changed_by (steps_of a) c) words (after_items seed words es xs) ys b y →
     Runs seed c words es (xs ++ ys) (a ++ b) y
 runs_both seed c words es [] ys a b y (none, done) behind =
-    subst (λ (zs : List Act). Runs seed (changed_by (steps_of zs) c) words es ys b y → Runs seed c words es ys (zs ++ b) y) (sym none) (λ same. same) behind
+    subst (λ (zs : List Act). Runs seed (changed_by (steps_of zs) c) words es ys b y → Runs seed c words es ys (zs ++ b) y) (sym none)
+    (λ same. same) behind
 runs_both seed c words es (x ∷ xs) ys a b y (inl (other, does)) behind = absurd (other refl)
 runs_both seed c words es (x ∷ xs) ys a b y (inr (first, rest, parts, does, more)) behind =
     let d : Cartridge = changed_by (steps_of first) c in
@@ -95,15 +99,24 @@ runs_both seed c words es (x ∷ xs) ys a b y (inr (first, rest, parts, does, mo
     inr (first, rest ++ b, sym (append_assoc first rest b) ∙ ap (λ (zs : List Act). zs ++ b) parts, does, joined)
 
 -- a run that was refused, whatever would have come behind it
-pub runs_longer : (seed : ℕ) (c : Cartridge) (words : List ℕ) (es : List Entry) (xs ys : List MakeStep) (a : List Act) (x : Status) → x ≢ status.Done →
+pub runs_longer : (seed : ℕ) (c : Cartridge) (words : List ℕ) (es : List Entry) (xs ys : List MakeStep) (a : List Act) (x : Status) →
+    x ≢ status.Done →
     Runs seed c words es xs a x → Runs seed c words es (xs ++ ys) a x
 runs_longer seed c words es [] ys a x other (none, done) = absurd (other done)
 runs_longer seed c words es (item ∷ xs) ys a x other (inl refused) = inl refused
 runs_longer seed c words es (item ∷ xs) ys a x other (inr (first, rest, parts, does, more)) =
-    inr (first, rest, parts, does, runs_longer seed (changed_by (steps_of first) c) words (after_item seed words es item) xs ys rest x other more)
+    inr (
+      first,
+      rest,
+      parts,
+      does,
+      runs_longer seed (changed_by (steps_of first) c) words
+          (after_item seed words es item) xs ys rest x other more,
+    )
 
 -- what a run does behind a front that was carried out
-pub record RunsBehind (seed : ℕ) (c : Cartridge) (words : List ℕ) (es : List Entry) (xs ys : List MakeStep) (a b : List Act) (y : Status) : Type 0 where
+pub record RunsBehind (seed : ℕ) (c : Cartridge) (words : List ℕ) (es : List Entry) (xs ys : List MakeStep) (a b : List Act)
+    (y : Status) : Type 0 where
   pub rest : List Act
   pub parts : a ++ rest ≡ b
   pub runs : Runs seed (changed_by (steps_of a) c) words (after_items seed words es xs) ys rest y
@@ -134,7 +147,8 @@ runs_behind seed c words es (x ∷ xs) ys a b y (inr (first, rest, parts, does, 
     }
 
 -- what a front of its steps does
-pub record RunsFront (seed : ℕ) (c : Cartridge) (words : List ℕ) (es : List Entry) (xs : List MakeStep) (b : List Act) (y : Status) : Type 0 where
+pub record RunsFront (seed : ℕ) (c : Cartridge) (words : List ℕ) (es : List Entry) (xs : List MakeStep) (b : List Act)
+    (y : Status) : Type 0 where
   pub acts : List Act
   pub answer : Status
   pub either : (answer ≡ status.Done) ⊎ (answer ≡ y)
@@ -144,8 +158,10 @@ pub record RunsFront (seed : ℕ) (c : Cartridge) (words : List ℕ) (es : List 
 
 pub runs_front : (seed : ℕ) (c : Cartridge) (words : List ℕ) (es : List Entry) (xs ys : List MakeStep) (b : List Act) (y : Status) →
     Runs seed c words es (xs ++ ys) b y → RunsFront seed c words es xs b y
-runs_front seed c words es [] ys b y all = record { acts = []; answer = status.Done; either = inl refl; rest = b; parts = refl; runs = (refl, refl) }
-runs_front seed c words es (x ∷ xs) ys b y (inl refused) = record { acts = b; answer = y; either = inr refl; rest = []; parts = append-nil b; runs = inl refused }
+runs_front seed c words es [] ys b y all =
+    record { acts = []; answer = status.Done; either = inl refl; rest = b; parts = refl; runs = (refl, refl) }
+runs_front seed c words es (x ∷ xs) ys b y (inl refused) =
+    record { acts = b; answer = y; either = inr refl; rest = []; parts = append-nil b; runs = inl refused }
 runs_front seed c words es (x ∷ xs) ys b y (inr (first, rest, parts, does, more)) =
     let then : RunsFront seed (changed_by (steps_of first) c) words (after_item seed words es x) xs rest y =
     runs_front seed (changed_by (steps_of first) c) words (after_item seed words es x) xs ys rest y more in
@@ -195,4 +211,5 @@ pub done_of : (seed : ℕ) (c : Cartridge) (words : List ℕ) (es : List Entry) 
 done_of seed c words es item a x (inl refused) = refused.1
 done_of seed c words es item a x (inr (first, rest, parts, does, behind)) =
     let all : first ≡ a = sym (append-nil first) ∙ ap (λ (zs : List Act). first ++ zs) (sym behind.0) ∙ parts in
-    subst (λ (y : Status). StepDoes seed c words es item a y) (sym behind.1) (subst (λ (zs : List Act). StepDoes seed c words es item zs status.Done) all does)
+    subst (λ (y : Status). StepDoes seed c words es item a y) (sym behind.1)
+    (subst (λ (zs : List Act). StepDoes seed c words es item zs status.Done) all does)

@@ -8,7 +8,8 @@ use Rattle.command_spec.specs.declared.status.Status.{Status}
 use Rattle.command_spec.specs.declared.status.Status.TheVariants as status
 
 pub may_both : (seed : ℕ) (words : List ℕ) (es : List Entry) (xs ys : List MakeStep) (a b : List ℕ) (y : Status) →
-    MayRun seed words es xs a status.Done → MayRun seed words (after_items seed words es xs) ys b y → MayRun seed words es (xs ++ ys) (a ++ b) y
+    MayRun seed words es xs a status.Done → MayRun seed words (after_items seed words es xs) ys b y →
+    MayRun seed words es (xs ++ ys) (a ++ b) y
 may_both seed words es [] ys a b y (none, done) behind =
     subst (λ (text : List ℕ). MayRun seed words es ys (text ++ b) y) (sym none) behind
 may_both seed words es (x ∷ xs) ys a b y (inl (other, does)) behind = absurd (other refl)
@@ -28,7 +29,8 @@ may_longer seed words es (item ∷ xs) ys a x other (inl refused) = inl refused
 may_longer seed words es (item ∷ xs) ys a x other (inr (first, rest, parts, does, more)) =
     inr (first, rest, parts, does, may_longer seed words (after_item seed words es item) xs ys rest x other more)
 
-pub may_append : (seed : ℕ) (words : List ℕ) (es : List Entry) (volume : ℕ) (text : List ℕ) (answer : Status) → text ≡ [] → IsAppendAnswer seed words es volume answer →
+pub may_append : (seed : ℕ) (words : List ℕ) (es : List Entry) (volume : ℕ) (text : List ℕ) (answer : Status) → text ≡ [] →
+    IsAppendAnswer seed words es volume answer →
     MayDo seed words es (AppendMade volume) text answer
 may_append seed words es volume text status.Protected none may = none
 may_append seed words es volume text status.TableMismatch none may = none
@@ -46,4 +48,5 @@ pub may_done : (seed : ℕ) (words : List ℕ) (es : List Entry) (item : MakeSte
 may_done seed words es item a x (inl refused) = refused.1
 may_done seed words es item a x (inr (first, rest, parts, does, behind)) =
     let all : first ≡ a = sym (append-nil first) ∙ ap (λ (text : List ℕ). first ++ text) (sym behind.0) ∙ parts in
-    subst (λ (y : Status). MayDo seed words es item a y) (sym behind.1) (subst (λ (text : List ℕ). MayDo seed words es item text status.Done) all does)
+    subst (λ (y : Status). MayDo seed words es item a y) (sym behind.1)
+    (subst (λ (text : List ℕ). MayDo seed words es item text status.Done) all does)

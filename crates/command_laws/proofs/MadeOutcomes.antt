@@ -1,5 +1,6 @@
 -- A run of `make` comes to something, whatever the sectors of its cartridge hold.
-use Rattle.std.proofs.Common.{◌≡◌, ◌≤◌, List, Some, ℕ, false, nat_lt, arith, length, take, inl, inr, ◌+◌, Bool, true, cond, [], ◌∷◌, ◌++◌, refl, sym, ap, ◌∙◌, subst, zero, suc, ◌%◌, ◌==◌, ◌<◌, slice_get, drop}
+use Rattle.std.proofs.Common.{◌≡◌, ◌≤◌, List, Some, ℕ, false, nat_lt, arith, length, take, inl, inr, ◌+◌, Bool, true, cond, [], ◌∷◌, ◌++◌}
+use Rattle.std.proofs.Common.{refl, sym, ap, ◌∙◌, subst, zero, suc, ◌%◌, ◌==◌, ◌<◌, slice_get, drop}
 use Rattle.std.proofs.lemmas.Bool.{le-ltb, cases_Bool}
 use Rattle.std.proofs.lemmas.List.{take_all}
 use Rattle.cartridge_spec.specs.Settling.{changed_by}
@@ -16,7 +17,9 @@ use Rattle.command_laws.specs.MountedListed.{IsListed, listed_behind}
 use Rattle.command_spec.specs.Append.{Kept, Taking, Fits, TooLong, TooShort, has_promised_room, room_in, taking, kept_over}
 use Rattle.command_laws.specs.MadeTerms.{made_entry, made_acts, first_two, after_items, wearing}
 use Rattle.command_laws.specs.AppendTerms.{silently}
-use Rattle.command_spec.specs.Make.{made_length, made_bytes, MakeStep, AppendMade, WearSector, ScrubAll, SumVolume, after_item, StepDoes, made_name, made_answer, sum_acts, Runs, appending, wearing_in, wearing_volumes, summing, made_list, making}
+use Rattle.command_spec.specs.Make.{made_length, made_bytes, MakeStep, AppendMade, WearSector, ScrubAll, SumVolume, after_item, StepDoes}
+use Rattle.command_spec.specs.Make.{made_name, made_answer, sum_acts, Runs, appending, wearing_in, wearing_volumes, summing, made_list}
+use Rattle.command_spec.specs.Make.{making}
 use Rattle.command_spec.specs.Restore.{volume_at, pieces, ending_status}
 use Rattle.qic_base.specs.Acts.{Act, steps_of, text_of}
 use Rattle.qic_base.specs.Cartridge.{Cartridge}
@@ -72,8 +75,10 @@ module _ (seed : ℕ) (c : Cartridge) (words : List ℕ) (entries : List Entry) 
       by_room : (b : Bool) → has_promised_room have (Some n) ≡ b → cond b status.Done (status.Full n have) ≡ status.Done →
           behind (taking have (Some n) bytes) ≡ entries ++ made_entry seed words entries volume ∷ []
       by_room true enough is =
-          ap (λ (b : Bool). behind (cond b (cond (nat_lt (length bytes) n) (TooShort n (length bytes)) (Fits (take n bytes))) (TooLong n have))) enough
-          ∙ ap (λ (b : Bool). behind (cond b (TooShort n (length bytes)) (Fits (take n bytes)))) (le-ltb (length bytes) n (omega (arith, long)))
+          ap (λ (b : Bool). behind (cond b (cond (nat_lt (length bytes) n) (TooShort n (length bytes)) (Fits (take n bytes)))
+          (TooLong n have))) enough
+          ∙ ap (λ (b : Bool). behind (cond b (TooShort n (length bytes)) (Fits (take n bytes))))
+          (le-ltb (length bytes) n (omega (arith, long)))
           ∙ ap (λ (xs : List ℕ). behind (Fits xs)) (all_taken n bytes long)
       by_room false short is = absurd (cc)
 
@@ -92,8 +97,10 @@ module _ (seed : ℕ) (c : Cartridge) (words : List ℕ) (entries : List Entry) 
             answer = made_answer seed words entries volume;
             does = inr (free, inl (record { table = table; reads = reads; does = refl; answered = refl }));
             next = λ done.
-                subst (λ (es : List Entry). IsListed (changed_by (steps_of (made_acts seed c words entries table volume)) c) words es) (made_behind table volume done)
-                (append_listed c words entries table (made_name volume) 0 (Some (made_length seed volume)) silently (made_bytes seed volume) listed free reads
+                subst (λ (es : List Entry). IsListed (changed_by (steps_of (made_acts seed c words entries table volume)) c) words es)
+                (made_behind table volume done)
+                (append_listed c words entries table (made_name volume) 0 (Some (made_length seed volume)) silently
+                (made_bytes seed volume) listed free reads
                 (made_label volume few) (omega arith));
           }
           | inr (lost, says) ↦ record {
@@ -156,14 +163,16 @@ abbrev pub CanRun : (seed : ℕ) (words : List ℕ) → List Entry → List Make
 CanRun seed words entries [] = Unit {0}
 CanRun seed words entries (item ∷ items) = CanDo entries item × CanRun seed words (after_item seed words entries item) items
 
-runs_somehow : (seed : ℕ) (words : List ℕ) (items : List MakeStep) (c : Cartridge) (entries : List Entry) → IsListed c words entries → CanRun seed words entries items →
+runs_somehow : (seed : ℕ) (words : List ℕ) (items : List MakeStep) (c : Cartridge) (entries : List Entry) → IsListed c words entries →
+    CanRun seed words entries items →
     (acts : List Act) × (answer : Status) × Runs seed c words entries items acts answer
 runs_somehow seed words [] c entries listed can = ([], status.Done, (refl, refl))
 runs_somehow seed words (item ∷ items) c entries listed can =
     let some : DoesSomething seed c words entries item = does_something seed c words entries listed item can.0 in
     elim (done_or_not some.answer) [
       | inl done ↦
-          let rest = runs_somehow seed words items (changed_by (steps_of some.acts) c) (after_item seed words entries item) (some.next done) can.1 in (
+          let rest = runs_somehow seed words items (changed_by (steps_of some.acts) c) (after_item seed words entries item)
+          (some.next done) can.1 in (
             some.acts ++ rest.0,
             rest.1,
             inr (some.acts, rest.0, refl, subst (StepDoes seed c words entries item some.acts) done some.does, rest.2),
@@ -171,14 +180,16 @@ runs_somehow seed words (item ∷ items) c entries listed can =
       | inr other ↦ (some.acts, some.answer, inl (other, some.does))
     ]
 
-can_both : (seed : ℕ) (words : List ℕ) (xs ys : List MakeStep) (entries : List Entry) → CanRun seed words entries xs → CanRun seed words (after_items seed words entries xs) ys →
+can_both : (seed : ℕ) (words : List ℕ) (xs ys : List MakeStep) (entries : List Entry) → CanRun seed words entries xs →
+    CanRun seed words (after_items seed words entries xs) ys →
     CanRun seed words entries (xs ++ ys)
 can_both seed words [] ys entries first next = next
 can_both seed words (x ∷ xs) ys entries first next = (first.0, can_both seed words xs ys (after_item seed words entries x) first.1 next)
 
 -- ---- which steps can run
 
-can_append : (seed : ℕ) (words : List ℕ) (volume count : ℕ) (entries : List Entry) → volume + count ≤ 201 → CanRun seed words entries (appending volume count)
+can_append : (seed : ℕ) (words : List ℕ) (volume count : ℕ) (entries : List Entry) → volume + count ≤ 201 →
+    CanRun seed words entries (appending volume count)
 can_append seed words volume zero entries few = tt
 can_append seed words volume (suc count) entries few =
     (omega arith, can_append seed words (volume + 1) count (entries ++ made_entry seed words entries volume ∷ []) (omega arith))
@@ -221,7 +232,8 @@ wears_in words (s ∷ ss) =
 wears_volumes : (words : List ℕ) (es : List Entry) → AreWears (wearing_volumes words es)
 wears_volumes words [] = tt
 wears_volumes words (e ∷ es) =
-    wears_both (wearing_in words (carrying_segments words e)) (wearing_volumes words es) (wears_in words (carrying_segments words e)) (wears_volumes words es)
+    wears_both (wearing_in words (carrying_segments words e)) (wearing_volumes words es) (wears_in words (carrying_segments words e))
+    (wears_volumes words es)
 
 pub entry_there : (es : List Entry) (n : ℕ) → n < length es → (e : Entry) × (slice_get es n ≡ Some e)
 entry_there [] n within = absurd (omega arith)
@@ -232,14 +244,16 @@ numbered : (es : List Entry) (number : ℕ) → 1 ≤ number → number ≤ leng
 numbered es zero some within = absurd (omega arith)
 numbered es (suc n) some within = entry_there es n (omega arith)
 
-can_sum : (seed : ℕ) (words : List ℕ) (es : List Entry) (number count : ℕ) → 1 ≤ number → number + count ≤ length es + 1 → CanRun seed words es (summing number count)
+can_sum : (seed : ℕ) (words : List ℕ) (es : List Entry) (number count : ℕ) → 1 ≤ number → number + count ≤ length es + 1 →
+    CanRun seed words es (summing number count)
 can_sum seed words es number zero some within = tt
 can_sum seed words es number (suc count) some within =
     (numbered es number some (omega arith), can_sum seed words es (number + 1) count (omega arith) (omega arith))
 
 -- ---- a run
 
-pub can_make : (seed count : ℕ) (words : List ℕ) (entries : List Entry) → count ≤ 200 → CanRun seed words entries (making seed count words entries)
+pub can_make : (seed count : ℕ) (words : List ℕ) (entries : List Entry) → count ≤ 200 →
+    CanRun seed words entries (making seed count words entries)
 can_make seed count words entries few =
     let made : List Entry = made_list seed count words entries in
     let wears : List MakeStep = wearing_volumes words (drop (length entries) made) in
@@ -247,7 +261,8 @@ can_make seed count words entries few =
     let long : length made ≡ length entries + count = length-made seed words entries 1 count in
     can_both seed words (appending 1 count) (wears ++ ScrubAll ∷ sums) entries (can_append seed words 1 count entries (omega arith))
     (can_both seed words wears (ScrubAll ∷ sums) made (can_wear seed words made wears (wears_volumes words (drop (length entries) made)))
-    (subst (λ (es : List Entry). CanRun seed words es (ScrubAll ∷ sums)) (sym (after_wearing_volumes seed words made (drop (length entries) made)))
+    (subst (λ (es : List Entry). CanRun seed words es (ScrubAll ∷ sums))
+    (sym (after_wearing_volumes seed words made (drop (length entries) made)))
     (tt, can_sum seed words made (length entries + 1) count (omega arith) (omega arith))))
 
 pub makes_something : MakesSomething

@@ -9,9 +9,11 @@ use Rattle.qic_base.specs.Tape as tapes
 use Rattle.qic_base.specs.TapeCalls as tape_calls
 
 -- a fact told behind some steps, of the cartridge before them
-pub tells_before : {T : Type 0} (t : tapes.Meaning T) (a b : T) (steps : List Step) (P : Cartridge → Type 0) → tapes.Done t a b steps → tape_calls.Tells t b P →
+pub tells_before : {T : Type 0} (t : tapes.Meaning T) (a b : T) (steps : List Step) (P : Cartridge → Type 0) → tapes.Done t a b steps →
+    tape_calls.Tells t b P →
     tape_calls.Tells t a (λ c. P (changed_by steps c))
-tells_before t a b steps P did told = by_cases (t.told a) (subst (λ (o : Option (Option Cartridge)). IfSome o (λ held. IfSome held P)) did.told told)
+tells_before t a b steps P did told = by_cases (t.told a)
+    (subst (λ (o : Option (Option Cartridge)). IfSome o (λ held. IfSome held P)) did.told told)
   where
     by_cases : (o : Option (Option Cartridge)) → IfSome (option_map (effects steps) o) (λ held. IfSome held P) →
         IfSome o (λ held. IfSome held (λ c. P (changed_by steps c)))

@@ -39,7 +39,8 @@ ends_in (x ∷ front) rest (a ∷ acts) more e =
     ]
 
 -- a front of acts and one more, but for all of these, is one of the acts
-pub front_within : (front rest acts entry : List Act) → front ++ rest ≡ acts ++ entry → length entry ≤ 1 → (rest ≢ []) ⊎ (entry ≡ []) → (more : List Act) × (front ++ more ≡ acts)
+pub front_within : (front rest acts entry : List Act) → front ++ rest ≡ acts ++ entry → length entry ≤ 1 → (rest ≢ []) ⊎ (entry ≡ []) →
+    (more : List Act) × (front ++ more ≡ acts)
 front_within [] rest acts entry e short none = (acts, refl)
 front_within (x ∷ front) rest [] entry e short (inr is) = absurd (let none : x ∷ (front ++ rest) ≡ [] = e ∙ is in cc)
 front_within (x ∷ front) [] [] entry e short (inl none) = absurd (none refl)
@@ -61,4 +62,5 @@ no_first (x ∷ xs) ys none = absurd (cc)
 
 -- a front of acts that take no step takes none
 pub front_still : (front rest acts : List Act) → front ++ rest ≡ acts → steps_of acts ≡ [] → steps_of front ≡ []
-front_still front rest acts parts none = no_first (steps_of front) (steps_of rest) (sym (steps_of-append front rest) ∙ ap steps_of parts ∙ none)
+front_still front rest acts parts none = no_first (steps_of front) (steps_of rest)
+    (sym (steps_of-append front rest) ∙ ap steps_of parts ∙ none)

@@ -1,5 +1,6 @@
 -- What settling, worn sectors and scrubs leave of a mounted cartridge that stands for a plain one.
-use Rattle.std.proofs.Common.{◌≡◌, ℕ, false, List, subst, sym, ap, ◌∙◌, Bool, true, cond, refl, inl, inr, length, get_or, slice_get, slice_set, ◌<◌}
+use Rattle.std.proofs.Common.{◌≡◌, ℕ, false, List, subst, sym, ap, ◌∙◌, Bool, true, cond, refl, inl, inr, length, get_or, slice_get}
+use Rattle.std.proofs.Common.{slice_set, ◌<◌}
 use Rattle.std.specs.Prelude.{unwrap_or}
 use Rattle.std.proofs.lemmas.Bool.{cases_lt, cases_eq}
 use Rattle.std.proofs.lemmas.List.{get_or-set_same, set_past}
@@ -41,7 +42,8 @@ use Rattle.cartridge_laws.proofs.ChangeLive.{worn_live}
 
 -- ---- where the table reads
 
-pub held_open : (c : Cartridge) (plain : Plain) (table : List (List ℕ)) → IsHeld c plain → TableIs c table → c.info.protected ≡ false → IsOpen c plain
+pub held_open : (c : Cartridge) (plain : Plain) (table : List (List ℕ)) → IsHeld c plain → TableIs c table → c.info.protected ≡ false →
+    IsOpen c plain
 held_open c plain table held reads free = record {
   cartridge = held.cartridge;
   stands = held.stands;
@@ -66,23 +68,27 @@ settled_live c area reads live = by_mark c.info.protected refl
   where
     by_mark : (b : Bool) → c.info.protected ≡ b → IsTableLive (settled area c)
     by_mark true locked =
-        subst IsTableLive (sym (ap (λ (b : Bool). cond b c (changed_by (writes_of 2 (usable_places whole_mask) (with_parity area)) c)) locked)) live
+        subst IsTableLive (sym (ap (λ (b : Bool). cond b c (changed_by (writes_of 2 (usable_places whole_mask) (with_parity area)) c))
+        locked)) live
     by_mark false free = λ i h. subst IsLive (sym (settled_is_whole c area i reads free live h)) tt
 
-pub settling_live : (c : Cartridge) (plain : Plain) → IsOpen c plain → IsTableLive c → IsTableLive (changed_by (settling_steps plain.table_area c) c)
+pub settling_live : (c : Cartridge) (plain : Plain) → IsOpen c plain → IsTableLive c →
+    IsTableLive (changed_by (settling_steps plain.table_area c) c)
 settling_live c plain held live =
     subst IsTableLive (sym (settling_settles c plain.table_area held.table)) (settled_live c plain.table_area held.table live)
 
 -- ---- where it was just mounted
 
-pub mounted_held : (c : Cartridge) (plain : Plain) → IsCartridge c → Stands c plain → Mounts c (mounted_as plain) → IsHeld (settled plain.table_area c) plain
+pub mounted_held : (c : Cartridge) (plain : Plain) → IsCartridge c → Stands c plain → Mounts c (mounted_as plain) →
+    IsHeld (settled plain.table_area c) plain
 mounted_held c plain whole stood mounts = record {
   cartridge = settled_is_cartridge c plain.table_area whole mounts.reads;
   stands = settled_stands c plain plain.table_area stood mounts.reads;
 }
 
 -- and it is not protected
-pub mounted_open : (c : Cartridge) (plain : Plain) → IsCartridge c → Stands c plain → Mounts c (mounted_as plain) → c.info.protected ≡ false →
+pub mounted_open : (c : Cartridge) (plain : Plain) → IsCartridge c → Stands c plain → Mounts c (mounted_as plain) →
+    c.info.protected ≡ false →
     IsOpen (settled plain.table_area c) plain
 mounted_open c plain whole stood mounts free =
     let keeps = settled_keeps_table c plain.table_area mounts.reads in
@@ -108,7 +114,8 @@ live_still c segment sector s i live =
       | inr apart ↦ subst IsLive (sym (view_elsewhere c segment sector s i view apart)) live
     ]
 
-pub worn_held : (c : Cartridge) (plain : Plain) (segment sector : ℕ) → IsHeld c plain → sector < 32 → WearSpares c plain segment sector → IsHeld (worn segment sector c) plain
+pub worn_held : (c : Cartridge) (plain : Plain) (segment sector : ℕ) → IsHeld c plain → sector < 32 → WearSpares c plain segment sector →
+    IsHeld (worn segment sector c) plain
 worn_held c plain segment sector held small spares = record {
   cartridge = with_view_whole c segment sector (worn_view (view_at c segment sector)) held.cartridge
       (worn_is_view (view_at c segment sector) (view_of_cartridge c segment sector held.cartridge));
@@ -120,7 +127,8 @@ worn_is_live c segment sector live i h = live_still c segment sector 2 i (live i
 
 -- ---- a scrub
 
-pub scrubbed_held : (c : Cartridge) (plain : Plain) (acts : List Act) → IsHeld c plain → ScrubsAs Shallow c plain.words (entries_of plain) acts → IsHeld (changed_by (steps_of acts) c) plain
+pub scrubbed_held : (c : Cartridge) (plain : Plain) (acts : List Act) → IsHeld c plain →
+    ScrubsAs Shallow c plain.words (entries_of plain) acts → IsHeld (changed_by (steps_of acts) c) plain
 scrubbed_held c plain acts held scrubs =
     let plainly = as_plain c plain.words (entries_of plain) acts scrubs in
     let order : IsSoundList (last_segment c) (entries_of plain) = old_order c plain held.stands in
@@ -130,7 +138,8 @@ scrubbed_held c plain acts held scrubs =
       stands = done_scrub_stands c plain acts held.stands plainly;
     }
 
-pub scrubbed_live : (c : Cartridge) (plain : Plain) (acts : List Act) → IsHeld c plain → ScrubsAs Shallow c plain.words (entries_of plain) acts → IsTableLive c → IsTableLive (changed_by (steps_of acts) c)
+pub scrubbed_live : (c : Cartridge) (plain : Plain) (acts : List Act) → IsHeld c plain →
+    ScrubsAs Shallow c plain.words (entries_of plain) acts → IsTableLive c → IsTableLive (changed_by (steps_of acts) c)
 scrubbed_live c plain acts held scrubs =
     mended_live c (changed_by (steps_of acts) c) plain
     (done_being_mended c plain.words (entries_of plain) (last_segment c) acts (old_order c plain held.stands)

@@ -31,12 +31,14 @@ use Rattle.qic_base.specs.declared.tape.TapeInfo.{TapeInfo}
 
 -- ---- acts one after the other
 
-pub changed_by_acts : (xs ys : List Act) (c : Cartridge) → changed_by (steps_of (xs ++ ys)) c ≡ changed_by (steps_of ys) (changed_by (steps_of xs) c)
+pub changed_by_acts : (xs ys : List Act) (c : Cartridge) → changed_by (steps_of (xs ++ ys)) c ≡ changed_by (steps_of ys)
+    (changed_by (steps_of xs) c)
 changed_by_acts xs ys c =
     ap (λ (steps : List Step). changed_by steps c) (steps_of-append xs ys) ∙ changed_by-append (steps_of xs) (steps_of ys) c
 
 -- a stop among the steps of two lists of acts
-pub acts_stopped : (first rest acts : List Act) (c : Cartridge) (left : Option Cartridge) → first ++ rest ≡ acts → Torn (steps_of acts) (Some c) left →
+pub acts_stopped : (first rest acts : List Act) (c : Cartridge) (left : Option Cartridge) → first ++ rest ≡ acts →
+    Torn (steps_of acts) (Some c) left →
     Torn (steps_of first) (Some c) left ⊎ Torn (steps_of rest) (Some (changed_by (steps_of first) c)) left
 acts_stopped first rest acts c left parts torn =
     elim (Torn-append (steps_of first) (steps_of rest) (Some c) left
@@ -65,7 +67,8 @@ live_kept c plain held live = record {
 }
 
 -- a sector that is worn outside the table's segment, and spares the header
-spared_open : (c : Cartridge) (plain : Plain) (segment sector : ℕ) → IsOpen c plain → WearSpares c plain segment sector → segment ≢ 2 → sector < 32 → IsOpen (worn segment sector c) plain
+spared_open : (c : Cartridge) (plain : Plain) (segment sector : ℕ) → IsOpen c plain → WearSpares c plain segment sector → segment ≢ 2 →
+    sector < 32 → IsOpen (worn segment sector c) plain
 spared_open c plain segment sector held spares other small = record {
   cartridge = with_view_whole c segment sector (worn_view (view_at c segment sector)) held.cartridge
       (worn_is_view (view_at c segment sector) (view_of_cartridge c segment sector held.cartridge));
@@ -82,17 +85,21 @@ lies_apart segment behind is = omega arith
 pub worn_open : WearsLeaveOpen
 worn_open c plain segment sector held behind small = spared_open c plain segment sector held (inl behind) (lies_apart segment behind) small
 
-pub spared_kept : (c : Cartridge) (plain : Plain) (segment sector : ℕ) → IsKept c plain → WearSpares c plain segment sector → segment ≢ 2 → sector < 32 → IsKept (worn segment sector c) plain
+pub spared_kept : (c : Cartridge) (plain : Plain) (segment sector : ℕ) → IsKept c plain → WearSpares c plain segment sector → segment ≢ 2 →
+    sector < 32 → IsKept (worn segment sector c) plain
 spared_kept c plain segment sector held spares other small =
     live_kept (worn segment sector c) plain (spared_open c plain segment sector (kept_open c plain held) spares other small)
-    (λ i h. subst IsLive (sym (view_of_other c segment sector 2 i (worn_view (view_at c segment sector)) small h (λ is. other (sym is)))) (held.live i h))
+    (λ i h. subst IsLive (sym (view_of_other c segment sector 2 i (worn_view (view_at c segment sector)) small h (λ is. other (sym is))))
+    (held.live i h))
 
-pub worn_kept : (c : Cartridge) (plain : Plain) (segment sector : ℕ) → IsKept c plain → 3 ≤ segment → sector < 32 → IsKept (worn segment sector c) plain
+pub worn_kept : (c : Cartridge) (plain : Plain) (segment sector : ℕ) → IsKept c plain → 3 ≤ segment → sector < 32 →
+    IsKept (worn segment sector c) plain
 worn_kept c plain segment sector held behind small =
     spared_kept c plain segment sector held (inl behind) (lies_apart segment behind) small
 
 -- a scrub leaves live sectors live
-pub mended_live : (c d : Cartridge) (plain : Plain) → IsBeingMended (looked_at plain.words (entries_of plain)) c d → IsTableLive c → IsTableLive d
+pub mended_live : (c d : Cartridge) (plain : Plain) → IsBeingMended (looked_at plain.words (entries_of plain)) c d → IsTableLive c →
+    IsTableLive d
 mended_live c d plain mended live i h = elim (mended.each 2 i h) [
   | inl same ↦ subst IsLive (sym same) (live i h)
   | inr (block, is, was, now) ↦ subst IsLive (sym now) tt
@@ -110,9 +117,11 @@ scrubbed_open c plain acts held scrubs =
       unprotected = ap (λ (i : TapeInfo). i.protected) mended.info ∙ held.unprotected;
     }
 
-pub scrubbed_kept : (c : Cartridge) (plain : Plain) (acts : List Act) → IsKept c plain → ScrubsAs Shallow c plain.words (entries_of plain) acts → IsKept (changed_by (steps_of acts) c) plain
+pub scrubbed_kept : (c : Cartridge) (plain : Plain) (acts : List Act) → IsKept c plain →
+    ScrubsAs Shallow c plain.words (entries_of plain) acts → IsKept (changed_by (steps_of acts) c) plain
 scrubbed_kept c plain acts held scrubs =
     let d : Cartridge = changed_by (steps_of acts) c in
     let order : IsSoundList (last_segment c) (entries_of plain) = old_order c plain held.stands in
     live_kept d plain (scrubbed_open c plain acts (kept_open c plain held) scrubs)
-    (mended_live c d plain (done_being_mended c plain.words (entries_of plain) (last_segment c) acts order (as_plain c plain.words (entries_of plain) acts scrubs)) held.live)
+    (mended_live c d plain (done_being_mended c plain.words (entries_of plain) (last_segment c) acts order
+    (as_plain c plain.words (entries_of plain) acts scrubs)) held.live)

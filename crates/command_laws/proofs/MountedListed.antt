@@ -1,5 +1,6 @@
 -- A cartridge whose volume table holds a list, behind its mounting, an append, a worn sector or a scrub.
-use Rattle.std.proofs.Common.{◌≡◌, ◌-◌, List, length, ◌∙◌, arith, sym, subst, inl, inr, refl, ℕ, ◌*◌, ap, ◌<◌, ◌+◌, ◌/◌, ◌^◌, ◌≤◌, false, [], ◌∷◌, ◌++◌, nat_le, Option, append-nil}
+use Rattle.std.proofs.Common.{◌≡◌, ◌-◌, List, length, ◌∙◌, arith, sym, subst, inl, inr, refl, ℕ, ◌*◌, ap, ◌<◌, ◌+◌, ◌/◌, ◌^◌, ◌≤◌, false}
+use Rattle.std.proofs.Common.{[], ◌∷◌, ◌++◌, nat_le, Option, append-nil}
 use Rattle.std.proofs.lemmas.List.{length-take-le}
 use Rattle.std.proofs.lemmas.List.Elements.{All-take}
 use Rattle.std.proofs.lemmas.Bool.{cases_lt, le-leb}
@@ -50,7 +51,8 @@ use Rattle.command_laws.proofs.StoreTaking.{both_true}
 use Rattle.command_laws.proofs.StoreWorn.{worn_list}
 use Rattle.command_laws.specs.MountedListed.{ListedReads, MountedListed, IsListed, listed_behind, AppendListed, WearListed, ScrubListed}
 use Rattle.command_laws.specs.ScrubMended.{IsBeingMended}
-use Rattle.command_spec.specs.Append.{Kept, Taking, Fits, TooLong, TooShort, append_acts, entry_acts, input_writes, room_in, taking, kept_over}
+use Rattle.command_spec.specs.Append.{Kept, Taking, Fits, TooLong, TooShort, append_acts, entry_acts, input_writes, room_in, taking}
+use Rattle.command_spec.specs.Append.{kept_over}
 use Rattle.command_laws.specs.AppendTerms.{entry_for}
 use Rattle.command_spec.specs.Scrub.{looked_at, whole_segment}
 use Rattle.qic_base.specs.Acts.{Act, steps_of}
@@ -86,7 +88,8 @@ listed_reads c words entries listed mark =
     ]
 
 -- a table of which each sector that takes a write holds its part shows its list
-settled_shows : (c : Cartridge) (area : List (List ℕ)) (entries : List Entry) → IsArea area → IsSettledFor c area → Shows area entries → HasList c entries
+settled_shows : (c : Cartridge) (area : List (List ℕ)) (entries : List Entry) → IsArea area → IsSettledFor c area → Shows area entries →
+    HasList c entries
 settled_shows c area entries is known shown = record {
   block = with_parity area;
   code = code_block area is;
@@ -103,7 +106,8 @@ mounted_listed c header words table entries whole mounts =
     record {
       long = subst (λ (i : TapeInfo). IsLength i.segments_per_track) (sym info) whole.long;
       last = mounted_last c mounts.area header words mounts.formatted ∙ same;
-      order = subst (λ (last : ℕ). IsSoundList last entries) same (faultless_is_sound table (last_segment c) entries mounts.sound mounts.shown);
+      order = subst (λ (last : ℕ). IsSoundList last entries) same
+          (faultless_is_sound table (last_segment c) entries mounts.sound mounts.shown);
       list = λ mark. settled_list c table entries whole mounts.reads mounts.shown (sym (ap (λ (i : TapeInfo). i.protected) info) ∙ mark);
     }
 
@@ -124,7 +128,8 @@ pub record LeavesTable (c d : Cartridge) (last : ℕ) (entries : List Entry) : T
 writes_in_table : (n : ℕ) (area : List (List ℕ)) → n < 232 → AreIn (λ s i. s ≡ 2) (table_writes (slot_sector n) area)
 writes_in_table n area few = ((refl, omega arith), ((refl, omega arith), ((refl, omega arith), ((refl, omega arith), tt))))
 
-module _ (c : Cartridge) (words : List ℕ) (entries : List Entry) (table : List (List ℕ)) (listed : IsListed c words entries) (mark : c.info.protected ≡ false) (reads : TableIs c table) where
+module _ (c : Cartridge) (words : List ℕ) (entries : List Entry) (table : List (List ℕ)) (listed : IsListed c words entries)
+    (mark : c.info.protected ≡ false) (reads : TableIs c table) where
   abbrev kept : Kept
   kept = kept_over c words entries table
 
@@ -184,7 +189,8 @@ module _ (c : Cartridge) (words : List ℕ) (entries : List Entry) (table : List
   pub ins_behind : (promised : Option ℕ) (input : List ℕ) → AreBehind (input_writes kept.words kept.entries promised input)
   ins_behind promised input = input_behind kept.words kept.entries promised input (end_least 2 last entries order)
 
-  module _ (name : List ℕ) (date : ℕ) (promised : Option ℕ) (reply : Entry → List ℕ) (input : List ℕ) (label : IsLabel name) (word : date < 2 ^ 32) where
+  module _ (name : List ℕ) (date : ℕ) (promised : Option ℕ) (reply : Entry → List ℕ) (input : List ℕ) (label : IsLabel name)
+      (word : date < 2 ^ 32) where
     abbrev ins : List Act
     ins = input_writes kept.words kept.entries promised input
 
@@ -224,7 +230,8 @@ module _ (c : Cartridge) (words : List ℕ) (entries : List Entry) (table : List
         (le-leb 1 (room words entries) fit.0) (le-leb (length bytes) (room words entries) fit.1))
 
     -- the table with the entry of a volume that has room is one
-    pub entry_area : (bytes : List ℕ) → taking (room_in kept) promised input ≡ Fits bytes → IsArea (with_slot table (length entries) (slot_bytes (entry_for kept name date bytes)))
+    pub entry_area : (bytes : List ℕ) → taking (room_in kept) promised input ≡ Fits bytes →
+        IsArea (with_slot table (length entries) (slot_bytes (entry_for kept name date bytes)))
     entry_area bytes took =
         let e : Entry = entry_for kept name date bytes in
         let n : ℕ = length entries in
@@ -238,7 +245,8 @@ module _ (c : Cartridge) (words : List ℕ) (entries : List Entry) (table : List
     slot_free bytes took = (has_room bytes took).free_slot
 
     with_entry : (bytes : List ℕ) → taking (room_in kept) promised input ≡ Fits bytes →
-        LeavesTable c (changed_by (steps_of (entry_acts kept name date reply (Fits bytes))) filled) last (entries ++ entry_for kept name date bytes ∷ [])
+        LeavesTable c (changed_by (steps_of (entry_acts kept name date reply (Fits bytes))) filled) last
+        (entries ++ entry_for kept name date bytes ∷ [])
     with_entry bytes took =
         let e : Entry = entry_for kept name date bytes in
         let n : ℕ = length entries in
@@ -254,7 +262,8 @@ module _ (c : Cartridge) (words : List ℕ) (entries : List Entry) (table : List
         let all : LeavesTable c (changed_by writes filled) last (entries ++ e ∷ []) = record {
           data_left = new;
           is_area = new_area;
-          settles = table_settled filled table new (slot_sector n) small (slot_differs table n slot area) new_area (behind_settled (steps_of ins) (ins_behind promised input));
+          settles = table_settled filled table new (slot_sector n) small (slot_differs table n slot area) new_area
+              (behind_settled (steps_of ins) (ins_behind promised input));
           shown = put_entry_is_shown table entries e area shown within (entry_fits bytes has);
           order = list_more words entries name date (length bytes) order fit.0 fit.1;
           info = kept_so.info ∙ filled_leaves.info;
@@ -273,14 +282,17 @@ module _ (c : Cartridge) (words : List ℕ) (entries : List Entry) (table : List
     append_leaves =
         let became : Taking = taking (room_in kept) promised input in
         let first : Act = record { steps = settling_steps table c; text = [] } in
-        let parts : changed_by (steps_of (append_acts kept name date promised reply input)) c ≡ changed_by (steps_of (entry_acts kept name date reply became)) filled =
+        let parts : changed_by (steps_of (append_acts kept name date promised reply input))
+        c ≡ changed_by (steps_of (entry_acts kept name date reply became)) filled =
         changed_by_acts (first ∷ ins) (entry_acts kept name date reply became) c
-        ∙ ap (changed_by (steps_of (entry_acts kept name date reply became))) (changed_by-append (settling_steps table c) (steps_of ins) c) in
+        ∙ ap (changed_by (steps_of (entry_acts kept name date reply became))) (changed_by-append (settling_steps table c) (steps_of ins) c)
+        in
         subst (λ (d : Cartridge). LeavesTable c d last (listed_behind kept name date became)) (sym parts) (by_taking became refl)
 
 pub append_listed : AppendListed
 append_listed c words entries table name date promised reply input listed mark reads label word =
-    leaves_listed c words entries table listed mark reads (changed_by (steps_of (append_acts (kept_over c words entries table) name date promised reply input)) c)
+    leaves_listed c words entries table listed mark reads
+    (changed_by (steps_of (append_acts (kept_over c words entries table) name date promised reply input)) c)
     (listed_behind (kept_over c words entries table) name date (taking (room_in (kept_over c words entries table)) promised input))
     (append_leaves c words entries table listed mark reads name date promised reply input label word)
 

@@ -1,5 +1,6 @@
 -- A mounted cartridge, behind an append or a front of its acts, a worn sector or a scrub.
-use Rattle.std.proofs.Common.{◌≡◌, ℕ, ◌-◌, ◌*◌, List, length, sym, ap, ◌∙◌, subst, arith, ◌≤◌, ◌≢◌, [], refl, false, ◌∷◌, inl, inr, ◌++◌, Option, Some}
+use Rattle.std.proofs.Common.{◌≡◌, ℕ, ◌-◌, ◌*◌, List, length, sym, ap, ◌∙◌, subst, arith, ◌≤◌, ◌≢◌, [], refl, false, ◌∷◌, inl, inr, ◌++◌}
+use Rattle.std.proofs.Common.{Option, Some}
 use Rattle.cartridge_laws.proofs.ChangeMounted.{worn_mounts}
 use Rattle.cartridge_laws.proofs.FormatStanding.{same_cells}
 use Rattle.cartridge_laws.proofs.FormatWriting.{changed_by-append, effects-some}
@@ -21,7 +22,8 @@ use Rattle.command_laws.proofs.ScrubPlain.{as_plain}
 use Rattle.command_laws.proofs.StoreBehind.{AreBehind, front_behind}
 use Rattle.command_laws.specs.MountedListed.{listed_behind, IsListed}
 use Rattle.command_laws.specs.MountedListing.{SettledLists, AppendLists, AppendFrontLists, WearLists, ScrubLists}
-use Rattle.command_spec.specs.Append.{Kept, append_acts, room_in, taking, Taking, Fits, TooLong, TooShort, entry_acts, input_writes, kept_over}
+use Rattle.command_spec.specs.Append.{Kept, append_acts, room_in, taking, Taking, Fits, TooLong, TooShort, entry_acts, input_writes}
+use Rattle.command_spec.specs.Append.{kept_over}
 use Rattle.qic_base.proofs.Joins.{steps_of-append}
 use Rattle.qic_base.proofs.Steps.{Torn-all, Torn-front}
 use Rattle.qic_base.specs.Acts.{steps_of, Act}
@@ -35,7 +37,8 @@ settled_lists c header words table entries mounts = (table, settled_mounts c hea
 -- ---- an append
 
 -- a settled table with header and marks as they were is mounted as what it shows
-left_lists : (c d : Cartridge) (header : Header) (words : List ℕ) (entries es : List Entry) → Lists c header words entries → length words - 1 ≡ last_segment c →
+left_lists : (c d : Cartridge) (header : Header) (words : List ℕ) (entries es : List Entry) → Lists c header words entries →
+    length words - 1 ≡ last_segment c →
     LeavesTable c d (length words - 1) es → Lists d header words es
 left_lists c d header words entries es (table, mounted) last leaves =
     let same : length words - 1 ≡ last_segment d = last ∙ sym (ap (λ (i : TapeInfo). 28 * i.segments_per_track - 1) leaves.info) in
@@ -68,7 +71,8 @@ append_lists c header words entries table name date promised reply input lists l
 -- ---- a front of its acts
 
 -- an entry is one act, or none
-entry_short : (kept : Kept) (name : List ℕ) (date : ℕ) (reply : Entry → List ℕ) (became : Taking) → length (entry_acts kept name date reply became) ≤ 1
+entry_short : (kept : Kept) (name : List ℕ) (date : ℕ) (reply : Entry → List ℕ) (became : Taking) →
+    length (entry_acts kept name date reply became) ≤ 1
 entry_short kept name date reply (Fits bytes) = omega arith
 entry_short kept name date reply (TooLong need have) = omega arith
 entry_short kept name date reply (TooShort asked read) = omega arith
@@ -80,7 +84,8 @@ no_entry kept name date reply (TooLong need have) none = refl
 no_entry kept name date reply (TooShort asked read) none = refl
 
 -- the settling, and then steps behind the table's segment
-front_lists : (c : Cartridge) (header : Header) (words : List ℕ) (entries : List Entry) (table : List (List ℕ)) (first : Act) (front : List Act) → Lists c header words entries →
+front_lists : (c : Cartridge) (header : Header) (words : List ℕ) (entries : List Entry) (table : List (List ℕ)) (first : Act)
+    (front : List Act) → Lists c header words entries →
     IsListed c words entries → c.info.protected ≡ false → TableIs c table → first.steps ≡ settling_steps table c → AreBehind front →
     Lists (changed_by (steps_of (first ∷ front)) c) header words entries
 front_lists c header words entries table first front lists listed mark reads is behind =
@@ -116,12 +121,18 @@ wear_lists c header words entries segment sector (table, mounted) behind small =
     (table, worn_mounts c segment sector header words table entries small behind mounted)
 
 -- a front of acts is a stop among their steps
-front_torn : (c : Cartridge) (front rest acts : List Act) → front ++ rest ≡ acts → Torn (steps_of acts) (Some c) (Some (changed_by (steps_of front) c))
+front_torn : (c : Cartridge) (front rest acts : List Act) → front ++ rest ≡ acts →
+    Torn (steps_of acts) (Some c) (Some (changed_by (steps_of front) c))
 front_torn c front rest acts parts =
-    subst (λ (ss : List Step). Torn ss (Some c) (Some (changed_by (steps_of front) c))) (sym (steps_of-append front rest) ∙ ap steps_of parts)
+    subst (λ (ss : List Step). Torn ss (Some c) (Some (changed_by (steps_of front) c)))
+    (sym (steps_of-append front rest) ∙ ap steps_of parts)
     (Torn-front (steps_of front) (steps_of rest) (Some c) (Some (changed_by (steps_of front) c))
-    (subst (λ (o : Option Cartridge). Torn (steps_of front) (Some c) o) (effects-some (steps_of front) c) (Torn-all (steps_of front) (Some c))))
+    (subst (λ (o : Option Cartridge). Torn (steps_of front) (Some c) o) (effects-some (steps_of front) c)
+    (Torn-all (steps_of front) (Some c))))
 
 pub scrub_lists : ScrubLists
-scrub_lists c header words entries acts front rest (table, mounted) scrubs parts =
-    (table, stopped_scrub_mounts c header words table entries acts (Some (changed_by (steps_of front) c)) mounted (as_plain c words entries acts scrubs) (front_torn c front rest acts parts))
+scrub_lists c header words entries acts front rest (table, mounted) scrubs parts = (
+  table,
+  stopped_scrub_mounts c header words table entries acts (Some (changed_by (steps_of front) c)) mounted
+      (as_plain c words entries acts scrubs) (front_torn c front rest acts parts),
+)

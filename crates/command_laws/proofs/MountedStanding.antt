@@ -1,5 +1,6 @@
 -- An append of promised bytes to a cartridge that stands for a plain one, done or stopped.
-use Rattle.std.proofs.Common.{◌≡◌, ℕ, ◌-◌, false, arith, nat_lt, ◌+◌, Bool, true, cond, List, [], ◌++◌, length, take, All, Some, ap, ◌∙◌, append-nil, sym, subst, ◌⊎◌, ◌^◌, ◌<◌, Option, IsSomeAnd}
+use Rattle.std.proofs.Common.{◌≡◌, ℕ, ◌-◌, false, arith, nat_lt, ◌+◌, Bool, true, cond, List, [], ◌++◌, length, take, All, Some, ap, ◌∙◌}
+use Rattle.std.proofs.Common.{append-nil, sym, subst, ◌⊎◌, ◌^◌, ◌<◌, Option, IsSomeAnd}
 use Rattle.std.proofs.lemmas.Bool.{le-ltb}
 use Rattle.std.proofs.lemmas.List.{length-map, take_all}
 use Rattle.cartridge_laws.proofs.AppendDead.{settled_is_settled_for}
@@ -29,7 +30,8 @@ use Rattle.cartridge_spec.specs.Volumes.{Plain, Volume, entries_of, Stands}
 use Rattle.command_laws.proofs.InputActLaws.{volume_is_writes}
 use Rattle.command_laws.proofs.MountedKeeping.{kept_open, live_kept}
 use Rattle.command_laws.specs.MountedKept.{settle_and_append, IsOpen, AppendsLeaveOpen, IsKept}
-use Rattle.command_spec.specs.Append.{volume_acts, filled_acts, input_acts, Kept, Fits, TooLong, TooShort, entry_acts, input_writes, room_in, taking}
+use Rattle.command_spec.specs.Append.{volume_acts, filled_acts, input_acts, Kept, Fits, TooLong, TooShort, entry_acts, input_writes}
+use Rattle.command_spec.specs.Append.{room_in, taking}
 use Rattle.command_laws.specs.AppendTerms.{entry_for, free_in, silently}
 use Rattle.qic_base.proofs.Joins.{steps_of-append}
 use Rattle.qic_base.specs.Acts.{Act, steps_of}
@@ -72,13 +74,15 @@ module _ (plain : Plain) (name : List ℕ) (date : ℕ) (bytes : List ℕ) (sett
   segments_write enough =
       let free : List ℕ = free_in kept in
       ap (λ (b : Bool). steps_of (cond b (input_acts plain.words free size true bytes) [])) enough
-      ∙ ap (λ (b : Bool). steps_of (cond b (filled_acts plain.words free bytes) (volume_acts plain.words free (take size bytes)))) (same_less size)
+      ∙ ap (λ (b : Bool). steps_of (cond b (filled_acts plain.words free bytes) (volume_acts plain.words free (take size bytes))))
+      (same_less size)
       ∙ ap (λ (xs : List ℕ). steps_of (volume_acts plain.words free xs)) (take_all size bytes (omega arith))
       ∙ volume_is_writes plain.words free bytes free_carry
 
   rear_is : fits ≡ true → rear ≡ entry_acts kept name date silently (Fits bytes)
   rear_is enough =
-      ap (λ (b : Bool). entry_acts kept name date silently (cond b (cond (nat_lt size size) (TooShort size size) (Fits (take size bytes))) (TooLong size (room_in kept)))) enough
+      ap (λ (b : Bool). entry_acts kept name date silently
+      (cond b (cond (nat_lt size size) (TooShort size size) (Fits (take size bytes))) (TooLong size (room_in kept)))) enough
       ∙ ap (λ (b : Bool). entry_acts kept name date silently (cond b (TooShort size size) (Fits (take size bytes)))) (same_less size)
       ∙ ap (λ (xs : List ℕ). entry_acts kept name date silently (Fits xs)) (take_all size bytes (omega arith))
 
@@ -87,7 +91,8 @@ module _ (plain : Plain) (name : List ℕ) (date : ℕ) (bytes : List ℕ) (sett
       let slot : List ℕ = slot_bytes (entry_for kept name date bytes) in
       ap steps_of (rear_is enough)
       ∙ append-nil (table_writes (slot_sector (length (entries_of plain))) (with_slot plain.table_area (length (entries_of plain)) slot))
-      ∙ ap (λ (n : ℕ). table_writes (slot_sector n) (with_slot plain.table_area n slot)) (length-map plain.volumes (λ (v : Volume). v.entry))
+      ∙ ap (λ (n : ℕ). table_writes (slot_sector n) (with_slot plain.table_area n slot))
+      (length-map plain.volumes (λ (v : Volume). v.entry))
 
   pub all_writes : fits ≡ true → steps_of (segments ++ rear) ≡ appends.append_steps_of plain name date bytes
   all_writes enough =
@@ -99,7 +104,8 @@ module _ (plain : Plain) (name : List ℕ) (date : ℕ) (bytes : List ℕ) (sett
   no_writes small =
       let free : List ℕ = free_in kept in
       ap (λ (b : Bool). steps_of (cond b (input_acts plain.words free size true bytes) []
-      ++ entry_acts kept name date silently (cond b (cond (nat_lt size size) (TooShort size size) (Fits (take size bytes))) (TooLong size (room_in kept))))) small
+      ++ entry_acts kept name date silently
+      (cond b (cond (nat_lt size size) (TooShort size size) (Fits (take size bytes))) (TooLong size (room_in kept))))) small
 
 -- ---- from the settling of the table on
 
@@ -126,7 +132,8 @@ open_appended c plain name date bytes held named room =
     }) held.table in
     let known : IsSettledFor still plain.table_area = settled_is_settled_for c plain.table_area held.table held.unprotected in
     let done : Cartridge = changed_by (appends.append_steps_of plain name date bytes) still in
-    let info : done.info ≡ c.info = (done_touches_only still plain name date bytes may).0 ∙ (settled_keeps_table c plain.table_area held.table).info in
+    let info : done.info ≡ c.info = (done_touches_only still plain name date bytes may).0
+    ∙ (settled_keeps_table c plain.table_area held.table).info in
     let all : IsOpen done (with_bytes plain name date bytes) = record {
       cartridge = done_is_cartridge still plain name date bytes may;
       stands = done_stands still plain name date bytes may known;
@@ -141,7 +148,8 @@ open_appended c plain name date bytes held named room =
 whole_lives : (c : Cartridge) (area : List (List ℕ)) → IsWhole c area → IsTableLive c
 whole_lives c area whole i h = subst IsLive (sym (whole i h)) tt
 
-module _ (name : List ℕ) (date : ℕ) (bytes : List ℕ) (label : IsLabel name) (word : date < 2 ^ 32) (content : All (λ b. b < 256) bytes) (c : Cartridge) (plain : Plain) (held : IsKept c plain) where
+module _ (name : List ℕ) (date : ℕ) (bytes : List ℕ) (label : IsLabel name) (word : date < 2 ^ 32) (content : All (λ b. b < 256) bytes)
+    (c : Cartridge) (plain : Plain) (held : IsKept c plain) where
   -- the settled cartridge
   abbrev still : Cartridge
   still = settled plain.table_area c

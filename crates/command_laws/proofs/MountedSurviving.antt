@@ -17,13 +17,17 @@ appends_survive c plain name date bytes left kept may enough torn =
     elim (Torn-append (settling_steps plain.table_area c) (appends.append_steps_of plain name date bytes) (Some c) left torn) [
       | inl settling ↦ inl settling
       | inr behind ↦
-          inr (append_survives name date bytes c plain may.label may.word may.content kept.cartridge kept.stands kept.live kept.unprotected kept.table enough left
-          (subst (λ (held : Option Cartridge). Torn (appends.append_steps_of plain name date bytes) held left) (settling_effects c plain.table_area kept.table) behind))
+          inr (append_survives name date bytes c plain may.label may.word may.content kept.cartridge kept.stands kept.live kept.unprotected
+          kept.table enough left
+          (subst (λ (held : Option Cartridge). Torn (appends.append_steps_of plain name date bytes) held left)
+          (settling_effects c plain.table_area kept.table) behind))
     ]
 
 pub appended_survive : AppendedSurvive
 appended_survive c plain name date bytes f lost kept may enough loses =
     let steps = appends.append_steps_of plain name date bytes in
-    done_survives name date bytes c plain may.label may.word may.content kept.cartridge kept.stands kept.live kept.unprotected kept.table enough f lost
+    done_survives name date bytes c plain may.label may.word may.content kept.cartridge kept.stands kept.live kept.unprotected kept.table
+    enough f lost
     (subst (λ (d : Cartridge). LosesOneAlone d f lost)
-    (changed_by-append (settling_steps plain.table_area c) steps c ∙ ap (λ (d : Cartridge). changed_by steps d) (settling_settles c plain.table_area kept.table)) loses)
+    (changed_by-append (settling_steps plain.table_area c) steps c ∙ ap (λ (d : Cartridge). changed_by steps d)
+    (settling_settles c plain.table_area kept.table)) loses)

@@ -1,5 +1,6 @@
 -- Acts of the first of some pieces: how many bytes, and no step.
-use Rattle.std.proofs.Common.{ℕ, List, [], ◌∷◌, All, sym, ap, subst, length, ◌≡◌, ◌+◌, ◌++◌, ◌∙◌, suc, true, false, refl, ◌≤◌, take, arith, length-append}
+use Rattle.std.proofs.Common.{ℕ, List, [], ◌∷◌, All, sym, ap, subst, length, ◌≡◌, ◌+◌, ◌++◌, ◌∙◌, suc, true, false, refl, ◌≤◌, take, arith}
+use Rattle.std.proofs.Common.{length-append}
 use Rattle.std.proofs.lemmas.List.Elements.{All-head, All-tail}
 use Rattle.std.proofs.lemmas.List.Sums.{sum_by-cons}
 use Rattle.cartridge_laws.proofs.AppendSegments.{carrying_carry}
@@ -30,12 +31,14 @@ ends_first c words piece needed Restored ends = absurd ends
 ends_first c words piece needed (LostIn segment lost) ends = (ends.1.1, sym ends.0)
 ends_first c words piece needed (MismatchIn segment) ends = sym ends.0
 
-ends_at : (c : Cartridge) (words : List ℕ) (needed : List Piece) (acts : List Act) (ending : GivingEnd) → Restores c words needed acts ending →
+ends_at : (c : Cartridge) (words : List ℕ) (needed : List Piece) (acts : List Act) (ending : GivingEnd) →
+    Restores c words needed acts ending →
     EndsAt needed (length acts) ending
 ends_at c words [] acts ending h =
     subst (λ (e : GivingEnd). EndsAt [] (length acts) e) (sym h.1) (ap (λ (xs : List Act). length xs) h.0)
 ends_at c words (piece ∷ needed) [] ending h = ends_first c words piece needed ending h
-ends_at c words (piece ∷ needed) (act ∷ acts) ending h = EndsAt-more piece needed (length acts) ending (ends_at c words needed acts ending h.1)
+ends_at c words (piece ∷ needed) (act ∷ acts) ending h = EndsAt-more piece needed (length acts) ending
+    (ends_at c words needed acts ending h.1)
 
 pub restored_are_of : RestoredAreOf
 restored_are_of c words start end bytes acts ending h = (

@@ -5,7 +5,8 @@ use Rattle.command_laws.proofs.CommandEnds.{told_weaker}
 use Rattle.command_laws.proofs.CommandSeveral.{some_scripted}
 use Rattle.command_laws.proofs.CommandSurvives.{stopped_comes_back}
 use Rattle.command_laws.proofs.CommandTable.{has_values}
-use Rattle.command_laws.specs.PromiseLaws.{AnswersWhereNoneRose, ScriptsUntold}
+use Rattle.command_laws.proofs.CommandTable.RoomCommand.{room_takes_no_step}
+use Rattle.command_laws.specs.PromiseLaws.{AnswersWhereNoneRose, RoomLeavesAll, ScriptsUntold}
 use Rattle.command_spec.specs.Headline.{EachLeft, WordsLeave, StopLeaves}
 use Rattle.command_spec.specs.Several.{LinesLeave}
 use Rattle.command_laws.specs.ScriptTerms.{SomeScripted}
@@ -15,6 +16,7 @@ use Rattle.qic_base.specs.Cartridge.{Cartridge}
 use Rattle.qic_base.specs.CartridgeTerms.{IsCartridge}
 use Rattle.qic_base.specs.Acts.{Failing, TapeFails, SourceFails, SinkFails}
 use Rattle.std.proofs.lemmas.List.Elements.{All-nil}
+use Rattle.qic_base.specs.Step.{Step as TapeStep, Torn}
 use Rattle.command_laws.proofs.TextWords.{one_command}
 use Rattle.command_spec.specs.declared.words.Words.{Words}
 use Rattle.command_spec.specs.OneLoss.{StoppedComesBack}
@@ -38,6 +40,22 @@ module _ {T S K : Type 0} (t : tapes.Meaning T) (s : sources.Meaning S) (k : sin
         | inr sound ↦ promises.carried sound
       ]
 
+  room_left : (told : Option (List ℕ)) (words : List (List ℕ)) (held left : Option Cartridge) → Spells words commands.Room →
+      WordsLeave told words held left → left ≡ held
+  room_left told words held left spells (inl same) = same
+  room_left told words held left spells (inr (command, spelled, leaves)) =
+      let l : StopLeaves told commands.Room held left =
+      subst (λ (w : Words). StopLeaves told w held left) (one_command words command commands.Room spelled spells) leaves in
+      subst (λ (steps : List TapeStep). Torn steps held left) (room_takes_no_step held l.outcome l.plain) l.torn
+
+  pub room_leaves_all : RoomLeavesAll t s k
+  room_leaves_all words old new answer promises spells = record {
+    told = λ held told. told_weaker (t.told new.tape) (λ left. room_left (s.left old.source) words held left spells)
+        (promises.stops.told held told);
+    since = λ held left telling told is. room_left (s.left old.source) words held left spells
+        (promises.stops.since held left telling told is);
+  }
+
   -- what a stop in a script leaves over a source that tells nothing, it leaves over some input of bytes
   untold : (words : List (List ℕ)) (held left : Option Cartridge) → WordsLeave None words held left → Spells words commands.Script →
       (input : List ℕ) × All (λ b. b < 256) input × WordsLeave (Some input) words held left
@@ -47,15 +65,28 @@ module _ {T S K : Type 0} (t : tapes.Meaning T) (s : sources.Meaning S) (k : sin
       subst (λ (w : Words). StopLeaves None w held left) (one_command words command commands.Script spelled spells) leaves in (
         l.input,
         l.bytes refl,
-        inr (commands.Script, spells, record { input = l.input; is_told = refl; bytes = λ appends. tt; outcome = l.outcome; plain = l.plain; torn = l.torn }),
+        inr (
+          commands.Script,
+          spells,
+          record {
+            input = l.input;
+            is_told = refl;
+            bytes = λ appends. tt;
+            outcome = l.outcome;
+            plain = l.plain;
+            torn = l.torn;
+          },
+        ),
       )
 
-  lines_of : (input : List ℕ) (words : List (List ℕ)) (held left : Option Cartridge) → SomeScripted (Some input) words held left → LinesLeave input words held left
+  lines_of : (input : List ℕ) (words : List (List ℕ)) (held left : Option Cartridge) → SomeScripted (Some input) words held left →
+      LinesLeave input words held left
   lines_of input words held left over = subst (λ (i : List ℕ). LinesLeave i words held left) over.1 over.3
 
   pub scripts_untold : ScriptsUntold t s k
   scripts_untold words old new answer promises none =
-      let each : EachLeft t old.tape new.tape (WordsLeave None words) = subst (λ (told : Option (List ℕ)). EachLeft t old.tape new.tape (WordsLeave told words)) none promises.stops in
+      let each : EachLeft t old.tape new.tape (WordsLeave None words) =
+      subst (λ (told : Option (List ℕ)). EachLeft t old.tape new.tape (WordsLeave told words)) none promises.stops in
       let so : (held left : Option Cartridge) → WordsLeave None words held left → IfSome held IsCartridge → Spells words commands.Script →
       (input : List ℕ) × All (λ b. b < 256) input × LinesLeave input words held left × StoppedComesBack (Some input) words held left =
       λ held left leaves whole spells.

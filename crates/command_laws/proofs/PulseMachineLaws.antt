@@ -42,21 +42,25 @@ pub run_of : (held : Option Cartridge) (input : List ℕ) (outcome : CommandOutc
 run_of held input outcome sends = (
   outcome_of (power_on (info_of held)) input sends.trains sends.ending,
   record { trains = sends.trains; ending = sends.ending; read = sends.read; comes = refl },
-  sends.is ∙ ap (answered (train_acts (power_on (info_of held)) sends.trains) (pulses_taken input sends.trains sends.ending)) (status_is sends.ending),
+  sends.is ∙ ap (answered (train_acts (power_on (info_of held)) sends.trains) (pulses_taken input sends.trains sends.ending))
+      (status_is sends.ending),
 )
 
 -- .. and each run of trains is what the command does
-pub sends_of : (held : Option Cartridge) (input : List ℕ) (came : PulseRun) → PulsesOutcome (info_of held) input came → SentOutcome held input (sent came)
+pub sends_of : (held : Option Cartridge) (input : List ℕ) (came : PulseRun) → PulsesOutcome (info_of held) input came →
+    SentOutcome held input (sent came)
 sends_of held input came plain = record {
   trains = plain.trains;
   ending = plain.ending;
   read = plain.read;
   is = ap sent plain.comes
-      ∙ sym (ap (answered (train_acts (power_on (info_of held)) plain.trains) (pulses_taken input plain.trains plain.ending)) (status_is plain.ending));
+      ∙ sym (ap (answered (train_acts (power_on (info_of held)) plain.trains) (pulses_taken input plain.trains plain.ending))
+      (status_is plain.ending));
 }
 
 -- from any line on
-lines_begin : (line place : ℕ) (input trains : List ℕ) (ending : Ending) → line ≤ most_items + 1 → HasItems IsPulse line place input trains ending →
+lines_begin : (line place : ℕ) (input trains : List ℕ) (ending : Ending) → line ≤ most_items + 1 →
+    HasItems IsPulse line place input trains ending →
     (rest : List ℕ) × (input ≡ train_lines trains ++ rest) × (line + length trains ≤ most_items + 1)
 lines_begin line place input [] ending few read = (input, refl, omega arith)
 lines_begin line place input (p ∷ ps) ending few read =
@@ -74,7 +78,8 @@ trains_are_lines input trains ending read =
     let begins = lines_begin 1 0 input trains ending (omega arith) read in
     record { rest = begins.0; lines = begins.1; few = let l = begins.2 in omega arith }
 
-fault_behind : (line place : ℕ) (input trains : List ℕ) (number before : ℕ) → HasItems IsPulse line place input trains (AtFault number before) →
+fault_behind : (line place : ℕ) (input trains : List ℕ) (number before : ℕ) → HasItems IsPulse line place input trains
+    (AtFault number before) →
     (number ≡ line + length trains) × (before ≡ place + length (train_lines trains))
 fault_behind line place input [] number before read = (let e = read.1 in omega arith, let e = read.2 in omega arith)
 fault_behind line place input (p ∷ ps) number before read =

@@ -1,5 +1,6 @@
 -- What a stop in trains leaves.
-use Rattle.std.proofs.Common.{◌≡◌, List, [], ◌∷◌, Bool, true, false, if◌then◌else◌, refl, is_none, Option, Some, None, ℕ, ◌++◌, ◌⊎◌, inl, inr, subst, ◌∙◌}
+use Rattle.std.proofs.Common.{◌≡◌, List, [], ◌∷◌, Bool, true, false, if◌then◌else◌, refl, is_none, Option, Some, None, ℕ, ◌++◌, ◌⊎◌, inl}
+use Rattle.std.proofs.Common.{inr, subst, ◌∙◌}
 use Rattle.command_laws.specs.PulseLaws.{StopsLeave}
 use Rattle.command_spec.specs.Pulses.{train_acts}
 use Rattle.drive_spec.specs.Terms.{refusal_of}
@@ -34,7 +35,8 @@ of_number d (Some c) = chosen (is_none (refusal_of d c)) (reference_steps c) (of
 
 of_train : (r : Record) (train : ℕ) → AreReferences (train_changes r train)
 unfolding train_changes
-of_train r train = chosen (is_idle r.under_way) (command_steps (ticked r.deck) (command_at train)) (of_number (ticked r.deck) (command_at train))
+of_train r train = chosen (is_idle r.under_way) (command_steps (ticked r.deck) (command_at train))
+    (of_number (ticked r.deck) (command_at train))
 
 of_both : (xs ys : List Step) → AreReferences xs → AreReferences ys → AreReferences (xs ++ ys)
 of_both [] ys first next = next
@@ -42,7 +44,8 @@ of_both (x ∷ xs) ys first next = (first.0, of_both xs ys first.1 next)
 
 of_trains : (r : Record) (trains : List ℕ) → AreReferences (acts.steps_of (train_acts r trains))
 of_trains r [] = tt
-of_trains r (train ∷ trains) = of_both (train_changes r train) (acts.steps_of (train_acts (pulsed_row r train) trains)) (of_train r train) (of_trains (pulsed_row r train) trains)
+of_trains r (train ∷ trains) = of_both (train_changes r train) (acts.steps_of (train_acts (pulsed_row r train) trains)) (of_train r train)
+    (of_trains (pulsed_row r train) trains)
 
 -- they are written once for all
 once : (held : Option Cartridge) → effect SetReferenced (effect SetReferenced held) ≡ effect SetReferenced held
@@ -59,7 +62,8 @@ before_or_behind step steps held left is there = let P : Step → Type 0 = λ s.
     by_cases (inr (inl inside)) = absurd inside
     by_cases (inr (inr behind)) = inr behind
 
-torn : (steps : List Step) (held left : Option Cartridge) → AreReferences steps → Torn steps held left → (left ≡ held) ⊎ (left ≡ effect SetReferenced held)
+torn : (steps : List Step) (held left : Option Cartridge) → AreReferences steps → Torn steps held left → (left ≡ held)
+    ⊎ (left ≡ effect SetReferenced held)
 torn [] held left are same = inl same
 torn (s ∷ ss) held left are there = elim (before_or_behind s ss held left are.0 there) [
   | inl before ↦ inl before

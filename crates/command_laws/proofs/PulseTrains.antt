@@ -1,5 +1,6 @@
 -- Trains one after the other, and the lines that they are read from.
-use Rattle.std.proofs.Common.{◌≡◌, ℕ, List, [], ◌∷◌, ◌++◌, ◌-◌, refl, ap, ◌∙◌, sym, append_assoc, ◌≤◌, length, arith, Bool, true, false, if◌then◌else◌, ◌==◌, nat_lt, Option, Some, None}
+use Rattle.std.proofs.Common.{◌≡◌, ℕ, List, [], ◌∷◌, ◌++◌, ◌-◌, refl, ap, ◌∙◌, sym, append_assoc, ◌≤◌, length, arith, Bool, true, false}
+use Rattle.std.proofs.Common.{if◌then◌else◌, ◌==◌, nat_lt, Option, Some, None}
 use Rattle.std.proofs.lemmas.List.{length_push}
 use Rattle.std.proofs.lemmas.Bool.Decides.{nat_tests}
 use Rattle.command_spec.specs.Input.{IsPulse}
@@ -69,7 +70,8 @@ module _ (b : Record) (train : ℕ) where
   reported-counted bits false = refl
 
   given_more-counted : (a : Parameter) (whole : Bool) →
-      (if whole then record b { deck = given a.command a.value b.deck; under_way = Nothing } else record b { under_way = Awaited a }).train ≡ b.train
+      (if whole then record b { deck = given a.command a.value b.deck; under_way = Nothing } else record b { under_way = Awaited a }).train
+      ≡ b.train
   given_more-counted a true = refl
   given_more-counted a false = refl
 
@@ -83,7 +85,8 @@ module _ (b : Record) (train : ℕ) where
   heard-counted (Report bits) = reported-counted bits (train == number_of ReportNextBit)
   heard-counted (Awaited a) = taking-counted a (nat_lt (train - 2) (parameter_values a.command))
 
-  obeyed-counted : (other : Bool) → (if other then record b { deck = reset b.deck; under_way = Nothing } else heard b train b.under_way).train ≡ b.train
+  obeyed-counted : (other : Bool) → (if other then record b { deck = reset b.deck; under_way = Nothing } else heard b train
+      b.under_way).train ≡ b.train
   obeyed-counted true = refl
   obeyed-counted false = heard-counted b.under_way
 
@@ -96,7 +99,8 @@ unfolding pulsed_row
 pulsed_row-counted r train = by_count (train == 0) refl
   where
     by_count : (none : Bool) → (train == 0) ≡ none →
-        (if none then idled (record r { deck = ticked r.deck; train = train }) else obeyed (record r { deck = ticked r.deck; line = false; train = 0 }) train).train ≡ 0
+        (if none then idled (record r { deck = ticked r.deck; train = train }) else obeyed
+        (record r { deck = ticked r.deck; line = false; train = 0 }) train).train ≡ 0
     by_count true e =
         let zero : train ≡ 0 = grind (arith, nat_tests) in
         idled-counted (record r { deck = ticked r.deck; train = train }) train (is_streaming (ticked r.deck).motion) ∙ zero

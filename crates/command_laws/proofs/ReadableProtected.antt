@@ -1,5 +1,6 @@
 -- That a volume table can be read goes on behind a script on a protected cartridge.
-use Rattle.std.proofs.Common.{◌≡◌, ◌≢◌, ◌⊎◌, ◌∙◌, ◌<◌, ◌≤◌, ℕ, Bool, true, false, List, [], ◌∷◌, ◌++◌, Option, Some, IsSomeAnd, if◌then◌else◌, inl, inr, ap, sym, subst, refl, take}
+use Rattle.std.proofs.Common.{◌≡◌, ◌≢◌, ◌⊎◌, ◌∙◌, ◌<◌, ◌≤◌, ℕ, Bool, true, false, List, [], ◌∷◌, ◌++◌, Option, Some, IsSomeAnd}
+use Rattle.std.proofs.Common.{if◌then◌else◌, inl, inr, ap, sym, subst, refl, take}
 use Rattle.cartridge_laws.proofs.ChangeStanding.{other_cells}
 use Rattle.cartridge_laws.proofs.FormatWriting.{some_and}
 use Rattle.cartridge_laws.proofs.MountWhole.{settling_effects}
@@ -16,7 +17,8 @@ use Rattle.command_laws.proofs.ScriptStanding.{given_steps}
 use Rattle.command_spec.specs.Input.{AtEnd, AtFault, AtStop, Ending, Item}
 use Rattle.command_spec.specs.Outcome.{CommandOutcome}
 use Rattle.command_spec.specs.Restore.{framed, pieces}
-use Rattle.command_spec.specs.Script.{Did, EndDoes, Finds, ItemsDo, LineDoes, Refuses, ScriptDoes, Scripting, acts_of, cartridge_behind, entries_behind}
+use Rattle.command_spec.specs.Script.{Did, EndDoes, Finds, ItemsDo, LineDoes, Refuses, ScriptDoes, Scripting, acts_of, cartridge_behind}
+use Rattle.command_spec.specs.Script.{entries_behind}
 use Rattle.command_laws.specs.Outcomes.{ScriptOutcome}
 use Rattle.command_spec.specs.ScriptLists.{ItemsSpareTable}
 use Rattle.command_spec.specs.Several.{Scripted}
@@ -41,12 +43,13 @@ both_wear [] ys one two = two
 both_wear (Wear segment sector ∷ xs) ys one two = (one.0, one.1, both_wear xs ys one.2 two)
 both_wear (other ∷ xs) ys one two = absurd one
 
-worn_reads : (c : Cartridge) (segment sector : ℕ) → segment ≢ 2 → sector < 32 → CanBeRead c → CanBeRead (worn segment sector c)
+pub worn_reads : (c : Cartridge) (segment sector : ℕ) → segment ≢ 2 → sector < 32 → CanBeRead c → CanBeRead (worn segment sector c)
 worn_reads c segment sector other small reads =
     subst (λ (cells : List SectorView). (unreadable_count (take 29 cells) ≡ 0) ⊎ (unreadable_count cells ≤ 3))
     (sym (other_cells c segment sector 2 small (λ is. other (sym is)))) reads
 
-torn_reads : (ss : List Step) (c : Cartridge) (left : Option Cartridge) → WearOthers ss → CanBeRead c → Torn ss (Some c) left → IsSomeAnd left CanBeRead
+torn_reads : (ss : List Step) (c : Cartridge) (left : Option Cartridge) → WearOthers ss → CanBeRead c → Torn ss (Some c) left →
+    IsSomeAnd left CanBeRead
 torn_reads [] c left wear reads torn = some_and CanBeRead c left reads torn
 torn_reads (Wear segment sector ∷ ss) c left wear reads (inl is) = some_and CanBeRead c left reads is
 torn_reads (Wear segment sector ∷ ss) c left wear reads (inr (inl half)) = absurd half
@@ -67,7 +70,8 @@ none_wear did did' is none = subst WearOthers (sym (ap (λ (d : Did). steps_of d
 unmarked : {A : Type 0} (c : Cartridge) → c.info.protected ≡ true → c.info.protected ≡ false → A
 unmarked c mark free = absurd (let no : true ≡ false = sym mark ∙ free in cc)
 
-line_wears : (c : Cartridge) (words : List ℕ) (entries : List Entry) (asked : Line) (bytes : List ℕ) (did : Did) → c.info.protected ≡ true → LineDoes c words entries asked bytes did →
+line_wears : (c : Cartridge) (words : List ℕ) (entries : List Entry) (asked : Line) (bytes : List ℕ) (did : Did) → c.info.protected ≡ true →
+    LineDoes c words entries asked bytes did →
     ((segment sector : ℕ) → asked ≡ line.Lose segment sector → sector < 32 → segment ≢ 2) → WearOthers (steps_of did.acts)
 line_wears c words entries (line.Append name n date) bytes did mark (Refuses w, meets, is) spares = none_wear did _ is refl
 line_wears c words entries (line.Append name n date) bytes did mark (Finds table, meets, is) spares = unmarked c mark meets.0
@@ -84,14 +88,16 @@ line_wears c words entries (line.Lose segment sector) bytes did mark (inr (place
     subst WearOthers (sym (ap (λ (d : Did). steps_of d.acts) is)) (spares segment sector refl place.in_segment, place.in_segment, tt)
 line_wears c words entries line.End bytes did mark never spares = absurd never
 
-items_wear : (items : List Item) (dids : List Did) (c : Cartridge) (words : List ℕ) (entries : List Entry) → c.info.protected ≡ true → ItemsDo c words entries items dids → ItemsSpareTable items →
+items_wear : (items : List Item) (dids : List Did) (c : Cartridge) (words : List ℕ) (entries : List Entry) → c.info.protected ≡ true →
+    ItemsDo c words entries items dids → ItemsSpareTable items →
     WearOthers (steps_of (acts_of dids)) × ((cartridge_behind c dids).info.protected ≡ true)
 items_wear [] [] c words entries mark ran spares = (tt, mark)
 items_wear [] (did ∷ dids) c words entries mark ran spares = absurd ran
 items_wear (item ∷ items) [] c words entries mark ran spares = absurd ran
 items_wear (item ∷ items) (did ∷ dids) c words entries mark ran spares =
     let one : WearOthers (steps_of did.acts) = line_wears c words entries item.line item.bytes did mark ran.0 spares.0 in
-    let rest = items_wear items dids (changed_by (steps_of did.acts) c) words did.entries (mark_stays (steps_of did.acts) c one mark) ran.1 spares.1 in (
+    let rest = items_wear items dids (changed_by (steps_of did.acts) c) words did.entries
+    (mark_stays (steps_of did.acts) c one mark) ran.1 spares.1 in (
       subst WearOthers (sym (steps_of-append did.acts (acts_of dids))) (both_wear (steps_of did.acts) (steps_of (acts_of dids)) one rest.0),
       rest.1,
     )
@@ -99,7 +105,8 @@ items_wear (item ∷ items) (did ∷ dids) c words entries mark ran spares =
 no_acts : (acts other : List Act) → acts ≡ other → steps_of other ≡ [] → WearOthers (steps_of acts)
 no_acts acts other is none = subst WearOthers (sym (ap (λ (xs : List Act). steps_of xs) is ∙ none)) tt
 
-end_wears : (c : Cartridge) (words : List ℕ) (entries : List Entry) (rest : List ℕ) (ending : Ending) (acts : List Act) → c.info.protected ≡ true → EndDoes c words entries rest ending acts →
+end_wears : (c : Cartridge) (words : List ℕ) (entries : List Entry) (rest : List ℕ) (ending : Ending) (acts : List Act) →
+    c.info.protected ≡ true → EndDoes c words entries rest ending acts →
     WearOthers (steps_of acts)
 end_wears c words entries rest AtEnd acts mark is = no_acts acts _ is refl
 end_wears c words entries rest AtStop acts mark is = no_acts acts _ is refl
@@ -107,7 +114,8 @@ end_wears c words entries rest (AtFault number place) acts mark (inl (below, (ea
 end_wears c words entries rest (AtFault number place) acts mark (inl (below, (early, (Finds table, meets, are)))) = unmarked c mark meets.0
 end_wears c words entries rest (AtFault number place) acts mark (inr (never, are)) = no_acts acts _ are refl
 
-script_wears : (c : Cartridge) (words : List ℕ) (entries : List Entry) (input : List ℕ) (outcome : CommandOutcome) → c.info.protected ≡ true → (does : ScriptDoes c words entries input outcome) →
+script_wears : (c : Cartridge) (words : List ℕ) (entries : List Entry) (input : List ℕ) (outcome : CommandOutcome) →
+    c.info.protected ≡ true → (does : ScriptDoes c words entries input outcome) →
     ItemsSpareTable does.items → WearOthers (steps_of outcome.acts)
 script_wears c words entries input outcome mark does spares =
     let items = items_wear does.items does.dids c words entries mark does.did spares in
@@ -122,8 +130,10 @@ same_some : (c d : Cartridge) → Some c ≡ Some d → c ≡ d
 same_some c d is = cc
 
 -- what it leaves, done or stopped
-pub protected_script_reads : (input : List ℕ) (words : List (List ℕ)) (c : Cartridge) (plain : Plain) (outcome : CommandOutcome) (left : Option Cartridge) (script : Scripted input words c plain) →
-    c.info.protected ≡ true → ItemsSpareTable script.does.items → CanBeRead c → ScriptOutcome (Some c) input outcome → Torn (steps_of outcome.acts) (Some c) left → IsSomeAnd left CanBeRead
+pub protected_script_reads : (input : List ℕ) (words : List (List ℕ)) (c : Cartridge) (plain : Plain) (outcome : CommandOutcome)
+    (left : Option Cartridge) (script : Scripted input words c plain) →
+    c.info.protected ≡ true → ItemsSpareTable script.does.items → CanBeRead c → ScriptOutcome (Some c) input outcome →
+    Torn (steps_of outcome.acts) (Some c) left → IsSomeAnd left CanBeRead
 protected_script_reads input words c plain outcome left script mark spares reads opened torn =
     elim (mounted_or_turned (Scripting input) c plain outcome script.stands opened) [
       | inl turned ↦ some_and CanBeRead c left reads (subst (λ (o : CommandOutcome). Torn (steps_of o.acts) (Some c) left) turned.is torn)
@@ -133,7 +143,8 @@ protected_script_reads input words c plain outcome left script mark spares reads
           ap (λ (b : Bool). if b then [] else block_writes (with_parity plain.table_area) (settling_places c plain.table_area)) mark in
           let still : c ≡ settled plain.table_area c =
           same_some c (settled plain.table_area c)
-          (subst (λ (ss : List Step). effects ss (Some c) ≡ Some (settled plain.table_area c)) none (settling_effects c plain.table_area was.mounts.reads)) in
+          (subst (λ (ss : List Step). effects ss (Some c) ≡ Some (settled plain.table_area c)) none
+          (settling_effects c plain.table_area was.mounts.reads)) in
           let one : did.came ≡ script.outcome =
           one_script (settled plain.table_area c) plain.words (entries_of plain) input did.came script.outcome did.does script.does in
           let there : (settled plain.table_area c).info.protected ≡ true = subst (λ (d : Cartridge). d.info.protected ≡ true) still mark in

@@ -9,7 +9,8 @@ use Rattle.cartridge_spec.specs.Volumes.{carrying_segments, volume_length}
 use Rattle.command_spec.specs.Restore.{pieces_of, pieces, volume_at}
 
 -- a volume of a list in order begins behind the segment that all lie behind
-begins_behind : (before last : ℕ) (entries : List Entry) (i : ℕ) (e : Entry) → LieBehind before last entries → slice_get entries i ≡ Some e → before < e.start
+begins_behind : (before last : ℕ) (entries : List Entry) (i : ℕ) (e : Entry) → LieBehind before last entries →
+    slice_get entries i ≡ Some e → before < e.start
 begins_behind before last [] i e order there = absurd (cc)
 begins_behind before last (x ∷ es) zero e order there =
     let same : x ≡ e = cc in
@@ -20,7 +21,8 @@ begins_behind before last (x ∷ es) (suc i) e order there =
     let next : x.end < e.start = begins_behind x.end last es i e order.3 there in
     omega arith
 
-volume_behind : (last : ℕ) (entries : List Entry) (number : ℕ) (e : Entry) → IsSoundList last entries → volume_at entries number ≡ Some e → 2 < e.start
+volume_behind : (last : ℕ) (entries : List Entry) (number : ℕ) (e : Entry) → IsSoundList last entries → volume_at entries number ≡ Some e →
+    2 < e.start
 volume_behind last entries zero e order there = absurd (cc)
 volume_behind last entries (suc n) e order there = begins_behind 2 last entries n e order there
 
@@ -33,9 +35,11 @@ piece_from words from (s ∷ ss) (suc left) zero segment are at = subst (λ (t :
 piece_from words from (s ∷ ss) (suc left) (suc read) segment are at =
     piece_from words from ss (suc left - capacity (mask_at words s)) read segment (All-tail (λ (t : ℕ). from ≤ t) s ss are) at
 
-pub piece_behind : (words : List ℕ) (last : ℕ) (entries : List Entry) (number : ℕ) (e : Entry) (read segment : ℕ) → IsSoundList last entries → volume_at entries number ≡ Some e →
+pub piece_behind : (words : List ℕ) (last : ℕ) (entries : List Entry) (number : ℕ) (e : Entry) (read segment : ℕ) →
+    IsSoundList last entries → volume_at entries number ≡ Some e →
     IsSomeAnd (slice_get (pieces words e) read) (λ piece. piece.segment ≡ segment) → 3 ≤ segment
 piece_behind words last entries number e read segment order there at =
     let starts : 2 < e.start = volume_behind last entries number e order there in
-    let from : e.start ≤ segment = piece_from words e.start (carrying_segments words e) (volume_length words e) read segment (carrying_from words e.start e.end) at in
+    let from : e.start ≤ segment = piece_from words e.start (carrying_segments words e) (volume_length words e) read segment
+    (carrying_from words e.start e.end) at in
     omega arith

@@ -1,5 +1,6 @@
 -- A restore takes no step, and its text is as long as the pieces that were read.
-use Rattle.std.proofs.Common.{◌≡◌, ◌+◌, List, [], ◌∷◌, ◌++◌, refl, ap, ◌∙◌, suc, length, sym, ℕ, ◌≤◌, zero, ◌-◌, All, ◌*◌, arith, Bool, true, false, cond, ◌&&◌, nat_le, ◌==◌, length-append, take, subst}
+use Rattle.std.proofs.Common.{◌≡◌, ◌+◌, List, [], ◌∷◌, ◌++◌, refl, ap, ◌∙◌, suc, length, sym, ℕ, ◌≤◌, zero, ◌-◌, All, ◌*◌, arith, Bool}
+use Rattle.std.proofs.Common.{true, false, cond, ◌&&◌, nat_le, ◌==◌, length-append, take, subst}
 use Rattle.std.specs.Prelude.{min}
 use Rattle.std.proofs.Math.Nat.{min-le_right}
 use Rattle.std.proofs.lemmas.List.Elements.{All-nil, All-cons, All-head, All-tail}
@@ -47,7 +48,8 @@ pub record FitsIn (words : List ℕ) (piece : Piece) : Type 0 where
   pub carry : Carries (mask_at words piece.segment)
   pub within : piece.count ≤ capacity (mask_at words piece.segment)
 
-pub pieces_fit : (words segments : List ℕ) (left : ℕ) → All (λ s. Carries (mask_at words s)) segments → All (FitsIn words) (pieces_of words segments left)
+pub pieces_fit : (words segments : List ℕ) (left : ℕ) → All (λ s. Carries (mask_at words s)) segments →
+    All (FitsIn words) (pieces_of words segments left)
 pieces_fit words [] left carry = All-nil (FitsIn words)
 pieces_fit words (s ∷ ss) zero carry = All-nil (FitsIn words)
 pieces_fit words (s ∷ ss) (suc left) carry =

@@ -29,10 +29,12 @@ read_goes_on c words piece act (LostIn s n) read ends = not_lost (piece_cells c 
 read_goes_on c words piece act (MismatchIn s) read ends = not_mismatch (piece_cells c words piece) read.sectors read.says ends.1
 
 -- it ends in one way
-one_ending : (c : Cartridge) (words : List ℕ) (piece : Piece) (x y : GivingEnd) → PieceEnds c words piece x → PieceEnds c words piece y → x ≡ y
+one_ending : (c : Cartridge) (words : List ℕ) (piece : Piece) (x y : GivingEnd) → PieceEnds c words piece x → PieceEnds c words piece y →
+    x ≡ y
 one_ending c words piece Restored y hx hy = absurd hx
 one_ending c words piece (LostIn s m) Restored hx hy = absurd hy
-one_ending c words piece (LostIn s m) (LostIn t n) hx hy = ap (λ (segment : ℕ). LostIn segment m) (hx.0 ∙ sym hy.0) ∙ ap (LostIn t) (sym hx.1.0 ∙ hy.1.0)
+one_ending c words piece (LostIn s m) (LostIn t n) hx hy = ap (λ (segment : ℕ). LostIn segment m) (hx.0 ∙ sym hy.0)
+    ∙ ap (LostIn t) (sym hx.1.0 ∙ hy.1.0)
 one_ending c words piece (LostIn s m) (MismatchIn t) hx hy = absurd (omega (arith, hx.1.0, hx.1.1, hy.1.0))
 one_ending c words piece (MismatchIn s) Restored hx hy = absurd hy
 one_ending c words piece (MismatchIn s) (LostIn t n) hx hy = absurd (omega (arith, hy.1.0, hy.1.1, hx.1.0))

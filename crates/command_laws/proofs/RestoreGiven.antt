@@ -55,14 +55,16 @@ given_begins_restored c words (piece ∷ needed) (act ∷ acts) ending bytes h (
 
 -- ---- how many
 
-length-said : (c : Cartridge) (words : List ℕ) (piece : Piece) (saying : Saying) → FitsIn words piece → Says (piece_cells c words piece) saying →
+length-said : (c : Cartridge) (words : List ℕ) (piece : Piece) (saying : Saying) → FitsIn words piece →
+    Says (piece_cells c words piece) saying →
     length (bytes_said piece saying) ≡ piece.count
 length-said c words piece (Data sectors) fits says =
     read_count c words piece (act_of piece sectors) fits (record { sectors = sectors; says = says; shown = refl })
 length-said c words piece (LostSectors lost) fits says = length-replicate piece.count 0
 length-said c words piece Mismatch fits says = length-replicate piece.count 0
 
-pub length-given : (c : Cartridge) (words : List ℕ) (needed : List Piece) (bytes : List ℕ) → All (FitsIn words) needed → GivenBytes c words needed bytes →
+pub length-given : (c : Cartridge) (words : List ℕ) (needed : List Piece) (bytes : List ℕ) → All (FitsIn words) needed →
+    GivenBytes c words needed bytes →
     length bytes ≡ bytes_held needed
 length-given c words [] bytes fit given = ap (λ (xs : List ℕ). length xs) given
 length-given c words (piece ∷ needed) bytes fit (saying, rest, says, given, is) =

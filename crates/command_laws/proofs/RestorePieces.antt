@@ -7,7 +7,8 @@ use Rattle.qic_base.specs.Acts.{Act}
 use Rattle.qic_base.specs.Cartridge.{Cartridge}
 
 -- the first piece, and those behind it
-each_more : (c : Cartridge) (words : List ℕ) (piece : Piece) (needed : List Piece) (act : Act) (acts : List Act) → IsRead c words piece act →
+each_more : (c : Cartridge) (words : List ℕ) (piece : Piece) (needed : List Piece) (act : Act) (acts : List Act) →
+    IsRead c words piece act →
     ((i : ℕ) (p : Piece) (a : Act) → slice_get needed i ≡ Some p → slice_get acts i ≡ Some a → IsRead c words p a) →
     (i : ℕ) (p : Piece) (a : Act) → slice_get (piece ∷ needed) i ≡ Some p → slice_get (act ∷ acts) i ≡ Some a → IsRead c words p a
 each_more c words piece needed act acts first rest zero p a at other =

@@ -1,6 +1,8 @@
 -- A volume of what a cartridge stands for is restored byte for byte, or up to the first segment that lost too much.
-use Rattle.std.proofs.Common.{◌≡◌, ℕ, List, length, All, ◌+◌, ◌-◌, ◌∷◌, take, drop, ◌∙◌, arith, ◌≤◌, ◌*◌, sym, ap, [], ◌++◌, refl, inl, inr, zero, suc, ◌<◌, subst, get_or}
-use Rattle.std.proofs.lemmas.List.{length-drop, length-take-le, append_assoc, take-append-drop, append-nil, take_all, take_min, take-append-le}
+use Rattle.std.proofs.Common.{◌≡◌, ℕ, List, length, All, ◌+◌, ◌-◌, ◌∷◌, take, drop, ◌∙◌, arith, ◌≤◌, ◌*◌, sym, ap, [], ◌++◌, refl, inl, inr}
+use Rattle.std.proofs.Common.{zero, suc, ◌<◌, subst, get_or}
+use Rattle.std.proofs.lemmas.List.{length-drop, length-take-le, append_assoc, take-append-drop, append-nil, take_all, take_min}
+use Rattle.std.proofs.lemmas.List.{take-append-le}
 use Rattle.std.proofs.lemmas.List.Elements.{All-tail, All-drop, All-head, All-take, All-contains, All-nil, All-cons}
 use Rattle.std.proofs.lemmas.List.Sums.{sum_by-cons}
 use Rattle.std.specs.Prelude.{min}
@@ -11,14 +13,17 @@ use Rattle.cartridge_laws.proofs.AppendSegments.{carrying_carry}
 use Rattle.cartridge_laws.proofs.Places.{count_below}
 use Rattle.cartridge_laws.proofs.Sayings.{written_is_said, written_is_lost}
 use Rattle.cartridge_laws.specs.Shape.{Carries}
-use Rattle.cartridge_spec.specs.Volumes.{bytes_in, volume_bytes, parts_of, Part, Plain, Volume, VolumeStands, carrying_segments, volume_length}
+use Rattle.cartridge_spec.specs.Volumes.{bytes_in, volume_bytes, parts_of, Part, Plain, Volume, VolumeStands, carrying_segments}
+use Rattle.cartridge_spec.specs.Volumes.{volume_length}
 use Rattle.cartridge_spec.specs.Says.{cells_of, Written, unreadable_count, Says, Data, LostSectors}
 use Rattle.cartridge_spec.specs.Shape.{mask_at, data_count, capacity, usable_count}
 use Rattle.cartridge_laws.specs.VolumeParts.{PartStands, sectors_in}
 use Rattle.command_laws.proofs.RestoreCounts.{length-bytes_in, length_within}
 use Rattle.command_laws.proofs.RestoreEndings.{restores_is_function}
-use Rattle.command_laws.specs.RestoreLaws.{HasVolume, VolumeIsLong, RestoresByteForByte, FewOrFirstLost, RestoresFront, NeverMismatch, StandingRestores}
-use Rattle.command_spec.specs.Restore.{Piece, Restored, Restores, LosesFew, pieces_of, LostIn, piece_cells, pieces_in, FirstLost, MismatchIn}
+use Rattle.command_laws.specs.RestoreLaws.{HasVolume, VolumeIsLong, RestoresByteForByte, FewOrFirstLost, RestoresFront, NeverMismatch}
+use Rattle.command_laws.specs.RestoreLaws.{StandingRestores}
+use Rattle.command_spec.specs.Restore.{Piece, Restored, Restores, LosesFew, pieces_of, LostIn, piece_cells, pieces_in, FirstLost}
+use Rattle.command_spec.specs.Restore.{MismatchIn}
 use Rattle.command_laws.specs.RestoreTerms.{act_of, bytes_held}
 use Rattle.qic_base.specs.Acts.{Act, text_of}
 use Rattle.qic_base.specs.Cartridge.{Cartridge, IsSector}
@@ -136,7 +141,8 @@ standing_few c words (s ∷ ss) area (suc left) held few =
     let needed : List Piece = pieces_of words ss (suc left - cap) in
     let holds : HoldsFirst c words s area = held_head c words s ss area held in
     let rest : GivesAll c words needed (take (suc left - cap) (bytes_in (drop n area))) =
-    standing_few c words ss (drop n area) (suc left - cap) (held_tail c words s ss area held) (All-tail (LosesFew c words) piece needed few) in
+    standing_few c words ss (drop n area) (suc left - cap) (held_tail c words s ss area held)
+    (All-tail (LosesFew c words) piece needed few) in
     record {
       acts = act_of piece (take n area) ∷ rest.acts;
       restores = (
@@ -153,7 +159,8 @@ standing_few c words (s ∷ ss) area (suc left) held few =
 
 -- ---- where one lost more
 
-record EndsBehind (c : Cartridge) (words : List ℕ) (front : List Piece) (piece : Piece) (needed : List Piece) (bytes : List ℕ) (left : ℕ) : Type 0 where
+record EndsBehind (c : Cartridge) (words : List ℕ) (front : List Piece) (piece : Piece) (needed : List Piece) (bytes : List ℕ)
+    (left : ℕ) : Type 0 where
   acts : List Act
   restores : Restores c words needed acts (LostIn piece.segment (unreadable_count (piece_cells c words piece)))
   text : text_of acts ≡ take (bytes_held front) bytes
@@ -257,7 +264,8 @@ volume_is_long c plain volume has =
     length-take-le (volume_length words volume.entry) (bytes_in volume.area) (omega arith)
 
 volume_given : (c : Cartridge) (plain : Plain) (volume : Volume) → HasVolume c plain volume →
-    All (LosesFew c plain.words) (pieces_in plain volume) → GivesAll c plain.words (pieces_in plain volume) (volume_bytes plain.words volume)
+    All (LosesFew c plain.words) (pieces_in plain volume) → GivesAll c plain.words (pieces_in plain volume)
+    (volume_bytes plain.words volume)
 volume_given c plain volume has few =
     standing_few c plain.words (carrying_segments plain.words volume.entry) volume.area (volume_length plain.words volume.entry)
     (volume_held c plain volume has) few
@@ -292,8 +300,10 @@ few_or_first_lost c words (piece ∷ needed) =
           ]
     ]
 
-front_given : (c : Cartridge) (plain : Plain) (volume : Volume) (first : FirstLost c plain.words (pieces_in plain volume)) → HasVolume c plain volume →
-    EndsBehind c plain.words first.front first.piece (pieces_in plain volume) (bytes_in volume.area) (volume_length plain.words volume.entry)
+front_given : (c : Cartridge) (plain : Plain) (volume : Volume) (first : FirstLost c plain.words (pieces_in plain volume)) →
+    HasVolume c plain volume →
+    EndsBehind c plain.words first.front first.piece (pieces_in plain volume) (bytes_in volume.area)
+    (volume_length plain.words volume.entry)
 front_given c plain volume first has =
     front_lost c plain.words first.front first.piece first.rest (carrying_segments plain.words volume.entry) volume.area
     (volume_length plain.words volume.entry) (volume_held c plain volume has) first.whole first.few first.many

@@ -23,12 +23,15 @@ record AtCut (rest : List ℕ) (c : Cut rest) (early : EndsEarly rest) : Type 0 
 at_cut : (rest : List ℕ) (c : Cut rest) (early : EndsEarly rest) → AtCut rest c early
 at_cut rest c early =
     let front : early.lined.before ++ 0x0A ∷ early.bytes ≡ c.before ++ 0x0A ∷ c.rest =
-    sym (append_assoc early.lined.before (0x0A ∷ []) early.bytes) ∙ ap (λ (t : List ℕ). t ++ early.bytes) (sym early.lined.whole) ∙ sym early.parts ∙ c.parts in
-    let before : early.lined.before ≡ c.before = one_before early.lined.before c.before early.bytes c.rest early.lined.one_line c.one_line front in
+    sym (append_assoc early.lined.before (0x0A ∷ []) early.bytes) ∙ ap (λ (t : List ℕ). t ++ early.bytes) (sym early.lined.whole)
+    ∙ sym early.parts ∙ c.parts in
+    let before : early.lined.before ≡ c.before = one_before early.lined.before c.before early.bytes c.rest early.lined.one_line c.one_line
+    front in
     record {
       before = before;
       behind = append_cancel_left (c.before ++ 0x0A ∷ []) early.bytes c.rest
-          (append_assoc c.before (0x0A ∷ []) early.bytes ∙ ap (λ (t : List ℕ). t ++ 0x0A ∷ early.bytes) (sym before) ∙ front ∙ sym (append_assoc c.before (0x0A ∷ []) c.rest));
+          (append_assoc c.before (0x0A ∷ []) early.bytes ∙ ap (λ (t : List ℕ). t ++ 0x0A ∷ early.bytes) (sym before) ∙ front
+          ∙ sym (append_assoc c.before (0x0A ∷ []) c.rest));
     }
 
 has_at : (rest : List ℕ) (c : Cut rest) (early : EndsEarly rest) → IsLine c.before (line_of rest early)
@@ -63,16 +66,22 @@ by_line rest c (line.Append name count date) is =
     ))
     (both (length c.before ≤ 127) (IsLine c.before asked × (length c.rest < count)) (at_most (length c.before) 127)
     (both (IsLine c.before asked) (length c.rest < count) (has_form (words_of c.before) (line_forms asked)) (below (length c.rest) count)))
-by_line rest c line.List is = inr (λ early. let e : line.List ≡ line_of rest early = sym is ∙ lines.guess_is (words_of c.before) (line_of rest early) (has_at rest c early) in cc)
+by_line rest c line.List is = inr (λ early. let e : line.List ≡ line_of rest early = sym is ∙ lines.guess_is (words_of c.before)
+    (line_of rest early) (has_at rest c early) in cc)
 by_line rest c (line.Restore number) is =
-    inr (λ early. let e : line.Restore number ≡ line_of rest early = sym is ∙ lines.guess_is (words_of c.before) (line_of rest early) (has_at rest c early) in cc)
-by_line rest c line.Scrub is = inr (λ early. let e : line.Scrub ≡ line_of rest early = sym is ∙ lines.guess_is (words_of c.before) (line_of rest early) (has_at rest c early) in cc)
+    inr (λ early. let e : line.Restore number ≡ line_of rest early = sym is ∙ lines.guess_is (words_of c.before) (line_of rest early)
+    (has_at rest c early) in cc)
+by_line rest c line.Scrub is = inr (λ early. let e : line.Scrub ≡ line_of rest early = sym is ∙ lines.guess_is (words_of c.before)
+    (line_of rest early) (has_at rest c early) in cc)
 by_line rest c (line.Lose segment sector) is =
-    inr (λ early. let e : line.Lose segment sector ≡ line_of rest early = sym is ∙ lines.guess_is (words_of c.before) (line_of rest early) (has_at rest c early) in cc)
-by_line rest c line.End is = inr (λ early. let e : line.End ≡ line_of rest early = sym is ∙ lines.guess_is (words_of c.before) (line_of rest early) (has_at rest c early) in cc)
+    inr (λ early. let e : line.Lose segment sector ≡ line_of rest early = sym is ∙ lines.guess_is (words_of c.before) (line_of rest early)
+    (has_at rest c early) in cc)
+by_line rest c line.End is = inr (λ early. let e : line.End ≡ line_of rest early = sym is ∙ lines.guess_is (words_of c.before)
+    (line_of rest early) (has_at rest c early) in cc)
 
 pub early_or_not : (rest : List ℕ) → Decided (EndsEarly rest)
 early_or_not rest = elim (cut rest) [
   | inl c ↦ by_line rest c (lines.guess (words_of c.before)) refl
-  | inr none ↦ inr (λ early. no_line_without (λ before. IsLine before (line_of rest early)) rest early.text early.bytes none early.lined early.parts)
+  | inr none ↦ inr (λ early. no_line_without (λ before. IsLine before (line_of rest early)) rest early.text early.bytes none early.lined
+      early.parts)
 ]

@@ -16,7 +16,8 @@ pub same_line : (a b r q : List ℕ) (x y : Line) → IsLineText a x → IsLineT
 same_line a b r q x y first second e =
     let before : first.before ≡ second.before =
     one_before first.before second.before r q first.one_line second.one_line
-    (sym (ap (λ t. t ++ r) first.whole ∙ append_assoc first.before (0x0A ∷ []) r) ∙ e ∙ ap (λ t. t ++ q) second.whole ∙ append_assoc second.before (0x0A ∷ []) q) in
+    (sym (ap (λ t. t ++ r) first.whole ∙ append_assoc first.before (0x0A ∷ []) r) ∙ e ∙ ap (λ t. t ++ q) second.whole
+    ∙ append_assoc second.before (0x0A ∷ []) q) in
     let same : a ≡ b = first.whole ∙ ap (λ t. t ++ 0x0A ∷ []) before ∙ sym second.whole in
     let P : List ℕ → Type 0 = λ t. IsLine t y in
     let here : IsLine first.before y = subst P (sym before) second.has in
@@ -29,4 +30,5 @@ same_line a b r q x y first second e =
 -- how an append's line begins them is one thing
 pub early_lines : (rest : List ℕ) (x y : EndsEarly rest) →
     SameItem x.text y.text x.bytes y.bytes (line.Append x.name x.promised x.date) (line.Append y.name y.promised y.date)
-early_lines rest x y = same_line x.text y.text x.bytes y.bytes (line.Append x.name x.promised x.date) (line.Append y.name y.promised y.date) x.lined y.lined (sym x.parts ∙ y.parts)
+early_lines rest x y = same_line x.text y.text x.bytes y.bytes (line.Append x.name x.promised x.date)
+    (line.Append y.name y.promised y.date) x.lined y.lined (sym x.parts ∙ y.parts)

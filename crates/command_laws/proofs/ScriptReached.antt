@@ -1,5 +1,6 @@
 -- How many items are done after a stop among their acts, by how much was printed, whatever is said of the cartridge behind them.
-use Rattle.std.proofs.Common.{◌≡◌, ℕ, ◌+◌, ◌-◌, List, [], ◌∷◌, ◌++◌, length, ap, ◌∙◌, append-nil, suc, ◌<◌, ◌≤◌, take, arith, Option, ◌⊎◌, Some, inl, inr, zero, sym, subst, append_assoc}
+use Rattle.std.proofs.Common.{◌≡◌, ℕ, ◌+◌, ◌-◌, List, [], ◌∷◌, ◌++◌, length, ap, ◌∙◌, append-nil, suc, ◌<◌, ◌≤◌, take, arith, Option, ◌⊎◌}
+use Rattle.std.proofs.Common.{Some, inl, inr, zero, sym, subst, append_assoc}
 use Rattle.std.proofs.lemmas.List.{length-append}
 use Rattle.cartridge_laws.proofs.AppendDone.{either_of}
 use Rattle.cartridge_laws.proofs.FormatWriting.{changed_by-append}
@@ -18,14 +19,16 @@ use Rattle.qic_base.specs.Step.{Step}
 -- the text of a front and of the act behind it, and their steps
 front_text : (front : List Act) (act : Act) → length (text_of (front ++ act ∷ [])) ≡ length (text_of front) + length act.text
 front_text front act =
-    ap (λ (t : List ℕ). length t) (text_of-append front (act ∷ []) ∙ ap (λ (t : List ℕ). text_of front ++ t) (append-nil act.text)) ∙ length-append (text_of front) act.text
+    ap (λ (t : List ℕ). length t) (text_of-append front (act ∷ []) ∙ ap (λ (t : List ℕ). text_of front ++ t) (append-nil act.text))
+    ∙ length-append (text_of front) act.text
 
 pub front_steps : (front : List Act) (act : Act) → steps_of (front ++ act ∷ []) ≡ steps_of front ++ act.steps
 front_steps front act = steps_of-append front (act ∷ []) ∙ ap (λ (ss : List Step). steps_of front ++ ss) (append-nil act.steps)
 
 -- ---- what some items print
 
-pub first_text : (did : Did) (dids : List Did) → length (text_of (acts_of (did ∷ dids))) ≡ length (text_of did.acts) + length (text_of (acts_of dids))
+pub first_text : (did : Did) (dids : List Did) → length (text_of (acts_of (did ∷ dids))) ≡ length (text_of did.acts) + length
+    (text_of (acts_of dids))
 first_text did dids =
     ap (λ (text : List ℕ). length text) (text_of-append did.acts (acts_of dids)) ∙ length-append (text_of did.acts) (text_of (acts_of dids))
 
@@ -49,19 +52,24 @@ pub record Reached (Holds : ℕ → Option Cartridge → Type 0) (dids : List Di
   pub most : (n : ℕ) → suc n ≤ count → length (text_of (acts_of (take n dids))) ≤ printed
 
 -- one item leaves what holds before it or behind it, by what may be left of a cartridge where a stop comes in some steps
-pub record Leaves (May : List Step → Cartridge → Option Cartridge → Type 0) (Holds : ℕ → Option Cartridge → Type 0) (c : Cartridge) (did : Did) : Type 0 where
+pub record Leaves (May : List Step → Cartridge → Option Cartridge → Type 0) (Holds : ℕ → Option Cartridge → Type 0) (c : Cartridge)
+    (did : Did) : Type 0 where
   pub done : Holds 1 (Some (changed_by (steps_of did.acts) c))
   pub stopped : (front : List Act) (act : Act) (rest : List Act) (left : Option Cartridge) → front ++ act ∷ rest ≡ did.acts →
       May act.steps (changed_by (steps_of front) c) left → Holds 0 left ⊎ Holds 1 left
 
 -- so each one does, and the last acts behind them leave what holds there
-abbrev pub AllLeave : (May : List Step → Cartridge → Option Cartridge → Type 0) (Holds : ℕ → Option Cartridge → Type 0) → Cartridge → List Did → (last : List Act) → Type 0
+abbrev pub AllLeave : (May : List Step → Cartridge → Option Cartridge → Type 0) (Holds : ℕ → Option Cartridge → Type 0) → Cartridge →
+    List Did → (last : List Act) → Type 0
 AllLeave May Holds c [] last =
-    (front rest : List Act) (left : Option Cartridge) → front ++ rest ≡ last → May (next_steps rest) (changed_by (steps_of front) c) left → Holds 0 left
-AllLeave May Holds c (did ∷ dids) last = Leaves May Holds c did × AllLeave May (λ n. Holds (suc n)) (changed_by (steps_of did.acts) c) dids last
+    (front rest : List Act) (left : Option Cartridge) → front ++ rest ≡ last → May (next_steps rest) (changed_by (steps_of front) c) left →
+    Holds 0 left
+AllLeave May Holds c (did ∷ dids) last = Leaves May Holds c did × AllLeave May (λ n. Holds (suc n))
+    (changed_by (steps_of did.acts) c) dids last
 
 -- and so it is of what holds wherever that does
-pub leave_weaker : (May : List Step → Cartridge → Option Cartridge → Type 0) (Holds Then : ℕ → Option Cartridge → Type 0) → ((n : ℕ) (left : Option Cartridge) → Holds n left → Then n left) →
+pub leave_weaker : (May : List Step → Cartridge → Option Cartridge → Type 0) (Holds Then : ℕ → Option Cartridge → Type 0) →
+    ((n : ℕ) (left : Option Cartridge) → Holds n left → Then n left) →
     (c : Cartridge) (dids : List Did) (last : List Act) → AllLeave May Holds c dids last → AllLeave May Then c dids last
 leave_weaker May Holds Then weaker c [] last leave = λ front rest left parts may. weaker 0 left (leave front rest left parts may)
 leave_weaker May Holds Then weaker c (did ∷ dids) last leave = (
@@ -99,7 +107,8 @@ module _ (Holds : ℕ → Option Cartridge → Type 0) where
   }
 
   -- the first item was not answered
-  reached_here : (did : Did) (dids : List Did) (left : Option Cartridge) (printed : ℕ) → printed < length (text_of did.acts) → Holds 0 left ⊎ Holds 1 left → Reached Holds (did ∷ dids) printed left
+  reached_here : (did : Did) (dids : List Did) (left : Option Cartridge) (printed : ℕ) → printed < length (text_of did.acts) → Holds 0 left
+      ⊎ Holds 1 left → Reached Holds (did ∷ dids) printed left
   reached_here did dids left printed less (inl old) = record {
     count = 0;
     within = omega arith;
@@ -128,7 +137,8 @@ module _ (Holds : ℕ → Option Cartridge → Type 0) where
       most (suc n) small = absurd (omega arith)
 
   -- the first item was answered, and the others were so far
-  reached_further : (did : Did) (dids : List Did) (left : Option Cartridge) (printed behind : ℕ) → printed ≡ length (text_of did.acts) + behind →
+  reached_further : (did : Did) (dids : List Did) (left : Option Cartridge) (printed behind : ℕ) →
+      printed ≡ length (text_of did.acts) + behind →
       Reached (λ n. Holds (suc n)) dids behind left → Reached Holds (did ∷ dids) printed left
   reached_further did dids left printed behind is r = record {
     count = suc r.count;
@@ -153,7 +163,8 @@ module _ (Holds : ℕ → Option Cartridge → Type 0) where
           omega arith
 
   -- the first item's text was written up to somewhere in that of its last act, and its steps done
-  reached_last : (did : Did) (dids : List Did) (left : Option Cartridge) (printed : ℕ) → AllSpeak dids → Holds 1 left → printed ≤ length (text_of did.acts) → Reached Holds (did ∷ dids) printed left
+  reached_last : (did : Did) (dids : List Did) (left : Option Cartridge) (printed : ℕ) → AllSpeak dids → Holds 1 left →
+      printed ≤ length (text_of did.acts) → Reached Holds (did ∷ dids) printed left
   reached_last did dids left printed speak holds less = record {
     count = 1;
     within = omega arith;
@@ -178,9 +189,12 @@ module _ (Holds : ℕ → Option Cartridge → Type 0) where
 
 module _ (May : List Step → Cartridge → Option Cartridge → Type 0) where
   -- in the steps of an act, with those before it done and their texts written
-  pub reached_between : (Holds : ℕ → Option Cartridge → Type 0) (dids : List Did) (c : Cartridge) (last front rest : List Act) (left : Option Cartridge) → AllSpeak dids →
-      AllLeave May Holds c dids last → front ++ rest ≡ acts_of dids ++ last → May (next_steps rest) (changed_by (steps_of front) c) left → Reached Holds dids (length (text_of front)) left
-  reached_between Holds [] c last front rest left speak all parts may = reached_end Holds (length (text_of front)) left (all front rest left parts may)
+  pub reached_between : (Holds : ℕ → Option Cartridge → Type 0) (dids : List Did) (c : Cartridge) (last front rest : List Act)
+      (left : Option Cartridge) → AllSpeak dids →
+      AllLeave May Holds c dids last → front ++ rest ≡ acts_of dids ++ last → May (next_steps rest) (changed_by (steps_of front) c) left →
+      Reached Holds dids (length (text_of front)) left
+  reached_between Holds [] c last front rest left speak all parts may = reached_end Holds (length (text_of front)) left
+      (all front rest left parts may)
   reached_between Holds (did ∷ dids) c last front rest left speak all parts may =
       let d : Cartridge = changed_by (steps_of did.acts) c in
       elim (ends_in front rest did.acts (acts_of dids ++ last) (parts ∙ append_assoc did.acts (acts_of dids) last)) [
@@ -190,7 +204,8 @@ module _ (May : List Step → Cartridge → Option Cartridge → Type 0) where
             (subst (λ (xs : List Act). May (next_steps xs) (changed_by (steps_of front) c) left) w.rest_is may))
         | inr p ↦
             let text : length (text_of front) ≡ length (text_of did.acts) + length (text_of p.next) =
-            ap (λ (xs : List Act). length (text_of xs)) p.front_is ∙ ap (λ (t : List ℕ). length t) (text_of-append did.acts p.next) ∙ length-append (text_of did.acts) (text_of p.next) in
+            ap (λ (xs : List Act). length (text_of xs)) p.front_is ∙ ap (λ (t : List ℕ). length t) (text_of-append did.acts p.next)
+            ∙ length-append (text_of did.acts) (text_of p.next) in
             let there : changed_by (steps_of front) c ≡ changed_by (steps_of p.next) d =
             ap (λ (xs : List Act). changed_by (steps_of xs) c) p.front_is ∙ changed_by_acts did.acts p.next c in
             reached_further Holds did dids left (length (text_of front)) (length (text_of p.next)) text
@@ -201,7 +216,8 @@ module _ (May : List Step → Cartridge → Option Cartridge → Type 0) where
   -- behind an act's steps, with some of its text written
   module _ (here : (ss : List Step) (d : Cartridge) → May ss d (Some d)) where
     -- a cartridge behind an act may be left in the next
-    may_next : (front : List Act) (act : Act) (c : Cartridge) (ss : List Step) (left : Option Cartridge) → left ≡ Some (changed_by (steps_of front ++ act.steps) c) →
+    may_next : (front : List Act) (act : Act) (c : Cartridge) (ss : List Step) (left : Option Cartridge) →
+        left ≡ Some (changed_by (steps_of front ++ act.steps) c) →
         May ss (changed_by (steps_of (front ++ act ∷ [])) c) left
     may_next front act c ss left is =
         let d : Cartridge = changed_by (steps_of (front ++ act ∷ [])) c in
@@ -209,24 +225,33 @@ module _ (May : List Step → Cartridge → Option Cartridge → Type 0) where
         subst (λ (o : Option Cartridge). May ss d o) there (here ss d)
 
     -- in the text of an act of the first item
-    within_first : (Holds : ℕ → Option Cartridge → Type 0) (c : Cartridge) (did : Did) (dids : List Did) (front : List Act) (act : Act) (left : Option Cartridge) (printed : ℕ) →
-        Leaves May Holds c did → Speaks did.acts → AllSpeak dids → left ≡ Some (changed_by (steps_of front ++ act.steps) c) → printed ≤ length (text_of front) + length act.text →
+    within_first : (Holds : ℕ → Option Cartridge → Type 0) (c : Cartridge) (did : Did) (dids : List Did) (front : List Act) (act : Act)
+        (left : Option Cartridge) (printed : ℕ) →
+        Leaves May Holds c did → Speaks did.acts → AllSpeak dids → left ≡ Some (changed_by (steps_of front ++ act.steps) c) →
+        printed ≤ length (text_of front) + length act.text →
         (rest : List Act) → front ++ act ∷ rest ≡ did.acts → Reached Holds (did ∷ dids) printed left
     within_first Holds c did dids front act left printed leaves speaks others is below [] whole =
-        let all : left ≡ Some (changed_by (steps_of did.acts) c) = is ∙ ap (λ (ss : List Step). Some (changed_by ss c)) (sym (front_steps front act) ∙ ap steps_of whole) in
+        let all : left ≡ Some (changed_by (steps_of did.acts) c) = is ∙ ap (λ (ss : List Step). Some (changed_by ss c))
+        (sym (front_steps front act) ∙ ap steps_of whole) in
         reached_last Holds did dids left printed others (subst (Holds 1) (sym all) leaves.done)
-        (let text : length (text_of did.acts) ≡ length (text_of front) + length act.text = ap (λ (xs : List Act). length (text_of xs)) (sym whole) ∙ front_text front act in omega arith)
+        (let text : length (text_of did.acts) ≡ length (text_of front) + length act.text = ap (λ (xs : List Act). length (text_of xs))
+        (sym whole) ∙ front_text front act in omega arith)
     within_first Holds c did dids front act left printed leaves speaks others is below (next ∷ rest) whole =
         let parts : (front ++ act ∷ []) ++ next ∷ rest ≡ did.acts = append_assoc front (act ∷ []) (next ∷ rest) ∙ whole in
-        let less : length (text_of (front ++ act ∷ [])) < length (text_of did.acts) = front_prints_less did.acts (front ++ act ∷ []) next rest speaks parts in
+        let less : length (text_of (front ++ act ∷ [])) < length (text_of did.acts) = front_prints_less did.acts
+        (front ++ act ∷ []) next rest speaks parts in
         let text = front_text front act in
-        reached_here Holds did dids left printed (omega arith) (leaves.stopped (front ++ act ∷ []) next rest left parts (may_next front act c next.steps left is))
+        reached_here Holds did dids left printed (omega arith)
+        (leaves.stopped (front ++ act ∷ []) next rest left parts (may_next front act c next.steps left is))
 
-    pub reached_behind : (Holds : ℕ → Option Cartridge → Type 0) (dids : List Did) (c : Cartridge) (last front : List Act) (act : Act) (rest : List Act) (left : Option Cartridge) (printed : ℕ) →
-        AllSpeak dids → AllLeave May Holds c dids last → front ++ act ∷ rest ≡ acts_of dids ++ last → left ≡ Some (changed_by (steps_of front ++ act.steps) c) →
+    pub reached_behind : (Holds : ℕ → Option Cartridge → Type 0) (dids : List Did) (c : Cartridge) (last front : List Act) (act : Act)
+        (rest : List Act) (left : Option Cartridge) (printed : ℕ) →
+        AllSpeak dids → AllLeave May Holds c dids last → front ++ act ∷ rest ≡ acts_of dids ++ last →
+        left ≡ Some (changed_by (steps_of front ++ act.steps) c) →
         length (text_of front) ≤ printed → printed ≤ length (text_of front) + length act.text → Reached Holds dids printed left
     reached_behind Holds [] c last front act rest left printed speak all parts is above below =
-        reached_end Holds printed left (all (front ++ act ∷ []) rest left (append_assoc front (act ∷ []) rest ∙ parts) (may_next front act c (next_steps rest) left is))
+        reached_end Holds printed left (all (front ++ act ∷ []) rest left (append_assoc front (act ∷ []) rest ∙ parts)
+        (may_next front act c (next_steps rest) left is))
     reached_behind Holds (did ∷ dids) c last front act rest left printed speak all parts is above below =
         let d : Cartridge = changed_by (steps_of did.acts) c in
         elim (ends_in front (act ∷ rest) did.acts (acts_of dids ++ last) (parts ∙ append_assoc did.acts (acts_of dids) last)) [
@@ -237,12 +262,16 @@ module _ (May : List Step → Cartridge → Option Cartridge → Type 0) where
               (ap (λ (a : Act). front ++ a ∷ w.behind) same ∙ w.whole)
           | inr p ↦
               let text : length (text_of front) ≡ length (text_of did.acts) + length (text_of p.next) =
-              ap (λ (xs : List Act). length (text_of xs)) p.front_is ∙ ap (λ (t : List ℕ). length t) (text_of-append did.acts p.next) ∙ length-append (text_of did.acts) (text_of p.next) in
+              ap (λ (xs : List Act). length (text_of xs)) p.front_is ∙ ap (λ (t : List ℕ). length t) (text_of-append did.acts p.next)
+              ∙ length-append (text_of did.acts) (text_of p.next) in
               let steps : steps_of front ++ act.steps ≡ steps_of did.acts ++ (steps_of p.next ++ act.steps) =
-              ap (λ (xs : List Act). steps_of xs ++ act.steps) p.front_is ∙ ap (λ (ss : List Step). ss ++ act.steps) (steps_of-append did.acts p.next)
+              ap (λ (xs : List Act). steps_of xs ++ act.steps) p.front_is ∙ ap (λ (ss : List Step). ss ++ act.steps)
+              (steps_of-append did.acts p.next)
               ∙ append_assoc (steps_of did.acts) (steps_of p.next) act.steps in
               let there : left ≡ Some (changed_by (steps_of p.next ++ act.steps) d) =
-              is ∙ ap (λ (ss : List Step). Some (changed_by ss c)) steps ∙ ap (λ (e : Cartridge). Some e) (changed_by-append (steps_of did.acts) (steps_of p.next ++ act.steps) c) in
+              is ∙ ap (λ (ss : List Step). Some (changed_by ss c)) steps
+              ∙ ap (λ (e : Cartridge). Some e) (changed_by-append (steps_of did.acts) (steps_of p.next ++ act.steps) c) in
               reached_further Holds did dids left printed (printed - length (text_of did.acts)) (omega arith)
-              (reached_behind (λ n. Holds (suc n)) dids d last p.next act rest left (printed - length (text_of did.acts)) speak.1 all.1 p.parts there (omega arith) (omega arith))
+              (reached_behind (λ n. Holds (suc n)) dids d last p.next act rest left
+              (printed - length (text_of did.acts)) speak.1 all.1 p.parts there (omega arith) (omega arith))
         ]

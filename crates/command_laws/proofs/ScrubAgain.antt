@@ -1,5 +1,6 @@
 -- A second scrub writes nothing.
-use Rattle.std.proofs.Common.{inl, inr, List, [], ◌∷◌, Contains, subst, arith, ◌≡◌, ℕ, false, refl, Bool, true, cond, suc, ◌<◌, length, get_or, All, ap, ◌∙◌, sym, ◌++◌}
+use Rattle.std.proofs.Common.{inl, inr, List, [], ◌∷◌, Contains, subst, arith, ◌≡◌, ℕ, false, refl, Bool, true, cond, suc, ◌<◌, length}
+use Rattle.std.proofs.Common.{get_or, All, ap, ◌∙◌, sym, ◌++◌}
 use Rattle.std.proofs.lemmas.List.Elements.{All-get_or, All-contains}
 use Rattle.std.proofs.lemmas.Option.{get_or_from_slice_get}
 use Rattle.std.proofs.lemmas.Bool.{cases_Bool, false≢true}
@@ -60,21 +61,25 @@ mending_none : (d : Cartridge) (segment : ℕ) (places : List ℕ) (sectors : Li
 mending_none d segment [] sectors readable = refl
 mending_none d segment (place ∷ places) [] readable = refl
 mending_none d segment (place ∷ places) (bytes ∷ sectors) readable =
-    no_write (is_unreadable (view_at d segment place)) segment place bytes (mending_writes d segment places sectors) (readable 0 (omega arith))
+    no_write (is_unreadable (view_at d segment place)) segment place bytes (mending_writes d segment places sectors)
+    (readable 0 (omega arith))
     (mending_none d segment places sectors (λ k h. readable (suc k) (omega arith)))
 
 pub record AfterFirst (looked : List Looked) (c d : Cartridge) : Type 0 where
   pub rise : Rise looked
   pub way : IsBeingMended looked c d
   pub scrubbed : IsScrubbed looked c d
-  pub live : (l : Looked) (k : ℕ) → Contains looked l → k < usable_count l.mask → IsLive (view_at c l.segment (get_or (usable_places l.mask) k 0))
+  pub live : (l : Looked) (k : ℕ) → Contains looked l → k < usable_count l.mask →
+      IsLive (view_at c l.segment (get_or (usable_places l.mask) k 0))
 
-pub live_at : (c : Cartridge) (looked : List Looked) (l : Looked) (k : ℕ) → AreAllLive c looked → Contains looked l → k < usable_count l.mask →
+pub live_at : (c : Cartridge) (looked : List Looked) (l : Looked) (k : ℕ) → AreAllLive c looked → Contains looked l →
+    k < usable_count l.mask →
     IsLive (view_at c l.segment (get_or (usable_places l.mask) k 0))
 live_at c looked l k live among h =
     let cells = cells_at c l in
     let lives : All IsLive cells = All-contains (λ (m : Looked). All IsLive (cells_at c m)) looked l live among in
-    subst IsLive (get_or_from_slice_get cells k (view_at c l.segment (get_or (usable_places l.mask) k 0)) Blank (cell_at c l.segment l.mask k h))
+    subst IsLive (get_or_from_slice_get cells k (view_at c l.segment (get_or (usable_places l.mask) k 0)) Blank
+    (cell_at c l.segment l.mask k h))
     (All-get_or IsLive cells k Blank (omega (arith, count_of_cells c l.segment l.mask)) lives)
 
 readable_after : (looked : List Looked) (c d : Cartridge) (l : Looked) (ds : List (List ℕ)) (k : ℕ) → AfterFirst looked c d →

@@ -1,5 +1,6 @@
 -- The segments that scrubbing looks at are apart.
-use Rattle.std.proofs.Common.{◌≡◌, ◌⊎◌, zero, suc, inl, inr, List, ◌∷◌, Contains, arith, refl, ℕ, ◌+◌, ◌-◌, ◌<◌, ◌≤◌, [], ◌++◌, All, nat_le, sym, ap, ◌∙◌}
+use Rattle.std.proofs.Common.{◌≡◌, ◌⊎◌, zero, suc, inl, inr, List, ◌∷◌, Contains, arith, refl, ℕ, ◌+◌, ◌-◌, ◌<◌, ◌≤◌, [], ◌++◌, All, nat_le}
+use Rattle.std.proofs.Common.{sym, ap, ◌∙◌}
 use Rattle.std.proofs.lemmas.List.Elements.{All-head, All-tail, All-append, All-weaker, All-nil, All-cons, All-filter, All-contains}
 use Rattle.std.specs.List.{range_with_len}
 use Rattle.cartridge_laws.proofs.AppendSegments.{IsRising, carrying_from, carrying_rise, carrying_carry}
@@ -36,7 +37,8 @@ rise_append mid [] ys front rear below above = rear
 rise_append mid (x ∷ xs) ys front rear below above =
     let first : x.segment ≤ mid = All-head (λ (l : Looked). l.segment ≤ mid) x xs below in (
       All-append (λ (m : Looked). x.segment < m.segment) xs ys front.0
-          (All-weaker (λ (m : Looked). mid < m.segment) (λ (m : Looked). x.segment < m.segment) (λ m (h : mid < m.segment). omega arith) ys above),
+          (All-weaker (λ (m : Looked). mid < m.segment) (λ (m : Looked). x.segment < m.segment)
+          (λ m (h : mid < m.segment). omega arith) ys above),
       rise_append mid xs ys front.1 rear (All-tail (λ (l : Looked). l.segment ≤ mid) x xs below) above,
     )
 
@@ -73,9 +75,11 @@ volumes_rise words before last (e ∷ es) order =
       rise = rise_append e.end front rear (segments_rise words segments (carrying_rise words e.start e.end)) rest.rise
           (looked_all (λ s. s ≤ e.end) words segments (carrying_to words e.start e.end)) rest.behind;
       behind = All-append (λ (m : Looked). before < m.segment) front rear
-          (All-weaker (λ (m : Looked). e.start ≤ m.segment) (λ (m : Looked). before < m.segment) (λ m (h : e.start ≤ m.segment). omega arith) front
+          (All-weaker (λ (m : Looked). e.start ≤ m.segment) (λ (m : Looked). before < m.segment)
+          (λ m (h : e.start ≤ m.segment). omega arith) front
           (looked_all (λ s. e.start ≤ s) words segments (carrying_from words e.start e.end)))
-          (All-weaker (λ (m : Looked). e.end < m.segment) (λ (m : Looked). before < m.segment) (λ m (h : e.end < m.segment). omega arith) rear rest.behind);
+          (All-weaker (λ (m : Looked). e.end < m.segment) (λ (m : Looked). before < m.segment)
+          (λ m (h : e.end < m.segment). omega arith) rear rest.behind);
     }
 
 pub looked_rise : (words : List ℕ) (last : ℕ) (entries : List Entry) → IsSoundList last entries → Rise (looked_at words entries)
@@ -83,7 +87,8 @@ looked_rise words last entries order =
     let rest = volumes_rise words 2 last entries order in
     let behind = rest.behind in
     let past : (k : ℕ) → k ≤ 2 → All (λ m. k < m.segment) (looked_volumes words entries) =
-    λ k small. All-weaker (λ (m : Looked). 2 < m.segment) (λ (m : Looked). k < m.segment) (λ m (h : 2 < m.segment). omega arith) (looked_volumes words entries) behind in (
+    λ k small. All-weaker (λ (m : Looked). 2 < m.segment) (λ (m : Looked). k < m.segment) (λ m (h : 2 < m.segment). omega arith)
+    (looked_volumes words entries) behind in (
       All-cons (λ (m : Looked). 0 < m.segment) (whole_segment 1) (whole_segment 2 ∷ looked_volumes words entries) (omega arith)
           (All-cons (λ (m : Looked). 0 < m.segment) (whole_segment 2) (looked_volumes words entries) (omega arith) (past 0 (omega arith))),
       (
@@ -118,14 +123,16 @@ one_looked (l ∷ ls) a b rise first other same =
 abbrev CarriesTo : (last : ℕ) → Looked → Type 0
 CarriesTo last l = Carries l.mask × (l.segment ≤ last)
 
-segments_carry : (last : ℕ) (words ss : List ℕ) → All (λ s. Carries (mask_at words s)) ss → All (λ s. s ≤ last) ss → All (CarriesTo last) (looked_segments words ss)
+segments_carry : (last : ℕ) (words ss : List ℕ) → All (λ s. Carries (mask_at words s)) ss → All (λ s. s ≤ last) ss →
+    All (CarriesTo last) (looked_segments words ss)
 segments_carry last words [] carry within = All-nil (CarriesTo last)
 segments_carry last words (s ∷ ss) carry within =
     All-cons (CarriesTo last) (record { segment = s; mask = mask_at words s }) (looked_segments words ss)
     (All-head (λ (t : ℕ). Carries (mask_at words t)) s ss carry, All-head (λ (t : ℕ). t ≤ last) s ss within)
     (segments_carry last words ss (All-tail (λ (t : ℕ). Carries (mask_at words t)) s ss carry) (All-tail (λ (t : ℕ). t ≤ last) s ss within))
 
-volumes_carry : (words : List ℕ) (before last : ℕ) (entries : List Entry) → LieBehind before last entries → All (CarriesTo last) (looked_volumes words entries)
+volumes_carry : (words : List ℕ) (before last : ℕ) (entries : List Entry) → LieBehind before last entries →
+    All (CarriesTo last) (looked_volumes words entries)
 volumes_carry words before last [] order = All-nil (CarriesTo last)
 volumes_carry words before last (e ∷ es) order =
     let segments : List ℕ = carrying_segments words e in
@@ -140,7 +147,8 @@ whole_carries last segment within = let count : usable_count whole_mask ≡ 32 =
 
 pub looked_carry : LookedCarry
 looked_carry words entries last order long =
-    All-cons (CarriesTo last) (whole_segment 0) (whole_segment 1 ∷ whole_segment 2 ∷ looked_volumes words entries) (whole_carries last 0 (omega arith))
+    All-cons (CarriesTo last) (whole_segment 0) (whole_segment 1 ∷ whole_segment 2 ∷ looked_volumes words entries)
+    (whole_carries last 0 (omega arith))
     (All-cons (CarriesTo last) (whole_segment 1) (whole_segment 2 ∷ looked_volumes words entries) (whole_carries last 1 (omega arith))
     (All-cons (CarriesTo last) (whole_segment 2) (looked_volumes words entries) (whole_carries last 2 (omega arith))
     (volumes_carry words 2 last entries order)))

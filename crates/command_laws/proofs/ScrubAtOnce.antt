@@ -31,15 +31,18 @@ first_or of false segment place bytes rest first are = are
 
 -- each is one of which this is true, where it is true of the unreadable places
 pub mending_are : (of : ℕ → ℕ → List ℕ → Type 0) (c : Cartridge) (segment : ℕ) (places : List ℕ) (sectors : List (List ℕ)) →
-    ((k : ℕ) → k < length places → is_unreadable (view_at c segment (get_or places k 0)) ≡ true → of segment (get_or places k 0) (get_or sectors k [])) →
+    ((k : ℕ) → k < length places → is_unreadable (view_at c segment (get_or places k 0)) ≡ true →
+    of segment (get_or places k 0) (get_or sectors k [])) →
     AreWrites of (mending_writes c segment places sectors)
 mending_are of c segment [] sectors each = tt
 mending_are of c segment (place ∷ places) [] each = tt
 mending_are of c segment (place ∷ places) (bytes ∷ sectors) each =
-    first_or of (is_unreadable (view_at c segment place)) segment place bytes (mending_writes c segment places sectors) (λ is. each 0 (omega arith) is)
+    first_or of (is_unreadable (view_at c segment place)) segment place bytes (mending_writes c segment places sectors)
+    (λ is. each 0 (omega arith) is)
     (mending_are of c segment places sectors (λ k h is. each (suc k) (omega arith) is))
 
-either_are : (of : ℕ → ℕ → List ℕ → Type 0) (b : Bool) (steps : List Step) → (b ≡ true → AreWrites of steps) → AreWrites of (cond b steps [])
+either_are : (of : ℕ → ℕ → List ℕ → Type 0) (b : Bool) (steps : List Step) → (b ≡ true → AreWrites of steps) →
+    AreWrites of (cond b steps [])
 either_are of true steps are = are refl
 either_are of false steps are = tt
 
@@ -47,7 +50,8 @@ pub steps_are : (of : ℕ → ℕ → List ℕ → Type 0) (c : Cartridge) (l : 
     ((sectors : List (List ℕ)) → s ≡ Data sectors → reads l (Data sectors) ≡ true →
     AreWrites of (mending_writes c l.segment (usable_places l.mask) (with_parity sectors))) → AreWrites of (steps_in c l s)
 steps_are of c l (Data sectors) each =
-    either_are of (reads l (Data sectors)) (mending_writes c l.segment (usable_places l.mask) (with_parity sectors)) (λ is. each sectors refl is)
+    either_are of (reads l (Data sectors)) (mending_writes c l.segment (usable_places l.mask) (with_parity sectors))
+    (λ is. each sectors refl is)
 steps_are of c l (LostSectors n) each = tt
 steps_are of c l Mismatch each = tt
 
@@ -70,7 +74,8 @@ mending_alike c d segment [] sectors small same = refl
 mending_alike c d segment (place ∷ places) [] small same = refl
 mending_alike c d segment (place ∷ places) (bytes ∷ sectors) small same =
     let rest = mending_alike c d segment places sectors (λ k h. small (suc k) (omega arith)) same in
-    ap (λ (v : SectorView). cond (is_unreadable v) (WriteSector segment place bytes ∷ mending_writes d segment places sectors) (mending_writes d segment places sectors))
+    ap (λ (v : SectorView). cond (is_unreadable v) (WriteSector segment place bytes ∷ mending_writes d segment places sectors)
+    (mending_writes d segment places sectors))
     (same place (small 0 (omega arith)))
     ∙ ap (λ (ss : List Step). cond (is_unreadable (view_at c segment place)) (WriteSector segment place bytes ∷ ss) ss) rest
 
@@ -86,7 +91,8 @@ steps_alike c d l Mismatch same = refl
 
 later_alike : (c d : Cartridge) (l : Looked) (s : Saying) (ls : List Looked) → All (λ m. l.segment < m.segment) ls → AreAlike c d ls →
     AreAlike c (changed_by (steps_in d l s) d) ls
-later_alike c d l s [] past alike = All-nil (λ (m : Looked). (i : ℕ) → i < 32 → view_at (changed_by (steps_in d l s) d) m.segment i ≡ view_at c m.segment i)
+later_alike c d l s [] past alike = All-nil
+    (λ (m : Looked). (i : ℕ) → i < 32 → view_at (changed_by (steps_in d l s) d) m.segment i ≡ view_at c m.segment i)
 later_alike c d l s (m ∷ ms) past alike =
     let e : Cartridge = changed_by (steps_in d l s) d in
     let kept = steps_kept (λ t i. t ≡ l.segment) (steps_in d l s) d (steps_stay (λ t. t ≡ l.segment) d l s refl) in
@@ -111,7 +117,8 @@ turn_at_once (l ∷ ls) (s ∷ ss) c d rise alike say =
     All-head (λ (n : Looked). (i : ℕ) → i < 32 → view_at d n.segment i ≡ view_at c n.segment i) l ls alike in
     let rest : AtOnce c (changed_by (steps_in d l s) d) ls ss =
     turn_at_once ls ss c (changed_by (steps_in d l s) d) rise.1
-    (later_alike c d l s ls rise.0 (All-tail (λ (n : Looked). (i : ℕ) → i < 32 → view_at d n.segment i ≡ view_at c n.segment i) l ls alike)) say.1 in
+    (later_alike c d l s ls rise.0 (All-tail (λ (n : Looked). (i : ℕ) → i < 32 → view_at d n.segment i ≡ view_at c n.segment i) l ls alike))
+    say.1 in
     record {
       say = (subst (λ (cells : List SectorView). Says cells s) (same_cells c d l.segment l.mask here) say.0, rest.say);
       acts = ap (λ (acts : List Act). look_act d l s ∷ acts) rest.acts
@@ -120,11 +127,13 @@ turn_at_once (l ∷ ls) (s ∷ ss) c d rise alike say =
 
 pub alike : (c : Cartridge) (ls : List Looked) → AreAlike c c ls
 alike c [] = All-nil (λ (l : Looked). (i : ℕ) → i < 32 → view_at c l.segment i ≡ view_at c l.segment i)
-alike c (l ∷ ls) = All-cons (λ (m : Looked). (i : ℕ) → i < 32 → view_at c m.segment i ≡ view_at c m.segment i) l ls (λ i h. refl) (alike c ls)
+alike c (l ∷ ls) = All-cons (λ (m : Looked). (i : ℕ) → i < 32 → view_at c m.segment i ≡ view_at c m.segment i) l ls (λ i h. refl)
+    (alike c ls)
 
 pub scrubs_at_once : ScrubsAtOnce
 scrubs_at_once c words entries last acts order scrubs =
-    let all = turn_at_once (looked_at words entries) scrubs.sayings c c (looked_rise words last entries order) (alike c (looked_at words entries)) scrubs.said in
+    let all = turn_at_once (looked_at words entries) scrubs.sayings c c (looked_rise words last entries order)
+    (alike c (looked_at words entries)) scrubs.said in
     (all.say, all.acts)
 
 -- the steps of a scrub
@@ -141,7 +150,8 @@ at_once_stay P c [] ss are = tt
 at_once_stay P c (l ∷ ls) [] are = tt
 at_once_stay P c (l ∷ ls) (s ∷ ss) are =
     in_append (λ t i. P t) (steps_in c l s) (steps_of (acts_at_once c ls ss))
-    (steps_stay P c l s (All-head (λ (m : Looked). P m.segment) l ls are)) (at_once_stay P c ls ss (All-tail (λ (m : Looked). P m.segment) l ls are))
+    (steps_stay P c l s (All-head (λ (m : Looked). P m.segment) l ls are))
+    (at_once_stay P c ls ss (All-tail (λ (m : Looked). P m.segment) l ls are))
 
 -- they are writes of sectors of segments
 abbrev pub IsPlaced : ℕ → ℕ → Type 0

@@ -1,8 +1,10 @@
 -- What stands, and wrong sectors: a segment that was written has none, and a cartridge that reads no more than one that stands
 -- stands where the first header copy is read, whatever the second one holds.
-use Rattle.std.proofs.Common.{◌≡◌, ◌⊎◌, ℕ, inl, inr, List, [], ◌∷◌, ◌+◌, ◌-◌, ◌*◌, ◌<◌, ◌≤◌, arith, sym, ◌∙◌, subst, ap, length, get_or, slice_get, Some, All, take, drop, map, replicate}
+use Rattle.std.proofs.Common.{◌≡◌, ◌⊎◌, ℕ, inl, inr, List, [], ◌∷◌, ◌+◌, ◌-◌, ◌*◌, ◌<◌, ◌≤◌, arith, sym, ◌∙◌, subst, ap, length, get_or}
+use Rattle.std.proofs.Common.{slice_get, Some, All, take, drop, map, replicate}
 use Rattle.std.proofs.lemmas.List.{length-append}
-use Rattle.std.proofs.lemmas.List.Elements.{All-nil, All-cons, All-head, All-tail, All-append, All-take, All-drop, All-weaker, All-contains, All-replicate}
+use Rattle.std.proofs.lemmas.List.Elements.{All-nil, All-cons, All-head, All-tail, All-append, All-take, All-drop, All-weaker, All-contains}
+use Rattle.std.proofs.lemmas.List.Elements.{All-replicate}
 use Rattle.std.proofs.lemmas.Option.{slice_get_within}
 use Rattle.cartridge_laws.proofs.AppendOrders.{LiesWithin}
 use Rattle.cartridge_laws.proofs.AppendSegments.{carrying_from, carrying_carry}
@@ -61,7 +63,8 @@ written_not_wrong c l xs sector ds are written wrong =
     absurd (cc)
 
 -- nor has one of zero bytes
-pub zero_not_wrong : (c : Cartridge) (copy sector : ℕ) (ds : List (List ℕ)) → Zero (copy_cells c copy) → IsWrong c (whole_segment copy) sector ds → ⊥
+pub zero_not_wrong : (c : Cartridge) (copy sector : ℕ) (ds : List (List ℕ)) → Zero (copy_cells c copy) →
+    IsWrong c (whole_segment copy) sector ds → ⊥
 zero_not_wrong c copy sector ds zeros wrong =
     written_not_wrong c (whole_segment copy) (replicate 29 zero_sector) sector ds
     (All-replicate IsSector 29 zero_sector zero_sector-is_sector)
@@ -75,7 +78,8 @@ pub record HasWritten (c : Cartridge) (l : Looked) : Type 0 where
   pub written : Written (cells_at c l) xs
   pub carries : Carries l.mask
 
-segments_written : (c : Cartridge) (words ss : List ℕ) (area : List (List ℕ)) → All IsSector area → All (λ s. Carries (mask_at words s)) ss →
+segments_written : (c : Cartridge) (words ss : List ℕ) (area : List (List ℕ)) → All IsSector area →
+    All (λ s. Carries (mask_at words s)) ss →
     All (PartStands c words) (parts_of words ss area) → All (HasWritten c) (looked_segments words ss)
 segments_written c words [] area are carry stand = All-nil (HasWritten c)
 segments_written c words (s ∷ ss) area are carry stand =
@@ -99,7 +103,8 @@ volumes_written c words (volume ∷ volumes) are stand =
     let segments : List ℕ = carrying_segments words volume.entry in
     let stood : VolumeStands c words volume = All-head (VolumeStands c words) volume volumes stand in
     All-append (HasWritten c) (looked_segments words segments) (looked_volumes words (map (λ volume. volume.entry) volumes))
-    (segments_written c words segments volume.area (All-head (λ (v : Volume). All IsSector v.area) volume volumes are) (carrying_carry words volume.entry.start volume.entry.end) stood.parts)
+    (segments_written c words segments volume.area (All-head (λ (v : Volume). All IsSector v.area) volume volumes are)
+    (carrying_carry words volume.entry.start volume.entry.end) stood.parts)
     (volumes_written c words volumes (All-tail (λ (v : Volume). All IsSector v.area) volume volumes are)
     (All-tail (VolumeStands c words) volume volumes stand))
 
@@ -107,7 +112,8 @@ pub not_the_table : (depth : Depth) (l : Looked) → IsSearched depth l → l.se
 not_the_table Shallow l searched is = searched
 not_the_table Deep l searched is = searched is
 
-pub first_not_wrong : (c : Cartridge) (plain : Plain) (sector : ℕ) (ds : List (List ℕ)) → IsArea plain.header_area → CopiesAre c plain.header_area →
+pub first_not_wrong : (c : Cartridge) (plain : Plain) (sector : ℕ) (ds : List (List ℕ)) → IsArea plain.header_area →
+    CopiesAre c plain.header_area →
     IsWrong c (whole_segment 0) sector ds → ⊥
 first_not_wrong c plain sector ds is_area (inl written) wrong =
     written_not_wrong c (whole_segment 0) plain.header_area sector ds is_area.sectors written wrong
@@ -126,7 +132,8 @@ standing_wrong depth c plain s i stood found =
         | inr later ↦ elim (contains_cases (whole_segment 2) found.at rest later) [
           | inl table ↦ absurd (not_the_table depth found.at found.searched (sym (ap (λ (l : Looked). l.segment) table)))
           | inr volume ↦
-              let has = All-contains (HasWritten c) rest found.at (volumes_written c plain.words plain.volumes stood.whole.areas stood.volumes) volume in
+              let has = All-contains (HasWritten c) rest found.at
+              (volumes_written c plain.words plain.volumes stood.whole.areas stood.volumes) volume in
               absurd (written_not_wrong c found.at has.xs i found.sectors has.are has.written found.wrong)
         ]
       ]
@@ -161,8 +168,10 @@ written_before k e s mask xs less written = record {
   each = λ i bytes at. written.each i bytes (cell_before k e s mask i bytes less at);
 }
 
-parts_beside : (k e : Cartridge) (plain : Plain) (segments : List ℕ) (area : List (List ℕ)) → IsBeside k e plain → All (λ s. 3 ≤ s) segments →
-    All (PartStands k plain.words) (parts_of plain.words segments area) → All (PartStands e plain.words) (parts_of plain.words segments area)
+parts_beside : (k e : Cartridge) (plain : Plain) (segments : List ℕ) (area : List (List ℕ)) → IsBeside k e plain →
+    All (λ s. 3 ≤ s) segments →
+    All (PartStands k plain.words) (parts_of plain.words segments area) →
+    All (PartStands e plain.words) (parts_of plain.words segments area)
 parts_beside k e plain [] area beside behind stand = All-nil (PartStands e plain.words)
 parts_beside k e plain (s ∷ ss) area beside behind stand =
     let words : List ℕ = plain.words in
@@ -173,7 +182,8 @@ parts_beside k e plain (s ∷ ss) area beside behind stand =
     All-cons (PartStands e words) part rest
     (written_before k e s (mask_at words s) (take n area) (λ j held h view. beside.no_more s j held h (λ (is : s ≡ 1). omega arith) view)
     (All-head (PartStands k words) part rest stand))
-    (parts_beside k e plain ss (drop n area) beside (All-tail (λ (t : ℕ). 3 ≤ t) s ss behind) (All-tail (PartStands k words) part rest stand))
+    (parts_beside k e plain ss (drop n area) beside (All-tail (λ (t : ℕ). 3 ≤ t) s ss behind)
+    (All-tail (PartStands k words) part rest stand))
 
 volumes_beside : (k e : Cartridge) (plain : Plain) (to : ℕ) (volumes : List Volume) → IsBeside k e plain → All (LiesWithin 2 to) volumes →
     All (VolumeStands k plain.words) volumes → All (VolumeStands e plain.words) volumes
@@ -187,19 +197,23 @@ volumes_beside k e plain to (volume ∷ volumes) beside within stand =
     All-cons (VolumeStands e plain.words) volume volumes
     (record {
       parts = parts_beside k e plain (carrying_segments plain.words volume.entry) volume.area beside
-          (All-weaker (λ (s : ℕ). start ≤ s) (λ (s : ℕ). 3 ≤ s) (λ s (h : start ≤ s). omega arith) (carrying_segments plain.words volume.entry)
+          (All-weaker (λ (s : ℕ). start ≤ s) (λ (s : ℕ). 3 ≤ s) (λ s (h : start ≤ s). omega arith)
+          (carrying_segments plain.words volume.entry)
           (carrying_from plain.words start end)) stood.parts;
       size = stood.size;
     })
-    (volumes_beside k e plain to volumes beside (All-tail (LiesWithin 2 to) volume volumes within) (All-tail (VolumeStands k plain.words) volume volumes stand))
+    (volumes_beside k e plain to volumes beside (All-tail (LiesWithin 2 to) volume volumes within)
+    (All-tail (VolumeStands k plain.words) volume volumes stand))
 
 -- the first header copy was written
 first_copy : (k e : Cartridge) (plain : Plain) → IsBeside k e plain → CopiesAre k plain.header_area → CopiesAre e plain.header_area
 first_copy k e plain beside (inl written) =
-    inl (written_before k e 0 (whole_segment 0).mask plain.header_area (λ j held h view. beside.no_more 0 j held h (λ is. omega arith) view) written)
+    inl (written_before k e 0 (whole_segment 0).mask plain.header_area (λ j held h view. beside.no_more 0 j held h (λ is. omega arith) view)
+    written)
 first_copy k e plain beside (inr other) =
     absurd (zero_does_not_read e 0
-    (λ i bytes at. other.0 i bytes (cell_before k e 0 (whole_segment 0).mask i bytes (λ j held h view. beside.no_more 0 j held h (λ is. omega arith) view) at))
+    (λ i bytes at. other.0 i bytes (cell_before k e 0 (whole_segment 0).mask i bytes
+    (λ j held h view. beside.no_more 0 j held h (λ is. omega arith) view) at))
     plain.header_area beside.first)
 
 table_beside : (k e : Cartridge) (area : List (List ℕ)) → IsSameIn k e 2 → Written (table_cells k) area ⊎ ReadsAll (table_cells k) area →
@@ -216,7 +230,8 @@ beside_stands k e plain stood beside = record {
   };
   sound_header = ap (λ (i : TapeInfo). header_fault plain.header_area i.segments_per_track) beside.info ∙ stood.sound_header;
   copies = first_copy k e plain beside stood.copies;
-  sound_table = λ i h. ap (λ (info : TapeInfo). slot_fault plain.table_area (28 * info.segments_per_track - 1) i) beside.info ∙ stood.sound_table i h;
+  sound_table = λ i h. ap (λ (info : TapeInfo). slot_fault plain.table_area (28 * info.segments_per_track - 1) i) beside.info
+      ∙ stood.sound_table i h;
   shown = stood.shown;
   volumes = volumes_beside k e plain (last_end (entries_of plain)) plain.volumes beside (old_volumes k plain stood) stood.volumes;
   table = table_beside k e plain.table_area beside.table stood.table;

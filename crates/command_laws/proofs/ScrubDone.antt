@@ -1,5 +1,6 @@
 -- What all steps of a scrub leave.
-use Rattle.std.proofs.Common.{◌≡◌, ℕ, Bool, true, false, cond, List, ◌∷◌, refl, ◌∙◌, ◌<◌, ap, length, get_or, zero, suc, ◌≤◌, [], arith, ◌+◌, inl, inr, ◌++◌, Contains, subst, sym, Option, Some, IsSomeAnd}
+use Rattle.std.proofs.Common.{◌≡◌, ℕ, Bool, true, false, cond, List, ◌∷◌, refl, ◌∙◌, ◌<◌, ap, length, get_or, zero, suc, ◌≤◌, [], arith}
+use Rattle.std.proofs.Common.{◌+◌, inl, inr, ◌++◌, Contains, subst, sym, Option, Some, IsSomeAnd}
 use Rattle.std.proofs.lemmas.List.{length-append}
 use Rattle.std.proofs.lemmas.List.Elements.{All-contains}
 use Rattle.std.proofs.lemmas.Option.{unwrap_or-slice_get}
@@ -43,7 +44,8 @@ later_written : (b : Bool) (segment p q : ℕ) (bytes held : List ℕ) (rest : L
     view_at (changed_by (cond b (WriteSector segment p bytes ∷ rest) rest) d) segment q ≡ written_view held (view_at d segment q)
 later_written true segment p q bytes held rest d small h apart then =
     then (changed (WriteSector segment p bytes) d)
-    ∙ ap (written_view held) (view_of_other_sector d segment p segment q (written_view bytes (view_at d segment p)) small h (λ same e. apart e))
+    ∙ ap (written_view held) (view_of_other_sector d segment p segment q (written_view bytes (view_at d segment p)) small h
+    (λ same e. apart e))
 later_written false segment p q bytes held rest d small h apart then = then d
 
 -- writes to places apart from one leave that
@@ -66,7 +68,8 @@ mending_done c d segment (p ∷ places) (bytes ∷ sectors) zero small apart h r
     (λ e. rest_kept c segment p places sectors e (λ j l. small (suc j) (omega arith)) (small 0 (omega arith))
     (λ j l same. apart 0 (suc j) (omega arith) (omega arith) same))
 mending_done c d segment (p ∷ places) (bytes ∷ sectors) (suc k) small apart h room unread =
-    later_written (is_unreadable (view_at c segment p)) segment p (get_or places k 0) bytes (get_or sectors k []) (mending_writes c segment places sectors) d
+    later_written (is_unreadable (view_at c segment p)) segment p (get_or places k 0) bytes (get_or sectors k [])
+    (mending_writes c segment places sectors) d
     (small 0 (omega arith)) (small (suc k) (omega arith)) (λ same. apart 0 (suc k) (omega arith) (omega arith) same)
     (λ e. mending_done c e segment places sectors k (λ j l. small (suc j) (omega arith))
     (λ i j l m same. apart (suc i) (suc j) (omega arith) (omega arith) same) (omega arith) (omega arith) unread)
@@ -120,7 +123,8 @@ all_done (m ∷ ms) (s ∷ ss) c d l sectors k rise say among says can h unread 
       | inr later ↦
           let past : m.segment < l.segment = All-contains (λ (n : Looked). m.segment < n.segment) ms l rise.0 later in
           all_done ms ss c e l sectors k rise.1 say.1 later says can h unread
-          ∙ ap (written_view bytes) ((steps_kept (λ t i. t ≡ m.segment) front d (steps_stay (λ t. t ≡ m.segment) c m s refl)).others l.segment place small
+          ∙ ap (written_view bytes) ((steps_kept (λ t i. t ≡ m.segment) front d (steps_stay (λ t. t ≡ m.segment) c m s refl)).others
+          l.segment place small
           (λ (same : l.segment ≡ m.segment). omega arith))
     ]
 
@@ -134,14 +138,19 @@ mended_written c d looked ss segment sector bytes rise say is mended =
     let place : ℕ = get_or (usable_places l.mask) k 0 in
     let index : place ≡ sector = mended.index in
     let unread : is_unreadable (view_at c l.segment place) ≡ true =
-    ap (λ (i : ℕ). is_unreadable (view_at c l.segment i)) index ∙ ap (λ (t : ℕ). is_unreadable (view_at c t sector)) mended.here ∙ mended.unreadable in
+    ap (λ (i : ℕ). is_unreadable (view_at c l.segment i)) index ∙ ap (λ (t : ℕ). is_unreadable (view_at c t sector)) mended.here
+    ∙ mended.unreadable in
     let done = all_done looked ss c c l mended.sectors k rise say mended.among mended.says mended.can_be_read mended.within unread in
-    let block : get_or (with_parity mended.sectors) k [] ≡ bytes = sym (unwrap_or-slice_get (with_parity mended.sectors) k []) ∙ mended.block in
+    let block : get_or (with_parity mended.sectors) k [] ≡ bytes = sym (unwrap_or-slice_get (with_parity mended.sectors) k [])
+    ∙ mended.block in
     ap (λ (x : Cartridge). view_at x segment sector) is
-    ∙ subst (λ (held : List ℕ). view_at (changed_by (steps_of (acts_at_once c looked ss)) c) segment sector ≡ written_view held (view_at c segment sector)) block
-    (subst (λ (t : ℕ). view_at (changed_by (steps_of (acts_at_once c looked ss)) c) t sector ≡ written_view (get_or (with_parity mended.sectors) k []) (view_at c t sector))
+    ∙ subst (λ (held : List ℕ). view_at (changed_by (steps_of (acts_at_once c looked ss)) c) segment sector ≡ written_view held
+    (view_at c segment sector)) block
+    (subst (λ (t : ℕ). view_at (changed_by (steps_of (acts_at_once c looked ss)) c) t sector ≡ written_view
+    (get_or (with_parity mended.sectors) k []) (view_at c t sector))
     mended.here
-    (subst (λ (i : ℕ). view_at (changed_by (steps_of (acts_at_once c looked ss)) c) l.segment i ≡ written_view (get_or (with_parity mended.sectors) k []) (view_at c l.segment i))
+    (subst (λ (i : ℕ). view_at (changed_by (steps_of (acts_at_once c looked ss)) c) l.segment i ≡ written_view
+    (get_or (with_parity mended.sectors) k []) (view_at c l.segment i))
     index done))
 
 pub done_being_mended : (c : Cartridge) (words : List ℕ) (entries : List Entry) (last : ℕ) (acts : List Act) → IsSoundList last entries →
@@ -172,5 +181,6 @@ scrubbed_at_once looked c ss rise say =
 pub done_scrub : DoneScrub
 done_scrub c words entries last acts order scrubs =
     let once = scrubs_at_once c words entries last acts order scrubs in
-    subst (λ (steps : List Step). IsScrubbed (looked_at words entries) c (changed_by steps c)) (sym (scrub_is_at_once c words entries acts scrubs once.1))
+    subst (λ (steps : List Step). IsScrubbed (looked_at words entries) c (changed_by steps c))
+    (sym (scrub_is_at_once c words entries acts scrubs once.1))
     (scrubbed_at_once (looked_at words entries) c scrubs.sayings (looked_rise words last entries order) once.0)

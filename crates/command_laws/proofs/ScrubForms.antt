@@ -20,11 +20,13 @@ use Rattle.command_laws.proofs.ScrubDone.{scrubbed_at_once}
 use Rattle.command_laws.proofs.ScrubMending.{stopped_at_once, writes_more}
 use Rattle.command_laws.proofs.ScrubSeen.{wrong_small, found_at_once, IsSeen, is_seen, said_at_once, IsLostNow, finds_says}
 use Rattle.command_laws.proofs.ScrubTurns.{steps_whole}
-use Rattle.command_laws.specs.DeepScrubLaws.{FoundMayBe, FindsAtOnce, DoneInForm, StoppedInForm, DoneFormIsCartridge, StoppedFormIsCartridge}
+use Rattle.command_laws.specs.DeepScrubLaws.{FoundMayBe, FindsAtOnce, DoneInForm, StoppedInForm, DoneFormIsCartridge}
+use Rattle.command_laws.specs.DeepScrubLaws.{StoppedFormIsCartridge}
 use Rattle.command_laws.specs.ScrubFound.{FindAtOnce, without_all, IsBeingScrubbed}
 use Rattle.command_laws.specs.ScrubMended.{IsMended, IsBeingMended, IsScrubbed}
 use Rattle.command_laws.specs.ScrubSayings.{Rise, SayAtOnce, acts_at_once}
-use Rattle.command_spec.specs.Scrub.{reads, Looked, looked_at, MayFind, Finding, FindInTurn, HasFound, ScrubsAs, finding_acts, sayings_of, steps_for, without}
+use Rattle.command_spec.specs.Scrub.{reads, Looked, looked_at, MayFind, Finding, FindInTurn, HasFound, ScrubsAs, finding_acts, sayings_of}
+use Rattle.command_spec.specs.Scrub.{steps_for, without}
 use Rattle.command_laws.specs.ScrubTerms.{last_act, counts_for}
 use Rattle.command_spec.specs.declared.depth.Depth.{Depth}
 use Rattle.qic_base.proofs.Joins.{steps_of-append}
@@ -32,7 +34,8 @@ use Rattle.qic_base.proofs.Steps.{Torn-all}
 use Rattle.qic_base.specs.Acts.{Act, steps_of}
 use Rattle.qic_base.specs.Cartridge.{Cartridge, view_at, with_view}
 use Rattle.qic_base.specs.CartridgeTerms.{IsCartridge}
-use Rattle.qic_base.specs.Step.{Step, WriteSector, FormatSegment, SetReferenced, SetProtected, Renew, Wear, Spoil, Upgrade, changed, written_view, worn_view, effects, Halfway, Torn}
+use Rattle.qic_base.specs.Step.{Step, WriteSector, FormatSegment, SetReferenced, SetProtected, Renew, Wear, Spoil, Upgrade, changed}
+use Rattle.qic_base.specs.Step.{written_view, worn_view, effects, Halfway, Torn}
 use Rattle.qic_base.specs.declared.tape.SectorView.{SectorView}
 use Rattle.qic_base.specs.declared.tape.SectorView.TheVariants.{Blank, Lost, Holds}
 
@@ -57,7 +60,8 @@ finds_at_once_is depth c words entries last acts order scrubs =
     (all.found, all.acts)
 
 -- the steps of a scrub, as those of its findings
-pub form_steps : (depth : Depth) (c : Cartridge) (words : List ℕ) (entries : List Entry) (acts : List Act) (scrubs : ScrubsAs depth c words entries acts) →
+pub form_steps : (depth : Depth) (c : Cartridge) (words : List ℕ) (entries : List Entry) (acts : List Act)
+    (scrubs : ScrubsAs depth c words entries acts) →
     steps_of acts ≡ steps_of (finding_acts c (looked_at words entries) scrubs.findings)
 form_steps depth c words entries acts scrubs =
     let looked : List Looked = looked_at words entries in
@@ -66,14 +70,16 @@ form_steps depth c words entries acts scrubs =
     ∙ append-nil (steps_of (finding_acts c looked scrubs.findings))
 
 -- A scrub, seen with the wrong sectors lost before it.
-pub record AsSeen (depth : Depth) (c : Cartridge) (words : List ℕ) (entries : List Entry) (acts : List Act) (fs : List Finding) : Type 0 where
+pub record AsSeen (depth : Depth) (c : Cartridge) (words : List ℕ) (entries : List Entry) (acts : List Act)
+    (fs : List Finding) : Type 0 where
   pub rise : Rise (looked_at words entries)
   pub found : FindAtOnce depth c (looked_at words entries) fs
   pub seen : IsSeen depth c (without_all c (looked_at words entries) fs) (looked_at words entries) fs
   pub say : SayAtOnce (without_all c (looked_at words entries) fs) (looked_at words entries) (sayings_of fs)
   pub steps : steps_of acts ≡ steps_of (acts_at_once (without_all c (looked_at words entries) fs) (looked_at words entries) (sayings_of fs))
 
-pub as_seen : (depth : Depth) (c : Cartridge) (words : List ℕ) (entries : List Entry) (last : ℕ) (acts : List Act) → IsSoundList last entries →
+pub as_seen : (depth : Depth) (c : Cartridge) (words : List ℕ) (entries : List Entry) (last : ℕ) (acts : List Act) →
+    IsSoundList last entries →
     (scrubs : ScrubsAs depth c words entries acts) → AsSeen depth c words entries acts scrubs.findings
 as_seen depth c words entries last acts order scrubs =
     let looked : List Looked = looked_at words entries in
@@ -107,7 +113,8 @@ not_begun : (c e : Cartridge) → IsBehind c e c e
 not_begun c e = record { info = (refl, refl); each = λ s i h. inr (refl, refl) }
 
 -- a change of a sector that makes both the same
-changed_both : (c e d y : Cartridge) (s i : ℕ) (f : SectorView → SectorView) → f Blank ≡ Blank → ((old : List ℕ) → f (Holds old) ≡ f Lost) → i < 32 →
+changed_both : (c e d y : Cartridge) (s i : ℕ) (f : SectorView → SectorView) → f Blank ≡ Blank → ((old : List ℕ) → f (Holds old) ≡ f Lost) →
+    i < 32 →
     TakeAlike c e → IsBehind c e d y → IsBehind c e (with_view d s i (f (view_at d s i))) (with_view y s i (f (view_at y s i)))
 changed_both c e d y s i f blank alike small take behind = record {
   info = behind.info;
@@ -141,7 +148,8 @@ changed_both c e d y s i f blank alike small take behind = record {
 
     other : (t j : ℕ) → j < 32 → (t ≡ s → i ≡ j → ⊥) →
         (view_at (with_view d s i (f (view_at d s i))) t j ≡ view_at (with_view y s i (f (view_at y s i))) t j)
-        ⊎ ((view_at (with_view d s i (f (view_at d s i))) t j ≡ view_at c t j) × (view_at (with_view y s i (f (view_at y s i))) t j ≡ view_at e t j))
+        ⊎ ((view_at (with_view d s i (f (view_at d s i))) t j ≡ view_at c t j)
+        × (view_at (with_view y s i (f (view_at y s i))) t j ≡ view_at e t j))
     other t j h apart =
         let first = view_of_other_sector d s i t j (f (view_at d s i)) small h apart in
         let second = view_of_other_sector y s i t j (f (view_at y s i)) small h apart in
@@ -172,7 +180,8 @@ pub record StopsBoth (c e y : Cartridge) (ss : List Step) (d : Cartridge) : Type
   pub torn : Torn ss (Some y) (Some other)
   pub behind : IsBehind c e d other
 
-half_both : (c e d y : Cartridge) (s : Step) (ss : List Step) (left : Option Cartridge) → IsIn IsPlaced s → TakeAlike c e → IsBehind c e d y →
+half_both : (c e d y : Cartridge) (s : Step) (ss : List Step) (left : Option Cartridge) → IsIn IsPlaced s → TakeAlike c e →
+    IsBehind c e d y →
     Halfway s (Some d) left → IsSomeAnd left (StopsBoth c e y (s ∷ ss))
 half_both c e d y (WriteSector segment sector bytes) ss left is take behind half =
     some_and (StopsBoth c e y (WriteSector segment sector bytes ∷ ss)) (worn segment sector d) left (record {
@@ -213,7 +222,8 @@ pub record IsLeft (looked : List Looked) (c e d : Cartridge) : Type 0 where
   pub way : IsBeingMended looked e other
   pub behind : IsBehind c e d other
 
-pub stopped_left : (depth : Depth) (c : Cartridge) (words : List ℕ) (entries : List Entry) (acts : List Act) (fs : List Finding) (left : Option Cartridge) →
+pub stopped_left : (depth : Depth) (c : Cartridge) (words : List ℕ) (entries : List Entry) (acts : List Act) (fs : List Finding)
+    (left : Option Cartridge) →
     AsSeen depth c words entries acts fs → Torn (steps_of acts) (Some c) left →
     IsSomeAnd left (IsLeft (looked_at words entries) c (without_all c (looked_at words entries) fs))
 stopped_left depth c words entries acts fs left run torn =
@@ -235,7 +245,7 @@ was_live depth c e ls s i (inl same) lost = subst IsLive (sym lost ∙ same) tt
 was_live depth c e ls s i (inr wrong) lost = subst IsLive (sym wrong.held) tt
 
 -- a wrong sector is one of those to be mended
-wrong_is_mended : (depth : Depth) (c e : Cartridge) (ls : List Looked) (s i : ℕ) → IsLostNow depth c e ls s i →
+pub wrong_is_mended : (depth : Depth) (c e : Cartridge) (ls : List Looked) (s i : ℕ) → IsLostNow depth c e ls s i →
     (bytes : List ℕ) × IsMended e ls s i bytes
 wrong_is_mended depth c e ls s i lost =
     let l : Looked = lost.found.at in
@@ -246,7 +256,8 @@ wrong_is_mended depth c e ls s i lost =
         among = lost.found.among;
         here = lost.found.here;
         sectors = lost.found.sectors;
-        says = subst (λ (xs : List SectorView). Says xs (Data lost.found.sectors)) (sym (same_cells (worn l.segment i c) e l.segment l.mask lost.seen)) wrong.says;
+        says = subst (λ (xs : List SectorView). Says xs (Data lost.found.sectors))
+            (sym (same_cells (worn l.segment i c) e l.segment l.mask lost.seen)) wrong.says;
         can_be_read = wrong.can_be_read;
         place = wrong.place;
         within = wrong.within;
@@ -256,7 +267,8 @@ wrong_is_mended depth c e ls s i lost =
       },
     )
 
-being_scrubbed : (depth : Depth) (looked : List Looked) (c e d : Cartridge) (fs : List Finding) → IsSeen depth c e looked fs → IsLeft looked c e d →
+being_scrubbed : (depth : Depth) (looked : List Looked) (c e d : Cartridge) (fs : List Finding) → IsSeen depth c e looked fs →
+    IsLeft looked c e d →
     IsBeingScrubbed looked e c d
 being_scrubbed depth looked c e d fs seen left = record {
   info = left.behind.info.0;
@@ -306,7 +318,8 @@ done_behind depth c words entries acts fs run =
     (done_both c e c e steps (at_once_placed e looked (sayings_of fs)) (take_alike depth c e looked fs run.seen) (not_begun c e))
 
 -- both are the same then
-same_done : (depth : Depth) (looked : List Looked) (c e d y : Cartridge) (fs : List Finding) → IsSeen depth c e looked fs → IsScrubbed looked e y →
+same_done : (depth : Depth) (looked : List Looked) (c e d y : Cartridge) (fs : List Finding) → IsSeen depth c e looked fs →
+    IsScrubbed looked e y →
     IsBehind c e d y → (s i : ℕ) → i < 32 → view_at d s i ≡ view_at y s i
 same_done depth looked c e d y fs seen scrubbed behind s i h =
     elim (behind.each s i h) [
@@ -380,10 +393,12 @@ finding_whole depth (l ∷ ls) (f ∷ fs) c found =
 pub stopped_form_is_cartridge : StoppedFormIsCartridge
 stopped_form_is_cartridge depth c words entries acts left whole scrubs torn =
     let looked : List Looked = looked_at words entries in
-    sector_writes_are_cartridge c (steps_of (finding_acts c looked scrubs.findings)) left whole (finding_whole depth looked scrubs.findings c scrubs.found)
+    sector_writes_are_cartridge c (steps_of (finding_acts c looked scrubs.findings)) left whole
+    (finding_whole depth looked scrubs.findings c scrubs.found)
     (subst (λ (ss : List Step). Torn ss (Some c) left) (form_steps depth c words entries acts scrubs) torn)
 
 pub done_form_is_cartridge : DoneFormIsCartridge
 done_form_is_cartridge depth c words entries acts whole scrubs =
     subst (λ (o : Option Cartridge). IsSomeAnd o IsCartridge) (effects-some (steps_of acts) c)
-    (stopped_form_is_cartridge depth c words entries acts (effects (steps_of acts) (Some c)) whole scrubs (Torn-all (steps_of acts) (Some c)))
+    (stopped_form_is_cartridge depth c words entries acts (effects (steps_of acts) (Some c)) whole scrubs
+    (Torn-all (steps_of acts) (Some c)))

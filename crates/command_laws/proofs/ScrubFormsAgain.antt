@@ -1,5 +1,6 @@
 -- A second scrub in a form writes nothing.
-use Rattle.std.proofs.Common.{◌≡◌, ℕ, inl, inr, List, [], ◌∷◌, ◌++◌, refl, ◌+◌, ◌<◌, ◌≤◌, arith, sym, ◌∙◌, subst, ap, length, get_or, Contains, Option, Some, None, true, false}
+use Rattle.std.proofs.Common.{◌≡◌, ℕ, inl, inr, List, [], ◌∷◌, ◌++◌, refl, ◌+◌, ◌<◌, ◌≤◌, arith, sym, ◌∙◌, subst, ap, length, get_or}
+use Rattle.std.proofs.Common.{Contains, Option, Some, None, true, false}
 use Rattle.std.proofs.lemmas.Bool.{cases_Bool, false≢true}
 use Rattle.cartridge_laws.proofs.Places.{usable_small}
 use Rattle.cartridge_laws.proofs.Sayings.{says_is_function, written_is_said, said_are_sectors}
@@ -28,7 +29,8 @@ use Rattle.command_laws.specs.SilentSectors.{IsSameIn}
 -- ---- no sector is wrong behind the first
 
 -- what a segment that reads says is said still
-said_still : (looked : List Looked) (e d : Cartridge) (l : Looked) (ds : List (List ℕ)) → Rise looked → Contains looked l → IsBeingMended looked e d →
+said_still : (looked : List Looked) (e d : Cartridge) (l : Looked) (ds : List (List ℕ)) → Rise looked → Contains looked l →
+    IsBeingMended looked e d →
     Says (cells_at e l) (Data ds) → Says (cells_at d l) (Data ds)
 said_still looked e d l ds rise among way says =
     let has = says.1 in
@@ -42,7 +44,8 @@ said_still looked e d l ds rise among way says =
     let few : unreadable_count (cells_at e l) ≤ 3 = says.0 in
     written_is_said (cells_at d l) ds (omega arith) (omega arith) are.each (said_kept looked e d l ds rise among way says) (omega arith)
 
-reads_not_wrong : (looked : List Looked) (e d : Cartridge) (l : Looked) (s : Saying) (sector : ℕ) (es : List (List ℕ)) → Rise looked → Contains looked l →
+reads_not_wrong : (looked : List Looked) (e d : Cartridge) (l : Looked) (s : Saying) (sector : ℕ) (es : List (List ℕ)) → Rise looked →
+    Contains looked l →
     IsBeingMended looked e d → Says (cells_at e l) s → reads l s ≡ true → IsWrong d l sector es → ⊥
 reads_not_wrong looked e d l (Data ds) sector es rise among way says can wrong =
     let said = said_still looked e d l ds rise among way says in
@@ -52,8 +55,10 @@ reads_not_wrong looked e d l (LostSectors n) sector es rise among way says can w
 reads_not_wrong looked e d l Mismatch sector es rise among way says can wrong = absurd (false≢true can)
 
 -- one that does not read is as it was
-unread_not_wrong : (depth : Depth) (looked : List Looked) (c e d : Cartridge) (l : Looked) (s : Saying) (w : Option ℕ) (sector : ℕ) (es : List (List ℕ)) →
-    Rise looked → Contains looked l → IsBeingMended looked e d → HasFound depth c l s w → IsSameIn (without w l c) e l.segment → Says (cells_at e l) s →
+unread_not_wrong : (depth : Depth) (looked : List Looked) (c e d : Cartridge) (l : Looked) (s : Saying) (w : Option ℕ) (sector : ℕ)
+    (es : List (List ℕ)) →
+    Rise looked → Contains looked l → IsBeingMended looked e d → HasFound depth c l s w → IsSameIn (without w l c) e l.segment →
+    Says (cells_at e l) s →
     reads l s ≡ false → IsSearched depth l → IsWrong d l sector es → ⊥
 unread_not_wrong depth looked c e d l s None sector es rise among way found seen says fails searched wrong =
     let kept : IsSameIn e d l.segment =
@@ -63,8 +68,10 @@ unread_not_wrong depth looked c e d l s None sector es rise among way found seen
 unread_not_wrong depth looked c e d l s (Some found_sector) sector es rise among way found seen says fails searched wrong =
     false≢true (sym fails ∙ ap (reads l) found.2 ∙ found.3.can_be_read)
 
-not_wrong : (depth : Depth) (looked : List Looked) (c e d : Cartridge) (l : Looked) (f : Finding) (sector : ℕ) (es : List (List ℕ)) → Rise looked →
-    Contains looked l → IsBeingMended looked e d → Finds depth c l f → IsSameIn (without f.wrong l c) e l.segment → Says (cells_at e l) f.saying →
+not_wrong : (depth : Depth) (looked : List Looked) (c e d : Cartridge) (l : Looked) (f : Finding) (sector : ℕ) (es : List (List ℕ)) →
+    Rise looked →
+    Contains looked l → IsBeingMended looked e d → Finds depth c l f → IsSameIn (without f.wrong l c) e l.segment →
+    Says (cells_at e l) f.saying →
     IsSearched depth l → IsWrong d l sector es → ⊥
 not_wrong depth looked c e d l f sector es rise among way found seen says searched wrong =
     elim (cases_Bool (reads l f.saying)) [
@@ -78,16 +85,19 @@ record BehindFirst (depth : Depth) (looked : List Looked) (c e d : Cartridge) : 
   after : AfterFirst looked e d
   each : (l : Looked) → Contains looked l → FoundOf depth c e l
 
-again_in : (depth : Depth) (looked : List Looked) (c e d : Cartridge) (l : Looked) (s : Saying) (w : Option ℕ) → BehindFirst depth looked c e d →
+again_in : (depth : Depth) (looked : List Looked) (c e d : Cartridge) (l : Looked) (s : Saying) (w : Option ℕ) →
+    BehindFirst depth looked c e d →
     Contains looked l → HasFound depth d l s w → steps_in (without w l d) l s ≡ []
 again_in depth looked c e d l s None behind among found =
     let first = behind.each l among in
     segment_again looked e d l s behind.after among (record { saying = first.finding.saying; says = first.says }) found.0
 again_in depth looked c e d l s (Some sector) behind among found =
     let first = behind.each l among in
-    absurd (not_wrong depth looked c e d l first.finding sector found.1 behind.after.rise among behind.after.way first.finds first.seen first.says found.0 found.3)
+    absurd (not_wrong depth looked c e d l first.finding sector found.1 behind.after.rise among behind.after.way first.finds first.seen
+    first.says found.0 found.3)
 
-all_again : (depth : Depth) (looked : List Looked) (c e d : Cartridge) (ls : List Looked) (gs : List Finding) → BehindFirst depth looked c e d →
+all_again : (depth : Depth) (looked : List Looked) (c e d : Cartridge) (ls : List Looked) (gs : List Finding) →
+    BehindFirst depth looked c e d →
     ((l : Looked) → Contains ls l → Contains looked l) → FindAtOnce depth d ls gs → steps_of (finds_at_once d ls gs) ≡ []
 all_again depth looked c e d [] gs behind among found = refl
 all_again depth looked c e d (l ∷ ls) [] behind among found = refl
@@ -97,7 +107,8 @@ all_again depth looked c e d (l ∷ ls) (g ∷ gs) behind among found =
     ∙ all_again depth looked c e d ls gs behind (λ m later. among m (contains_more l m ls later)) found.1
 
 -- sectors that took what was written to them take it where wrong ones are lost
-live_seen : (depth : Depth) (c e : Cartridge) (looked : List Looked) (fs : List Finding) (l : Looked) (k : ℕ) → AreAllLive c looked → IsSeen depth c e looked fs →
+live_seen : (depth : Depth) (c e : Cartridge) (looked : List Looked) (fs : List Finding) (l : Looked) (k : ℕ) → AreAllLive c looked →
+    IsSeen depth c e looked fs →
     Contains looked l → k < usable_count l.mask → IsLive (view_at e l.segment (get_or (usable_places l.mask) k 0))
 live_seen depth c e looked fs l k live seen among h =
     elim (seen.each l.segment (get_or (usable_places l.mask) k 0) (usable_small l.mask k h)) [

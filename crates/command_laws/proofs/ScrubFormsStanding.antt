@@ -29,13 +29,15 @@ use Rattle.qic_base.specs.declared.tape.SectorView.{SectorView}
 -- ---- where no sector is wrong
 
 -- the same views, as those of a cartridge that is not mended yet
-all_same : (looked : List Looked) (c d : Cartridge) → d.info ≡ c.info → ((s i : ℕ) → i < 32 → view_at d s i ≡ view_at c s i) → IsBeingMended looked c d
+all_same : (looked : List Looked) (c d : Cartridge) → d.info ≡ c.info → ((s i : ℕ) → i < 32 → view_at d s i ≡ view_at c s i) →
+    IsBeingMended looked c d
 all_same looked c d info same = record { info = info; each = λ s i h. inl (same s i h) }
 
 abbrev NoneWrong : (depth : Depth) (c : Cartridge) (looked : List Looked) → Type 0
 NoneWrong depth c looked = (s i : ℕ) → IsFoundWrong depth c looked s i → ⊥
 
-seen_none : (depth : Depth) (c e : Cartridge) (looked : List Looked) (fs : List Finding) → NoneWrong depth c looked → IsSeen depth c e looked fs → (s i : ℕ) → i < 32 →
+seen_none : (depth : Depth) (c e : Cartridge) (looked : List Looked) (fs : List Finding) → NoneWrong depth c looked →
+    IsSeen depth c e looked fs → (s i : ℕ) → i < 32 →
     view_at e s i ≡ view_at c s i
 seen_none depth c e looked fs none seen s i h =
     elim (seen.each s i h) [
@@ -53,7 +55,8 @@ behind_none c e d y same behind s i h =
 
 -- ---- where one of the second header copy is
 
-module _ (depth : Depth) (c e : Cartridge) (plain : Plain) (fs : List Finding) (stood : Stands c plain) (seen : IsSeen depth c e (looked_at plain.words (entries_of plain)) fs) where
+module _ (depth : Depth) (c e : Cartridge) (plain : Plain) (fs : List Finding) (stood : Stands c plain)
+    (seen : IsSeen depth c e (looked_at plain.words (entries_of plain)) fs) where
   -- the other segments are as they were
   seen_beside : (s i : ℕ) → i < 32 → (s ≡ 1 → ⊥) → view_at e s i ≡ view_at c s i
   seen_beside s i h other =
@@ -85,11 +88,13 @@ module _ (depth : Depth) (c e : Cartridge) (plain : Plain) (fs : List Finding) (
   second_none second s i found =
       let at : found.at ≡ whole_segment 1 = standing_wrong depth c plain s i stood found in
       let wrong : IsWrong c (whole_segment 1) i found.sectors = subst (λ (l : Looked). IsWrong c l i found.sectors) at found.wrong in
-      let both : Data plain.header_area ≡ Mismatch = says_is_function (cells_at c (whole_segment 1)) (Data plain.header_area) Mismatch second.says wrong.mismatch in
+      let both : Data plain.header_area ≡ Mismatch = says_is_function (cells_at c (whole_segment 1))
+      (Data plain.header_area) Mismatch second.says wrong.mismatch in
       absurd (cc)
 
   -- what a stop leaves
-  left_stands : (d : Cartridge) → Rise (looked_at plain.words (entries_of plain)) → IsLeft (looked_at plain.words (entries_of plain)) c e d →
+  left_stands : (d : Cartridge) → Rise (looked_at plain.words (entries_of plain)) →
+      IsLeft (looked_at plain.words (entries_of plain)) c e d →
       IsInForce c plain.header_area → Stands d plain
   left_stands d rise left (inl first) =
       let looked : List Looked = looked_at plain.words (entries_of plain) in
@@ -100,7 +105,8 @@ module _ (depth : Depth) (c e : Cartridge) (plain : Plain) (fs : List Finding) (
         | inl is ↦ is
         | inr kept ↦ kept.0 ∙ sym (seen_beside s i h other) ∙ sym kept.1
       ] in
-      let reads : CopyReads y 0 plain.header_area = copy_reads looked e y 0 plain.header_area rise front.first left.way (reads_beside first) in
+      let reads : CopyReads y 0 plain.header_area = copy_reads looked e y 0 plain.header_area rise front.first left.way
+      (reads_beside first) in
       beside_stands y d plain (mending_stands e y plain rise (seen_stands_beside first) left.way) (record {
         info = left.behind.info.0 ∙ sym (left.behind.info.1 ∙ seen.info);
         no_more = λ s i bytes h other view. sym (same s i h other) ∙ view;
@@ -134,7 +140,8 @@ done_form_stands depth c plain acts stood scrubs =
 
 -- ---- header copies
 
-clean_not_wrong : (c : Cartridge) (plain : Plain) (sector : ℕ) (ds : List (List ℕ)) → IsArea plain.header_area → IsCleanCopy c 1 plain.header_area →
+clean_not_wrong : (c : Cartridge) (plain : Plain) (sector : ℕ) (ds : List (List ℕ)) → IsArea plain.header_area →
+    IsCleanCopy c 1 plain.header_area →
     IsWrong c (whole_segment 1) sector ds → ⊥
 clean_not_wrong c plain sector ds is_area (inl written) wrong =
     written_not_wrong c (whole_segment 1) plain.header_area sector ds is_area.sectors written wrong

@@ -66,7 +66,8 @@ stopped_form_table depth c words entries last acts area left order scrubs reads 
 pub done_form_table : DoneFormTable
 done_form_table depth c words entries last acts area order scrubs reads =
     subst (λ (o : Option Cartridge). IsSomeAnd o (λ d. TableIs d area)) (effects-some (steps_of acts) c)
-    (stopped_form_table depth c words entries last acts area (effects (steps_of acts) (Some c)) order scrubs reads (Torn-all (steps_of acts) (Some c)))
+    (stopped_form_table depth c words entries last acts area (effects (steps_of acts) (Some c)) order scrubs reads
+    (Torn-all (steps_of acts) (Some c)))
 
 pub stopped_form_is_settled : StoppedFormIsSettled
 stopped_form_is_settled depth c words entries last acts area left order scrubs known torn =
@@ -83,4 +84,5 @@ stopped_form_is_settled depth c words entries last acts area left order scrubs k
 pub done_form_is_settled : DoneFormIsSettled
 done_form_is_settled depth c words entries last acts area order scrubs known =
     subst (λ (o : Option Cartridge). IsSomeAnd o (λ d. IsSettledFor d area)) (effects-some (steps_of acts) c)
-    (stopped_form_is_settled depth c words entries last acts area (effects (steps_of acts) (Some c)) order scrubs known (Torn-all (steps_of acts) (Some c)))
+    (stopped_form_is_settled depth c words entries last acts area (effects (steps_of acts) (Some c)) order scrubs known
+    (Torn-all (steps_of acts) (Some c)))

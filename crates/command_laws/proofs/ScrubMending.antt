@@ -25,7 +25,8 @@ use Rattle.qic_base.proofs.Steps.{Torn-all}
 use Rattle.qic_base.specs.Acts.{steps_of, Act}
 use Rattle.qic_base.specs.Cartridge.{Cartridge, view_at, with_view}
 use Rattle.qic_base.specs.CartridgeTerms.{IsCartridge}
-use Rattle.qic_base.specs.Step.{written_view, worn_view, WriteSector, changed, Wear, Step, FormatSegment, SetReferenced, SetProtected, Renew, Spoil, Upgrade, effects, Halfway, Torn}
+use Rattle.qic_base.specs.Step.{written_view, worn_view, WriteSector, changed, Wear, Step, FormatSegment, SetReferenced, SetProtected}
+use Rattle.qic_base.specs.Step.{Renew, Spoil, Upgrade, effects, Halfway, Torn}
 use Rattle.qic_base.specs.declared.tape.SectorView.{SectorView}
 use Rattle.qic_base.specs.declared.tape.SectorView.TheVariants.{Blank, Defect, Lost, Holds}
 use Rattle.cartridge_laws.proofs.MountSoFar.{worn_same}
@@ -68,7 +69,8 @@ mended_more looked c d s i bytes f small blank mended became way =
     }
   where
     other : (t j : ℕ) → j < 32 → (t ≡ s → i ≡ j → ⊥) →
-        (view_at (with_view d s i (f (view_at d s i))) t j ≡ view_at c t j) ⊎ HasBeenMended c looked (with_view d s i (f (view_at d s i))) t j
+        (view_at (with_view d s i (f (view_at d s i))) t j ≡ view_at c t j)
+        ⊎ HasBeenMended c looked (with_view d s i (f (view_at d s i))) t j
     other t j h apart =
         let same = view_of_other_sector d s i t j (f (view_at d s i)) small h apart in
         elim (way.each t j h) [
@@ -131,7 +133,8 @@ steps_stopped : (looked : List Looked) (c d : Cartridge) (ss : List Step) (left 
 steps_stopped looked c d [] left are way is = some_and (IsBeingMended looked c) d left way is
 steps_stopped looked c d (s ∷ ss) left are way (inl is) = some_and (IsBeingMended looked c) d left way is
 steps_stopped looked c d (s ∷ ss) left are way (inr (inl half)) = step_stopped looked c d s left are.0 way half
-steps_stopped looked c d (s ∷ ss) left are way (inr (inr torn)) = steps_stopped looked c (changed s d) ss left are.1 (step_more looked c d s are.0 way) torn
+steps_stopped looked c d (s ∷ ss) left are way (inr (inr torn)) = steps_stopped looked c (changed s d) ss left are.1
+    (step_more looked c d s are.0 way) torn
 
 -- ---- those of a scrub
 
@@ -185,7 +188,8 @@ not_begun looked c = record { info = refl; each = λ s i h. inl refl }
 pub stopped_at_once : (looked : List Looked) (c : Cartridge) (ss : List Saying) (left : Option Cartridge) → SayAtOnce c looked ss →
     Torn (steps_of (acts_at_once c looked ss)) (Some c) left → IsSomeAnd left (IsBeingMended looked c)
 stopped_at_once looked c ss left say torn =
-    steps_stopped looked c c (steps_of (acts_at_once c looked ss)) left (all_named looked c looked ss (λ l among. among) say) (not_begun looked c) torn
+    steps_stopped looked c c (steps_of (acts_at_once c looked ss)) left (all_named looked c looked ss (λ l among. among) say)
+    (not_begun looked c) torn
 
 pub stopped_scrub : StoppedScrub
 stopped_scrub c words entries last acts left order scrubs torn =
@@ -206,7 +210,8 @@ looking_whole (l ∷ ls) (s ∷ ss) c say =
 pub stopped_scrub_is_cartridge : StoppedScrubIsCartridge
 stopped_scrub_is_cartridge c words entries acts left whole scrubs torn =
     let looked : List Looked = looked_at words entries in
-    sector_writes_are_cartridge c (steps_of (looking_acts c looked scrubs.sayings)) left whole (looking_whole looked scrubs.sayings c scrubs.said)
+    sector_writes_are_cartridge c (steps_of (looking_acts c looked scrubs.sayings)) left whole
+    (looking_whole looked scrubs.sayings c scrubs.said)
     (subst (λ (ss : List Step). Torn ss (Some c) left)
     (ap (λ (all : List Act). steps_of all) scrubs.are ∙ scrub_steps c looked scrubs.sayings) torn)
 

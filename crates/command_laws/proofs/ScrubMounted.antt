@@ -17,7 +17,8 @@ use Rattle.command_laws.proofs.ScrubApart.{looked_rise}
 use Rattle.command_laws.proofs.ScrubDone.{done_being_mended}
 use Rattle.command_laws.proofs.ScrubMending.{stopped_scrub}
 use Rattle.command_laws.proofs.ScrubStanding.{mending_stands, written_kept, zero_kept, looks_in_front, in_force, table_kept}
-use Rattle.command_laws.specs.ScrubLaws.{DoneScrubStands, StoppedScrubStands, DoneScrubIsClean, StoppedScrubIsClean, DoneScrubMounts, StoppedScrubMounts, DoneScrubTable, StoppedScrubTable}
+use Rattle.command_laws.specs.ScrubLaws.{DoneScrubStands, StoppedScrubStands, DoneScrubIsClean, StoppedScrubIsClean, DoneScrubMounts}
+use Rattle.command_laws.specs.ScrubLaws.{StoppedScrubMounts, DoneScrubTable, StoppedScrubTable}
 use Rattle.command_laws.specs.ScrubMended.{IsBeingMended}
 use Rattle.command_laws.specs.ScrubSayings.{Rise}
 use Rattle.command_spec.specs.Scrub.{Looked, whole_segment, looked_at}
@@ -121,10 +122,12 @@ stopped_scrub_mounts c header words area entries acts left mounted scrubs torn =
 
 pub done_scrub_table : DoneScrubTable
 done_scrub_table c words entries last acts area order scrubs table =
-    table_kept (looked_at words entries) c (changed_by (steps_of acts) c) area (looks_in_front words entries (looked_rise words last entries order))
+    table_kept (looked_at words entries) c (changed_by (steps_of acts) c) area
+    (looks_in_front words entries (looked_rise words last entries order))
     (done_being_mended c words entries last acts order scrubs) table
 
 pub stopped_scrub_table : StoppedScrubTable
 stopped_scrub_table c words entries last acts area left order scrubs table torn =
-    some_weaker left (λ d way. table_kept (looked_at words entries) c d area (looks_in_front words entries (looked_rise words last entries order)) way table)
+    some_weaker left (λ d way. table_kept (looked_at words entries) c d area
+    (looks_in_front words entries (looked_rise words last entries order)) way table)
     (stopped_scrub c words entries last acts left order scrubs torn)

@@ -1,5 +1,7 @@
 -- The writes in a segment, by the places of the sectors that a reading of it found unreadable.
-use Rattle.std.proofs.Common.{ℕ, ◌/◌, ◌%◌, ◌^◌, ◌==◌, Bool, ◌≡◌, zero, suc, ◌+◌, ◌-◌, List, [], ◌∷◌, ◌++◌, sym, ap, ◌∙◌, arith, add-zero, filter, zero-add, refl, get_or, map, length, true, false, cond, ◌<◌, ◌≤◌, ◌↔◌, slice_get, IsSomeAnd, Option, Some, subst, inl, inr, None, take}
+use Rattle.std.proofs.Common.{ℕ, ◌/◌, ◌%◌, ◌^◌, ◌==◌, Bool, ◌≡◌, zero, suc, ◌+◌, ◌-◌, List, [], ◌∷◌, ◌++◌, sym, ap, ◌∙◌, arith, add-zero}
+use Rattle.std.proofs.Common.{filter, zero-add, refl, get_or, map, length, true, false, cond, ◌<◌, ◌≤◌, ◌↔◌, slice_get, IsSomeAnd, Option}
+use Rattle.std.proofs.Common.{Some, subst, inl, inr, None, take}
 use Rattle.std.specs.List.{range_with_len}
 use Rattle.std.specs.Prelude.{if◌then◌else◌, slice_index}
 use Rattle.std.proofs.lemmas.List.Elements.{filter-append}
@@ -61,19 +63,22 @@ count_of_named segment usable places sectors =
 by_test : (b c : Bool) (w : ℕ → Step) (from : ℕ) (rest : List ℕ) (first : Step) (more : List Step) → b ≡ c → w from ≡ first →
     map w rest ≡ more →
     map w (cond b (from ∷ rest) rest) ≡ cond c (first ∷ more) more
-by_test true true w from rest first more same here there = ap (λ (s : Step). s ∷ map w rest) here ∙ ap (λ (ss : List Step). first ∷ ss) there
+by_test true true w from rest first more same here there = ap (λ (s : Step). s ∷ map w rest) here
+    ∙ ap (λ (ss : List Step). first ∷ ss) there
 by_test true false w from rest first more same here there = absurd (cc)
 by_test false true w from rest first more same here there = absurd (cc)
 by_test false false w from rest first more same here there = there
 
 -- the places from one on are those of the rest of the usable sectors, and of the block
-record Follows (c : Cartridge) (segment from : ℕ) (all : List ℕ) (sectors : List (List ℕ)) (test : ℕ → Bool) (us : List ℕ) (block : List (List ℕ)) : Type 0 where
+record Follows (c : Cartridge) (segment from : ℕ) (all : List ℕ) (sectors : List (List ℕ)) (test : ℕ → Bool) (us : List ℕ)
+    (block : List (List ℕ)) : Type 0 where
   room : length us ≤ length block
   index : (k : ℕ) → k < length us → get_or all (from + k) 0 ≡ get_or us k 0
   bytes : (k : ℕ) → k < length us → sector_at sectors (from + k) ≡ get_or block k []
   tells : (k : ℕ) → k < length us → test (from + k) ≡ is_unreadable (view_at c segment (get_or us k 0))
 
-later : {c : Cartridge} {segment from : ℕ} {all : List ℕ} {sectors : List (List ℕ)} {test : ℕ → Bool} {u : ℕ} {us : List ℕ} {b : List ℕ} {block : List (List ℕ)} →
+later : {c : Cartridge} {segment from : ℕ} {all : List ℕ} {sectors : List (List ℕ)} {test : ℕ → Bool} {u : ℕ} {us : List ℕ} {b : List ℕ}
+    {block : List (List ℕ)} →
     Follows c segment from all sectors test (u ∷ us) (b ∷ block) → Follows c segment (from + 1) all sectors test us block
 later {c = c} {segment = segment} {from = from} {all = all} {sectors = sectors} {test = test} {us = us} {block = block} follows =
     let room = follows.room in
@@ -95,7 +100,8 @@ writes_follow c segment from all sectors test (u ∷ us) (b ∷ block) follows =
     let here : from + 0 ≡ from = add-zero from in
     let index : get_or all from 0 ≡ u = ap (λ (p : ℕ). get_or all p 0) (sym here) ∙ follows.index 0 (omega arith) in
     let bytes : sector_at sectors from ≡ b = ap (sector_at sectors) (sym here) ∙ follows.bytes 0 (omega arith) in
-    by_test (test from) (is_unreadable (view_at c segment u)) (write_at segment all sectors) from (filter test (range_with_len (from + 1) (length us)))
+    by_test (test from) (is_unreadable (view_at c segment u)) (write_at segment all sectors) from
+    (filter test (range_with_len (from + 1) (length us)))
     (WriteSector segment u b) (mending_writes c segment us block) (ap test (sym here) ∙ follows.tells 0 (omega arith))
     (ap (λ (i : ℕ). WriteSector segment i (sector_at sectors from)) index ∙ ap (λ (s : List ℕ). WriteSector segment u s) bytes)
     (writes_follow c segment (from + 1) all sectors test us block (later follows))
@@ -128,11 +134,13 @@ named_within c l lost place names is =
     elim (cases_lt place (usable_count l.mask)) [
       | inl within ↦ within
       | inr past ↦
-          let none : slice_get (cells_at c l) place ≡ None = slice_get_past (cells_at c l) place (omega (arith, count_of_cells c l.segment l.mask)) in
+          let none : slice_get (cells_at c l) place ≡ None = slice_get_past (cells_at c l) place
+          (omega (arith, count_of_cells c l.segment l.mask)) in
           absurd (subst (λ (o : Option SectorView). IsSomeAnd o IsUnreadable) none ((names place).0 is))
     ]
 
-places_below : (c : Cartridge) (l : Looked) (lost : ℕ) → Names (cells_at c l) lost → sectors_of lost ≡ lost_places lost (usable_count l.mask)
+places_below : (c : Cartridge) (l : Looked) (lost : ℕ) → Names (cells_at c l) lost →
+    sectors_of lost ≡ lost_places lost (usable_count l.mask)
 places_below c l lost names =
     let n : ℕ = usable_count l.mask in
     let most : n ≤ 32 = count_below l.mask 32 in
@@ -141,7 +149,8 @@ places_below c l lost names =
 
 mending_named : (c : Cartridge) (l : Looked) (lost : ℕ) (sectors block : List (List ℕ)) → Names (cells_at c l) lost →
     usable_count l.mask ≤ length sectors →
-    take (usable_count l.mask) sectors ≡ block → mending_writes c l.segment (usable_places l.mask) block ≡ named_writes l.segment l.mask lost sectors
+    take (usable_count l.mask) sectors ≡ block →
+    mending_writes c l.segment (usable_places l.mask) block ≡ named_writes l.segment l.mask lost sectors
 mending_named c l lost sectors block names room are =
     let n : ℕ = usable_count l.mask in
     let all : List ℕ = usable_places l.mask in
@@ -149,7 +158,8 @@ mending_named c l lost sectors block names room are =
     let long : length block ≡ n = ap (λ (ss : List (List ℕ)). length ss) (sym are) ∙ size in
     sym (ap (λ (ps : List ℕ). writes_of l.segment (map (λ place. slice_index all place) ps) (map (λ place. sector_at sectors place) ps))
     (places_below c l lost names ∙ places_filter lost n)
-    ∙ writes_of_map l.segment (λ place. slice_index all place) (λ place. sector_at sectors place) (filter (is_lost lost) (range_with_len 0 n))
+    ∙ writes_of_map l.segment (λ place. slice_index all place) (λ place. sector_at sectors place)
+    (filter (is_lost lost) (range_with_len 0 n))
     ∙ writes_follow c l.segment 0 all sectors (is_lost lost) all block (record {
       room = omega arith;
       index = λ k h. ap (λ (p : ℕ). get_or all p 0) (zero-add k);

@@ -1,5 +1,6 @@
 -- At most one sector of a segment is found to be wrong, and whether one is can be decided.
-use Rattle.std.proofs.Common.{◌≡◌, ◌⊎◌, ℕ, inl, inr, List, [], ◌∷◌, refl, zero, suc, ◌+◌, ◌<◌, ◌≤◌, arith, sym, ◌∙◌, subst, ap, length, get_or, slice_get, Option, Some, None, true, false, cond, IsSomeAnd}
+use Rattle.std.proofs.Common.{◌≡◌, ◌⊎◌, ℕ, inl, inr, List, [], ◌∷◌, refl, zero, suc, ◌+◌, ◌<◌, ◌≤◌, arith, sym, ◌∙◌, subst, ap, length}
+use Rattle.std.proofs.Common.{get_or, slice_get, Option, Some, None, true, cond, IsSomeAnd}
 use Rattle.std.proofs.lemmas.Bool.{cases_eq, cases_lt, cases_Bool, false≢true}
 use Rattle.std.proofs.lemmas.Option.{slice_get_within}
 use Rattle.cartridge_laws.proofs.AppendWhole.{sector_writes_are_cartridge}
@@ -21,7 +22,8 @@ use Rattle.command_laws.proofs.ScrubStanding.{same_place}
 use Rattle.cartridge_laws.proofs.Writing.{cell_at}
 use Rattle.command_laws.proofs.ScrubTurns.{steps_whole}
 use Rattle.command_laws.specs.DeepScrubLaws.{FormIsFunction, FormAlways}
-use Rattle.command_spec.specs.Scrub.{Looked, cells_at, reads, looked_at, Finding, IsSearched, IsWrong, HasFound, FindInTurn, steps_for, without}
+use Rattle.command_spec.specs.Scrub.{Looked, cells_at, reads, looked_at, Finding, IsSearched, IsWrong, HasFound, FindInTurn, steps_for}
+use Rattle.command_spec.specs.Scrub.{without}
 use Rattle.command_laws.specs.ScrubTerms.{Finds, acts_for}
 use Rattle.command_spec.specs.declared.depth.Depth.{Depth}
 use Rattle.command_spec.specs.declared.depth.Depth.TheVariants.{Shallow, Deep}
@@ -34,7 +36,8 @@ use Rattle.qic_base.specs.declared.tape.SectorView.TheVariants.{Blank, Defect, L
 
 -- ---- how many are unreadable
 
-holds_no_less : (x y : SectorView) → ((bytes : List ℕ) → x ≡ Holds bytes → y ≡ Holds bytes) → cond (is_unreadable y) 1 0 ≤ cond (is_unreadable x) 1 0
+holds_no_less : (x y : SectorView) → ((bytes : List ℕ) → x ≡ Holds bytes → y ≡ Holds bytes) →
+    cond (is_unreadable y) 1 0 ≤ cond (is_unreadable x) 1 0
 holds_no_less Blank y held = one_if_any (is_unreadable y)
 holds_no_less Defect y held = one_if_any (is_unreadable y)
 holds_no_less Lost y held = one_if_any (is_unreadable y)
@@ -44,7 +47,7 @@ holds_no_less (Holds bytes) y held =
     omega arith
 
 -- where all that could be read but one can be read still, at most one more can't
-count_one_more : (k : ℕ) (xs ys : List SectorView) → length xs ≡ length ys →
+pub count_one_more : (k : ℕ) (xs ys : List SectorView) → length xs ≡ length ys →
     ((i : ℕ) (bytes : List ℕ) → (i ≡ k → ⊥) → slice_get xs i ≡ Some (Holds bytes) → slice_get ys i ≡ Some (Holds bytes)) →
     unreadable_count ys ≤ unreadable_count xs + 1
 count_one_more k [] [] long held = omega arith
@@ -55,7 +58,8 @@ count_one_more zero (x ∷ xs) (y ∷ ys) long held =
     omega (arith, unreadable_count-first x xs, unreadable_count-first y ys, one_if_any (is_unreadable y))
 count_one_more (suc k) (x ∷ xs) (y ∷ ys) long held =
     let rest = count_one_more k xs ys (omega arith) (λ i bytes apart at. held (suc i) bytes (λ e. apart (omega arith)) at) in
-    let first = holds_no_less x y (λ bytes is. let at : Some y ≡ Some (Holds bytes) = held 0 bytes (λ e. omega arith) (ap (λ (z : SectorView). Some z) is) in cc) in
+    let first = holds_no_less x y (λ bytes is. let at : Some y ≡ Some (Holds bytes) = held 0 bytes (λ e. omega arith)
+    (ap (λ (z : SectorView). Some z) is) in cc) in
     omega (arith, unreadable_count-first x xs, unreadable_count-first y ys)
 
 -- ---- the cells with a sector worn
@@ -65,7 +69,8 @@ pub record IsPlace (l : Looked) (place sector : ℕ) : Type 0 where
   pub within : place < usable_count l.mask
   pub index : get_or (usable_places l.mask) place 0 ≡ sector
 
-pub wrong_place : {c : Cartridge} {l : Looked} {sector : ℕ} {ds : List (List ℕ)} (wrong : IsWrong c l sector ds) → IsPlace l wrong.place sector
+pub wrong_place : {c : Cartridge} {l : Looked} {sector : ℕ} {ds : List (List ℕ)} (wrong : IsWrong c l sector ds) →
+    IsPlace l wrong.place sector
 wrong_place wrong = record { within = wrong.within; index = wrong.index }
 
 -- all other cells are as they were
@@ -76,7 +81,8 @@ cell_unworn c l place sector i bytes is apart at =
     let h : i < usable_count l.mask = omega (arith, count_of_cells c l.segment l.mask) in
     let small : sector < 32 = subst (λ (j : ℕ). j < 32) is.index (usable_small l.mask place is.within) in
     cell_at (worn l.segment sector c) l.segment l.mask i h
-    ∙ ap (λ (v : SectorView). Some v) (worn_elsewhere c l.segment sector l.segment (get_or (usable_places l.mask) i 0) small (usable_small l.mask i h)
+    ∙ ap (λ (v : SectorView). Some v) (worn_elsewhere c l.segment sector l.segment (get_or (usable_places l.mask) i 0) small
+    (usable_small l.mask i h)
     (λ same e. apart (same_place l.mask i place h is.within (sym e ∙ sym is.index))))
     ∙ sym (cell_at c l.segment l.mask i h) ∙ at
 
@@ -99,8 +105,9 @@ worn_count c l place sector is =
 
 -- ---- one wrong sector
 
-agrees_less : (xs ys : List SectorView) (block : List (List ℕ)) → length xs ≡ length ys →
-    ((i : ℕ) (bytes : List ℕ) → slice_get ys i ≡ Some (Holds bytes) → slice_get xs i ≡ Some (Holds bytes)) → Agrees xs block → Agrees ys block
+pub agrees_less : (xs ys : List SectorView) (block : List (List ℕ)) → length xs ≡ length ys →
+    ((i : ℕ) (bytes : List ℕ) → slice_get ys i ≡ Some (Holds bytes) → slice_get xs i ≡ Some (Holds bytes)) → Agrees xs block →
+    Agrees ys block
 agrees_less xs ys block long held agrees = record {
   size = agrees.size ∙ long;
   each = λ i bytes at. agrees.each i bytes (held i bytes at);
@@ -117,11 +124,14 @@ no_two_wrong c l i j ds es one two apart =
     λ a b. count_of_cells a l.segment l.mask ∙ sym (count_of_cells b l.segment l.mask) in
     let few : unreadable_count (cells_at both l) ≤ 3 =
     omega (arith, worn_count c l one.place i first, worn_count ci l two.place j second, one.few) in
-    let in_first : (k : ℕ) (bytes : List ℕ) → slice_get (cells_at both l) k ≡ Some (Holds bytes) → slice_get (cells_at ci l) k ≡ Some (Holds bytes) =
+    let in_first : (k : ℕ) (bytes : List ℕ) → slice_get (cells_at both l) k ≡ Some (Holds bytes) →
+    slice_get (cells_at ci l) k ≡ Some (Holds bytes) =
     λ k bytes at. held_before ci both l.segment l.mask k bytes (worn_reads_no_more ci l.segment j) at in
-    let in_second : (k : ℕ) (bytes : List ℕ) → slice_get (cells_at both l) k ≡ Some (Holds bytes) → slice_get (cells_at cj l) k ≡ Some (Holds bytes) =
+    let in_second : (k : ℕ) (bytes : List ℕ) → slice_get (cells_at both l) k ≡ Some (Holds bytes) →
+    slice_get (cells_at cj l) k ≡ Some (Holds bytes) =
     λ k bytes at. elim (cases_eq k two.place) [
-      | inl same ↦ absurd (cell_worn ci l two.place j bytes second (subst (λ (p : ℕ). slice_get (cells_at both l) p ≡ Some (Holds bytes)) same at))
+      | inl same ↦ absurd (cell_worn ci l two.place j bytes second
+          (subst (λ (p : ℕ). slice_get (cells_at both l) p ≡ Some (Holds bytes)) same at))
       | inr other ↦
           cell_unworn c l two.place j k bytes second other
           (held_before c ci l.segment l.mask k bytes (worn_reads_no_more c l.segment i) (in_first k bytes at))
@@ -138,12 +148,13 @@ no_two_wrong c l i j ds es one two apart =
         | inl here ↦
             let away : k ≡ two.place → ⊥ =
             λ there. apart (sym first.index ∙ ap (λ (p : ℕ). get_or (usable_places l.mask) p 0) (sym here ∙ there) ∙ second.index) in
-            ap (λ (block : List (List ℕ)). slice_get block k) same ∙ other.agrees.each k bytes (cell_unworn c l two.place j k bytes second away at)
+            ap (λ (block : List (List ℕ)). slice_get block k) same
+            ∙ other.agrees.each k bytes (cell_unworn c l two.place j k bytes second away at)
         | inr away ↦ has.agrees.each k bytes (cell_unworn c l one.place i k bytes first away at)
       ];
     })
 
-one_wrong : (c : Cartridge) (l : Looked) (i j : ℕ) (ds es : List (List ℕ)) → IsWrong c l i ds → IsWrong c l j es → i ≡ j
+pub one_wrong : (c : Cartridge) (l : Looked) (i j : ℕ) (ds es : List (List ℕ)) → IsWrong c l i ds → IsWrong c l j es → i ≡ j
 one_wrong c l i j ds es one two =
     elim (cases_eq i j) [
       | inl same ↦ same
@@ -152,9 +163,11 @@ one_wrong c l i j ds es one two =
 
 finding_same : (f g : Finding) → f.saying ≡ g.saying → f.wrong ≡ g.wrong → f ≡ g
 finding_same f g saying wrong =
-    ap (λ (s : Saying). record { saying = s; wrong = f.wrong }) saying ∙ ap (λ (w : Option ℕ). record { saying = g.saying; wrong = w }) wrong
+    ap (λ (s : Saying). record { saying = s; wrong = f.wrong }) saying
+    ∙ ap (λ (w : Option ℕ). record { saying = g.saying; wrong = w }) wrong
 
-found_once : (depth : Depth) (c : Cartridge) (l : Looked) (s t : Saying) (v w : Option ℕ) → HasFound depth c l s v → HasFound depth c l t w →
+found_once : (depth : Depth) (c : Cartridge) (l : Looked) (s t : Saying) (v w : Option ℕ) → HasFound depth c l s v →
+    HasFound depth c l t w →
     (s ≡ t) × (v ≡ w)
 found_once depth c l s t None None one two = (says_is_function (cells_at c l) s t one.0 two.0, refl)
 found_once depth c l s t None (Some j) one two = absurd (one.1 two.0 j two.1 two.3)
@@ -171,7 +184,8 @@ finds_one depth c l f g one two =
     let both = found_once depth c l f.saying g.saying f.wrong g.wrong one two in
     finding_same f g both.0 both.1
 
-pub one_turn : (depth : Depth) (ls : List Looked) (c : Cartridge) (fs gs : List Finding) → FindInTurn depth c ls fs → FindInTurn depth c ls gs → fs ≡ gs
+pub one_turn : (depth : Depth) (ls : List Looked) (c : Cartridge) (fs gs : List Finding) → FindInTurn depth c ls fs →
+    FindInTurn depth c ls gs → fs ≡ gs
 one_turn depth [] c [] [] a b = refl
 one_turn depth [] c [] (g ∷ gs) a b = absurd b
 one_turn depth [] c (f ∷ fs) gs a b = absurd a
@@ -186,7 +200,8 @@ one_turn depth (l ∷ ls) c (f ∷ fs) (g ∷ gs) a b =
 
 pub form_is_function : FormIsFunction
 form_is_function depth c words entries a b one other =
-    one.are ∙ ap (acts_for c (looked_at words entries)) (one_turn depth (looked_at words entries) c one.findings other.findings one.found other.found)
+    one.are ∙ ap (acts_for c (looked_at words entries))
+    (one_turn depth (looked_at words entries) c one.findings other.findings one.found other.found)
     ∙ sym other.are
 
 -- ---- whether there is one
@@ -198,9 +213,11 @@ data_or_not : (cells : List SectorView) (l : Looked) (s : Saying) → Says cells
 data_or_not cells l (Data ds) says =
     elim (cases_Bool (reads l (Data ds))) [
       | inl can ↦ inl (ds, says, can)
-      | inr fails ↦ inr (λ es other can. false≢true (sym fails ∙ ap (reads l) (says_is_function cells (Data ds) (Data es) says other) ∙ can))
+      | inr fails ↦ inr (λ es other can. false≢true (sym fails ∙ ap (reads l) (says_is_function cells (Data ds) (Data es) says other)
+          ∙ can))
     ]
-data_or_not cells l (LostSectors n) says = inr (λ es other can. let both = says_is_function cells (LostSectors n) (Data es) says other in cc)
+data_or_not cells l (LostSectors n) says = inr (λ es other can. let both = says_is_function cells (LostSectors n) (Data es) says other in
+    cc)
 data_or_not cells l Mismatch says = inr (λ es other can. let both = says_is_function cells Mismatch (Data es) says other in cc)
 
 worn_whole : (c : Cartridge) (segment sector : ℕ) → IsCartridge c → IsCartridge (worn segment sector c)
@@ -251,8 +268,10 @@ search_before c l (suc n) h whole mismatch few =
 
 search : (c : Cartridge) (l : Looked) (s : Saying) → IsCartridge c → Says (cells_at c l) s →
     IsSomeWrong c l ⊎ ((sector : ℕ) (ds : List (List ℕ)) → IsWrong c l sector ds → ⊥)
-search c l (Data xs) whole says = inr (λ sector ds wrong. let both = says_is_function (cells_at c l) (Data xs) Mismatch says wrong.mismatch in cc)
-search c l (LostSectors n) whole says = inr (λ sector ds wrong. let both = says_is_function (cells_at c l) (LostSectors n) Mismatch says wrong.mismatch in cc)
+search c l (Data xs) whole says = inr (λ sector ds wrong. let both = says_is_function (cells_at c l)
+    (Data xs) Mismatch says wrong.mismatch in cc)
+search c l (LostSectors n) whole says = inr
+    (λ sector ds wrong. let both = says_is_function (cells_at c l) (LostSectors n) Mismatch says wrong.mismatch in cc)
 search c l Mismatch whole says =
     elim (cases_lt (unreadable_count (cells_at c l)) 2) [
       | inl few ↦ elim (search_before c l (usable_count l.mask) (omega arith) whole says (omega arith)) [
@@ -282,11 +301,13 @@ finds_always depth c l whole =
     ]
 
 -- what the writes of one segment leave is a cartridge
-found_whole : (depth : Depth) (c : Cartridge) (l : Looked) (f : Finding) → IsCartridge c → Finds depth c l f → IsCartridge (changed_by (steps_for c l f) c)
+found_whole : (depth : Depth) (c : Cartridge) (l : Looked) (f : Finding) → IsCartridge c → Finds depth c l f →
+    IsCartridge (changed_by (steps_for c l f) c)
 found_whole depth c l f whole found =
     let steps : List Step = steps_for c l f in
     subst (λ (o : Option Cartridge). IsSomeAnd o IsCartridge) (effects-some steps c)
-    (sector_writes_are_cartridge c steps (effects steps (Some c)) whole (steps_whole (without f.wrong l c) l f.saying (finds_says depth c l f found))
+    (sector_writes_are_cartridge c steps (effects steps (Some c)) whole
+    (steps_whole (without f.wrong l c) l f.saying (finds_says depth c l f found))
     (Torn-all steps (Some c)))
 
 some_turn : (depth : Depth) (ls : List Looked) (c : Cartridge) → IsCartridge c → (fs : List Finding) × FindInTurn depth c ls fs

@@ -6,7 +6,8 @@ use Rattle.cartridge_spec.specs.Table.{Entry}
 use Rattle.command_laws.specs.DeepScrubLaws.{ShallowIsScrub}
 use Rattle.command_laws.specs.ScrubPlain.{SayInTurn, Scrubs, looking_acts}
 use Rattle.command_laws.specs.ScrubTerms.{acts_for, counts_for, last_act, look_act, scrub_acts}
-use Rattle.command_spec.specs.Scrub.{Finding, FindInTurn, HasFound, Looked, ScrubsAs, finding_acts, looked_at, sayings_of, steps_for, steps_in, unread_count}
+use Rattle.command_spec.specs.Scrub.{Finding, FindInTurn, HasFound, Looked, ScrubsAs, finding_acts, looked_at, sayings_of, steps_for}
+use Rattle.command_spec.specs.Scrub.{steps_in, unread_count}
 use Rattle.command_spec.specs.declared.depth.Depth.TheVariants.{Shallow}
 use Rattle.qic_base.specs.Acts.{Act, steps_of}
 use Rattle.qic_base.specs.Cartridge.{Cartridge}
@@ -47,11 +48,13 @@ found_plainly c [] (s ∷ ss) said = absurd said
 found_plainly c (l ∷ ls) [] said = absurd said
 found_plainly c (l ∷ ls) (s ∷ ss) said = ((said.0, λ searched. absurd searched), found_plainly (changed_by (steps_in c l s) c) ls ss said.1)
 
-acts_so : (c : Cartridge) (ls : List Looked) (fs : List Finding) → FindInTurn Shallow c ls fs → acts_for c ls fs ≡ scrub_acts c ls (sayings_of fs)
+acts_so : (c : Cartridge) (ls : List Looked) (fs : List Finding) → FindInTurn Shallow c ls fs →
+    acts_for c ls fs ≡ scrub_acts c ls (sayings_of fs)
 acts_so c ls fs found =
     let so = said_so c ls fs found in
     ap (λ (acts : List Act). acts ++ last_act (counts_for c ls fs) ∷ []) so.acts
-    ∙ ap (λ (acts : List Act). looking_acts c ls (sayings_of fs) ++ last_act (record { segments = length ls; mended = length (steps_of acts); unreadable = unread_count ls (sayings_of fs) }) ∷ []) so.acts
+    ∙ ap (λ (acts : List Act). looking_acts c ls (sayings_of fs) ++ last_act
+    (record { segments = length ls; mended = length (steps_of acts); unreadable = unread_count ls (sayings_of fs) }) ∷ []) so.acts
 
 pub shallow_is_scrub : ShallowIsScrub
 shallow_is_scrub c words entries acts = (

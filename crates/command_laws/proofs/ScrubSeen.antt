@@ -1,5 +1,6 @@
 -- What is found of a cartridge, by what it says with the wrong sectors lost.
-use Rattle.std.proofs.Common.{◌≡◌, ◌⊎◌, ℕ, inl, inr, List, [], ◌∷◌, refl, ◌<◌, ◌≤◌, arith, sym, ◌∙◌, subst, ap, All, Contains, Option, Some, None, ◌++◌}
+use Rattle.std.proofs.Common.{◌≡◌, ◌⊎◌, ℕ, inl, inr, List, [], ◌∷◌, refl, ◌<◌, ◌≤◌, arith, sym, ◌∙◌, subst, ap, All, Contains, Option, Some}
+use Rattle.std.proofs.Common.{None, ◌++◌}
 use Rattle.std.proofs.lemmas.Bool.{cases_eq}
 use Rattle.std.proofs.lemmas.List.Elements.{All-head, All-tail, All-nil, All-cons, All-weaker}
 use Rattle.cartridge_laws.proofs.FormatStanding.{same_cells}
@@ -13,7 +14,8 @@ use Rattle.command_laws.proofs.ScrubAtOnce.{AreAlike, steps_alike, steps_stay, a
 use Rattle.cartridge_laws.proofs.AppendKeeping.{steps_kept}
 use Rattle.command_laws.specs.ScrubFound.{FindAtOnce, finds_at_once, without_all}
 use Rattle.command_laws.specs.ScrubSayings.{Rise, SayAtOnce, acts_at_once}
-use Rattle.command_spec.specs.Scrub.{Looked, cells_at, Finding, IsSearched, IsWrong, HasFound, FindInTurn, finding_acts, steps_for, line_for, sayings_of, without}
+use Rattle.command_spec.specs.Scrub.{Looked, cells_at, Finding, IsSearched, IsWrong, HasFound, FindInTurn, finding_acts, steps_for}
+use Rattle.command_spec.specs.Scrub.{line_for, sayings_of, without}
 use Rattle.command_laws.specs.ScrubTerms.{Finds, find_act}
 use Rattle.command_spec.specs.declared.depth.Depth.{Depth}
 use Rattle.qic_base.specs.Acts.{Act, steps_of}
@@ -36,7 +38,8 @@ worn_elsewhere c segment sector s i small h apart =
 pub same_back : (c d : Cartridge) (segment : ℕ) → IsSameIn c d segment → IsSameIn d c segment
 same_back c d segment same i h = sym (same i h)
 
-worn_same : (c d : Cartridge) (segment sector : ℕ) → sector < 32 → IsSameIn c d segment → IsSameIn (worn segment sector c) (worn segment sector d) segment
+worn_same : (c d : Cartridge) (segment sector : ℕ) → sector < 32 → IsSameIn c d segment →
+    IsSameIn (worn segment sector c) (worn segment sector d) segment
 worn_same c d segment sector small same i h =
     elim (cases_eq i sector) [
       | inl is ↦
@@ -64,7 +67,8 @@ wrong_same c d l sector ds same wrong =
       mismatch = subst (λ (xs : List SectorView). Says xs Mismatch) cells wrong.mismatch;
       few = subst (λ (xs : List SectorView). unreadable_count xs ≤ 1) cells wrong.few;
       says = subst (λ (xs : List SectorView). Says xs (Data ds))
-          (sym (same_cells (worn l.segment sector c) (worn l.segment sector d) l.segment l.mask (worn_same c d l.segment sector small same))) wrong.says;
+          (sym (same_cells (worn l.segment sector c) (worn l.segment sector d) l.segment l.mask
+          (worn_same c d l.segment sector small same))) wrong.says;
       can_be_read = wrong.can_be_read;
     }
 
@@ -88,7 +92,8 @@ found_small : (depth : Depth) (c : Cartridge) (l : Looked) (s : Saying) (w : Opt
 found_small depth c l s None found = tt
 found_small depth c l s (Some sector) found = wrong_small found.3
 
-without_same : (c d : Cartridge) (l : Looked) (w : Option ℕ) → IsSmall w → IsSameIn c d l.segment → IsSameIn (without w l c) (without w l d) l.segment
+without_same : (c d : Cartridge) (l : Looked) (w : Option ℕ) → IsSmall w → IsSameIn c d l.segment →
+    IsSameIn (without w l c) (without w l d) l.segment
 without_same c d l None small same = same
 without_same c d l (Some sector) small same = worn_same c d l.segment sector small same
 
@@ -102,9 +107,11 @@ without_elsewhere c l (Some sector) s i small h apart = worn_elsewhere c l.segme
 found_says : (depth : Depth) (c : Cartridge) (l : Looked) (s : Saying) (w : Option ℕ) → HasFound depth c l s w →
     Says (cells_at (without w l c) l) s
 found_says depth c l s None found = found.0
-found_says depth c l s (Some sector) found = subst (λ (x : Saying). Says (cells_at (worn l.segment sector c) l) x) (sym found.2) found.3.says
+found_says depth c l s (Some sector) found = subst (λ (x : Saying). Says (cells_at (worn l.segment sector c) l) x)
+    (sym found.2) found.3.says
 
-pub finds_says : (depth : Depth) (c : Cartridge) (l : Looked) (f : Finding) → Finds depth c l f → Says (cells_at (without f.wrong l c) l) f.saying
+pub finds_says : (depth : Depth) (c : Cartridge) (l : Looked) (f : Finding) → Finds depth c l f →
+    Says (cells_at (without f.wrong l c) l) f.saying
 finds_says depth c l f found = found_says depth c l f.saying f.wrong found
 
 finds_small : (depth : Depth) (c : Cartridge) (l : Looked) (f : Finding) → Finds depth c l f → IsSmall f.wrong
@@ -116,19 +123,23 @@ pub record FoundAtOnce (depth : Depth) (c d : Cartridge) (ls : List Looked) (fs 
   pub found : FindAtOnce depth c ls fs
   pub acts : finding_acts d ls fs ≡ finds_at_once c ls fs
 
-later_same : (depth : Depth) (c d : Cartridge) (l : Looked) (f : Finding) (ls : List Looked) → All (λ m. l.segment < m.segment) ls → AreAlike c d ls →
+later_same : (depth : Depth) (c d : Cartridge) (l : Looked) (f : Finding) (ls : List Looked) → All (λ m. l.segment < m.segment) ls →
+    AreAlike c d ls →
     AreAlike c (changed_by (steps_for d l f) d) ls
 later_same depth c d l f [] past same = All-nil (λ (m : Looked). IsSameIn c (changed_by (steps_for d l f) d) m.segment)
 later_same depth c d l f (m ∷ ms) past same =
     let e : Cartridge = changed_by (steps_for d l f) d in
-    let kept = steps_kept (λ t i. t ≡ l.segment) (steps_for d l f) d (steps_stay (λ t. t ≡ l.segment) (without f.wrong l d) l f.saying refl) in
+    let kept = steps_kept (λ t i. t ≡ l.segment) (steps_for d l f) d (steps_stay (λ t. t ≡ l.segment) (without f.wrong l d) l f.saying refl)
+    in
     let behind : l.segment < m.segment = All-head (λ (n : Looked). l.segment < n.segment) m ms past in
     let here : IsSameIn c d m.segment = All-head (λ (n : Looked). IsSameIn c d n.segment) m ms same in
     All-cons (λ (n : Looked). IsSameIn c e n.segment) m ms
     (λ i h. kept.others m.segment i h (λ (is : m.segment ≡ l.segment). omega arith) ∙ here i h)
-    (later_same depth c d l f ms (All-tail (λ (n : Looked). l.segment < n.segment) m ms past) (All-tail (λ (n : Looked). IsSameIn c d n.segment) m ms same))
+    (later_same depth c d l f ms (All-tail (λ (n : Looked). l.segment < n.segment) m ms past)
+    (All-tail (λ (n : Looked). IsSameIn c d n.segment) m ms same))
 
-turn_at_once : (depth : Depth) (ls : List Looked) (fs : List Finding) (c d : Cartridge) → Rise ls → AreAlike c d ls → FindInTurn depth d ls fs →
+turn_at_once : (depth : Depth) (ls : List Looked) (fs : List Finding) (c d : Cartridge) → Rise ls → AreAlike c d ls →
+    FindInTurn depth d ls fs →
     FoundAtOnce depth c d ls fs
 turn_at_once depth [] [] c d rise same found = record { found = tt; acts = refl }
 turn_at_once depth [] (f ∷ fs) c d rise same found = absurd found
@@ -157,7 +168,8 @@ abbrev pub AreOther : (s : ℕ) → List Looked → Type 0
 AreOther s ls = All (λ m. s ≡ m.segment → ⊥) ls
 
 -- segments that are not looked at are as they were
-without_all_elsewhere : (depth : Depth) (c b : Cartridge) (ls : List Looked) (fs : List Finding) (s i : ℕ) → FindAtOnce depth b ls fs → i < 32 →
+without_all_elsewhere : (depth : Depth) (c b : Cartridge) (ls : List Looked) (fs : List Finding) (s i : ℕ) → FindAtOnce depth b ls fs →
+    i < 32 →
     AreOther s ls → view_at (without_all c ls fs) s i ≡ view_at c s i
 without_all_elsewhere depth c b [] fs s i found h other = refl
 without_all_elsewhere depth c b (l ∷ ls) [] s i found h other = refl
@@ -172,12 +184,14 @@ AreSeen e c (l ∷ ls) [] = Unit {0}
 AreSeen e c (l ∷ ls) (f ∷ fs) = IsSameIn (without f.wrong l c) e l.segment × AreSeen e c ls fs
 
 -- one whose views are the same in these segments
-seen_same : (depth : Depth) (e b c d : Cartridge) (ls : List Looked) (fs : List Finding) → FindAtOnce depth b ls fs → AreAlike c d ls → AreSeen e d ls fs →
+seen_same : (depth : Depth) (e b c d : Cartridge) (ls : List Looked) (fs : List Finding) → FindAtOnce depth b ls fs → AreAlike c d ls →
+    AreSeen e d ls fs →
     AreSeen e c ls fs
 seen_same depth e b c d [] fs found same seen = tt
 seen_same depth e b c d (l ∷ ls) [] found same seen = tt
 seen_same depth e b c d (l ∷ ls) (f ∷ fs) found same seen = (
-  λ i h. seen.0 i h ∙ without_same c d l f.wrong (finds_small depth b l f found.0) (All-head (λ (n : Looked). IsSameIn c d n.segment) l ls same) i h,
+  λ i h. seen.0 i h ∙ without_same c d l f.wrong (finds_small depth b l f found.0)
+      (All-head (λ (n : Looked). IsSameIn c d n.segment) l ls same) i h,
   seen_same depth e b c d ls fs found.1 (All-tail (λ (n : Looked). IsSameIn c d n.segment) l ls same) seen.1,
 )
 
@@ -196,8 +210,10 @@ seen_all depth c b [] fs rise found = tt
 seen_all depth c b (l ∷ ls) [] rise found = tt
 seen_all depth c b (l ∷ ls) (f ∷ fs) rise found =
     let small : IsSmall f.wrong = finds_small depth b l f found.0 in (
-      λ i h. without_all_elsewhere depth (without f.wrong l c) b ls fs l.segment i found.1 h (All-weaker (λ (m : Looked). l.segment < m.segment)
-          (λ (m : Looked). l.segment ≡ m.segment → ⊥) (λ m (past : l.segment < m.segment) (same : l.segment ≡ m.segment). omega arith) ls rise.0),
+      λ i h. without_all_elsewhere depth (without f.wrong l c) b ls fs l.segment i found.1 h
+          (All-weaker (λ (m : Looked). l.segment < m.segment)
+          (λ (m : Looked). l.segment ≡ m.segment → ⊥) (λ m (past : l.segment < m.segment) (same : l.segment ≡ m.segment). omega arith) ls
+          rise.0),
       seen_same depth (without_all c (l ∷ ls) (f ∷ fs)) b c (without f.wrong l c) ls fs found.1 (without_behind c l f.wrong ls small rise.0)
           (seen_all depth (without f.wrong l c) b ls fs rise.1 found.1),
     )
@@ -213,7 +229,8 @@ pub record FoundOf (depth : Depth) (c e : Cartridge) (l : Looked) : Type 0 where
   pub seen : IsSameIn (without finding.wrong l c) e l.segment
   pub says : Says (cells_at e l) finding.saying
 
-pub found_of : (depth : Depth) (c e : Cartridge) (ls : List Looked) (fs : List Finding) (l : Looked) → FindAtOnce depth c ls fs → AreSeen e c ls fs →
+pub found_of : (depth : Depth) (c e : Cartridge) (ls : List Looked) (fs : List Finding) (l : Looked) → FindAtOnce depth c ls fs →
+    AreSeen e c ls fs →
     Contains ls l → FoundOf depth c e l
 found_of depth c e [] fs l found seen among = let h = among.1 in absurd (omega arith)
 found_of depth c e (m ∷ ms) [] l found seen among = absurd found
@@ -223,7 +240,8 @@ found_of depth c e (m ∷ ms) (f ∷ fs) l found seen among =
         finding = f;
         finds = found.0;
         seen = seen.0;
-        says = subst (λ (xs : List SectorView). Says xs f.saying) (sym (same_cells (without f.wrong m c) e m.segment m.mask seen.0)) (finds_says depth c m f found.0);
+        says = subst (λ (xs : List SectorView). Says xs f.saying) (sym (same_cells (without f.wrong m c) e m.segment m.mask seen.0))
+            (finds_says depth c m f found.0);
       })
       | inr later ↦ found_of depth c e ms fs l found.1 seen.1 later
     ]
@@ -242,10 +260,12 @@ said_at_once depth e c (l ∷ ls) (f ∷ fs) found seen =
     let rest : SaidAtOnce e c ls fs = said_at_once depth e c ls fs found.1 seen.1 in
     record {
       say = (
-        subst (λ (xs : List SectorView). Says xs f.saying) (sym (same_cells (without f.wrong l c) e l.segment l.mask seen.0)) (finds_says depth c l f found.0),
+        subst (λ (xs : List SectorView). Says xs f.saying) (sym (same_cells (without f.wrong l c) e l.segment l.mask seen.0))
+            (finds_says depth c l f found.0),
         rest.say,
       );
-      steps = ap (λ (steps : List Step). steps ++ steps_of (acts_at_once e ls (sayings_of fs))) (steps_alike (without f.wrong l c) e l f.saying seen.0)
+      steps = ap (λ (steps : List Step). steps ++ steps_of (acts_at_once e ls (sayings_of fs)))
+          (steps_alike (without f.wrong l c) e l f.saying seen.0)
           ∙ ap (λ (steps : List Step). steps_for c l f ++ steps) rest.steps;
     }
 
@@ -274,7 +294,8 @@ worn_once Defect = inl refl
 worn_once Lost = inl refl
 worn_once (Holds old) = inr (old, refl, refl)
 
-here_seen : (depth : Depth) (c e : Cartridge) (l : Looked) (ls : List Looked) (s : Saying) (w : Option ℕ) (i : ℕ) → HasFound depth c l s w → i < 32 →
+here_seen : (depth : Depth) (c e : Cartridge) (l : Looked) (ls : List Looked) (s : Saying) (w : Option ℕ) (i : ℕ) → HasFound depth c l s w →
+    i < 32 →
     IsSameIn (without w l c) e l.segment →
     (view_at e l.segment i ≡ view_at c l.segment i) ⊎ IsLostNow depth c e (l ∷ ls) l.segment i
 here_seen depth c e l ls s None i found h same = inl (same i h)
@@ -302,7 +323,8 @@ here_seen depth c e l ls s (Some sector) i found h same =
       | inr apart ↦ inl (same i h ∙ worn_elsewhere c l.segment sector l.segment i (wrong_small found.3) h (λ here e. apart (sym e)))
     ]
 
-lost_more : (depth : Depth) (c e : Cartridge) (l : Looked) (ls : List Looked) (s i : ℕ) → IsLostNow depth c e ls s i → IsLostNow depth c e (l ∷ ls) s i
+lost_more : (depth : Depth) (c e : Cartridge) (l : Looked) (ls : List Looked) (s i : ℕ) → IsLostNow depth c e ls s i →
+    IsLostNow depth c e (l ∷ ls) s i
 lost_more depth c e l ls s i lost = record {
   found = record {
     at = lost.found.at;
@@ -319,7 +341,8 @@ lost_more depth c e l ls s i lost = record {
 }
 
 -- each sector is as it was, or is a wrong one
-each_seen : (depth : Depth) (c e : Cartridge) (ls : List Looked) (fs : List Finding) (s i : ℕ) → FindAtOnce depth c ls fs → AreSeen e c ls fs → i < 32 →
+each_seen : (depth : Depth) (c e : Cartridge) (ls : List Looked) (fs : List Finding) (s i : ℕ) → FindAtOnce depth c ls fs →
+    AreSeen e c ls fs → i < 32 →
     (AreOther s ls → view_at e s i ≡ view_at c s i) → (view_at e s i ≡ view_at c s i) ⊎ IsLostNow depth c e ls s i
 each_seen depth c e [] fs s i found seen h none = inl (none (All-nil (λ (m : Looked). s ≡ m.segment → ⊥)))
 each_seen depth c e (l ∷ ls) [] s i found seen h none = absurd found
@@ -328,10 +351,11 @@ each_seen depth c e (l ∷ ls) (f ∷ fs) s i found seen h none =
       | inl same ↦
           subst (λ (t : ℕ). (view_at e t i ≡ view_at c t i) ⊎ IsLostNow depth c e (l ∷ ls) t i) (sym same)
           (here_seen depth c e l ls f.saying f.wrong i found.0 h seen.0)
-      | inr apart ↦ elim (each_seen depth c e ls fs s i found.1 seen.1 h (λ others. none (All-cons (λ (m : Looked). s ≡ m.segment → ⊥) l ls apart others))) [
-        | inl is ↦ inl is
-        | inr lost ↦ inr (lost_more depth c e l ls s i lost)
-      ]
+      | inr apart ↦ elim (each_seen depth c e ls fs s i found.1 seen.1 h
+          (λ others. none (All-cons (λ (m : Looked). s ≡ m.segment → ⊥) l ls apart others))) [
+            | inl is ↦ inl is
+            | inr lost ↦ inr (lost_more depth c e l ls s i lost)
+          ]
     ]
 
 -- ---- all of it, where the segments rise
@@ -358,5 +382,6 @@ is_seen depth c ls fs rise found =
     record {
       info = without_all_info c ls fs;
       seen = seen;
-      each = λ s i h. each_seen depth c (without_all c ls fs) ls fs s i found seen h (λ other. without_all_elsewhere depth c c ls fs s i found h other);
+      each = λ s i h. each_seen depth c (without_all c ls fs) ls fs s i found seen h
+          (λ other. without_all_elsewhere depth c c ls fs s i found h other);
     }

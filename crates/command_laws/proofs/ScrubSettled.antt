@@ -1,5 +1,6 @@
 -- The table's segment of a settled cartridge reads, and stays settled.
-use Rattle.std.proofs.Common.{◌≤◌, cond, arith, List, [], ◌∷◌, length, ◌≡◌, ℕ, ◌<◌, Some, sym, ap, ◌∙◌, subst, ◌⊎◌, ◌+◌, inl, inr, take, drop}
+use Rattle.std.proofs.Common.{◌≤◌, cond, arith, List, [], ◌∷◌, length, ◌≡◌, ℕ, ◌<◌, Some, sym, ap, ◌∙◌, subst, ◌⊎◌, ◌+◌, inl, inr, take}
+use Rattle.std.proofs.Common.{drop}
 use Rattle.std.proofs.lemmas.Option.{slice_get-get_or, unwrap_or-slice_get}
 use Rattle.std.proofs.lemmas.List.{take-append-drop, length-drop}
 use Rattle.std.proofs.lemmas.List.Sums.{sum_by-append}
@@ -55,7 +56,8 @@ few_unreadable : (c : Cartridge) → (unreadable_data (table_cells c) ≡ 0) ⊎
 few_unreadable c (inl none) =
     let cells : List SectorView = table_cells c in
     let parts : unreadable_count cells ≡ unreadable_count (take 29 cells) + unreadable_count (drop 29 cells) =
-    ap (λ (xs : List SectorView). unreadable_count xs) (sym (take-append-drop 29 cells)) ∙ sum_by-append (λ v. cond (is_unreadable v) 1 0) (take 29 cells) (drop 29 cells) in
+    ap (λ (xs : List SectorView). unreadable_count xs) (sym (take-append-drop 29 cells)) ∙ sum_by-append (λ v. cond (is_unreadable v) 1 0)
+    (take 29 cells) (drop 29 cells) in
     let rest = count_most (drop 29 cells) in
     omega (arith, length-drop 29 cells, length-whole_cells c 2)
 few_unreadable c (inr few) = few
@@ -84,10 +86,12 @@ mending_settled c d area looked front way known = record {
 
 pub done_scrub_is_settled : DoneScrubIsSettled
 done_scrub_is_settled c words entries last acts area order scrubs known =
-    mending_settled c (changed_by (steps_of acts) c) area (looked_at words entries) (looks_in_front words entries (looked_rise words last entries order))
+    mending_settled c (changed_by (steps_of acts) c) area (looked_at words entries)
+    (looks_in_front words entries (looked_rise words last entries order))
     (done_being_mended c words entries last acts order scrubs) known
 
 pub stopped_scrub_is_settled : StoppedScrubIsSettled
 stopped_scrub_is_settled c words entries last acts area left order scrubs known torn =
-    some_weaker left (λ d way. mending_settled c d area (looked_at words entries) (looks_in_front words entries (looked_rise words last entries order)) way known)
+    some_weaker left (λ d way. mending_settled c d area (looked_at words entries)
+    (looks_in_front words entries (looked_rise words last entries order)) way known)
     (stopped_scrub c words entries last acts left order scrubs torn)

@@ -1,9 +1,11 @@
 -- A cartridge that is being mended stands for what it stood for, is mounted as it was, and its table reads the same.
-use Rattle.std.proofs.Common.{◌≡◌, ℕ, ◌-◌, ◌<◌, get_or, slice_get, Some, ap, ◌∙◌, inl, inr, sym, arith, ◌+◌, ◌≤◌, List, length, All, true, [], Contains, subst, ◌∷◌, ◌⊎◌, take, drop, map, ◌*◌}
+use Rattle.std.proofs.Common.{◌≡◌, ℕ, ◌-◌, ◌<◌, get_or, slice_get, Some, ap, ◌∙◌, inl, inr, sym, arith, ◌+◌, ◌≤◌, List, length, All, true}
+use Rattle.std.proofs.Common.{[], Contains, subst, ◌∷◌, ◌⊎◌, take, drop, map, ◌*◌}
 use Rattle.std.proofs.lemmas.Option.{slice_get-get_or, unwrap_or-slice_get, slice_get_within}
 use Rattle.std.proofs.lemmas.Bool.{cases_eq, cases_lt}
 use Rattle.std.proofs.lemmas.List.{length-append}
-use Rattle.std.proofs.lemmas.List.Elements.{All-nil, All-cons, All-head, All-tail, All-take, All-drop, Contains-append_left, Contains-append_right}
+use Rattle.std.proofs.lemmas.List.Elements.{All-nil, All-cons, All-head, All-tail, All-take, All-drop, Contains-append_left}
+use Rattle.std.proofs.lemmas.List.Elements.{Contains-append_right}
 use Rattle.cartridge_laws.proofs.FormatCopies.{no_fewer_unreadable, written_reads, held_view, view_held}
 use Rattle.cartridge_laws.proofs.FormatStanding.{same_cells}
 use Rattle.cartridge_laws.proofs.Hiding.{nothing_is_hidden}
@@ -18,7 +20,8 @@ use Rattle.cartridge_spec.specs.HeaderCopies.{CopyReads, copy_cells, CopyDoesNot
 use Rattle.cartridge_spec.specs.TableSegment.{table_cells, TableIs}
 use Rattle.cartridge_laws.specs.VolumeParts.{PartStands}
 use Rattle.cartridge_laws.specs.HeaderTerms.{IsInForce, CopiesAre}
-use Rattle.cartridge_spec.specs.Says.{cells_of, Data, Says, Written, with_parity, unreadable_count, whole_mask, Zero, ReadsAll, HasBlock, HasNoBlock, TableSays, AsRead, ByCode}
+use Rattle.cartridge_spec.specs.Says.{cells_of, Data, Says, Written, with_parity, unreadable_count, whole_mask, Zero, ReadsAll, HasBlock}
+use Rattle.cartridge_spec.specs.Says.{HasNoBlock, TableSays, AsRead, ByCode}
 use Rattle.cartridge_spec.specs.Table.{Entry, slot_fault}
 use Rattle.cartridge_spec.specs.Volumes.{Part, parts_of, Volume, VolumeStands, carrying_segments, Plain, Stands, entries_of}
 use Rattle.command_laws.proofs.ScrubApart.{one_looked, contains_first, contains_more}
@@ -63,7 +66,7 @@ same_data cells xs ds few are written says =
     cc
 
 -- a sector that is to be mended in this segment
-record MendedIn (c : Cartridge) (l : Looked) (sector : ℕ) (bytes : List ℕ) : Type 0 where
+pub record MendedIn (c : Cartridge) (l : Looked) (sector : ℕ) (bytes : List ℕ) : Type 0 where
   sectors : List (List ℕ)
   says : Says (cells_at c l) (Data sectors)
   can_be_read : reads l (Data sectors) ≡ true
@@ -72,7 +75,7 @@ record MendedIn (c : Cartridge) (l : Looked) (sector : ℕ) (bytes : List ℕ) :
   index : get_or (usable_places l.mask) place 0 ≡ sector
   block : get_or (with_parity sectors) place [] ≡ bytes
 
-mended_in : (looked : List Looked) (c : Cartridge) (l : Looked) (sector : ℕ) (bytes : List ℕ) → Rise looked → Contains looked l →
+pub mended_in : (looked : List Looked) (c : Cartridge) (l : Looked) (sector : ℕ) (bytes : List ℕ) → Rise looked → Contains looked l →
     IsMended c looked l.segment sector bytes → MendedIn c l sector bytes
 mended_in looked c l sector bytes rise among mended =
     subst (λ (m : Looked). MendedIn c m sector bytes) (one_looked looked mended.at l rise mended.among among mended.here) (record {
@@ -89,7 +92,8 @@ few_cells : (c : Cartridge) (l : Looked) → length (cells_at c l) ≤ 32
 few_cells c l = omega (arith, count_of_cells c l.segment l.mask, count_below l.mask 32)
 
 -- one that was mended holds its sector of what was written
-mended_right : (c : Cartridge) (l : Looked) (xs : List (List ℕ)) (k : ℕ) (bytes : List ℕ) → All IsSector xs → Written (cells_at c l) xs →
+pub mended_right : (c : Cartridge) (l : Looked) (xs : List (List ℕ)) (k : ℕ) (bytes : List ℕ) → All IsSector xs →
+    Written (cells_at c l) xs →
     k < usable_count l.mask →
     MendedIn c l (get_or (usable_places l.mask) k 0) bytes → slice_get (with_parity xs) k ≡ Some bytes
 mended_right c l xs k bytes are written h mended =
@@ -118,7 +122,8 @@ written_kept looked c d l xs rise among are way written = record {
         | inr has ↦
             let both : Holds held ≡ Holds has.0 = sym view ∙ has.3 in
             let bytes : held ≡ has.0 = cc in
-            mended_right c l xs k has.0 are written below (mended_in looked c l place has.0 rise among has.1) ∙ ap (λ (b : List ℕ). Some b) (sym bytes)
+            mended_right c l xs k has.0 are written below (mended_in looked c l place has.0 rise among has.1)
+            ∙ ap (λ (b : List ℕ). Some b) (sym bytes)
       ];
 }
 
@@ -138,7 +143,8 @@ unread_kept looked c d l rise among way none i h =
 pub fewer_unreadable : (looked : List Looked) (c d : Cartridge) (l : Looked) → IsBeingMended looked c d →
     unreadable_count (cells_at d l) ≤ unreadable_count (cells_at c l)
 fewer_unreadable looked c d l way =
-    no_fewer_unreadable (cells_at d l) (cells_at c l) (count_of_cells d l.segment l.mask ∙ sym (count_of_cells c l.segment l.mask)) (λ k held at.
+    no_fewer_unreadable (cells_at d l) (cells_at c l) (count_of_cells d l.segment l.mask ∙ sym (count_of_cells c l.segment l.mask))
+    (λ k held at.
     let within : k < length (cells_at c l) = slice_get_within (cells_at c l) k (Holds held) at in
     let below : k < usable_count l.mask = omega (arith, count_of_cells c l.segment l.mask) in
     let place : ℕ = get_or (usable_places l.mask) k 0 in
@@ -164,7 +170,8 @@ said_area c segment area says =
     let cells : length (cells_of c segment whole_mask) ≡ 32 = length-whole_cells c segment in
     record { size = omega arith; sectors = are.each }
 
-pub copy_reads : (looked : List Looked) (c d : Cartridge) (copy : ℕ) (area : List (List ℕ)) → Rise looked → Contains looked (whole_segment copy) →
+pub copy_reads : (looked : List Looked) (c d : Cartridge) (copy : ℕ) (area : List (List ℕ)) → Rise looked →
+    Contains looked (whole_segment copy) →
     IsBeingMended looked c d → CopyReads c copy area → CopyReads d copy area
 copy_reads looked c d copy area rise among way copy_is =
     let few : unreadable_count (copy_cells c copy) ≤ 3 = copy_is.says.0 in
@@ -219,11 +226,13 @@ pub zero_kept : (looked : List Looked) (c d : Cartridge) (copy : ℕ) → copy <
     IsBeingMended looked c d →
     Zero (copy_cells c copy) → Zero (copy_cells d copy)
 zero_kept looked c d copy small rise among way zeros =
-    subst (λ (cells : List SectorView). Zero cells) (sym (copy_same looked c d copy small rise among way (zero_does_not_read c copy zeros))) zeros
+    subst (λ (cells : List SectorView). Zero cells) (sym (copy_same looked c d copy small rise among way (zero_does_not_read c copy zeros)))
+    zeros
 
 copies_are : (looked : List Looked) (c d : Cartridge) (area : List (List ℕ)) → LooksInFront looked → IsBeingMended looked c d →
     IsArea area → CopiesAre c area → CopiesAre d area
-copies_are looked c d area front way is_area (inl written) = inl (written_kept looked c d (whole_segment 0) area front.rise front.first is_area.sectors way written)
+copies_are looked c d area front way is_area (inl written) =
+    inl (written_kept looked c d (whole_segment 0) area front.rise front.first is_area.sectors way written)
 copies_are looked c d area front way is_area (inr other) = inr (
   zero_kept looked c d 0 (omega arith) front.rise front.first way other.0,
   written_kept looked c d (whole_segment 1) area front.rise front.second is_area.sectors way other.1,
@@ -264,7 +273,8 @@ table_kept looked c d area front way (inr (some, (few, inr (none, rest)))) =
 table_stands : (looked : List Looked) (c d : Cartridge) (area : List (List ℕ)) → LooksInFront looked → IsBeingMended looked c d →
     IsArea area →
     Written (table_cells c) area ⊎ ReadsAll (table_cells c) area → Written (table_cells d) area ⊎ ReadsAll (table_cells d) area
-table_stands looked c d area front way is_area (inl written) = inl (written_kept looked c d (whole_segment 2) area front.rise front.table is_area.sectors way written)
+table_stands looked c d area front way is_area (inl written) =
+    inl (written_kept looked c d (whole_segment 2) area front.rise front.table is_area.sectors way written)
 table_stands looked c d area front way is_area (inr all) = inr (reads_kept looked c d area way all)
 
 -- ---- the volumes
@@ -328,7 +338,8 @@ mending_stands c d plain rise stood way =
       };
       sound_header = ap (λ (i : TapeInfo). header_fault plain.header_area i.segments_per_track) way.info ∙ stood.sound_header;
       copies = copies_are looked c d plain.header_area front way stood.whole.header_area stood.copies;
-      sound_table = λ i h. ap (λ (info : TapeInfo). slot_fault plain.table_area (28 * info.segments_per_track - 1) i) way.info ∙ stood.sound_table i h;
+      sound_table = λ i h. ap (λ (info : TapeInfo). slot_fault plain.table_area (28 * info.segments_per_track - 1) i) way.info
+          ∙ stood.sound_table i h;
       shown = stood.shown;
       volumes = volumes_kept looked c d plain.words plain.volumes rise way (λ l among.
           contains_more (whole_segment 0) l (whole_segment 1 ∷ whole_segment 2 ∷ rest)

@@ -1,5 +1,6 @@
 -- Scrubbing a cartridge does one thing, and it does something.
-use Rattle.std.proofs.Common.{◌≡◌, List, [], ◌∷◌, refl, sym, ap, ◌∙◌, subst, ℕ, Bool, true, false, cond, All, Option, Some, IsSomeAnd, nat_lt}
+use Rattle.std.proofs.Common.{◌≡◌, List, [], ◌∷◌, refl, sym, ap, ◌∙◌, subst, ℕ, Bool, true, false, cond, All, Option, Some, IsSomeAnd}
+use Rattle.std.proofs.Common.{nat_lt}
 use Rattle.std.proofs.lemmas.List.Elements.{All-head, All-tail, All-append}
 use Rattle.std.proofs.lemmas.Bool.{lt-ltb, false≢true}
 use Rattle.cartridge_laws.proofs.AppendWhole.{sector_writes_are_cartridge}
@@ -59,7 +60,8 @@ mending_whole c segment [] sectors are = tt
 mending_whole c segment (place ∷ places) [] are = tt
 mending_whole c segment (place ∷ places) (bytes ∷ sectors) are =
     let rest = mending_whole c segment places sectors (All-tail IsSector bytes sectors are) in
-    either_writes IsOfSector (is_unreadable (view_at c segment place)) (WriteSector segment place bytes ∷ mending_writes c segment places sectors)
+    either_writes IsOfSector (is_unreadable (view_at c segment place))
+    (WriteSector segment place bytes ∷ mending_writes c segment places sectors)
     (mending_writes c segment places sectors) (All-head IsSector bytes sectors are, rest) rest
 
 block_sectors : (c : Cartridge) (l : Looked) (sectors : List (List ℕ)) → Says (cells_at c l) (Data sectors) →
@@ -77,7 +79,8 @@ steps_whole c l (LostSectors n) says = tt
 steps_whole c l Mismatch says = tt
 
 -- what the writes of one segment leave is a cartridge
-mended_whole : (c : Cartridge) (l : Looked) (s : Saying) → IsCartridge c → Says (cells_at c l) s → IsCartridge (changed_by (steps_in c l s) c)
+mended_whole : (c : Cartridge) (l : Looked) (s : Saying) → IsCartridge c → Says (cells_at c l) s →
+    IsCartridge (changed_by (steps_in c l s) c)
 mended_whole c l s whole says =
     let steps : List Step = steps_in c l s in
     subst (λ (o : Option Cartridge). IsSomeAnd o IsCartridge) (effects-some steps c)

@@ -1,6 +1,7 @@
 -- A deep scrub mends the sectors that silently hold other bytes: what differs from a cartridge that stands in such ones alone
 -- stands behind it, and is mounted as that one before it.
-use Rattle.std.proofs.Common.{◌≡◌, ◌⊎◌, ℕ, inl, inr, List, ◌∷◌, refl, ◌+◌, ◌-◌, ◌*◌, ◌<◌, ◌≤◌, arith, sym, ◌∙◌, subst, ap, length, slice_get, Contains, Option, Some, None, Bool, true, cond}
+use Rattle.std.proofs.Common.{◌≡◌, ◌⊎◌, ℕ, inl, inr, List, ◌∷◌, refl, ◌+◌, ◌-◌, ◌*◌, ◌<◌, ◌≤◌, arith, sym, ◌∙◌, subst, ap, length}
+use Rattle.std.proofs.Common.{slice_get, Contains, Option, Some, None, Bool, true, cond}
 use Rattle.std.proofs.lemmas.Bool.{cases_eq, lt-ltb, le-ltb}
 use Rattle.std.proofs.lemmas.List.{length-append}
 use Rattle.std.proofs.lemmas.List.Elements.{All-contains}
@@ -16,7 +17,8 @@ use Rattle.cartridge_spec.specs.Header.{has_signature, header_fault}
 use Rattle.cartridge_spec.specs.HeaderCopies.{CopyReads, copy_cells, last_segment}
 use Rattle.cartridge_spec.specs.TableSegment.{TableIs}
 use Rattle.cartridge_laws.specs.HeaderTerms.{IsInForce}
-use Rattle.cartridge_spec.specs.Says.{Saying, Says, Data, Mismatch, TableSays, AsRead, ByCode, Written, with_parity, unreadable_count, Agrees, HasNoBlock}
+use Rattle.cartridge_spec.specs.Says.{Saying, Says, Data, Mismatch, TableSays, AsRead, ByCode, Written, with_parity, unreadable_count}
+use Rattle.cartridge_spec.specs.Says.{Agrees, HasNoBlock}
 use Rattle.cartridge_spec.specs.Settling.{changed_by}
 use Rattle.cartridge_spec.specs.Shape.{usable_count}
 use Rattle.cartridge_spec.specs.Table.{slot_fault}
@@ -64,10 +66,12 @@ worn_before k c l one j held h view =
           sym (one.others j h apart) ∙ sym (worn_elsewhere c l.segment one.sector l.segment j small h (λ here e. apart (sym e))) ∙ view
     ]
 
-held_at : (c : Cartridge) (l : Looked) (place sector : ℕ) (bytes : List ℕ) → IsPlace l place sector → view_at c l.segment sector ≡ Holds bytes →
+held_at : (c : Cartridge) (l : Looked) (place sector : ℕ) (bytes : List ℕ) → IsPlace l place sector →
+    view_at c l.segment sector ≡ Holds bytes →
     slice_get (cells_at c l) place ≡ Some (Holds bytes)
 held_at c l place sector bytes is view =
-    cell_at c l.segment l.mask place is.within ∙ ap (λ (i : ℕ). Some (view_at c l.segment i)) is.index ∙ ap (λ (v : SectorView). Some v) view
+    cell_at c l.segment l.mask place is.within ∙ ap (λ (i : ℕ). Some (view_at c l.segment i)) is.index
+    ∙ ap (λ (v : SectorView). Some v) view
 
 -- such a sector is the wrong one
 silent_wrong : (k c : Cartridge) (l : Looked) → (known : IsKnown k l) → (one : HasOneSilent k c l) → IsWrong c l one.sector known.has.xs
@@ -94,7 +98,8 @@ silent_wrong k c l known one =
       each = λ i bytes at. agrees.each i bytes (held_before c d l.segment l.mask i bytes (worn_reads_no_more c l.segment one.sector) at);
     } in
     let same : block ≡ with_parity xs = one_agreeing_block (cells_at d l) block (with_parity xs) block_code code agrees_less less few in
-    let here : slice_get block one.place ≡ Some one.wrong = agrees.each one.place one.wrong (held_at c l one.place one.sector one.wrong is one.is) in
+    let here : slice_get block one.place ≡ Some one.wrong = agrees.each one.place one.wrong
+    (held_at c l one.place one.sector one.wrong is one.is) in
     let there : slice_get (with_parity xs) one.place ≡ Some one.right =
     written.each one.place one.right (held_at k l one.place one.sector one.right is one.was) in
     let both : Some one.wrong ≡ Some one.right = sym here ∙ ap (λ (b : List (List ℕ)). slice_get b one.place) same ∙ there in
@@ -113,7 +118,8 @@ silent_wrong k c l known one =
 
 -- each one but that of the second header copy, and the table's, is known
 looked_known : (k : Cartridge) (plain : Plain) (l : Looked) → Stands k plain → Rise (looked_at plain.words (entries_of plain)) →
-    Written (copy_cells k 0) plain.header_area → Contains (looked_at plain.words (entries_of plain)) l → (l.segment ≡ 1 → ⊥) → (l.segment ≡ 2 → ⊥) →
+    Written (copy_cells k 0) plain.header_area → Contains (looked_at plain.words (entries_of plain)) l → (l.segment ≡ 1 → ⊥) →
+    (l.segment ≡ 2 → ⊥) →
     IsKnown k l
 looked_known k plain l stood rise first among not_second not_table =
     let rest : List Looked = looked_volumes plain.words (entries_of plain) in
@@ -133,7 +139,8 @@ looked_known k plain l stood rise first among not_second not_table =
         | inr later ↦ elim (contains_cases (whole_segment 2) l rest later) [
           | inl is ↦ absurd (not_table (sym (ap (λ (m : Looked). m.segment) is)))
           | inr volume ↦
-              let has = All-contains (HasWritten k) rest l (volumes_written k plain.words plain.volumes stood.whole.areas stood.volumes) volume in
+              let has = All-contains (HasWritten k) rest l (volumes_written k plain.words plain.volumes stood.whole.areas stood.volumes)
+              volume in
               let past : 2 < l.segment = All-contains (λ (m : Looked). 2 < m.segment) rest l rise.1.1.0 volume in
               record {
                 has = has;
@@ -147,12 +154,14 @@ looked_known k plain l stood rise first among not_second not_table =
 
 -- that of the first header copy can be read
 first_few : (k c : Cartridge) (plain : Plain) (s : Saying) (w : Option ℕ) → Stands k plain → DiffersSilently k c plain →
-    HasFound Deep c (whole_segment 0) s w → HasCopy k c plain → unreadable_count (cells_at (without w (whole_segment 0) c) (whole_segment 0)) ≤ 3
+    HasFound Deep c (whole_segment 0) s w → HasCopy k c plain →
+    unreadable_count (cells_at (without w (whole_segment 0) c) (whole_segment 0)) ≤ 3
 first_few k c plain s None stood silent found (inl first) = first.1
 first_few k c plain s None stood silent found (inr second) = let few : unreadable_count (copy_cells c 0) ≤ 1 = second.3 in omega arith
 first_few k c plain s (Some sector) stood silent found (inl first) =
     let written : Written (copy_cells c 0) plain.header_area =
-    subst (λ (cells : List SectorView). Written cells plain.header_area) (sym (same_cells k c 0 (whole_segment 0).mask first.0)) silent.first in
+    subst (λ (cells : List SectorView). Written cells plain.header_area)
+    (sym (same_cells k c 0 (whole_segment 0).mask first.0)) silent.first in
     absurd (written_not_wrong c (whole_segment 0) plain.header_area sector found.1 stood.whole.header_area.sectors written found.3)
 first_few k c plain s (Some sector) stood silent found (inr second) =
     let few : unreadable_count (copy_cells c 0) ≤ 1 = second.3 in
@@ -160,13 +169,17 @@ first_few k c plain s (Some sector) stood silent found (inr second) =
     worn_count c (whole_segment 0) found.3.place sector (wrong_place found.3) in
     omega arith
 
-module _ (k c e : Cartridge) (plain : Plain) (fs : List Finding) (stood : Stands k plain) (silent : DiffersSilently k c plain) (rise : Rise (looked_at plain.words (entries_of plain))) (found : FindAtOnce Deep c (looked_at plain.words (entries_of plain)) fs) (seen : IsSeen Deep c e (looked_at plain.words (entries_of plain)) fs) where
+module _ (k c e : Cartridge) (plain : Plain) (fs : List Finding) (stood : Stands k plain) (silent : DiffersSilently k c plain)
+    (rise : Rise (looked_at plain.words (entries_of plain))) (found : FindAtOnce Deep c (looked_at plain.words (entries_of plain)) fs)
+    (seen : IsSeen Deep c e (looked_at plain.words (entries_of plain)) fs) where
   -- a segment with a wrong sector is as it was with that sector worn
-  silent_seen : (s i : ℕ) (bytes : List ℕ) → i < 32 → (s ≡ 1 → ⊥) → view_at e s i ≡ Holds bytes → IsSilentIn k c plain s → view_at k s i ≡ Holds bytes
+  silent_seen : (s i : ℕ) (bytes : List ℕ) → i < 32 → (s ≡ 1 → ⊥) → view_at e s i ≡ Holds bytes → IsSilentIn k c plain s →
+      view_at k s i ≡ Holds bytes
   silent_seen s i bytes h other view one =
       let l : Looked = one.at in
       let known : IsKnown k l =
-      looked_known k plain l stood rise silent.first one.among (λ is. other (sym one.here ∙ is)) (λ is. one.not_table (sym one.here ∙ is)) in
+      looked_known k plain l stood rise silent.first one.among (λ is. other (sym one.here ∙ is))
+      (λ is. one.not_table (sym one.here ∙ is)) in
       let of = found_of Deep c e (looked_at plain.words (entries_of plain)) fs l found seen.seen one.among in
       let wrong : Finding = record { saying = Data known.has.xs; wrong = Some one.one.sector } in
       let same : of.finding ≡ wrong =
@@ -206,7 +219,8 @@ module _ (k c e : Cartridge) (plain : Plain) (fs : List Finding) (stood : Stands
       let cells : cells_at e (whole_segment 0) ≡ cells_at (without of.finding.wrong (whole_segment 0) c) (whole_segment 0) =
       same_cells (without of.finding.wrong (whole_segment 0) c) e 0 (whole_segment 0).mask of.seen in
       written_reads e 0 plain.header_area stood.whole.header_area (signature_in_force k plain.header_area stood.header.in_force)
-      (written_before k e 0 (whole_segment 0).mask plain.header_area (λ j held h view. no_more 0 j held h (λ is. omega arith) view) silent.first)
+      (written_before k e 0 (whole_segment 0).mask plain.header_area (λ j held h view. no_more 0 j held h (λ is. omega arith) view)
+      silent.first)
       (subst (λ (xs : List SectorView). unreadable_count xs ≤ 3) (sym cells)
       (first_few k c plain of.finding.saying of.finding.wrong stood silent of.finds silent.copy))
 
@@ -224,7 +238,8 @@ silent_sectors_are_mended k c plain acts stood silent scrubs =
     let looked : List Looked = looked_at plain.words (entries_of plain) in
     let run = as_seen Deep c plain.words (entries_of plain) (last_segment k) acts (in_order k plain stood) scrubs in
     let e : Cartridge = without_all c looked scrubs.findings in
-    mending_stands e (changed_by (steps_of acts) c) plain run.rise (seen_stands k c e plain scrubs.findings stood silent run.rise run.found run.seen)
+    mending_stands e (changed_by (steps_of acts) c) plain run.rise
+    (seen_stands k c e plain scrubs.findings stood silent run.rise run.found run.seen)
     (mended_as_seen Deep c plain.words (entries_of plain) acts scrubs.findings run)
 
 -- ---- before the scrub
@@ -233,9 +248,11 @@ first_copy_reads : (k c : Cartridge) (plain : Plain) → Stands k plain → Diff
     unreadable_count (copy_cells c 0) ≤ 3 → CopyReads c 0 plain.header_area
 first_copy_reads k c plain stood silent same few =
     written_reads c 0 plain.header_area stood.whole.header_area (signature_in_force k plain.header_area stood.header.in_force)
-    (subst (λ (cells : List SectorView). Written cells plain.header_area) (sym (same_cells k c 0 (whole_segment 0).mask same)) silent.first) few
+    (subst (λ (cells : List SectorView). Written cells plain.header_area) (sym (same_cells k c 0 (whole_segment 0).mask same)) silent.first)
+    few
 
-silent_in_force : (k c : Cartridge) (plain : Plain) → Stands k plain → DiffersSilently k c plain → Rise (looked_at plain.words (entries_of plain)) →
+silent_in_force : (k c : Cartridge) (plain : Plain) → Stands k plain → DiffersSilently k c plain →
+    Rise (looked_at plain.words (entries_of plain)) →
     HasCopy k c plain → IsInForce c plain.header_area
 silent_in_force k c plain stood silent rise (inl first) = inl (first_copy_reads k c plain stood silent first.0 first.1)
 silent_in_force k c plain stood silent rise (inr second) =
@@ -248,14 +265,16 @@ silent_in_force k c plain stood silent rise (inr second) =
           contains_first (whole_segment 0) (whole_segment 1 ∷ whole_segment 2 ∷ looked_volumes plain.words (entries_of plain)) in
           let at : one.at ≡ whole_segment 0 = one_looked looked one.at (whole_segment 0) rise one.among front one.here in
           let silent_one : HasOneSilent k c (whole_segment 0) = subst (HasOneSilent k c) at one.one in
-          let known : IsKnown k (whole_segment 0) = looked_known k plain (whole_segment 0) stood rise silent.first front (λ is. omega arith) (λ is. omega arith) in
+          let known : IsKnown k (whole_segment 0) = looked_known k plain (whole_segment 0) stood rise silent.first front (λ is. omega arith)
+          (λ is. omega arith) in
           let wrong = silent_wrong k c (whole_segment 0) known silent_one in
           inr (
             λ area copy_reads.
                 let both : Data area ≡ Mismatch = says_is_function (copy_cells c 0) (Data area) Mismatch copy_reads.says wrong.mismatch in
                 absurd (cc),
             written_reads c 1 plain.header_area stood.whole.header_area (signature_in_force k plain.header_area stood.header.in_force)
-                (subst (λ (cells : List SectorView). Written cells plain.header_area) (sym (same_cells k c 1 (whole_segment 1).mask second.0)) second.1) second.2,
+                (subst (λ (cells : List SectorView). Written cells plain.header_area)
+                (sym (same_cells k c 1 (whole_segment 1).mask second.0)) second.1) second.2,
           )
     ]
 
@@ -282,6 +301,7 @@ silent_sectors_are_mounted k c plain stood mounts silent =
         shown = stood.whole.shown;
       };
       reads = table_reads k c plain plain.table_area silent mounts.reads;
-      sound = λ i h. ap (λ (info : TapeInfo). slot_fault plain.table_area (28 * info.segments_per_track - 1) i) silent.info ∙ stood.sound_table i h;
+      sound = λ i h. ap (λ (info : TapeInfo). slot_fault plain.table_area (28 * info.segments_per_track - 1) i) silent.info
+          ∙ stood.sound_table i h;
       shown = stood.shown;
     }

@@ -31,7 +31,8 @@ use Rattle.qic_base.specs.declared.tape.SectorView.TheVariants.{Blank, Defect, L
 abbrev AllSame : (c e : Cartridge) → Type 0
 AllSame c e = (segment : ℕ) → IsSameIn c e segment
 
-count_same : (c e : Cartridge) (l : Looked) (n : ℕ) → AllSame c e → unreadable_count (cells_at c l) ≤ n → unreadable_count (cells_at e l) ≤ n
+count_same : (c e : Cartridge) (l : Looked) (n : ℕ) → AllSame c e → unreadable_count (cells_at c l) ≤ n →
+    unreadable_count (cells_at e l) ≤ n
 count_same c e l n same few =
     subst (λ (cells : List SectorView). unreadable_count cells ≤ n) (sym (same_cells c e l.segment l.mask (same l.segment))) few
 
@@ -91,14 +92,16 @@ table_same k c plain silent =
       | inr one ↦ absurd (one.not_table refl)
     ]
 
-settling_same : (k c : Cartridge) (plain : Plain) → IsSettledFor k plain.table_area → DiffersSilently k c plain → TableIs c plain.table_area →
+settling_same : (k c : Cartridge) (plain : Plain) → IsSettledFor k plain.table_area → DiffersSilently k c plain →
+    TableIs c plain.table_area →
     c.info.protected ≡ false → AllSame c (settled plain.table_area c)
 settling_same k c plain known silent reads unprotected segment i h =
     let area : List (List ℕ) = plain.table_area in
     let same : IsSameIn k c 2 = table_same k c plain silent in
     let all : Cartridge = changed_by (writes_of 2 (usable_places whole_mask) (with_parity area)) c in
     let written : IsAllWritten (with_parity area) c (settled area c) =
-    subst (IsAllWritten (with_parity area) c) (sym (ap (λ (b : Bool). cond b c all) unprotected)) (all_written (with_parity area) c (length-table_block c area reads)) in
+    subst (IsAllWritten (with_parity area) c) (sym (ap (λ (b : Bool). cond b c all) unprotected))
+    (all_written (with_parity area) c (length-table_block c area reads)) in
     elim (cases_eq segment 2) [
       | inl is ↦
           subst (λ (s : ℕ). view_at (settled area c) s i ≡ view_at c s i) (sym is)

@@ -12,7 +12,8 @@ use Rattle.cartridge_spec.specs.Table.{Entry, Shows}
 use Rattle.qic_base.specs.Cartridge.{Cartridge}
 
 -- data that are all read are those of a block that agrees
-read_block : (c : Cartridge) (area block : List (List ℕ)) → ReadsAll (table_cells c) area → Agrees (table_cells c) block → area ≡ data_of block
+read_block : (c : Cartridge) (area block : List (List ℕ)) → ReadsAll (table_cells c) area → Agrees (table_cells c) block →
+    area ≡ data_of block
 read_block c area block reads agrees =
     let size : length area ≡ 29 = reads.size in
     let long : length block ≡ 32 = agrees.size ∙ length-whole_cells c 2 in
@@ -31,9 +32,11 @@ pub list_shown : (c : Cartridge) (area : List (List ℕ)) (entries : List Entry)
 list_shown c area entries has (inl reads) =
     subst (λ (a : List (List ℕ)). Shows a entries) (sym (read_block c area has.block reads has.agrees)) has.shown
 list_shown c area entries has (inr solved) =
-    let block : HasBlock (table_cells c) (data_of has.block) = record { block = has.block; code = has.code; agrees = has.agrees; shown = refl } in
+    let block : HasBlock (table_cells c) (data_of has.block) =
+    record { block = has.block; code = has.code; agrees = has.agrees; shown = refl } in
     let says : TableSays (table_cells c) (ByCode (Data (data_of has.block))) =
     said_is_table (table_cells c) (Data (data_of has.block)) solved.0 (solved.1.0, block) (λ same. cc) in
-    let same : ByCode (Data area) ≡ ByCode (Data (data_of has.block)) = table_says_is_function (table_cells c) (ByCode (Data area)) (ByCode (Data (data_of has.block))) solved says in
+    let same : ByCode (Data area) ≡ ByCode (Data (data_of has.block)) = table_says_is_function (table_cells c) (ByCode (Data area))
+    (ByCode (Data (data_of has.block))) solved says in
     let one : area ≡ data_of has.block = cc in
     subst (λ (a : List (List ℕ)). Shows a entries) (sym one) has.shown

@@ -1,5 +1,6 @@
 -- The writes of an input lie behind the table's segment.
-use Rattle.std.proofs.Common.{◌<◌, List, Bool, true, false, cond, ◌≡◌, ℕ, ◌+◌, [], ◌∷◌, ◌++◌, take, ap, ◌∙◌, subst, arith, append-nil, length, drop, All, nat_le, ◌≤◌, ◌&&◌, Option, nat_lt, sym, ◌-◌}
+use Rattle.std.proofs.Common.{◌<◌, List, Bool, true, false, cond, ◌≡◌, ℕ, ◌+◌, [], ◌∷◌, ◌++◌, take, ap, ◌∙◌, subst, arith, append-nil}
+use Rattle.std.proofs.Common.{length, drop, All, nat_le, ◌≤◌, ◌&&◌, Option, nat_lt, sym, ◌-◌}
 use Rattle.std.proofs.lemmas.List.{take_all}
 use Rattle.std.proofs.lemmas.List.Elements.{All-nil, All-cons, All-head, All-tail}
 use Rattle.std.specs.Prelude.{is_some}
@@ -43,15 +44,18 @@ volume_behind words [] bytes are = tt
 volume_behind words (s ∷ ss) bytes are =
     let cap : ℕ = capacity (mask_at words s) in
     let rest : List Act = cond (nat_le (length bytes) cap) [] (volume_acts words ss (drop cap bytes)) in
-    in_append (λ s i. 2 < s) (segment_act words s bytes).steps (steps_of rest) (act_behind words s bytes (All-head (λ (t : ℕ). 2 < t) s ss are))
-    (by_test (nat_le (length bytes) cap) [] (volume_acts words ss (drop cap bytes)) tt (volume_behind words ss (drop cap bytes) (All-tail (λ (t : ℕ). 2 < t) s ss are)))
+    in_append (λ s i. 2 < s) (segment_act words s bytes).steps (steps_of rest)
+    (act_behind words s bytes (All-head (λ (t : ℕ). 2 < t) s ss are))
+    (by_test (nat_le (length bytes) cap) [] (volume_acts words ss (drop cap bytes)) tt
+    (volume_behind words ss (drop cap bytes) (All-tail (λ (t : ℕ). 2 < t) s ss are)))
 
 filled_behind : (words segments bytes : List ℕ) → All (λ s. 2 < s) segments → AreBehind (filled_acts words segments bytes)
 filled_behind words [] bytes are = tt
 filled_behind words (s ∷ ss) bytes are =
     let cap : ℕ = capacity (mask_at words s) in
     by_test (nat_le cap (length bytes)) (segment_act words s bytes ∷ filled_acts words ss (drop cap bytes)) []
-    (in_append (λ s i. 2 < s) (segment_act words s bytes).steps (steps_of (filled_acts words ss (drop cap bytes))) (act_behind words s bytes (All-head (λ (t : ℕ). 2 < t) s ss are))
+    (in_append (λ s i. 2 < s) (segment_act words s bytes).steps (steps_of (filled_acts words ss (drop cap bytes)))
+    (act_behind words s bytes (All-head (λ (t : ℕ). 2 < t) s ss are))
     (filled_behind words ss (drop cap bytes) (All-tail (λ (t : ℕ). 2 < t) s ss are))) tt
 
 over : (from : ℕ) (segments : List ℕ) → 3 ≤ from → All (λ s. from ≤ s) segments → All (λ s. 2 < s) segments
@@ -60,19 +64,24 @@ over from (s ∷ ss) least are =
     let here : from ≤ s = All-head (λ (t : ℕ). from ≤ t) s ss are in
     All-cons (λ (t : ℕ). 2 < t) s ss (omega arith) (over from ss least (All-tail (λ (t : ℕ). from ≤ t) s ss are))
 
-pub input_behind : (words : List ℕ) (entries : List Entry) (promised : Option ℕ) (input : List ℕ) → 2 ≤ last_end entries → AreBehind (input_writes words entries promised input)
+pub input_behind : (words : List ℕ) (entries : List Entry) (promised : Option ℕ) (input : List ℕ) → 2 ≤ last_end entries →
+    AreBehind (input_writes words entries promised input)
 input_behind words entries promised input least =
     let segments : List ℕ = free_segments words entries in
     let most : ℕ = most_written (room words entries) promised in
-    let are : All (λ s. 2 < s) segments = over (last_end entries + 1) segments (omega arith) (carrying_from words (last_end entries + 1) (length words - 1)) in
+    let are : All (λ s. 2 < s) segments = over (last_end entries + 1) segments (omega arith)
+    (carrying_from words (last_end entries + 1) (length words - 1)) in
     by_test (has_promised_room (room words entries) promised) (input_acts words segments most (is_some promised) input) []
-    (by_test (is_some promised && nat_lt (length input) most) (filled_acts words segments input) (volume_acts words segments (take most input))
+    (by_test (is_some promised && nat_lt (length input) most) (filled_acts words segments input)
+    (volume_acts words segments (take most input))
     (filled_behind words segments input are) (volume_behind words segments (take most input) are)) tt
 
 -- the settled table stays so
-pub settled_behind : (c : Cartridge) (area : List (List ℕ)) (steps : List Step) → AreIn (λ s i. 2 < s) steps → IsSettledFor c area → IsSettledFor (changed_by steps c) area
+pub settled_behind : (c : Cartridge) (area : List (List ℕ)) (steps : List Step) → AreIn (λ s i. 2 < s) steps → IsSettledFor c area →
+    IsSettledFor (changed_by steps c) area
 settled_behind c area steps are known =
-    settled_kept c (changed_by steps c) area (λ s i within h. (steps_kept (λ t j. 2 < t) steps c are).others s i h (λ past. omega arith)) known
+    settled_kept c (changed_by steps c) area (λ s i within h. (steps_kept (λ t j. 2 < t) steps c are).others s i h (λ past. omega arith))
+    known
 
 front_in : (xs ys : List Step) → AreIn (λ s i. 2 < s) (xs ++ ys) → AreIn (λ s i. 2 < s) xs
 front_in [] ys are = tt

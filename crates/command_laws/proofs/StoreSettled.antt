@@ -20,12 +20,18 @@ use Rattle.cartridge_spec.specs.Table as tables
 
 -- the table's data are 29 sectors
 pub table_size : (c : Cartridge) (area : List (List ℕ)) → TableIs c area → length area ≡ 29
-table_size c area table = omega (arith, length-table_block c area table, length-append area (parity_sectors area), length-parity_sectors area)
+table_size c area table = omega (
+  arith,
+  length-table_block c area table,
+  length-append area (parity_sectors area),
+  length-parity_sectors area,
+)
 
 pub table_sectors : (c : Cartridge) (area : List (List ℕ)) → IsCartridge c → TableIs c area → All IsSector area
 table_sectors c area whole table = (table_is_area c area whole table).sectors
 
-pub settled_list : (c : Cartridge) (area : List (List ℕ)) (entries : List Entry) → IsCartridge c → TableIs c area → tables.Shows area entries → c.info.protected ≡ false →
+pub settled_list : (c : Cartridge) (area : List (List ℕ)) (entries : List Entry) → IsCartridge c → TableIs c area →
+    tables.Shows area entries → c.info.protected ≡ false →
     HasList (settled area c) entries
 settled_list c area entries whole table shown mark =
     let size : length area ≡ 29 = table_size c area table in record {

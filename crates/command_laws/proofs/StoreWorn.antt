@@ -9,7 +9,8 @@ use Rattle.qic_base.specs.Cartridge.{Cartridge}
 use Rattle.qic_base.specs.Step.{Wear, changed}
 
 -- what can be read agrees with the same block
-pub worn_list : (c : Cartridge) (segment sector : ℕ) (entries : List Entry) → HasList c entries → HasList (changed (Wear segment sector) c) entries
+pub worn_list : (c : Cartridge) (segment sector : ℕ) (entries : List Entry) → HasList c entries →
+    HasList (changed (Wear segment sector) c) entries
 worn_list c segment sector entries has =
     let d : Cartridge = changed (Wear segment sector) c in
     record {

@@ -1,5 +1,6 @@
 -- The forms of commands.
-use Rattle.std.proofs.Common.{length, ◌≤◌, inl, inr, ℕ, List, [], ◌∷◌, ◌≡◌, ◌⊎◌, zero, suc, ◌+◌, ◌==◌, false, ◌++◌, refl, arith, ◌-◌, ap, ◌∙◌, ◌*◌, get_or, ◌/◌, ◌%◌, sym}
+use Rattle.std.proofs.Common.{length, ◌≤◌, inl, inr, ℕ, List, [], ◌∷◌, ◌≡◌, ◌⊎◌, zero, suc, ◌+◌, ◌==◌, false, ◌++◌, refl, arith, ◌-◌, ap}
+use Rattle.std.proofs.Common.{◌∙◌, ◌*◌, get_or, ◌/◌, ◌%◌, sym}
 use Rattle.std.specs.List.{AllZip}
 use Rattle.std.proofs.lemmas.Bool.Decides.{nat_tests}
 use Rattle.std.specs.Str.Parse.{digits_value}
@@ -15,7 +16,8 @@ only ws form (inl h) = h
 only ws form (inr h) = absurd h
 
 -- a form with a date or without one
-pub dated_cases : (ws : List (List ℕ)) (form : List Part) (date : ℕ) → HasForm ws (dated form date) → AllZip SpellsPart ws (form ++ Date date ∷ []) ⊎ (AllZip SpellsPart ws form × (date ≡ 0))
+pub dated_cases : (ws : List (List ℕ)) (form : List Part) (date : ℕ) → HasForm ws (dated form date) →
+    AllZip SpellsPart ws (form ++ Date date ∷ []) ⊎ (AllZip SpellsPart ws form × (date ≡ 0))
 dated_cases ws form date (inl h) = inl h
 dated_cases ws form zero (inr h) = inr (only ws form h, refl)
 dated_cases ws form (suc date) (inr h) = let dated : (suc date == 0) ≡ false = grind (arith, nat_tests) in absurd (rw dated at h)
@@ -91,7 +93,8 @@ pair_is word at n h = let few = h.0 in let tens = h.1 in let ones = h.2 in omega
 
 pub date_value : List ℕ → ℕ
 date_value word =
-    date_word (100 * pair_value word 0 + pair_value word 2) (pair_value word 5) (pair_value word 8) (pair_value word 11) (pair_value word 14) (pair_value word 17)
+    date_word (100 * pair_value word 0 + pair_value word 2) (pair_value word 5) (pair_value word 8) (pair_value word 11)
+    (pair_value word 14) (pair_value word 17)
 
 pub IsDateWord-value : (word : List ℕ) (date : ℕ) → IsDateWord word date → date_value word ≡ date
 unfolding date_value
@@ -99,7 +102,14 @@ IsDateWord-value word date d =
     let f = fields_of word date d in
     let year : 100 * pair_value word 0 + pair_value word 2 ≡ d.year =
     (let h = pair_is word 0 (d.year / 100) f.hundreds_at in let y = pair_is word 2 (d.year % 100) f.years_at in omega arith) in
-    rw (year, pair_is word 5 d.month f.month_at, pair_is word 8 d.day f.day_at, pair_is word 11 d.hour f.hour_at, pair_is word 14 d.minute f.minute_at, pair_is word 17 d.second f.second_at)
+    rw (
+      year,
+      pair_is word 5 d.month f.month_at,
+      pair_is word 8 d.day f.day_at,
+      pair_is word 11 d.hour f.hour_at,
+      pair_is word 14 d.minute f.minute_at,
+      pair_is word 17 d.second f.second_at,
+    )
     (sym d.stamped)
 
 -- ---- the only command that words can be

@@ -9,7 +9,8 @@ abbrev pub HasPair : List ℕ → ℕ → ℕ → Type 0
 HasPair word at n = (n < 100) × (get_or word at 0 ≡ digit (n / 10)) × (get_or word (at + 1) 0 ≡ digit n)
 
 abbrev pub IsParted : List ℕ → Type 0
-IsParted word = (get_or word 4 0 ≡ 45) × (get_or word 7 0 ≡ 45) × (get_or word 10 0 ≡ 84) × (get_or word 13 0 ≡ 58) × (get_or word 16 0 ≡ 58)
+IsParted word = (get_or word 4 0 ≡ 45) × (get_or word 7 0 ≡ 45) × (get_or word 10 0 ≡ 84) × (get_or word 13 0 ≡ 58)
+    × (get_or word 16 0 ≡ 58)
 
 -- the fields of a date, where they stand
 pub record HasFields (word : List ℕ) (hundreds years month day hour minute second : ℕ) : Type 0 where
@@ -49,4 +50,5 @@ pub fields_of : (word : List ℕ) (n : ℕ) (d : IsDateWord word n) →
     HasFields word (d.year / 100) (d.year % 100) d.month d.day d.hour d.minute d.second
 fields_of word n d =
     let a = d.a_date in
-    rw d.written (form_fields d.year d.month d.day d.hour d.minute d.second (omega arith) (omega arith) (omega arith) (omega arith) (omega arith) (omega arith))
+    rw d.written (form_fields d.year d.month d.day d.hour d.minute d.second (omega arith) (omega arith) (omega arith) (omega arith)
+    (omega arith) (omega arith))

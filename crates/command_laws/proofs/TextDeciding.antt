@@ -1,5 +1,6 @@
 -- Words are those of a command or of none, and each input has a reading.
-use Rattle.std.proofs.Common.{◌⊎◌, inl, inr, ◌≡◌, Bool, true, false, refl, ℕ, ◌-◌, List, ◌≤◌, nat_le, arith, ◌==◌, decimal, zero, suc, [], ◌∷◌, All, Option, Some, None, ap, ◌≢◌, slice_get, length, ◌+◌, ◌*◌, ◌/◌, ◌%◌}
+use Rattle.std.proofs.Common.{◌⊎◌, inl, inr, ◌≡◌, Bool, true, false, refl, ℕ, ◌-◌, List, ◌≤◌, nat_le, arith, ◌==◌, decimal, zero, suc, []}
+use Rattle.std.proofs.Common.{◌∷◌, All, Option, Some, None, ap, ◌≢◌, slice_get, length, ◌+◌, ◌*◌, ◌/◌, ◌%◌}
 use Rattle.std.specs.List.{AllZip}
 use Rattle.std.specs.Str.{bytes_eq}
 use Rattle.std.proofs.lemmas.Slice.Eq.{bytes_eq-Decides}
@@ -75,7 +76,8 @@ is_name word =
     (both (1 ≤ n) ((n ≤ 44) × (A × (B × E))) (at_most 1 n)
     (both (n ≤ 44) (A × (B × E)) (at_most n 44)
     (both A (B × E) (all_printable word)
-    (both B E (not_it (slice_get word 0 ≡ Some 0x20) (is_space (slice_get word 0))) (not_it (slice_get word (n - 1) ≡ Some 0x20) (is_space (slice_get word (n - 1))))))))
+    (both B E (not_it (slice_get word 0 ≡ Some 0x20) (is_space (slice_get word 0)))
+    (not_it (slice_get word (n - 1) ≡ Some 0x20) (is_space (slice_get word (n - 1))))))))
 
 is_date : (year month day hour minute second : ℕ) → Decided (IsDate year month day hour minute second)
 is_date y mo d h mi s =
@@ -95,7 +97,13 @@ is_date y mo d h mi s =
       last_minute = f.1.1.1.1.0;
       last_second = f.1.1.1.1.1;
     })
-    (λ f. ((f.first_year, f.last_year), ((f.first_month, f.last_month), ((f.first_day, f.last_day), (f.last_hour, (f.last_minute, f.last_second))))))
+    (λ f. (
+      (f.first_year, f.last_year),
+      (
+        (f.first_month, f.last_month),
+        ((f.first_day, f.last_day), (f.last_hour, (f.last_minute, f.last_second))),
+      ),
+    ))
     (both W (M × (D × T)) (both (1970 ≤ y) (y ≤ 2097) (at_most 1970 y) (at_most y 2097))
     (both M (D × T) (both (1 ≤ mo) (mo ≤ 12) (at_most 1 mo) (at_most mo 12))
     (both D T (both (1 ≤ d) (d ≤ 31) (at_most 1 d) (at_most d 31))
@@ -116,7 +124,8 @@ is_date_word word date =
     (λ f. record { year = y; month = mo; day = d; hour = h; minute = mi; second = s; a_date = f.0; written = f.1.0; stamped = f.1.1 })
     (λ w.
     let f = fields_of word date w in
-    let year : y ≡ w.year = (let a = pair_is word 0 (w.year / 100) f.hundreds_at in let b = pair_is word 2 (w.year % 100) f.years_at in omega arith) in
+    let year : y ≡ w.year = (let a = pair_is word 0 (w.year / 100) f.hundreds_at in let b = pair_is word 2 (w.year % 100) f.years_at in
+    omega arith) in
     let month : mo ≡ w.month = pair_is word 5 w.month f.month_at in
     let day : d ≡ w.day = pair_is word 8 w.day f.day_at in
     let hour : h ≡ w.hour = pair_is word 11 w.hour f.hour_at in
@@ -131,7 +140,8 @@ spelled word (Word text) = same_bytes word text
 spelled word (Number least greatest n) =
     decide_as (IsNumber word n × ((least ≤ n) × (n ≤ greatest))) (IsNumber word n × (least ≤ n) × (n ≤ greatest))
     (λ h. (h.0, h.1.0, h.1.1)) (λ h. (h.0, (h.1, h.2)))
-    (both (IsNumber word n) ((least ≤ n) × (n ≤ greatest)) (is_number word n) (both (least ≤ n) (n ≤ greatest) (at_most least n) (at_most n greatest)))
+    (both (IsNumber word n) ((least ≤ n) × (n ≤ greatest)) (is_number word n)
+    (both (least ≤ n) (n ≤ greatest) (at_most least n) (at_most n greatest)))
 spelled word (Name name) = both (IsNameText word) (name ≡ filled word) (is_name word) (same_bytes name (filled word))
 spelled word (Date date) = is_date_word word date
 
@@ -139,7 +149,8 @@ all_spelled : (words : List (List ℕ)) (parts : List Part) → Decided (AllZip 
 all_spelled [] [] = inl tt
 all_spelled [] (part ∷ parts) = inr (λ h. h)
 all_spelled (word ∷ words) [] = inr (λ h. h)
-all_spelled (word ∷ words) (part ∷ parts) = both (SpellsPart word part) (AllZip SpellsPart words parts) (spelled word part) (all_spelled words parts)
+all_spelled (word ∷ words) (part ∷ parts) = both (SpellsPart word part) (AllZip SpellsPart words parts) (spelled word part)
+    (all_spelled words parts)
 
 pub has_form : (words : List (List ℕ)) (forms : List (List Part)) → Decided (HasForm words forms)
 has_form words [] = inr (λ h. h)

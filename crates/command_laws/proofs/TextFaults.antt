@@ -4,7 +4,8 @@ use Rattle.std.proofs.lemmas.Bool.Decides.{nat_tests}
 use Rattle.command_spec.specs.Input.{HasItems, AtFault, most_items}
 
 -- it is the first behind the items, and no more than so many stand before it
-fault_from : {I : Type 0} (Spelled : List ℕ → I → Type 0) (line place : ℕ) (input : List ℕ) (items : List I) (number before : ℕ) → line ≤ most_items + 1 →
+fault_from : {I : Type 0} (Spelled : List ℕ → I → Type 0) (line place : ℕ) (input : List ℕ) (items : List I) (number before : ℕ) →
+    line ≤ most_items + 1 →
     HasItems Spelled line place input items (AtFault number before) → (line ≤ number) × (number ≤ most_items + 1)
 fault_from Spelled line place input [] number before within ends = let same = ends.1 in (omega arith, omega arith)
 fault_from Spelled line place input (item ∷ items) number before within read =

@@ -1,11 +1,13 @@
 -- The inputs of `script` and of `pulses`: their items are unique.
-use Rattle.std.proofs.Common.{◌≡◌, ℕ, ◌+◌, List, [], ◌∷◌, ◌++◌, sym, ap, ◌∙◌, append_assoc, length, arith, subst, append-nil, ◌⊎◌, inl, inr, refl, ◌≢◌, codes, ◌≤◌, lit<}
+use Rattle.std.proofs.Common.{◌≡◌, ℕ, ◌+◌, List, [], ◌∷◌, ◌++◌, sym, ap, ◌∙◌, append_assoc, length, arith, subst, append-nil, ◌⊎◌, inl, inr}
+use Rattle.std.proofs.Common.{refl, ◌≢◌, codes, ◌≤◌, lit<}
 use Rattle.std.proofs.lemmas.List.{append_cancel_left, length-append, nil_from_length}
 use Rattle.command_laws.proofs.TextDecimals.{one_number, all_digits}
 use Rattle.command_laws.proofs.TextLined.{one_before, end_no_newline}
 use Rattle.command_laws.proofs.TextLines.{one_line}
 use Rattle.command_laws.specs.TextInput.{NoItemBegins, OneReading}
-use Rattle.command_spec.specs.Input.{IsLined, Item, promised, IsItem, IsPulse, HasStop, Ending, AtEnd, AtStop, AtFault, ItemsEnd, most_items, HasItems}
+use Rattle.command_spec.specs.Input.{IsLined, Item, promised, IsItem, IsPulse, HasStop, Ending, AtEnd, AtStop, AtFault, ItemsEnd}
+use Rattle.command_spec.specs.Input.{most_items, HasItems}
 use Rattle.command_laws.specs.Inputs.{IsLine, words_of, IsTrain}
 use Rattle.command_spec.specs.declared.line.Line.{Line}
 use Rattle.command_spec.specs.declared.line.Line.TheVariants as line
@@ -13,10 +15,12 @@ use Rattle.command_spec.specs.declared.line.Line.TheVariants as line
 -- ---- items
 
 -- the line at the front of two texts that begin alike is one
-same_before : (P Q : List ℕ → Type 0) (a b more rest : List ℕ) (x : IsLined P a) (y : IsLined Q b) → a ++ more ≡ b ++ rest → x.before ≡ y.before
+same_before : (P Q : List ℕ → Type 0) (a b more rest : List ℕ) (x : IsLined P a) (y : IsLined Q b) → a ++ more ≡ b ++ rest →
+    x.before ≡ y.before
 same_before P Q a b more rest x y e =
     one_before x.before y.before more rest x.one_line y.one_line
-    (sym (ap (λ t. t ++ more) x.whole ∙ append_assoc x.before (0x0A ∷ []) more) ∙ e ∙ ap (λ t. t ++ rest) y.whole ∙ append_assoc y.before (0x0A ∷ []) rest)
+    (sym (ap (λ t. t ++ more) x.whole ∙ append_assoc x.before (0x0A ∷ []) more) ∙ e ∙ ap (λ t. t ++ rest) y.whole
+    ∙ append_assoc y.before (0x0A ∷ []) rest)
 
 -- and what stands behind it
 same_behind : (P Q : List ℕ → Type 0) (a b more rest : List ℕ) (x : IsLined P a) (y : IsLined Q b) → a ++ more ≡ b ++ rest → more ≡ rest
@@ -27,7 +31,8 @@ same_behind P Q a b more rest x y e =
 
 same_item : (x y : Item) → x.line ≡ y.line → x.bytes ≡ y.bytes → x ≡ y
 same_item x y lines bytes =
-    let step : (l : Line) (b : List ℕ) → x.line ≡ l → x.bytes ≡ b → x ≡ record { line = l; bytes = b } = λ l b el eb. ap (λ (k : Line). record { line = k; bytes = x.bytes }) el ∙ ap (λ (k : List ℕ). record { line = l; bytes = k }) eb in
+    let step : (l : Line) (b : List ℕ) → x.line ≡ l → x.bytes ≡ b → x ≡ record { line = l; bytes = b } =
+    λ l b el eb. ap (λ (k : Line). record { line = k; bytes = x.bytes }) el ∙ ap (λ (k : List ℕ). record { line = l; bytes = k }) eb in
     step y.line y.bytes lines bytes
 
 pub no_item_begins : NoItemBegins IsItem
@@ -37,7 +42,8 @@ no_item_begins a rest x y first second =
     let P : List ℕ → Type 0 = λ before. IsLine before x.line in
     let Q : List ℕ → Type 0 = λ before. IsLine before y.line in
     let before = same_before P Q first.front second.front (x.bytes ++ rest) y.bytes first.lined second.lined e in
-    let behind : x.bytes ++ rest ≡ y.bytes = same_behind P Q first.front second.front (x.bytes ++ rest) y.bytes first.lined second.lined e in
+    let behind : x.bytes ++ rest ≡ y.bytes = same_behind P Q first.front second.front
+    (x.bytes ++ rest) y.bytes first.lined second.lined e in
     let here : IsLine first.lined.before y.line = subst Q (sym before) second.lined.has in
     let lines : x.line ≡ y.line = one_line (words_of first.lined.before) x.line y.line first.lined.has here in
     let long : length x.bytes ≡ length y.bytes = first.kept ∙ ap promised lines ∙ sym second.kept in
@@ -70,7 +76,11 @@ fronts (x ∷ xs) (y ∷ ys) r s e =
     let head : x ≡ y = cc in
     let tail : xs ++ r ≡ ys ++ s = cc in
     elim (fronts xs ys r s tail) [
-      | inl b ↦ inl record { more = b.more; longer = ap (λ t. y ∷ t) b.longer ∙ ap (λ (z : ℕ). z ∷ (xs ++ b.more)) (sym head); left = b.left }
+      | inl b ↦ inl record {
+        more = b.more;
+        longer = ap (λ t. y ∷ t) b.longer ∙ ap (λ (z : ℕ). z ∷ (xs ++ b.more)) (sym head);
+        left = b.left;
+      }
       | inr b ↦ inr record { more = b.more; longer = ap (λ t. x ∷ t) b.longer ∙ ap (λ (z : ℕ). z ∷ (ys ++ b.more)) head; left = b.left }
     ]
 
@@ -86,7 +96,8 @@ pub record SameItem {I : Type 0} (s t r q : List ℕ) (x y : I) : Type 0 where
   pub rests : r ≡ q
   pub items : x ≡ y
 
-pub one_item : {I : Type 0} (Spelled : List ℕ → I → Type 0) → AreItems Spelled → (s t r q : List ℕ) (x y : I) → Spelled s x → Spelled t y → s ++ r ≡ t ++ q → SameItem s t r q x y
+pub one_item : {I : Type 0} (Spelled : List ℕ → I → Type 0) → AreItems Spelled → (s t r q : List ℕ) (x y : I) → Spelled s x → Spelled t y →
+    s ++ r ≡ t ++ q → SameItem s t r q x y
 one_item {I} Spelled are s t r q x y a b e = elim (fronts s t r q e) [
   | inl f ↦ let law = are.no_begin s f.more x y a (let P : List ℕ → Type 0 = λ u. Spelled u y in subst P f.longer b) in record {
     texts = sym (f.longer ∙ ap (λ u. s ++ u) law.0 ∙ append-nil s);
@@ -100,7 +111,8 @@ one_item {I} Spelled are s t r q x y a b e = elim (fronts s t r q e) [
   }
 ]
 
-one_ending : {I : Type 0} (Spelled : List ℕ → I → Type 0) (line place : ℕ) (input : List ℕ) (a b : Ending) → ItemsEnd Spelled line place input a → ItemsEnd Spelled line place input b → a ≡ b
+one_ending : {I : Type 0} (Spelled : List ℕ → I → Type 0) (line place : ℕ) (input : List ℕ) (a b : Ending) →
+    ItemsEnd Spelled line place input a → ItemsEnd Spelled line place input b → a ≡ b
 one_ending Spelled line place input AtEnd AtEnd p q = refl
 one_ending Spelled line place input AtEnd AtStop p q = absurd (let e : [] ≡ codes "end\n" ++ q.0 = sym p ∙ q.1 in cc)
 one_ending Spelled line place input AtEnd (AtFault n m) p q = absurd (q.0.some p)
@@ -112,7 +124,8 @@ one_ending Spelled line place input (AtFault n m) AtStop p q = absurd (p.0.no_st
 one_ending Spelled line place input (AtFault n m) (AtFault k l) p q = rw (p.1, p.2, q.1, q.2) refl
 
 -- where an item begins the input, it doesn't end there
-pub no_ending : {I : Type 0} (Spelled : List ℕ → I → Type 0) → AreItems Spelled → (line place : ℕ) (input text rest : List ℕ) (x : I) (a : Ending) →
+pub no_ending : {I : Type 0} (Spelled : List ℕ → I → Type 0) → AreItems Spelled → (line place : ℕ) (input text rest : List ℕ) (x : I)
+    (a : Ending) →
     ItemsEnd Spelled line place input a → line ≤ most_items → input ≡ text ++ rest → Spelled text x → ⊥
 no_ending Spelled are line place input text rest x AtEnd p le e spelled =
     are.some text x spelled (nil_from_length text (let l = ap length (sym p ∙ e) in let m = length-append text rest in omega arith))
@@ -149,10 +162,12 @@ pub items : AreItems IsItem
 items = record {
   no_begin = no_item_begins;
   some = λ text x spelled e. no_empty spelled.lined.before x.bytes
-      (sym (append_assoc spelled.lined.before (0x0A ∷ []) x.bytes) ∙ ap (λ t. t ++ x.bytes) (sym spelled.lined.whole) ∙ sym spelled.whole ∙ e);
+      (sym (append_assoc spelled.lined.before (0x0A ∷ []) x.bytes) ∙ ap (λ t. t ++ x.bytes) (sym spelled.lined.whole) ∙ sym spelled.whole
+      ∙ e);
   no_stop = λ text rest x spelled stop.
       let P : List ℕ → Type 0 = λ before. IsLine before x.line in
-      let e : spelled.front ++ (x.bytes ++ rest) ≡ text ++ rest = sym (append_assoc spelled.front x.bytes rest) ∙ ap (λ t. t ++ rest) (sym spelled.whole) in
+      let e : spelled.front ++ (x.bytes ++ rest) ≡ text ++ rest = sym (append_assoc spelled.front x.bytes rest)
+      ∙ ap (λ t. t ++ rest) (sym spelled.whole) in
       let before = stop_before P spelled.front (x.bytes ++ rest) spelled.lined (stop.0, e ∙ stop.1) in
       let here : IsLine (codes "end") x.line = subst P before spelled.lined.has in
       spelled.not_end (one_line (words_of (codes "end")) x.line line.End here (inl (refl, tt)));

@@ -15,7 +15,8 @@ one_before [] [] more rest a b e = refl
 one_before [] (y ∷ ys) more rest a b e = absurd (NoNewline-head y ys b (sym (head_is 0x0A y more (ys ++ 0x0A ∷ rest) e)))
 one_before (x ∷ xs) [] more rest a b e = absurd (NoNewline-head x xs a (head_is x 0x0A (xs ++ 0x0A ∷ more) rest e))
 one_before (x ∷ xs) (y ∷ ys) more rest a b e =
-    let same : xs ≡ ys = one_before xs ys more rest (NoNewline-tail x xs a) (NoNewline-tail y ys b) (tail_is x y (xs ++ 0x0A ∷ more) (ys ++ 0x0A ∷ rest) e) in
+    let same : xs ≡ ys = one_before xs ys more rest (NoNewline-tail x xs a) (NoNewline-tail y ys b)
+    (tail_is x y (xs ++ 0x0A ∷ more) (ys ++ 0x0A ∷ rest) e) in
     let first : x ≡ y = head_is x y (xs ++ 0x0A ∷ more) (ys ++ 0x0A ∷ rest) e in cc
 
 -- the line `end`

@@ -2,7 +2,8 @@
 use Rattle.std.proofs.Common.{◌≡◌, ℕ, List, [], ◌∷◌, refl, codes, if◌then◌else◌, inl, inr, length, ap, sym, ◌∙◌, subst}
 use Rattle.std.specs.List.{AllZip}
 use Rattle.std.specs.Str.{bytes_eq}
-use Rattle.command_laws.proofs.TextCommands.{number_value, date_value, only, dated_cases, one_word, two_words, three_words, IsNumber-value, IsDateWord-value}
+use Rattle.command_laws.proofs.TextCommands.{number_value, date_value, only, dated_cases, one_word, two_words, three_words, IsNumber-value}
+use Rattle.command_laws.proofs.TextCommands.{IsDateWord-value}
 use Rattle.command_laws.specs.TextInput.{OneLine}
 use Rattle.command_spec.specs.Command.{Part, SpellsPart, Word, Name, IsDateWord, AnyNumber}
 use Rattle.command_laws.specs.Inputs.{HasLineForm}
@@ -26,7 +27,8 @@ four_words [] p q r s h = absurd h
 four_words (a ∷ []) p q r s h = absurd h.1
 four_words (a ∷ b ∷ []) p q r s h = absurd h.1.1
 four_words (a ∷ b ∷ c ∷ []) p q r s h = absurd h.1.1.1
-four_words (a ∷ b ∷ c ∷ d ∷ []) p q r s h = record { first = a; second = b; third = c; fourth = d; are = refl; one = h.0; two = h.1.0; three = h.1.1.0; four = h.1.1.1.0 }
+four_words (a ∷ b ∷ c ∷ d ∷ []) p q r s h =
+    record { first = a; second = b; third = c; fourth = d; are = refl; one = h.0; two = h.1.0; three = h.1.1.0; four = h.1.1.1.0 }
 four_words (a ∷ b ∷ c ∷ d ∷ e ∷ rest) p q r s h = absurd h.1.1.1.1
 
 -- ---- the only line that words can be
@@ -48,22 +50,27 @@ guess_is ws (line.Append name length date) h = elim (dated_cases ws _ date h) [
       rw (s.are, s.one, ← s.two.1, IsNumber-value s.third length s.three.0, bare.1) refl
 ]
 guess_is ws line.List h = let s = one_word ws _ (only ws _ h) in rw (s.are, s.one) refl
-guess_is ws (line.Restore number) h = let s = two_words ws _ _ (only ws _ h) in rw s.are (ap line.Restore (IsNumber-value s.second number s.two.0))
+guess_is ws (line.Restore number) h = let s = two_words ws _ _ (only ws _ h) in
+    rw s.are (ap line.Restore (IsNumber-value s.second number s.two.0))
 guess_is ws line.Scrub h = let s = one_word ws _ (only ws _ h) in rw (s.are, s.one) refl
 guess_is ws (line.Lose segment sector) h =
-    let s = three_words ws _ _ _ (only ws _ h) in rw (s.are, s.one, IsNumber-value s.second segment s.two.0, IsNumber-value s.third sector s.three.0) refl
+    let s = three_words ws _ _ _ (only ws _ h) in
+    rw (s.are, s.one, IsNumber-value s.second segment s.two.0, IsNumber-value s.third sector s.three.0) refl
 guess_is ws line.End h = let s = one_word ws _ (only ws _ h) in rw (s.are, s.one) refl
 
 pub one_line : OneLine
 one_line ws a b first next = sym (guess_is ws a first) ∙ guess_is ws b next
 
 -- a line with a date that is none
-pub no_dated_line : (name length date : List ℕ) → ((n : ℕ) → IsDateWord date n → ⊥) → (l : Line) → HasLineForm (codes "append" ∷ name ∷ length ∷ date ∷ []) l → ⊥
+pub no_dated_line : (name length date : List ℕ) → ((n : ℕ) → IsDateWord date n → ⊥) → (l : Line) →
+    HasLineForm (codes "append" ∷ name ∷ length ∷ date ∷ []) l → ⊥
 unfolding guess
 no_dated_line name length date none l h =
-    let is : line.Append (filled name) (number_value length) (date_value date) ≡ l = guess_is (codes "append" ∷ name ∷ length ∷ date ∷ []) l h in
+    let is : line.Append (filled name) (number_value length) (date_value date) ≡ l =
+    guess_is (codes "append" ∷ name ∷ length ∷ date ∷ []) l h in
     let P : Line → Type 0 = λ x. HasLineForm (codes "append" ∷ name ∷ length ∷ date ∷ []) x in
-    elim (dated_cases (codes "append" ∷ name ∷ length ∷ date ∷ []) (Word (codes "append") ∷ Name (filled name) ∷ AnyNumber (number_value length) ∷ []) (date_value date) (subst P (sym is) h)) [
+    elim (dated_cases (codes "append" ∷ name ∷ length ∷ date ∷ [])
+    (Word (codes "append") ∷ Name (filled name) ∷ AnyNumber (number_value length) ∷ []) (date_value date) (subst P (sym is) h)) [
       | inl full ↦ none (date_value date) full.1.1.1.0
       | inr bare ↦ absurd bare.0.1.1.1
     ]

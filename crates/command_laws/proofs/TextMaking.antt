@@ -11,7 +11,8 @@ unfolding made_from
 length-made_from first count = length-map-range_with_len (λ i. (first + i) % 251) 0 count
 
 -- a made volume counts on from its first byte
-pub made_bytes_from : (seed volume : ℕ) → made_from ((seed + volume * 31) % 251) (1000 * (1 + (seed * 37 + volume * 101) % 20000)) ≡ made_bytes seed volume
+pub made_bytes_from : (seed volume : ℕ) → made_from ((seed + volume * 31) % 251)
+    (1000 * (1 + (seed * 37 + volume * 101) % 20000)) ≡ made_bytes seed volume
 unfolding made_from made_bytes
 made_bytes_from seed volume =
     let f : ℕ → ℕ = λ i. ((seed + volume * 31) % 251 + i) % 251 in

@@ -1,5 +1,6 @@
 -- What is read is printed again.
-use Rattle.std.proofs.Common.{◌≡◌, ℕ, false, nat_lt, sym, arith, zero, suc, ◌-◌, List, [], ◌∷◌, ◌++◌, replicate, refl, ap, ◌∙◌, append_assoc, append-nil, ◌<◌, map, length, get_or, ◌≢◌, Some, take}
+use Rattle.std.proofs.Common.{◌≡◌, ℕ, false, nat_lt, sym, arith, zero, suc, ◌-◌, List, [], ◌∷◌, ◌++◌, replicate, refl, ap, ◌∙◌}
+use Rattle.std.proofs.Common.{append_assoc, append-nil, ◌<◌, map, length, get_or, ◌≢◌, Some, take}
 use Rattle.std.proofs.lemmas.Bool.Decides.{nat_tests}
 use Rattle.std.proofs.lemmas.List.{take_all}
 use Rattle.std.proofs.lemmas.Option.{slice_get-get_or}
@@ -16,7 +17,8 @@ pub date_is_printed_as_read : DateIsPrintedAsRead
 unfolding date_text
 date_is_printed_as_read word date d =
     let w : ℕ = date_word d.year d.month d.day d.hour d.minute d.second in
-    let s : ShowsDate w d.year d.month d.day d.hour d.minute d.second = written_date_is_read_back d.year d.month d.day d.hour d.minute d.second d.a_date in
+    let s : ShowsDate w d.year d.month d.day d.hour d.minute d.second =
+    written_date_is_read_back d.year d.month d.day d.hour d.minute d.second d.a_date in
     let dated : nat_lt greatest_low_part (low_part w) ≡ false = let a = s.a_date in grind (arith, nat_tests) in
     rw (d.stamped, dated, s.same_year, s.same_month, s.same_day, s.same_hour, s.same_minute, s.same_second) (sym d.written)
 

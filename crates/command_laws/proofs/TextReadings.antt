@@ -1,5 +1,6 @@
 -- Each input of `script` and of `pulses` has a reading.
-use Rattle.std.proofs.Common.{◌≡◌, ℕ, ◌+◌, List, ◌∷◌, ◌++◌, ◌≢◌, zero, suc, arith, ◌⊎◌, inl, inr, [], ap, sym, ◌∙◌, append_assoc, length, get_or, refl, ◌≤◌, subst, take, drop, codes, ◌<◌}
+use Rattle.std.proofs.Common.{◌≡◌, ℕ, ◌+◌, List, ◌∷◌, ◌++◌, ◌≢◌, zero, suc, arith, ◌⊎◌, inl, inr, [], ap, sym, ◌∙◌, append_assoc, length}
+use Rattle.std.proofs.Common.{get_or, refl, ◌≤◌, subst, take, drop, codes, ◌<◌}
 use Rattle.std.proofs.lemmas.List.{length-append, get_or_at, take-append-drop, append_cancel_left, length-take-le}
 use Rattle.command_laws.proofs.TextCommands.{number_value, IsNumber-value}
 use Rattle.command_laws.proofs.TextDeciding.{same_number, both, at_most, spelled, has_form, same_bytes}
@@ -9,7 +10,8 @@ use Rattle.command_laws.proofs.TextLined.{one_before}
 use Rattle.command_laws.specs.TextInput.{EachReading}
 use Rattle.qic_base.specs.LineBytes.{NoNewline}
 use Rattle.command_spec.specs.Command.{Number}
-use Rattle.command_spec.specs.Input.{IsLined, IsPulse, line_forms, promised, IsItem, HasStop, Ending, HasItems, AtEnd, AtStop, AtFault, most_items}
+use Rattle.command_spec.specs.Input.{IsLined, IsPulse, line_forms, promised, IsItem, HasStop, Ending, HasItems, AtEnd, AtStop, AtFault}
+use Rattle.command_spec.specs.Input.{most_items}
 use Rattle.command_laws.specs.Inputs.{IsTrain, HasItem, IsLine, words_of}
 use Rattle.command_spec.specs.declared.line.Line.{Line}
 use Rattle.command_spec.specs.declared.line.Line.TheVariants as line
@@ -34,7 +36,12 @@ cut [] = inr (λ k d here. absurd (omega arith))
 cut (b ∷ bytes) = elim (newline_or b) [
   | inl e ↦ inl record { before = []; rest = bytes; one_line = λ k d here. absurd (omega arith); parts = ap (λ (x : ℕ). x ∷ bytes) e }
   | inr other ↦ elim (cut bytes) [
-    | inl c ↦ inl record { before = b ∷ c.before; rest = c.rest; one_line = longer_line b c.before other c.one_line; parts = ap (λ t. b ∷ t) c.parts }
+    | inl c ↦ inl record {
+      before = b ∷ c.before;
+      rest = c.rest;
+      one_line = longer_line b c.before other c.one_line;
+      parts = ap (λ t. b ∷ t) c.parts;
+    }
     | inr none ↦ inr (longer_line b bytes other none)
   ]
 ]
@@ -49,17 +56,34 @@ pub no_line_without : (P : List ℕ → Type 0) (bytes text rest : List ℕ) →
 no_line_without P bytes text rest none l e =
     let parts : bytes ≡ l.before ++ 0x0A ∷ rest = e ∙ ap (λ t. t ++ rest) l.whole ∙ append_assoc l.before (0x0A ∷ []) rest in
     let long = length-append l.before (0x0A ∷ rest) in
-    none (length l.before) 0 (let s = ap length parts in omega arith) (ap (λ t. get_or t (length l.before) 0) parts ∙ get_or_at l.before 0x0A rest 0 (length l.before) refl)
+    none (length l.before) 0 (let s = ap length parts in omega arith)
+    (ap (λ t. get_or t (length l.before) 0) parts ∙ get_or_at l.before 0x0A rest 0 (length l.before) refl)
 
 -- ---- items of `pulses`
 
 pulse_begins : (input : List ℕ) → Decided (HasItem IsPulse input)
-pulse_begins input = elim (cut input) [ inl c ↦ found c | inr none ↦ inr (λ h. no_line_without (λ before. IsTrain before h.0) input h.1.0 h.1.1.0 none h.1.1.1.1 h.1.1.1.0) ] where
+pulse_begins input = elim (cut input) [
+  | inl c ↦ found c
+  | inr none ↦ inr
+      (λ h. no_line_without (λ before. IsTrain before h.0) input h.1.0 h.1.1.0 none h.1.1.1.1 h.1.1.1.0)
+] where
   found : Cut input → Decided (HasItem IsPulse input)
   found c =
       let n : ℕ = number_value c.before in
       decide_as ((length c.before ≤ 127) × IsTrain c.before n) (HasItem IsPulse input)
-      (λ h. (n, (c.before ++ 0x0A ∷ [], (c.rest, (c.parts ∙ sym (append_assoc c.before (0x0A ∷ []) c.rest), record { before = c.before; short = h.0; one_line = c.one_line; whole = refl; has = h.1 })))))
+      (λ h. (
+        n,
+        (
+          c.before ++ 0x0A ∷ [],
+          (
+            c.rest,
+            (
+              c.parts ∙ sym (append_assoc c.before (0x0A ∷ []) c.rest),
+              record { before = c.before; short = h.0; one_line = c.one_line; whole = refl; has = h.1 },
+            ),
+          ),
+        ),
+      ))
       (λ h.
       let l = h.1.1.1.1 in
       let same : l.before ≡ c.before = line_is (λ before. IsTrain before h.0) input h.1.0 h.1.1.0 c l h.1.1.1.0 in
@@ -81,7 +105,8 @@ not_end line.End = inr (λ other. other refl)
 item_begins : (input : List ℕ) → Decided (HasItem IsItem input)
 item_begins input = elim (cut input) [
   | inl c ↦ found c
-  | inr none ↦ inr (λ h. no_line_without (λ before. IsLine before h.0.line) input h.1.1.1.1.front (h.0.bytes ++ h.1.1.0) none h.1.1.1.1.lined
+  | inr none ↦ inr (λ h. no_line_without (λ before. IsLine before h.0.line) input h.1.1.1.1.front
+      (h.0.bytes ++ h.1.1.0) none h.1.1.1.1.lined
       (h.1.1.1.0 ∙ ap (λ t. t ++ h.1.1.0) h.1.1.1.1.whole ∙ append_assoc h.1.1.1.1.front h.0.bytes h.1.1.0))
 ] where
   found : Cut input → Decided (HasItem IsItem input)
@@ -97,7 +122,8 @@ item_begins input = elim (cut input) [
           (
             drop n c.rest,
             (
-              c.parts ∙ sym (append_assoc c.before (0x0A ∷ []) c.rest) ∙ ap (λ t. (c.before ++ 0x0A ∷ []) ++ t) (sym (take-append-drop n c.rest))
+              c.parts ∙ sym (append_assoc c.before (0x0A ∷ []) c.rest) ∙ ap (λ t. (c.before ++ 0x0A ∷ []) ++ t)
+                  (sym (take-append-drop n c.rest))
                   ∙ sym (append_assoc (c.before ++ 0x0A ∷ []) (take n c.rest) (drop n c.rest)),
               record {
                 front = c.before ++ 0x0A ∷ [];
@@ -112,14 +138,16 @@ item_begins input = elim (cut input) [
       ))
       (λ h.
       let s = h.1.1.1.1 in
-      let e : input ≡ s.front ++ (h.0.bytes ++ h.1.1.0) = h.1.1.1.0 ∙ ap (λ t. t ++ h.1.1.0) s.whole ∙ append_assoc s.front h.0.bytes h.1.1.0 in
+      let e : input ≡ s.front ++ (h.0.bytes ++ h.1.1.0) = h.1.1.1.0 ∙ ap (λ t. t ++ h.1.1.0) s.whole
+      ∙ append_assoc s.front h.0.bytes h.1.1.0 in
       let same : s.lined.before ≡ c.before = line_is (λ before. IsLine before h.0.line) input s.front (h.0.bytes ++ h.1.1.0) c s.lined e in
       let has : IsLine c.before h.0.line = let P : List ℕ → Type 0 = λ t. IsLine t h.0.line in subst P same s.lined.has in
       let is : l ≡ h.0.line = lines.guess_is (words_of c.before) h.0.line has in
       let front : s.front ≡ c.before ++ 0x0A ∷ [] = s.lined.whole ∙ ap (λ t. t ++ 0x0A ∷ []) same in
       let rest : h.0.bytes ++ h.1.1.0 ≡ c.rest = append_cancel_left (c.before ++ 0x0A ∷ []) (h.0.bytes ++ h.1.1.0) c.rest
       (ap (λ t. t ++ (h.0.bytes ++ h.1.1.0)) (sym front) ∙ sym e ∙ c.parts ∙ sym (append_assoc c.before (0x0A ∷ []) c.rest)) in
-      let fits : n ≤ length c.rest = let k = s.kept in let m = ap promised is in let p = ap length rest in let q = length-append h.0.bytes h.1.1.0 in omega arith in (
+      let fits : n ≤ length c.rest = let k = s.kept in let m = ap promised is in let p = ap length rest in
+      let q = length-append h.0.bytes h.1.1.0 in omega arith in (
         rw (← same) s.lined.short,
         (
           (let P : Line → Type 0 = λ k. IsLine c.before k in subst P (sym is) has),
@@ -158,7 +186,13 @@ read_from {I} Spelled are begins (suc n) line place (b ∷ input) few = elim (st
         let shorter : length rest ≤ n = let l = ap length e in let m = length-append text rest in omega arith in
         let next = read_from Spelled are begins n (line + 1) (place + length text) rest shorter in
         (h.1.0 ∷ next.0, (next.1.0, (h.0, (text, (rest, (e, h.1.1.1.1.1, next.1.1))))))
-    | inr none ↦ ([], (AtFault line place, (record { some = λ e. cc; no_stop = no_stop; no_item = λ within item. none (within, item) }, refl, refl)))
+    | inr none ↦ (
+      [],
+      (
+        AtFault line place,
+        (record { some = λ e. cc; no_stop = no_stop; no_item = λ within item. none (within, item) }, refl, refl),
+      ),
+    )
   ]
 ] where
   positive : (text : List ℕ) → text ≢ [] → 0 < length text

@@ -1,5 +1,6 @@
 -- The printed texts.
-use Rattle.std.proofs.Common.{◌≡◌, ◌==◌, ℕ, ◌+◌, ◌-◌, true, List, [], ◌∷◌, ◌++◌, refl, ap, false, ◌∙◌, ◌<◌, ◌≤◌, length, take, get_or, arith, sym}
+use Rattle.std.proofs.Common.{◌≡◌, ◌==◌, ℕ, ◌+◌, ◌-◌, true, List, [], ◌∷◌, ◌++◌, refl, ap, false, ◌∙◌, ◌<◌, ◌≤◌, length, take, get_or}
+use Rattle.std.proofs.Common.{arith, sym}
 use Rattle.std.proofs.lemmas.Bool.Decides.{nat_tests}
 use Rattle.std.proofs.lemmas.List.{take_more}
 use Rattle.command_laws.specs.TextTerms.{is_filler, before_cut}
@@ -24,7 +25,8 @@ unfolding trimmed
 trimmed-kept [] b kept = rw kept refl
 trimmed-kept (x ∷ xs) b kept = ap (before_cut x) (trimmed-kept xs b kept) ∙ before_cut-more x xs b
 
-pub take_last : (bytes : List ℕ) (len : ℕ) → 0 < len → len ≤ length bytes → take len bytes ≡ take (len - 1) bytes ++ get_or bytes (len - 1) 0 ∷ []
+pub take_last : (bytes : List ℕ) (len : ℕ) → 0 < len → len ≤ length bytes → take len bytes ≡ take (len - 1) bytes ++ get_or bytes
+    (len - 1) 0 ∷ []
 take_last bytes len some within =
     let e : len ≡ len - 1 + 1 = omega arith in
     ap (λ n. take n bytes) e ∙ take_more bytes (len - 1) 0 (omega arith)

@@ -28,7 +28,8 @@ unfolding guess
 no_dated_format label date none command h =
     let is : words.Format (filled label) (date_value date) ≡ command = guess_is (codes "format" ∷ label ∷ date ∷ []) command h in
     let P : Words → Type 0 = λ c. Spells (codes "format" ∷ label ∷ date ∷ []) c in
-    elim (dated_cases (codes "format" ∷ label ∷ date ∷ []) (Word (codes "format") ∷ Name (filled label) ∷ []) (date_value date) (subst P (sym is) h)) [
+    elim (dated_cases (codes "format" ∷ label ∷ date ∷ []) (Word (codes "format") ∷ Name (filled label) ∷ []) (date_value date)
+    (subst P (sym is) h)) [
       | inl full ↦ none (date_value date) full.1.1.0
       | inr bare ↦ absurd bare.0.1.1
     ]
@@ -38,7 +39,8 @@ unfolding guess
 no_dated_append name date none command h =
     let is : words.Append (filled name) (date_value date) ≡ command = guess_is (codes "append" ∷ name ∷ date ∷ []) command h in
     let P : Words → Type 0 = λ c. Spells (codes "append" ∷ name ∷ date ∷ []) c in
-    elim (dated_cases (codes "append" ∷ name ∷ date ∷ []) (Word (codes "append") ∷ Name (filled name) ∷ []) (date_value date) (subst P (sym is) h)) [
+    elim (dated_cases (codes "append" ∷ name ∷ date ∷ []) (Word (codes "append") ∷ Name (filled name) ∷ []) (date_value date)
+    (subst P (sym is) h)) [
       | inl full ↦ none (date_value date) full.1.1.0
       | inr bare ↦ absurd bare.0.1.1
     ]

@@ -1,5 +1,7 @@
 -- Which lists of steps leave a whole cartridge, done or stopped.
-use Rattle.std.proofs.Common.{◌≡◌, ℕ, ◌+◌, ◌*◌, ◌<◌, List, [], ◌∷◌, ◌++◌, All, Option, Some, None, IsSomeAnd, inl, inr, refl, sym, ap, ◌∙◌, subst, arith, map, take, drop, length, slice_get, length-append, length-take, length-drop, ◌-◌, ◌^◌, Bool, true, false, cond, is_some}
+use Rattle.std.proofs.Common.{◌≡◌, ℕ, ◌+◌, ◌*◌, ◌<◌, List, [], ◌∷◌, ◌++◌, All, Option, Some, None, IsSomeAnd, inl, inr, refl, sym, ap, ◌∙◌}
+use Rattle.std.proofs.Common.{subst, arith, map, take, drop, length, slice_get, length-append, length-take, length-drop, ◌-◌, ◌^◌, Bool}
+use Rattle.std.proofs.Common.{true, false, cond, is_some}
 use Rattle.std.specs.Prelude.{unwrap_or}
 use Rattle.std.proofs.lemmas.Bool.{cases_lt}
 use Rattle.std.proofs.lemmas.Option.{unwrap_or-slice_get}
@@ -26,13 +28,15 @@ use Rattle.command_laws.proofs.CommandClean.{Leaves, both_leave, leaves_done}
 use Rattle.command_laws.proofs.InputActLaws.{input_is_of_sectors}
 use Rattle.command_laws.proofs.MountedListed.{entry_area, slot_free}
 use Rattle.command_laws.specs.MountedListed.{IsListed}
-use Rattle.command_spec.specs.Append.{Fits, Kept, Taking, TooLong, TooShort, append_acts, entry_acts, has_promised_room, input_acts, input_writes, kept_over, room_in, taking}
+use Rattle.command_spec.specs.Append.{Fits, Kept, Taking, TooLong, TooShort, append_acts, entry_acts, has_promised_room, input_acts}
+use Rattle.command_spec.specs.Append.{input_writes, kept_over, room_in, taking}
 use Rattle.command_laws.specs.AppendTerms.{entry_for, free_in, most_written}
 use Rattle.qic_base.proofs.Joins.{steps_of-append}
 use Rattle.qic_base.specs.Acts.{Act, steps_of}
 use Rattle.qic_base.specs.Cartridge.{Cartridge, IsLength, IsSector, new_cartridge, view_at, zero_sector}
 use Rattle.qic_base.specs.CartridgeTerms.{IsVersion, IsCartridge, IsView, with_segment, HalfFormatted}
-use Rattle.qic_base.specs.Step.{FormatSegment, SetProtected, SetReferenced, Spoil, Step, Upgrade, Wear, changed, formatted_view, spoiled_view, worn_view, ClosingView, OpeningView, SegmentBecame}
+use Rattle.qic_base.specs.Step.{FormatSegment, SetProtected, SetReferenced, Spoil, Step, Upgrade, Wear, changed, formatted_view}
+use Rattle.qic_base.specs.Step.{spoiled_view, worn_view, ClosingView, OpeningView, SegmentBecame}
 use Rattle.qic_base.specs.declared.tape.TapeInfo.{TapeInfo}
 use Rattle.qic_base.specs.declared.tape.SectorView.{SectorView}
 use Rattle.qic_base.specs.declared.tape.SectorView.TheVariants.{Blank, Defect, Lost, Holds}
@@ -42,7 +46,8 @@ use Rattle.qic_base.proofs.Arrays.{zero_sector-is_sector}
 
 pub worn_whole : (c : Cartridge) (segment sector : ℕ) → IsCartridge c → IsCartridge (changed (Wear segment sector) c)
 worn_whole c segment sector whole =
-    with_view_whole c segment sector (worn_view (view_at c segment sector)) whole (worn_is_view (view_at c segment sector) (view_of_cartridge c segment sector whole))
+    with_view_whole c segment sector (worn_view (view_at c segment sector)) whole
+    (worn_is_view (view_at c segment sector) (view_of_cartridge c segment sector whole))
 
 spoiled_is_view : (view : SectorView) → IsView view → IsView (spoiled_view view)
 spoiled_is_view Blank good = tt
@@ -52,7 +57,8 @@ spoiled_is_view (Holds old) good = good
 
 pub spoiled_whole : (c : Cartridge) (segment sector : ℕ) → IsCartridge c → IsCartridge (changed (Spoil segment sector) c)
 spoiled_whole c segment sector whole =
-    with_view_whole c segment sector (spoiled_view (view_at c segment sector)) whole (spoiled_is_view (view_at c segment sector) (view_of_cartridge c segment sector whole))
+    with_view_whole c segment sector (spoiled_view (view_at c segment sector)) whole
+    (spoiled_is_view (view_at c segment sector) (view_of_cartridge c segment sector whole))
 
 pub referenced_whole : (c : Cartridge) → IsCartridge c → IsCartridge (changed SetReferenced c)
 referenced_whole c whole = record { long = whole.long; version = whole.version; sectors = whole.sectors; views = whole.views }
@@ -62,7 +68,12 @@ protected_whole c on whole = record { long = whole.long; version = whole.version
 
 pub upgraded_whole : (c : Cartridge) → IsCartridge c → IsCartridge (changed Upgrade c)
 upgraded_whole c whole =
-    record { long = whole.long; version = record { oldest = omega arith; newest = omega arith }; sectors = whole.sectors; views = whole.views }
+    record {
+      long = whole.long;
+      version = record { oldest = omega arith; newest = omega arith };
+      sectors = whole.sectors;
+      views = whole.views;
+    }
 
 pub new_whole : (n : ℕ) → IsLength n → IsCartridge (new_cartridge n)
 new_whole n long = record {
@@ -85,7 +96,8 @@ pub behind_leave : (c : Cartridge) (table : List (List ℕ)) (steps : List Step)
     (IsCartridge (settled table c) → Leaves IsCartridge (settled table c) steps) → Leaves IsCartridge c (settling_steps table c ++ steps)
 behind_leave c table steps whole reads next =
     both_leave IsCartridge c (settling_steps table c) steps (settling_leaves c table whole reads)
-    (subst (λ (d : Cartridge). Leaves IsCartridge d steps) (sym (settling_settles c table reads)) (next (settled_is_cartridge c table whole reads)))
+    (subst (λ (d : Cartridge). Leaves IsCartridge d steps) (sym (settling_settles c table reads))
+    (next (settled_is_cartridge c table whole reads)))
 
 -- ---- formatting
 
@@ -139,7 +151,8 @@ any_view c place whole =
     let same : 32 * 0 + place ≡ place = omega arith in
     subst (λ (p : ℕ). IsView (unwrap_or (slice_get c.views p) Blank)) same (view_of_cartridge c 0 place whole)
 
-became_whole : (Became : SectorView → SectorView → Type 0) (segment : ℕ) (c d : Cartridge) → ((old new : SectorView) → IsView old → Became old new → IsView new) → IsCartridge c →
+became_whole : (Became : SectorView → SectorView → Type 0) (segment : ℕ) (c d : Cartridge) →
+    ((old new : SectorView) → IsView old → Became old new → IsView new) → IsCartridge c →
     SegmentBecame Became segment c d → IsCartridge d
 became_whole Became segment c d keeps whole became = record {
   long = subst (λ (i : TapeInfo). IsLength i.segments_per_track) (sym became.info) whole.long;
@@ -151,18 +164,22 @@ became_whole Became segment c d keeps whole became = record {
     at : (place : ℕ) → IsView (unwrap_or (slice_get d.views place) Blank)
     at place =
         elim (cases_lt place (32 * segment)) [
-          | inl below ↦ subst (λ (o : Option SectorView). IsView (unwrap_or o Blank)) (sym (became.below place below)) (any_view c place whole)
+          | inl below ↦ subst (λ (o : Option SectorView). IsView (unwrap_or o Blank)) (sym (became.below place below))
+              (any_view c place whole)
           | inr past ↦ elim (cases_lt place (32 * (segment + 1))) [
             | inl inside ↦
                 let sum : 32 * segment + (place - 32 * segment) ≡ place = omega arith in
                 subst (λ (p : ℕ). IsView (unwrap_or (slice_get d.views p) Blank)) sum
-                (keeps (view_at c segment (place - 32 * segment)) (view_at d segment (place - 32 * segment)) (view_of_cartridge c segment (place - 32 * segment) whole)
+                (keeps (view_at c segment (place - 32 * segment)) (view_at d segment (place - 32 * segment))
+                (view_of_cartridge c segment (place - 32 * segment) whole)
                 (became.within (place - 32 * segment) (omega arith)))
-            | inr above ↦ subst (λ (o : Option SectorView). IsView (unwrap_or o Blank)) (sym (became.above place above)) (any_view c place whole)
+            | inr above ↦ subst (λ (o : Option SectorView). IsView (unwrap_or o Blank)) (sym (became.above place above))
+                (any_view c place whole)
           ]
         ]
 
-half_whole : (segment : ℕ) (c : Cartridge) (left : Option Cartridge) → IsCartridge c → HalfFormatted segment (Some c) left → IsSomeAnd left IsCartridge
+half_whole : (segment : ℕ) (c : Cartridge) (left : Option Cartridge) → IsCartridge c → HalfFormatted segment (Some c) left →
+    IsSomeAnd left IsCartridge
 half_whole segment c None whole half = absurd half
 half_whole segment c (Some d) whole (inl closing) = became_whole ClosingView segment c d closing_is_view whole closing
 half_whole segment c (Some d) whole (inr opening) = became_whole OpeningView segment c d opening_is_view whole opening
@@ -176,16 +193,19 @@ formats_leave (s ∷ ss) c whole left (inr (inr torn)) = formats_leave ss (chang
 pub clearing_leaves : (n : ℕ) (c : Cartridge) → IsCartridge c → Leaves IsCartridge c (clearing_steps n)
 clearing_leaves n c whole left (inl same) = some_and IsCartridge c left whole same
 clearing_leaves n c whole left (inr (inl half)) = absurd half
-clearing_leaves n c whole left (inr (inr torn)) = formats_leave (range_with_len 0 (28 * n)) (changed SetReferenced c) (referenced_whole c whole) left torn
+clearing_leaves n c whole left (inr (inr torn)) = formats_leave (range_with_len 0 (28 * n)) (changed SetReferenced c)
+    (referenced_whole c whole) left torn
 
 -- ---- header copies
 
 copy_whole : (copy : ℕ) (block : List (List ℕ)) → All IsSector block → AreWrites IsOfSector (copy_writes copy block)
 copy_whole copy block are =
     writes_more (writes_of copy (range_with_len 1 31) (drop 1 block)) (writes_of copy (0 ∷ []) (take 1 block))
-    (writes_whole copy (range_with_len 1 31) (drop 1 block) (All-drop IsSector 1 block are)) (writes_whole copy (0 ∷ []) (take 1 block) (All-take IsSector 1 block are))
+    (writes_whole copy (range_with_len 1 31) (drop 1 block) (All-drop IsSector 1 block are))
+    (writes_whole copy (0 ∷ []) (take 1 block) (All-take IsSector 1 block are))
 
-pub format_steps_leave : (n : ℕ) (area : List (List ℕ)) (c : Cartridge) → IsCartridge c → IsArea area → Leaves IsCartridge c (format_steps n area)
+pub format_steps_leave : (n : ℕ) (area : List (List ℕ)) (c : Cartridge) → IsCartridge c → IsArea area →
+    Leaves IsCartridge c (format_steps n area)
 format_steps_leave n area c whole is =
     let block : List (List ℕ) = with_parity area in
     let first : List Step = clearing_steps n ++ copy_writes 0 block in
@@ -194,29 +214,36 @@ format_steps_leave n area c whole is =
     (writes_leave (changed_by (clearing_steps n) c) (copy_writes 0 block) (copy_whole 0 block (block_sectors area is))
     (leaves_done IsCartridge c (clearing_steps n) (clearing_leaves n c whole))) in
     both_leave IsCartridge c first (copy_writes 1 block) one
-    (writes_leave (changed_by first c) (copy_writes 1 block) (copy_whole 1 block (block_sectors area is)) (leaves_done IsCartridge c first one))
+    (writes_leave (changed_by first c) (copy_writes 1 block) (copy_whole 1 block (block_sectors area is))
+    (leaves_done IsCartridge c first one))
 
 -- ---- an append
 
 table_whole : (n : ℕ) (area : List (List ℕ)) → n < 232 → IsArea area → AreWrites IsOfSector (table_writes (slot_sector n) area)
-table_whole n area few is =
-    (block_sector area (slot_sector n) is (omega arith), (block_sector area 29 is (omega arith), (block_sector area 30 is (omega arith), (block_sector area 31 is (omega arith), tt))))
+table_whole n area few is = (
+  block_sector area (slot_sector n) is (omega arith),
+  (block_sector area 29 is (omega arith), (block_sector area 30 is (omega arith), (block_sector area 31 is (omega arith), tt))),
+)
 
 where_whole : (b : Bool) (xs : List Act) → AreWrites IsOfSector (steps_of xs) → AreWrites IsOfSector (steps_of (cond b xs []))
 where_whole true xs are = are
 where_whole false xs are = tt
 
-module _ (c : Cartridge) (words : List ℕ) (entries : List Entry) (table : List (List ℕ)) (listed : IsListed c words entries) (mark : c.info.protected ≡ false) (reads : TableIs c table) (whole : IsCartridge c)
-    (name : List ℕ) (date : ℕ) (promised : Option ℕ) (reply : Entry → List ℕ) (input : List ℕ) (label : IsLabel name) (word : date < 2 ^ 32) (content : All (λ b. b < 256) input) where
+module _ (c : Cartridge) (words : List ℕ) (entries : List Entry) (table : List (List ℕ)) (listed : IsListed c words entries)
+    (mark : c.info.protected ≡ false) (reads : TableIs c table) (whole : IsCartridge c)
+    (name : List ℕ) (date : ℕ) (promised : Option ℕ) (reply : Entry → List ℕ) (input : List ℕ) (label : IsLabel name) (word : date < 2 ^ 32)
+    (content : All (λ b. b < 256) input) where
   abbrev kept : Kept
   kept = kept_over c words entries table
 
-  entry_whole : (became : Taking) → taking (room_in kept) promised input ≡ became → AreWrites IsOfSector (steps_of (entry_acts kept name date reply became))
+  entry_whole : (became : Taking) → taking (room_in kept) promised input ≡ became →
+      AreWrites IsOfSector (steps_of (entry_acts kept name date reply became))
   entry_whole (Fits bytes) took =
       let e : Entry = entry_for kept name date bytes in
       let new : List (List ℕ) = with_slot table (length entries) (slot_bytes e) in
       writes_more (table_writes (slot_sector (length entries)) new) []
-      (table_whole (length entries) new (slot_free c words entries table listed mark reads name date promised reply input label word bytes took)
+      (table_whole (length entries) new (slot_free c words entries table listed mark reads name date promised reply input label word bytes
+      took)
       (entry_area c words entries table listed mark reads name date promised reply input label word bytes took)) tt
   entry_whole (TooLong need have) took = tt
   entry_whole (TooShort asked read) took = tt
@@ -229,7 +256,9 @@ module _ (c : Cartridge) (words : List ℕ) (entries : List Entry) (table : List
       let are : AreWrites IsOfSector (steps_of (ins ++ entry)) =
       subst (λ (ss : List Step). AreWrites IsOfSector ss) (sym (steps_of-append ins entry))
       (writes_more (steps_of ins) (steps_of entry)
-      (where_whole (has_promised_room (room_in kept) promised) (input_acts words (free_in kept) (most_written (room_in kept) promised) (is_some promised) input)
+      (where_whole (has_promised_room (room_in kept) promised)
+      (input_acts words (free_in kept) (most_written (room_in kept) promised) (is_some promised) input)
       (input_is_of_sectors words (free_in kept) (most_written (room_in kept) promised) (is_some promised) input content))
       (entry_whole became refl)) in
-      behind_leave c table (steps_of (ins ++ entry)) whole reads (λ still. writes_leave (settled table c) (steps_of (ins ++ entry)) are still)
+      behind_leave c table (steps_of (ins ++ entry)) whole reads
+      (λ still. writes_leave (settled table c) (steps_of (ins ++ entry)) are still)

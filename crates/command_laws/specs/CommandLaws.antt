@@ -57,7 +57,8 @@ OnlyNewRenews =
 -- what is left of a whole cartridge, or of none, is a whole one or none, at any moment of a command over an input of bytes
 abbrev pub LeavesWhole : Type 0
 LeavesWhole =
-    (command : Words) (held left : Option Cartridge) (input : List ℕ) (outcome : CommandOutcome) → HasValues command → All (λ b. b < 256) input →
+    (command : Words) (held left : Option Cartridge) (input : List ℕ) (outcome : CommandOutcome) → HasValues command →
+    All (λ b. b < 256) input →
     IfSome held IsCartridge → Yields command held input outcome → Torn (steps_of outcome.acts) held left → IfSome left IsCartridge
 
 -- ---- header copies

@@ -29,7 +29,8 @@ pub record TextLaws (prints fronts : List ℕ → Type 0) (refused : Status → 
 
 -- It goes by no input: it does over one what it does over any, appends none, reads no lines, and finds no fault.
 pub record IsBlind (command : Command) : Type 0 where
-  pub any : (held : Option Cartridge) (input other : List ℕ) (outcome : CommandOutcome) → command.yields held input outcome → command.yields held other outcome
+  pub any : (held : Option Cartridge) (input other : List ℕ) (outcome : CommandOutcome) → command.yields held input outcome →
+      command.yields held other outcome
   pub no_append : command.traits.appends ≡ false
   pub no_lines : command.traits.lines ≡ false
   pub no_fault : (input : List ℕ) (line place : ℕ) → ¬ (command.fault input line place)
@@ -48,7 +49,8 @@ pub record CommandLaws (command : Command) : Type 0 where
   -- it has an outcome over what a drive can hold, and one alone
   pub answers : (held : Option Cartridge) (input : List ℕ) → command.values → IfSome held IsCartridge →
       (outcome : CommandOutcome) × command.yields held input outcome
-  pub one : (held : Option Cartridge) (input : List ℕ) (a b : CommandOutcome) → command.yields held input a → command.yields held input b → a ≡ b
+  pub one : (held : Option Cartridge) (input : List ℕ) (a b : CommandOutcome) → command.yields held input a → command.yields held input b →
+      a ≡ b
   -- a missing cartridge and a protected one stop those that need one, and one that takes writes
   pub none_held : command.traits.cartridge ≡ true → (input : List ℕ) (outcome : CommandOutcome) → command.yields None input outcome →
       outcome ≡ refused status.NoCartridge
@@ -57,7 +59,8 @@ pub record CommandLaws (command : Command) : Type 0 where
   -- an unformatted one stops those that mount it, and a defect in front one that formats
   pub unformatted : command.traits.mounts ≡ true → (c : Cartridge) (input : List ℕ) (outcome : CommandOutcome) → c.info.protected ≡ false →
       IsUnformatted c → command.yields (Some c) input outcome → outcome ≡ refused status.NotFormatted
-  pub in_front : command.traits.formats ≡ true → (c : Cartridge) (segment : ℕ) (input : List ℕ) (outcome : CommandOutcome) → c.info.protected ≡ false →
+  pub in_front : command.traits.formats ≡ true → (c : Cartridge) (segment : ℕ) (input : List ℕ) (outcome : CommandOutcome) →
+      c.info.protected ≡ false →
       IsFirstDefectInFront c segment → command.yields (Some c) input outcome → outcome.status ≡ status.DefectInFront segment
   -- it is carried out where all is there that it needs
   pub done : (held : Option Cartridge) (input : List ℕ) (outcome : CommandOutcome) → IfSome held IsCartridge → command.values →
@@ -67,14 +70,18 @@ pub record CommandLaws (command : Command) : Type 0 where
   -- what it keeps is kept in each cartridge that it leaves: what the cartridge stood for, what it was mounted as, header copies that
   -- are clean, bare, or such that neither can be read
   pub stands : (c : Cartridge) (plain : Plain) → command.keeps_volumes c plain → Stands c plain → LeavesEach command c (λ d. Stands d plain)
-  pub mounts : (c : Cartridge) (header : Header) (map_words : List ℕ) (table : List (List ℕ)) (entries : List Entry) → command.keeps_list c →
+  pub mounts : (c : Cartridge) (header : Header) (map_words : List ℕ) (table : List (List ℕ)) (entries : List Entry) →
+      command.keeps_list c →
       Mounts c (Mounted header map_words table entries) → LeavesEach command c (λ d. Mounts d (Mounted header map_words table entries))
-  pub clean : (c : Cartridge) (area : List (List ℕ)) → command.keeps_copies c → IsArea area → HasCleanCopies c area → LeavesEach command c (λ d. HasCleanCopies d area)
+  pub clean : (c : Cartridge) (area : List (List ℕ)) → command.keeps_copies c → IsArea area → HasCleanCopies c area →
+      LeavesEach command c (λ d. HasCleanCopies d area)
   pub bare : (c : Cartridge) → command.keeps_copies c → HasNoHeader c → LeavesEach command c HasNoHeader
   pub unread : (c : Cartridge) → command.keeps_copies c → command.keeps_unread c → NeitherReads c → LeavesEach command c NeitherReads
   -- each cartridge that it leaves is a whole one, over an input of bytes
-  pub whole : (c : Cartridge) (input : List ℕ) (outcome : CommandOutcome) (left : Option Cartridge) → command.values → All (λ b. b < 256) input → IsCartridge c →
+  pub whole : (c : Cartridge) (input : List ℕ) (outcome : CommandOutcome) (left : Option Cartridge) → command.values →
+      All (λ b. b < 256) input → IsCartridge c →
       command.yields (Some c) input outcome → Torn (steps_of outcome.acts) (Some c) left → IfSome left IsCartridge
   -- one that keeps the table's segment live puts in no new cartridge
-  pub live : (held : Option Cartridge) (input : List ℕ) (outcome : CommandOutcome) → command.keeps_live → command.yields held input outcome →
+  pub live : (held : Option Cartridge) (input : List ℕ) (outcome : CommandOutcome) → command.keeps_live →
+      command.yields held input outcome →
       HasNoRenew (steps_of outcome.acts)

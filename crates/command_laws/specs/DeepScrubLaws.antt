@@ -16,7 +16,8 @@ use Rattle.command_laws.specs.SilentSectors.{DiffersSilently}
 use Rattle.command_laws.specs.CommandFields.{Yields}
 use Rattle.command_laws.specs.ScrubPlain.{Scrubs}
 use Rattle.command_spec.specs.Outcome.{CommandOutcome}
-use Rattle.command_spec.specs.Scrub.{Looked, looked_at, Finding, FindInTurn, MayBeFound, IsWrong, ScrubsAs, finding_acts, ScrubsBy, whole_segment}
+use Rattle.command_spec.specs.Scrub.{Looked, looked_at, Finding, FindInTurn, MayBeFound, IsWrong, ScrubsAs, finding_acts, ScrubsBy}
+use Rattle.command_spec.specs.Scrub.{whole_segment}
 use Rattle.command_spec.specs.declared.depth.Depth.{Depth}
 use Rattle.command_spec.specs.declared.depth.Depth.TheVariants.{Shallow, Deep}
 use Rattle.qic_base.specs.Acts.{Act, steps_of}
@@ -80,7 +81,8 @@ DoneFormIsCartridge =
 -- a cartridge that stands for a plain one stands for it still, ..
 abbrev pub DoneFormStands : Type 0
 DoneFormStands =
-    (depth : Depth) (c : Cartridge) (plain : Plain) (acts : List Act) → Stands c plain → ScrubsAs depth c plain.words (entries_of plain) acts →
+    (depth : Depth) (c : Cartridge) (plain : Plain) (acts : List Act) → Stands c plain →
+    ScrubsAs depth c plain.words (entries_of plain) acts →
     Stands (changed_by (steps_of acts) c) plain
 
 -- .. with header copies that formatting may begin over, where they were so
@@ -114,7 +116,8 @@ FirstCopyIsRight = (c : Cartridge) (plain : Plain) → Stands c plain → IsFirs
 -- What differs from a cartridge that stands for a plain one in sectors that silently hold other bytes is mounted as that one, ..
 abbrev pub SilentSectorsAreMounted : Type 0
 SilentSectorsAreMounted =
-    (k c : Cartridge) (plain : Plain) → Stands k plain → Mounts k (mounted_as plain) → DiffersSilently k c plain → Mounts c (mounted_as plain)
+    (k c : Cartridge) (plain : Plain) → Stands k plain → Mounts k (mounted_as plain) → DiffersSilently k c plain →
+    Mounts c (mounted_as plain)
 
 -- .. and behind a deep scrub it stands for the plain one
 abbrev pub SilentSectorsAreMended : Type 0
@@ -127,7 +130,8 @@ abbrev pub SilentSectorsEnd : Type 0
 SilentSectorsEnd =
     (k c : Cartridge) (plain : Plain) (outcome : CommandOutcome) → Stands k plain → IsSettledFor k plain.table_area →
     c.info.protected ≡ false → DiffersSilently k c plain →
-    ScrubsBy Deep c plain.header plain.words plain.table_area (entries_of plain) outcome → Stands (changed_by (steps_of outcome.acts) c) plain
+    ScrubsBy Deep c plain.header plain.words plain.table_area (entries_of plain) outcome →
+    Stands (changed_by (steps_of outcome.acts) c) plain
 
 -- The command `scrub deep` is carried out on each such cartridge that isn't protected, and what it leaves stands.
 abbrev pub DeepScrubMends : Type 0
@@ -205,5 +209,6 @@ pub record IsStoppedDeep (c : Cartridge) (left : Option Cartridge) : Type 0 wher
 -- so is what a stop in the command `scrub deep` leaves of any cartridge, or nothing was done
 abbrev pub DeepScrubStopped : Type 0
 DeepScrubStopped =
-    (c : Cartridge) (input : List ℕ) (outcome : CommandOutcome) (left : Option Cartridge) → Yields commands.ScrubDeep (Some c) input outcome →
+    (c : Cartridge) (input : List ℕ) (outcome : CommandOutcome) (left : Option Cartridge) →
+    Yields commands.ScrubDeep (Some c) input outcome →
     Torn (steps_of outcome.acts) (Some c) left → (left ≡ Some c) ⊎ IsStoppedDeep c left

@@ -60,7 +60,8 @@ pub record ScrubLeavesIntact (c : Cartridge) (plain : Plain) (acts : List Act) :
 
 abbrev pub ScrubsLeaveIntact : Type 0
 ScrubsLeaveIntact =
-    (c : Cartridge) (plain : Plain) (acts : List Act) → IsIntact c plain → ScrubsAs Shallow c plain.words (entries_of plain) acts → ScrubLeavesIntact c plain acts
+    (c : Cartridge) (plain : Plain) (acts : List Act) → IsIntact c plain → ScrubsAs Shallow c plain.words (entries_of plain) acts →
+    ScrubLeavesIntact c plain acts
 
 -- ---- generated runs
 

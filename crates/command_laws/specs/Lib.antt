@@ -5,12 +5,14 @@ pub mod CommandFields
 pub mod CommandLaws
 pub mod CommandRecord
 pub mod CopyLaws
+pub mod CutLaws
 pub mod DeepScrubLaws
 pub mod InputLaws
 pub mod Inputs
 pub mod Intact
 pub mod Life
 pub mod LifeLaws
+pub mod LifeReopens
 pub mod MadeLaws
 pub mod MadeTerms
 pub mod MountedHeld
@@ -39,7 +41,9 @@ pub mod ScrubMended
 pub mod ScrubPlain
 pub mod ScrubSayings
 pub mod ScrubTerms
+pub mod SilentLaws
 pub mod SilentSectors
+pub mod SilentSegments
 pub mod TextGenerator
 pub mod TextInput
 pub mod TextLaws

@@ -93,7 +93,8 @@ pub record LossSpares (c : Cartridge) (segment sector : ℕ) : Type 0 where
   pub copies : CopyDoesNotRead c 0 → CopyDoesNotRead c 1 → (2 ≤ segment) ⊎ HasNoHeader c
 
 -- a script that was stopped went no further than so many lines: by what it had printed, or by what it left
-abbrev pub StopsAmong : (printed : Option (List ℕ)) → Cartridge → List Item → List Did → (last : List Act) → (count : ℕ) → (left : Option Cartridge) → Type 0
+abbrev pub StopsAmong : (printed : Option (List ℕ)) → Cartridge → List Item → List Did → (last : List Act) → (count : ℕ) →
+    (left : Option Cartridge) → Type 0
 StopsAmong (Some text) c items dids last count left = GoesNoFurther items dids count (length text)
 StopsAmong None c items dids last count left = ¬ (CameFurther c items dids last count left)
 
@@ -247,7 +248,8 @@ EventBecomes (Runs run) held before after = Becomes run.command held run.input r
 EventBecomes (Loses segment sector) held before after = after ≡ before
 
 -- each event makes this of the volumes that stood behind the one before it
-abbrev pub BecomesAll : (events : List Event) (begun : Bool) (held left : Option Cartridge) → Lives events begun held left → (before after : Option Plain) → Type 0
+abbrev pub BecomesAll : (events : List Event) (begun : Bool) (held left : Option Cartridge) → Lives events begun held left →
+    (before after : Option Plain) → Type 0
 BecomesAll [] begun held left life before after = after ≡ before
 BecomesAll (event ∷ events) begun held left life before after =
     (now : Option Plain) × EventBecomes event held before now × IsSound (begun_behind event begun) life.0 now

@@ -51,8 +51,10 @@ FormatBegins =
 -- .. so it is, whatever the drive held, behind a new cartridge that was formatted
 abbrev pub NewAndFormatBegin : Type 0
 NewAndFormatBegin =
-    (segments : ℕ) (label : List ℕ) (date : ℕ) (answer : Status) (input other printed text : List ℕ) (begun : Bool) (held left : Option Cartridge) →
-    Lives (Runs (run_of (commands.New segments) input (Answered answer printed)) ∷ Runs (run_of (commands.Format label date) other (Answered status.Done text)) ∷ []) begun held left →
+    (segments : ℕ) (label : List ℕ) (date : ℕ) (answer : Status) (input other printed text : List ℕ) (begun : Bool)
+    (held left : Option Cartridge) →
+    Lives (Runs (run_of (commands.New segments) input (Answered answer printed)) ∷ Runs
+    (run_of (commands.Format label date) other (Answered status.Done text)) ∷ []) begun held left →
     (after : Option Plain) × IsEmptied (new_cartridge segments) label date after × IsSound false left after
 
 -- ---- volumes in a life
@@ -78,7 +80,8 @@ pub record HasGrown (plain later : Plain) : Type 0 where
 -- whatever the runs, and wherever they are stopped, no volume is lost or changed
 abbrev pub VolumesAreKept : Type 0
 VolumesAreKept =
-    (events : List Event) (begun : Bool) (held left : Option Cartridge) (plain : Plain) → AreKeeping events → IsSound begun held (Some plain) →
+    (events : List Event) (begun : Bool) (held left : Option Cartridge) (plain : Plain) → AreKeeping events →
+    IsSound begun held (Some plain) →
     Lives events begun held left →
     (later : Plain) × HasGrown plain later × IsSound (begun_behind_all events begun) left (Some later)
 
@@ -102,7 +105,8 @@ VolumesAreGivenBack =
 -- an append is answered Done, and whatever runs come behind it, and wherever they are stopped, its bytes are given back
 abbrev pub BackupsAreGivenBack : Type 0
 BackupsAreGivenBack =
-    (name : List ℕ) (date : ℕ) (bytes printed : List ℕ) (events : List Event) (begun : Bool) (held : Option Cartridge) (c : Cartridge) (plain : Plain) →
+    (name : List ℕ) (date : ℕ) (bytes printed : List ℕ) (events : List Event) (begun : Bool) (held : Option Cartridge) (c : Cartridge)
+    (plain : Plain) →
     AreKeeping events → IsSound begun held (Some plain) →
     Lives (Runs (run_of (commands.Append name date) bytes (Answered status.Done printed)) ∷ events) begun held (Some c) →
     (later : Plain) × HasGrown (with_bytes plain name date bytes) later × IsSound (begun_behind_all events begun) (Some c) (Some later)

@@ -30,7 +30,8 @@ MakesSomething =
     (acts : List Act) × (answer : Status) × Makes seed count c words entries acts answer
 
 -- a stop inside one of the steps, with all of those before it carried out
-pub record StopsInStep (seed : ℕ) (c : Cartridge) (words : List ℕ) (entries : List Entry) (items : List MakeStep) (left : Option Cartridge) : Type 0 where
+pub record StopsInStep (seed : ℕ) (c : Cartridge) (words : List ℕ) (entries : List Entry) (items : List MakeStep)
+    (left : Option Cartridge) : Type 0 where
   pub front : List MakeStep
   pub item : MakeStep
   pub rest : List MakeStep
@@ -97,7 +98,8 @@ MadeWhereThereIsRoom =
 
 -- what is left is mounted with the list that was mounted and some of the made volumes behind it, up to so many; with those that were
 -- appended by the answer where no act is left
-pub record ListsWithMade (seed count : ℕ) (header : Header) (words : List ℕ) (entries : List Entry) (rest : List Act) (answer : Status) (left : Option Cartridge) : Type 0 where
+pub record ListsWithMade (seed count : ℕ) (header : Header) (words : List ℕ) (entries : List Entry) (rest : List Act) (answer : Status)
+    (left : Option Cartridge) : Type 0 where
   pub appended : ℕ
   pub within : appended ≤ count
   pub answered : rest ≡ [] → AppendedFrom seed 1 count words entries answer appended

@@ -5,7 +5,8 @@ use Rattle.cartridge_spec.specs.Appending.{entry_behind}
 use Rattle.cartridge_spec.specs.Shape.{mask_at, usable_places}
 use Rattle.cartridge_spec.specs.Table.{Entry}
 use Rattle.command_spec.specs.Append.{append_acts, kept_over}
-use Rattle.command_spec.specs.Make.{made_bytes, made_length, MakeStep, WearSector, Runs, ScrubAll, appending, made_answer, made_list, made_name, making, sum_acts, wearing_volumes, after_item}
+use Rattle.command_spec.specs.Make.{made_bytes, made_length, MakeStep, WearSector, Runs, ScrubAll, appending, made_answer, made_list}
+use Rattle.command_spec.specs.Make.{made_name, making, sum_acts, wearing_volumes, after_item}
 use Rattle.command_spec.specs.Restore.{RestoresVolume, ending_status}
 use Rattle.command_spec.specs.declared.status.Status.{Status}
 use Rattle.qic_base.specs.Acts.{Act, text_of}
@@ -51,7 +52,8 @@ Makes seed count c words entries acts answer = Runs seed c words entries (making
 abbrev pub before_sums : (seed count : ℕ) → Plain → List MakeStep
 before_sums seed count plain =
     appending 1 count
-    ++ (wearing_volumes plain.words (drop (length (entries_of plain)) (made_list seed count plain.words (entries_of plain))) ++ ScrubAll ∷ [])
+    ++ (wearing_volumes plain.words (drop (length (entries_of plain)) (made_list seed count plain.words (entries_of plain))) ++ ScrubAll ∷
+    [])
 
 -- so many of the volumes from this one on were appended by a run that is answered so
 abbrev pub AppendedFrom : (seed volume count : ℕ) → (words : List ℕ) → List Entry → Status → (n : ℕ) → Type 0

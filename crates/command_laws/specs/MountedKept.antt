@@ -58,7 +58,8 @@ AppendsSurvive =
     (c : Cartridge) (plain : Plain) (name : List ℕ) (date : ℕ) (bytes : List ℕ) (left : Option Cartridge) → IsKept c plain →
     IsAppendable name date bytes → has_room plain (length bytes) ≡ true → Torn (settle_and_append c plain name date bytes) (Some c) left →
     Torn (settling_steps plain.table_area c) (Some c) left
-    ⊎ IsSomeAnd left (λ d. (f : Cartridge) (lost : ℕ) → LosesOneAlone d f lost → ComesBackAs f plain ⊎ ComesBackAs f (with_bytes plain name date bytes))
+    ⊎ IsSomeAnd left (λ d. (f : Cartridge) (lost : ℕ) → LosesOneAlone d f lost → ComesBackAs f plain
+    ⊎ ComesBackAs f (with_bytes plain name date bytes))
 
 -- .. and all of them done, it comes back so with the volume
 abbrev pub AppendedSurvive : Type 0

@@ -5,7 +5,8 @@ use Rattle.cartridge_spec.specs.Header.{Header}
 use Rattle.cartridge_spec.specs.Shape.{marked_sectors}
 use Rattle.cartridge_spec.specs.Table.{Entry}
 use Rattle.command_spec.specs.Lines.{blank_line, formatted_line, info_text, list_text, protected_line, upgraded_line}
-use Rattle.command_spec.specs.Outcome.{CommandOutcome, Going, OpenOutcome, Shows, StepOutcome, WritableOutcome, acted, carried_out, refused_behind}
+use Rattle.command_spec.specs.Outcome.{CommandOutcome, Going, OpenOutcome, Shows, StepOutcome, WritableOutcome, acted, carried_out}
+use Rattle.command_spec.specs.Outcome.{refused_behind}
 use Rattle.command_spec.specs.Scrub.{ScrubsBy}
 use Rattle.command_spec.specs.declared.depth.Depth.TheVariants.{Shallow, Deep}
 use Rattle.qic_base.specs.Cartridge.{Cartridge}

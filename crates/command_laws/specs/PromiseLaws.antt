@@ -34,6 +34,12 @@ DeepScrubRunMends {T} {S} {K} t s k =
     Stands whole plain → IsSettledFor whole plain.table_area → DiffersSilently whole c plain →
     ToldNow t new.tape (λ left. IsSomeAnd left (λ d. Stands d plain))
 
+-- Over a tape that tells, each cartridge that a run of `room` leaves, at its end or at any moment of it, is the one that was held.
+abbrev pub RoomLeavesAll : {T S K : Type 0} (t : tapes.Meaning T) (s : sources.Meaning S) (k : sinks.Meaning K) → Type 0
+RoomLeavesAll {T} {S} {K} t s k =
+    (words : List (List ℕ)) (old new : Outside T S K) (answer : Status) → Promises t s k words old new answer → Spells words commands.Room →
+    EachLeft t old.tape new.tape (λ held left. left ≡ held)
+
 -- Over a source that tells nothing, what a run of a script leaves, at its end or at any moment of it, is what one leaves
 -- over one input of bytes, of which hold the clauses on what it leaves, and on one loss.
 abbrev pub ScriptsUntold : {T S K : Type 0} → tapes.Meaning T → sources.Meaning S → sinks.Meaning K → Type 0

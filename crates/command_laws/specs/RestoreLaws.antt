@@ -6,7 +6,8 @@ use Rattle.cartridge_spec.specs.Appending.{with_bytes, appended_volume}
 use Rattle.cartridge_spec.specs.Says.{unreadable_count}
 use Rattle.cartridge_spec.specs.Settling.{changed_by}
 use Rattle.cartridge_spec.specs.Table.{Entry}
-use Rattle.command_spec.specs.Restore.{Piece, GivingEnd, Restores, framed, pieces, Restored, LosesFew, pieces_in, FirstLost, LostIn, piece_cells, MismatchIn, IsRead, PieceEnds}
+use Rattle.command_spec.specs.Restore.{Piece, GivingEnd, Restores, framed, pieces, Restored, LosesFew, pieces_in, FirstLost, LostIn}
+use Rattle.command_spec.specs.Restore.{piece_cells, MismatchIn, IsRead, PieceEnds}
 use Rattle.command_laws.specs.RestoreTerms.{bytes_held}
 use Rattle.command_spec.specs.Copying.{GivenBytes}
 use Rattle.qic_base.specs.Acts.{Act, steps_of, text_of}
@@ -138,7 +139,8 @@ FewOrFirstLost =
     (c : Cartridge) (words : List ℕ) (needed : List Piece) → All (LosesFew c words) needed ⊎ FirstLost c words needed
 
 -- a restore ends there with that number, and gives the bytes of the pieces before it: the first ones of the volume
-pub record GivesFront (c : Cartridge) (plain : Plain) (volume : Volume) (first : FirstLost c plain.words (pieces_in plain volume)) (acts : List Act) (ending : GivingEnd) : Type 0 where
+pub record GivesFront (c : Cartridge) (plain : Plain) (volume : Volume) (first : FirstLost c plain.words (pieces_in plain volume))
+    (acts : List Act) (ending : GivingEnd) : Type 0 where
   pub ends : ending ≡ LostIn first.piece.segment (unreadable_count (piece_cells c plain.words first.piece))
   pub text : text_of acts ≡ take (bytes_held first.front) (volume_bytes plain.words volume)
   pub count : length (text_of acts) ≡ bytes_held first.front
@@ -168,7 +170,8 @@ abbrev pub AppendedIsAmong : Type 0
 AppendedIsAmong =
     (c : Cartridge) (plain : Plain) (name : List ℕ) (date : ℕ) (bytes : List ℕ) → MayAppendTo c plain name date bytes →
     IsSettledFor c plain.table_area →
-    HasVolume (changed_by (appends.append_steps_of plain name date bytes) c) (with_bytes plain name date bytes) (appended_volume plain name date bytes)
+    HasVolume (changed_by (appends.append_steps_of plain name date bytes) c) (with_bytes plain name date bytes)
+    (appended_volume plain name date bytes)
 
 -- as long as it is, on the same map, and each of its segments has at most three unreadable sectors, a restore gives just the
 -- bytes that were appended

@@ -18,7 +18,8 @@ act_of piece sectors = record { steps = []; text = take piece.count (bytes_in se
 -- the volume with this number, as a line of a script gives it
 abbrev pub RestoreDoes : Cartridge → (words : List ℕ) → List Entry → (number : ℕ) → Did → Type 0
 RestoreDoes c words entries number did =
-    RestoresVolume c words entries number (λ entry acts ending. did ≡ given_as words entries number entry (framed (pieces words entry) acts) ending)
+    RestoresVolume c words entries number
+    (λ entry acts ending. did ≡ given_as words entries number entry (framed (pieces words entry) acts) ending)
 
 -- with so many pieces read: all of them, or the next one's segment is the one that says no data
 abbrev pub EndsAt : List Piece → (done : ℕ) → GivingEnd → Type 0

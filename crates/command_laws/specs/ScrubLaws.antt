@@ -1,5 +1,6 @@
 -- What scrubbing does, and what it leaves, done or stopped, as facts.
-use Rattle.std.specs.Prelude.{◌≡◌, ℕ, List, ◌≤◌, All, ◌↔◌, ◌<◌, true, ◌+◌, [], ◌∷◌, ◌++◌, if◌then◌else◌, length, take, slice_get, IsSomeAnd, Option, Some}
+use Rattle.std.specs.Prelude.{◌≡◌, ℕ, List, ◌≤◌, All, ◌↔◌, ◌<◌, true, ◌+◌, [], ◌∷◌, ◌++◌, if◌then◌else◌, length, take, slice_get, IsSomeAnd}
+use Rattle.std.specs.Prelude.{Option, Some}
 use Rattle.cartridge_laws.specs.AppendSettled.{IsSettledFor}
 use Rattle.cartridge_laws.specs.Segment.{IsUnreadable, data_of, sectors_of}
 use Rattle.cartridge_laws.specs.Shape.{Carries}

@@ -2,7 +2,8 @@
 use Rattle.std.specs.Prelude.{ℕ, List, [], ◌∷◌, ◌++◌, map}
 use Rattle.cartridge_spec.specs.Says.{Saying}
 use Rattle.command_laws.specs.ScrubPlain.{looking_acts}
-use Rattle.command_spec.specs.Scrub.{Counts, Looked, counted, counts_line, line_in, steps_in, Finding, HasFound, finding_acts, line_for, sayings_of, steps_for}
+use Rattle.command_spec.specs.Scrub.{Counts, Looked, counted, counts_line, line_in, steps_in, Finding, HasFound, finding_acts, line_for}
+use Rattle.command_spec.specs.Scrub.{sayings_of, steps_for}
 use Rattle.command_spec.specs.declared.depth.Depth.{Depth}
 use Rattle.qic_base.specs.Acts.{Act}
 use Rattle.qic_base.specs.Cartridge.{Cartridge}

@@ -39,7 +39,8 @@ pub record IsSilentIn (k c : Cartridge) (plain : Plain) (segment : ℕ) : Type 0
 abbrev pub HasCopy : (k c : Cartridge) → Plain → Type 0
 HasCopy k c plain =
     (IsSameIn k c 0 × (unreadable_count (copy_cells c 0) ≤ 3))
-    ⊎ (IsSameIn k c 1 × Written (copy_cells k 1) plain.header_area × (unreadable_count (copy_cells c 1) ≤ 3) × (unreadable_count (copy_cells c 0) ≤ 1))
+    ⊎ (IsSameIn k c 1 × Written (copy_cells k 1) plain.header_area × (unreadable_count (copy_cells c 1) ≤ 3)
+    × (unreadable_count (copy_cells c 0) ≤ 1))
 
 -- a cartridge differs in such sectors alone from one that stands for a plain one, and of which the first header copy was written
 pub record DiffersSilently (k c : Cartridge) (plain : Plain) : Type 0 where

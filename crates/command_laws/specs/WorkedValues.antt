@@ -3,7 +3,7 @@
 use Rattle.qic_base.specs.Cartridge.{Cartridge}
 use Rattle.std.specs.Prelude.{ℕ, ◌≡◌, List, [], ◌∷◌, ◌++◌, replicate, length, Some, None, codes, true, false, map, Bool}
 use Rattle.std.specs.List.{range_with_len}
-use Rattle.cartridge_spec.specs.Appending.{taken_by, new_entry, entry_behind}
+use Rattle.cartridge_spec.specs.Appending.{room, taken_by, new_entry, entry_behind}
 use Rattle.cartridge_spec.specs.Formatting.{fresh_header}
 use Rattle.cartridge_spec.specs.Says.{LostSectors, Mismatch}
 use Rattle.cartridge_spec.specs.Table.{Entry}
@@ -15,7 +15,8 @@ use Rattle.command_laws.specs.Inputs.{words_of}
 use Rattle.command_spec.specs.Command.{IsNumber}
 use Rattle.command_spec.specs.Make.{made_length, sum_line, made_name, wearing_in, WearSector}
 use Rattle.command_spec.specs.Input.{IsScript, AtStop}
-use Rattle.command_spec.specs.Lines.{blank_line, defect_line, lost_line, protected_line, upgraded_line, formatted_line, list_text, info_text, reply_behind, date_text, name_text}
+use Rattle.command_spec.specs.Lines.{blank_line, defect_line, lost_line, protected_line, room_line, upgraded_line, formatted_line}
+use Rattle.command_spec.specs.Lines.{list_text, info_text, reply_behind, date_text, name_text}
 use Rattle.command_laws.specs.PulseRuns.{after_trains}
 use Rattle.command_spec.specs.Pulses.{train_acts}
 use Rattle.command_spec.specs.Restore.{pieces, framed, Restored}
@@ -43,6 +44,10 @@ first_entry = new_entry (3 ∷ []) (filled (codes "a")) 0x305265C0 10
 -- a new cartridge of 3 segments per track
 abbrev pub BlankLine : Type 0
 BlankLine = blank_line 3 ≡ codes "blank 3\n"
+
+-- the room of a cartridge of 3 segments per track without a bad sector, with one volume in segment 3: that of 80 segments
+abbrev pub RoomTold : Type 0
+RoomTold = room_line (room (replicate 84 0) (first_entry ∷ [])) ≡ codes "room 2375680\n"
 
 -- a defect
 abbrev pub DefectLine : Type 0
@@ -324,7 +329,8 @@ ReportBrokenOff = text_of (train_acts inserted_drive (6 ∷ 10 ∷ error_read))
 -- the error word read, 14, 10, the error word and the status: 0x0A01, and 0x24, for the seek goes on
 abbrev pub SeekGoesOn : Type 0
 SeekGoesOn = text_of (train_acts inserted_drive (error_read ++ 14 ∷ 10 ∷ error_read ++ 6 ∷ replicate 9 2))
-    ≡ codes "1\n0\n0\n0\n0\n0\n0\n0\n0\n0\n0\n0\n0\n0\n0\n0\n0\n1\n0\n0\n1\n1\n0\n0\n0\n0\n0\n0\n0\n0\n1\n0\n1\n0\n0\n0\n0\n1\n1\n0\n0\n1\n0\n0\n1\n0\n0\n1\n"
+    ≡ codes
+    "1\n0\n0\n0\n0\n0\n0\n0\n0\n0\n0\n0\n0\n0\n0\n0\n0\n1\n0\n0\n1\n1\n0\n0\n0\n0\n0\n0\n0\n0\n1\n0\n1\n0\n0\n0\n0\n1\n1\n0\n0\n1\n0\n0\n1\n0\n0\n1\n"
 
 -- the error words after one train: 15, 16, 48, 28, 10 and 1
 abbrev pub ErrorWords : Type 0

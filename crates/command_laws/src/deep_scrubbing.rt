@@ -3,6 +3,7 @@
 //! proofs import the lemmas of this crate's `proofs`.
 
 ghost use Rattle.command_laws.specs.DeepScrubLaws.{ShallowIsScrub, FoundMayBe, FormIsFunction, FormAlways, FindsAtOnce, DoneInForm, DoneFormIsCartridge, DoneFormStands, DoneFormIsClean, DoneFormTable, DoneFormIsSettled, SecondFormWritesNothing, SilentSectorsAreMounted, SilentSectorsAreMended, SilentSectorsEnd, FirstCopyIsRight, DeepScrubMends, StoppedInForm, StoppedFormIsCartridge, StoppedFormStands, StoppedFormIsClean, StoppedFormTable, StoppedFormIsSettled, DeepScrubStopped};
+ghost use Rattle.command_laws.specs.SilentLaws.{SegmentsAreMadeWhole, StoppedStayMendable, NothingElseChanges, VolumesAreMadeWhole, DeepScrubMakesWhole, StoppedDeepScrubStaysMendable};
 
 /// Without a search for wrong sectors it is a scrub. Scrubbing in a form does one thing, and it does something: two code
 /// blocks differ in four sectors (QIC-80-MC), so at most one sector of a segment is found to be wrong. What is found of each segment follows from the cartridge before the
@@ -58,4 +59,22 @@ pub fn a_deep_scrub()
     ensures right { FirstCopyIsRight }
     ensures mends { DeepScrubMends }
     ensures stopped { DeepScrubStopped }
+{}
+
+/// A segment that is looked at, and was written, is whole behind a deep scrub, whatever became of the others, where at most
+/// one sector silently holds other bytes and at most one more can't be read, or none does and at most three can't be read.
+/// So is each volume whose segments are all so. Nothing else changes: each sector is as it was, or was put right. A stop
+/// leaves each such segment so.
+pub fn silent_segments()
+    ensures whole { SegmentsAreMadeWhole }
+    ensures stopped { StoppedStayMendable }
+    ensures nothing_else { NothingElseChanges }
+    ensures volumes { VolumesAreMadeWhole }
+{}
+
+/// The command `scrub deep` is carried out on each cartridge that mounts and isn't protected, and makes each such segment
+/// whole, but for the table's. A stop in it leaves each of them so that the next one does.
+pub fn a_deep_scrub_of_silent_segments()
+    ensures whole { DeepScrubMakesWhole }
+    ensures stopped { StoppedDeepScrubStaysMendable }
 {}

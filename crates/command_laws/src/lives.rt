@@ -3,6 +3,7 @@
 
 ghost use Rattle.command_laws.specs.Life.{ALife};
 ghost use Rattle.command_laws.specs.LifeLaws.{AnsweredRuns, BackupsAreGivenBack, FormatBegins, NewAndFormatBegin, StoppedRuns, VolumesAreGivenBack, VolumesAreKept};
+ghost use Rattle.command_laws.specs.LifeReopens.{AReopeningLife};
 
 /// Behind each event of a life the cartridge stands for the volumes that the answered commands made, with those of the
 /// command that was stopped or not.
@@ -32,4 +33,10 @@ pub fn a_formatted_cartridge_begins_a_life()
 pub fn runs_of_words_are_of_a_life()
     ensures answered { AnsweredRuns }
     ensures stopped { StoppedRuns }
+{}
+
+/// Behind each event of a life in which no sector of the table's segment is lost beside what a stop takes, the cartridge
+/// mounts, with just the volumes that it stands for; one without a list is unformatted.
+pub fn a_life_reopens()
+    ensures { AReopeningLife }
 {}

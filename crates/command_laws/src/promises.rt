@@ -1,6 +1,7 @@
 //! What follows of the promises of a run and is no clause of them. Each is the contract of a function that does nothing.
 
-ghost use Rattle.command_laws.specs.PromiseLaws.{AnswersWhereNoneRose, DeepScrubRunMends, ScriptsUntold};
+ghost use Rattle.command_laws.specs.CutLaws.{CutRunsAreStopped, RunsReopen};
+ghost use Rattle.command_laws.specs.PromiseLaws.{AnswersWhereNoneRose, DeepScrubRunMends, RoomLeavesAll, ScriptsUntold};
 ghost use Rattle.command_laws.specs.ReadableLaws.{FormatsLeaveReadable, FormattedCanBeRead, RunsKeepReadable};
 
 use qic_base::{Sink, Source, Tape};
@@ -13,6 +14,11 @@ pub fn a_run_without_a_failure_answers<T: Tape, S: Source, K: Sink>()
 /// A run of `scrub deep` that is answered Done mends sectors that silently hold other bytes.
 pub fn a_run_that_scrubs_deep_mends<T: Tape, S: Source, K: Sink>()
     ensures { DeepScrubRunMends T.means S.means K.means }
+{}
+
+/// `room` leaves a cartridge exactly as it was, at its end and at any moment of it, protected or not.
+pub fn a_run_that_tells_the_room_leaves_all<T: Tape, S: Source, K: Sink>()
+    ensures { RoomLeavesAll T.means S.means K.means }
 {}
 
 /// Behind a formatting that was carried out the volume table can be read; and what one leaves that was stopped is
@@ -32,4 +38,16 @@ pub fn a_run_leaves_the_table_readable<T: Tape, S: Source, K: Sink>()
 /// What a script leaves over a source that tells nothing is what one leaves over some input.
 pub fn a_script_over_nothing_told<T: Tape, S: Source, K: Sink>()
     ensures { ScriptsUntold T.means S.means K.means }
+{}
+
+/// What a run leaves that a fault of the outside cut off is what a run of a life leaves that was stopped, with the text
+/// that the sink took.
+pub fn a_run_that_was_cut_off_is_a_stopped_one<T: Tape, S: Source, K: Sink>()
+    ensures { CutRunsAreStopped T.means S.means K.means }
+{}
+
+/// Where the volume table can be read, and each sector of its segment takes a write, each cartridge that such a run leaves
+/// mounts, with just the list that it stands for.
+pub fn a_run_reopens<T: Tape, S: Source, K: Sink>()
+    ensures { RunsReopen T.means S.means K.means }
 {}

@@ -1,11 +1,12 @@
 //! Worked values of the commands' definitions; the functions do nothing, and evaluation proves their contracts.
 
-ghost use Rattle.command_laws.specs.WorkedValues.{BlankLine, DefectLine, LostLine, ProtectedLine, UpgradedLine, FormattedLine, InfoText, EmptyList, OneVolumeListed, AppendedLine, ScrubLine, HeaderLine, LostSegmentLine, MismatchLine, WrongLine, LastDateText, NoDateText, NameText, ListWord, DeepWords, DeepIsNotScrub, ScrubIsNotDeep, NewWords, AppendWords, AppendWithoutDate, ListNow, New247, LeadingZero, TenDigits, ThreeWords, ThreePieces, PromisedTooMuch, PromisedTakesNone, FourForThree, FewerThanPromised, ScriptIsRead, AppendReplies, ListReplies, RestoreReplies, FullRefused, NoVolumeRefused, LostRefused, MismatchRefused, ProtectedRefused, PlaceRefused, FirstMade, ThirdMade, FirstByte, MadeName, FirstMadeSegments, SecondMadeSegments, ThirdMadeSegments, Worn, Looked, SumLine, StatusLevels, StatusIs, IllegalTrackLevels, ReportBrokenOff, SeekGoesOn, ErrorWords, ProtectedError, NoCartridgeError, SoughtTrack, SkippedBack};
+ghost use Rattle.command_laws.specs.WorkedValues.{BlankLine, RoomTold, DefectLine, LostLine, ProtectedLine, UpgradedLine, FormattedLine, InfoText, EmptyList, OneVolumeListed, AppendedLine, ScrubLine, HeaderLine, LostSegmentLine, MismatchLine, WrongLine, LastDateText, NoDateText, NameText, ListWord, DeepWords, DeepIsNotScrub, ScrubIsNotDeep, NewWords, AppendWords, AppendWithoutDate, ListNow, New247, LeadingZero, TenDigits, ThreeWords, ThreePieces, PromisedTooMuch, PromisedTakesNone, FourForThree, FewerThanPromised, ScriptIsRead, AppendReplies, ListReplies, RestoreReplies, FullRefused, NoVolumeRefused, LostRefused, MismatchRefused, ProtectedRefused, PlaceRefused, FirstMade, ThirdMade, FirstByte, MadeName, FirstMadeSegments, SecondMadeSegments, ThirdMadeSegments, Worn, Looked, SumLine, StatusLevels, StatusIs, IllegalTrackLevels, ReportBrokenOff, SeekGoesOn, ErrorWords, ProtectedError, NoCartridgeError, SoughtTrack, SkippedBack};
 ghost use Rattle.command_laws.specs.WorkedCopies.{CopiedText, CopiesAreAlike, FirstCopied, NameDiffers, OneTooMany, SecondCopied};
 
 /// Lines that commands print.
 pub fn lines()
     ensures blank { BlankLine }
+    ensures room { RoomTold }
     ensures defect { DefectLine }
     ensures lost { LostLine }
     ensures protected { ProtectedLine }

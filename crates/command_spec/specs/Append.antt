@@ -1,5 +1,6 @@
 -- The plain machine of `append`: what is taken of the input, and the acts that write the volume and its entry (this project's own).
-use Rattle.std.specs.Prelude.{ℕ, List, [], ◌∷◌, length, drop, nat_le, if◌then◌else◌, ◌&&◌, ◌||◌, ◌==◌, Bool, take, nat_lt, Option, Some, None, ◌+◌, min, is_some, ◌++◌, ◌≡◌, ◌/◌, unwrap_or, true, ◌<◌, ◌^◌, codes, IsSomeAnd}
+use Rattle.std.specs.Prelude.{ℕ, List, [], ◌∷◌, length, drop, nat_le, if◌then◌else◌, ◌&&◌, ◌||◌, ◌==◌, Bool, take, nat_lt, Option, Some}
+use Rattle.std.specs.Prelude.{None, ◌+◌, min, is_some, ◌++◌, ◌≡◌, ◌/◌, unwrap_or, true, ◌<◌, ◌^◌, codes, IsSomeAnd}
 use Rattle.cartridge_spec.specs.Appending.{part_writes, in_sectors, room, free_segments, entry_behind, table_writes, has_room}
 use Rattle.cartridge_spec.specs.Mounting.{settled}
 use Rattle.cartridge_spec.specs.Settling.{settling_steps}
@@ -98,7 +99,8 @@ entry_acts kept name date reply (Fits bytes) =
 entry_acts kept name date reply other = []
 
 -- the settling of the table, the volume's segments, and the table
-abbrev pub append_acts : Kept → (name : List ℕ) → (date : ℕ) → (promised : Option ℕ) → (reply : Entry → List ℕ) → (input : List ℕ) → List Act
+abbrev pub append_acts : Kept → (name : List ℕ) → (date : ℕ) → (promised : Option ℕ) → (reply : Entry → List ℕ) → (input : List ℕ) →
+    List Act
 append_acts kept name date promised reply input =
     record { steps = kept.settling; text = [] }
     ∷ (input_writes kept.words kept.entries promised input ++ entry_acts kept name date reply (taking (room_in kept) promised input))
@@ -107,7 +109,8 @@ append_acts kept name date promised reply input =
 
 -- The table is settled, and the whole input appended: a sector of the table that takes no write is written again. The
 -- cartridge is full where there is no room for all of the input, or none for a byte.
-abbrev pub appended : (name : List ℕ) → (date : ℕ) → (input : List ℕ) → Cartridge → (words : List ℕ) → (table : List (List ℕ)) → List Entry → CommandOutcome
+abbrev pub appended : (name : List ℕ) → (date : ℕ) → (input : List ℕ) → Cartridge → (words : List ℕ) → (table : List (List ℕ)) →
+    List Entry → CommandOutcome
 appended name date input c words table entries =
     let have : ℕ = room words entries in
     let taken : ℕ = min (length input) (have + 1) in record {

@@ -145,7 +145,8 @@ pub record Command : Type 1 where
 
 -- A command of these forms that has this outcome, and prints such a text once all is done. Any values are its own. It has none of
 -- the traits, prints nothing where it is refused, finds no fault in its input, needs nothing, and keeps all that stands.
-abbrev pub plain_command : (forms : List (List Part)) → (yields : Option Cartridge → List ℕ → CommandOutcome → Type 0) → (prints : List ℕ → Type 0) → Command
+abbrev pub plain_command : (forms : List (List Part)) → (yields : Option Cartridge → List ℕ → CommandOutcome → Type 0) →
+    (prints : List ℕ → Type 0) → Command
 plain_command forms yields prints = record {
   forms = forms;
   values = Unit {0};

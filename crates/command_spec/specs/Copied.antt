@@ -1,5 +1,6 @@
 -- The plain cartridge with the volumes of another one behind its own; what a copy needs, and what it leaves (this project's own).
-use Rattle.std.specs.Prelude.{ℕ, ◌+◌, ◌<◌, ◌≤◌, List, [], ◌∷◌, ◌++◌, ◌≡◌, true, length, take, drop, map, slice_get, All, Option, None, Some, IsSomeAnd}
+use Rattle.std.specs.Prelude.{ℕ, ◌+◌, ◌<◌, ◌≤◌, List, [], ◌∷◌, ◌++◌, ◌≡◌, true, length, take, drop, map, slice_get, All, Option, None, Some}
+use Rattle.std.specs.Prelude.{IsSomeAnd}
 use Rattle.cartridge_spec.specs.Appending.{Content, has_room, with_all}
 use Rattle.cartridge_spec.specs.Volumes.{volume_bytes, Plain, Stands, Volume, entries_of, volume_length}
 use Rattle.cartridge_spec.specs.TableSegment.{IsTableLive}
@@ -59,7 +60,8 @@ lengths_of words entries = map (volume_length words) entries
 
 -- the lines of the missing volumes up to this one
 abbrev pub lines_upto : (from to : Plain) → (upto : ℕ) → List ℕ
-lines_upto from to upto = copied_lines (length to.volumes + 1) (lengths_of from.words (drop (length to.volumes) (take upto (entries_of from))))
+lines_upto from to upto = copied_lines (length to.volumes + 1)
+    (lengths_of from.words (drop (length to.volumes) (take upto (entries_of from))))
 
 -- .. and no volume is missing whose line is among the bytes that were printed
 pub record StandsPrinted (from to : Plain) (printed : ℕ) (left : Option Cartridge) : Type 0 where

@@ -1,5 +1,7 @@
 -- What the program that copies one cartridge's volumes to another promises (this project's own).
-use Rattle.std.specs.Prelude.{ℕ, ◌+◌, ◌<◌, List, [], ◌++◌, ◌≡◌, ◌≢◌, ◌⊎◌, ◌↔◌, ◌≤◌, ◌==◌, ◌&&◌, ◌||◌, Bool, true, false, nat_lt, length, Option, None, Some, Contains, IfSome, IsSomeAnd, is_some}
+use Rattle.std.specs.Prelude.{ℕ, ◌+◌, ◌<◌, List, [], ◌++◌, ◌≡◌, ◌≢◌, ◌⊎◌, ◌↔◌, ◌≤◌, ◌==◌, ◌&&◌, ◌||◌, Bool, true, false, nat_lt, length}
+use Rattle.std.specs.Prelude.{Option, None, Some, Contains, IfSome, IsSomeAnd, is_some}
+use Rattle.std.specs.Option.{option_map}
 use Rattle.cartridge_spec.specs.Appending.{room}
 use Rattle.cartridge_spec.specs.Header.{Header}
 use Rattle.cartridge_spec.specs.Mounting.{Mounting, Mounts, settled}
@@ -19,7 +21,7 @@ use Rattle.qic_base.specs.Acts.{Act, SinkCut, TapeCut, Went, steps_of}
 use Rattle.qic_base.specs.Alone.{around, no_source}
 use Rattle.qic_base.specs.Cartridge.{Cartridge}
 use Rattle.qic_base.specs.Tape.{Rose}
-use Rattle.qic_base.specs.Step.{Torn}
+use Rattle.qic_base.specs.Step.{Torn, effects}
 use Rattle.cartridge_spec.specs.Mounting as mounting
 use Rattle.command_spec.specs.declared.copy_fault.CopyFault.TheVariants as fault
 use Rattle.command_spec.specs.declared.copy_status.CopyStatus.TheVariants as status
@@ -39,11 +41,13 @@ abbrev pub IsUnasked : CopyStatus → Type 0
 IsUnasked answer = (answer ≡ status.Usage) ⊎ (answer ≡ status.NoMemory)
 
 -- a fact of what both drives hold, where both tapes tell
-abbrev pub OverBoth : {A B K : Type 0} (a : tapes.Meaning A) (b : tapes.Meaning B) (old : Decks A B K) (P : (from to : Option Cartridge) → Type 0) → Type 0
+abbrev pub OverBoth : {A B K : Type 0} (a : tapes.Meaning A) (b : tapes.Meaning B) (old : Decks A B K)
+    (P : (from to : Option Cartridge) → Type 0) → Type 0
 OverBoth a b old P = IfSome (a.told old.from) (λ from. IfSome (b.told old.to) (λ to. P from to))
 
 -- The plain machine's outcome: it was carried out, all of it.
-pub record CopyWent {A B K : Type 0} (a : tapes.Meaning A) (b : tapes.Meaning B) (k : sinks.Meaning K) (old new : Decks A B K) (answer : CopyStatus) (from to : Option Cartridge) : Type 0 where
+pub record CopyWent {A B K : Type 0} (a : tapes.Meaning A) (b : tapes.Meaning B) (k : sinks.Meaning K) (old new : Decks A B K)
+    (answer : CopyStatus) (from to : Option Cartridge) : Type 0 where
   pub outcome : CopyOutcome
   pub plain : CopyYields from to outcome
   pub answered : answer ≡ outcome.status
@@ -51,30 +55,35 @@ pub record CopyWent {A B K : Type 0} (a : tapes.Meaning A) (b : tapes.Meaning B)
   pub went : Went b no_source k (around old.to old.sink) (around new.to new.sink) outcome.acts
 
 -- A fault of the source's tape broke it off: in the settling of that, before anything was done to the target, or in a
--- reading behind it, once first ones of its acts went.
-pub record FromCut {A B K : Type 0} (a : tapes.Meaning A) (b : tapes.Meaning B) (k : sinks.Meaning K) (old new : Decks A B K) (from to : Option Cartridge) : Type 0 where
+-- reading behind it, once all of the settling was done, and first ones of the target's acts went.
+pub record FromCut {A B K : Type 0} (a : tapes.Meaning A) (b : tapes.Meaning B) (k : sinks.Meaning K) (old new : Decks A B K)
+    (from to : Option Cartridge) : Type 0 where
   pub outcome : CopyOutcome
   pub plain : CopyYields from to outcome
   pub front : List Act
   pub rest : List Act
-  pub broke : (tapes.Broke a old.from new.from outcome.settling × (front ≡ [])) ⊎ tapes.Done a old.from new.from outcome.settling
+  pub broke : tapes.Broke a old.from new.from outcome.settling
+  pub place : (front ≡ []) ⊎ (a.told new.from ≡ option_map (effects outcome.settling) (a.told old.from))
   pub parts : front ++ rest ≡ outcome.acts
   pub went : Went b no_source k (around old.to old.sink) (around new.to new.sink) front
 
 -- A fault of the target's tape cut its acts off, or one of the sink.
-pub record ToCut {A B K : Type 0} (a : tapes.Meaning A) (b : tapes.Meaning B) (k : sinks.Meaning K) (old new : Decks A B K) (from to : Option Cartridge) : Type 0 where
+pub record ToCut {A B K : Type 0} (a : tapes.Meaning A) (b : tapes.Meaning B) (k : sinks.Meaning K) (old new : Decks A B K)
+    (from to : Option Cartridge) : Type 0 where
   pub outcome : CopyOutcome
   pub plain : CopyYields from to outcome
   pub settling : tapes.Done a old.from new.from outcome.settling
   pub cut : TapeCut b no_source k (around old.to old.sink) (around new.to new.sink) outcome.acts
 
-pub record PrintingCut {A B K : Type 0} (a : tapes.Meaning A) (b : tapes.Meaning B) (k : sinks.Meaning K) (old new : Decks A B K) (from to : Option Cartridge) : Type 0 where
+pub record PrintingCut {A B K : Type 0} (a : tapes.Meaning A) (b : tapes.Meaning B) (k : sinks.Meaning K) (old new : Decks A B K)
+    (from to : Option Cartridge) : Type 0 where
   pub outcome : CopyOutcome
   pub plain : CopyYields from to outcome
   pub settling : tapes.Done a old.from new.from outcome.settling
   pub cut : SinkCut b no_source k (around old.to old.sink) (around new.to new.sink) outcome.acts
 
-abbrev pub CopyEnds : {A B K : Type 0} (a : tapes.Meaning A) (b : tapes.Meaning B) (k : sinks.Meaning K) (old new : Decks A B K) → CopyStatus → (from to : Option Cartridge) → Type 0
+abbrev pub CopyEnds : {A B K : Type 0} (a : tapes.Meaning A) (b : tapes.Meaning B) (k : sinks.Meaning K) (old new : Decks A B K) →
+    CopyStatus → (from to : Option Cartridge) → Type 0
 CopyEnds a b k old new (status.From fault.Tape) from to = FromCut a b k old new from to
 CopyEnds a b k old new (status.To fault.Tape) from to = ToCut a b k old new from to
 CopyEnds a b k old new status.SinkFault from to = PrintingCut a b k old new from to
@@ -111,15 +120,36 @@ HasKind (status.To found) = is_to_fault found ≡ true
 HasKind (status.Differs number) = 0 < number
 HasKind answer = Unit {0}
 
--- the count of the object whose fault is answered rose
-abbrev pub HasRisen : {A B K : Type 0} (a : tapes.Meaning A) (b : tapes.Meaning B) (k : sinks.Meaning K) (old new : Decks A B K) → CopyStatus → Type 0
-HasRisen a b k old new (status.From fault.Tape) = Rose (a.faults old.from) (a.faults new.from)
-HasRisen a b k old new (status.To fault.Tape) = Rose (b.faults old.to) (b.faults new.to)
-HasRisen a b k old new status.SinkFault = Rose (k.faults old.sink) (k.faults new.sink)
-HasRisen a b k old new answer = Unit {0}
+-- a fault of the source's tape is answered, ..
+abbrev pub is_from_broken : CopyStatus → Bool
+is_from_broken (status.From fault.Tape) = true
+is_from_broken answer = false
+
+-- .. one of the target's, ..
+abbrev pub is_to_broken : CopyStatus → Bool
+is_to_broken (status.To fault.Tape) = true
+is_to_broken answer = false
+
+-- .. or one of the sink
+abbrev pub is_sink_broken : CopyStatus → Bool
+is_sink_broken status.SinkFault = true
+is_sink_broken answer = false
+
+-- the count of an object that failed rose by one, and that of one that didn't is as it was
+abbrev pub CountGoes : (failed : Bool) → (before now : ℕ) → Type 0
+CountGoes true before now = Rose before now
+CountGoes false before now = now ≡ before
+
+-- The count of the object whose fault is answered rose by one, and the others are as they were; at any other answer all are.
+pub record HasRisen {A B K : Type 0} (a : tapes.Meaning A) (b : tapes.Meaning B) (k : sinks.Meaning K) (old new : Decks A B K)
+    (answer : CopyStatus) : Type 0 where
+  pub from : CountGoes (is_from_broken answer) (a.faults old.from) (a.faults new.from)
+  pub to : CountGoes (is_to_broken answer) (b.faults old.to) (b.faults new.to)
+  pub sink : CountGoes (is_sink_broken answer) (k.faults old.sink) (k.faults new.sink)
 
 -- what a mounting gives is this refusal; where it gives a list the refusal is one of these
-abbrev pub MountingRefuses : Mounting → CopyFault → (OnceMounted : Header → (words : List ℕ) → (table : List (List ℕ)) → List Entry → Type 0) → Type 0
+abbrev pub MountingRefuses : Mounting → CopyFault →
+    (OnceMounted : Header → (words : List ℕ) → (table : List (List ℕ)) → List Entry → Type 0) → Type 0
 MountingRefuses mounting.NotFormatted found OnceMounted = found ≡ fault.NotFormatted
 MountingRefuses (mounting.Foreign why) found OnceMounted = found ≡ foreign_fault why
 MountingRefuses (mounting.TableLost lost) found OnceMounted = found ≡ fault.Lost 2 lost
@@ -129,7 +159,8 @@ MountingRefuses (mounting.Mounted header words table entries) found OnceMounted 
 -- a volume of the settled source ends so
 abbrev pub EndsVolume : Cartridge → CopyFault → Header → (words : List ℕ) → (table : List (List ℕ)) → List Entry → Type 0
 EndsVolume c found header words table entries =
-    (e : Entry) × Contains entries e × ((read : List Act) × ((ending : GivingEnd) × Restores (settled table c) words (pieces words e) read ending
+    (e : Entry) × Contains entries e × ((read : List Act)
+    × ((ending : GivingEnd) × Restores (settled table c) words (pieces words e) read ending
     × (giving_status ending ≡ status.From found)))
 
 -- .. of the target: it is protected, or an append to it is refused; the room is that behind its volumes and the copied ones
@@ -144,7 +175,9 @@ EndsAppend c found header words table entries = ⊥
 -- it is mounted, and lists volumes
 abbrev pub MountsSome : Option Cartridge → Type 0
 MountsSome held =
-    IsSomeAnd held (λ c. (header : Header) × ((words : List ℕ) × ((table : List (List ℕ)) × ((entries : List Entry) × Mounts c (mounting.Mounted header words table entries)))))
+    IsSomeAnd held (λ c. (header : Header)
+    × ((words : List ℕ) × ((table : List (List ℕ))
+    × ((entries : List Entry) × Mounts c (mounting.Mounted header words table entries)))))
 
 -- .. and takes more of them; its list is so
 abbrev pub TakesMore : Option Cartridge → (List Entry → Type 0) → Type 0
@@ -241,7 +274,8 @@ TargetLives held left = (d : Cartridge) → held ≡ Some d → IsTableLive d �
 -- and of the target for its volumes and some of the missing ones, in their order
 abbrev pub TargetGrows : (from : Option Cartridge) → (held left : Option Cartridge) → Type 0
 TargetGrows from held left =
-    (c : Cartridge) (one : Plain) (d : Cartridge) (other : Plain) → from ≡ Some c → held ≡ Some d → StandAlike c one d other → StandsUpTo one other left
+    (c : Cartridge) (one : Plain) (d : Cartridge) (other : Plain) → from ≡ Some c → held ≡ Some d → StandAlike c one d other →
+    StandsUpTo one other left
 
 -- When it is over this was printed, and the target has at least the volumes whose lines were written whole.
 pub record CopyIsOver {A B K : Type 0} (b : tapes.Meaning B) (k : sinks.Meaning K) (old new : Decks A B K) (from to : Plain) : Type 0 where
@@ -250,7 +284,8 @@ pub record CopyIsOver {A B K : Type 0} (b : tapes.Meaning B) (k : sinks.Meaning 
   pub printed : ToldNow b new.to (StandsPrinted from to (length text))
 
 -- no count of faults rose
-pub record NoDeckRose {A B K : Type 0} (a : tapes.Meaning A) (b : tapes.Meaning B) (k : sinks.Meaning K) (old new : Decks A B K) : Type 0 where
+pub record NoDeckRose {A B K : Type 0} (a : tapes.Meaning A) (b : tapes.Meaning B) (k : sinks.Meaning K)
+    (old new : Decks A B K) : Type 0 where
   pub from : ¬ (Rose (a.faults old.from) (a.faults new.from))
   pub to : ¬ (Rose (b.faults old.to) (b.faults new.to))
   pub sink : ¬ (Rose (k.faults old.sink) (k.faults new.sink))
@@ -264,7 +299,8 @@ pub record StopsGoOn {T : Type 0} (t : tapes.Meaning T) (old new : T) : Type 0 w
       t.left_since new time left → t.left_since old time left ⊎ t.left_since new later left
 
 -- two copies over the same objects can be put together: no count has fallen, each tape tells as before, and of stops as before
-pub record CopiesJoin {A B K : Type 0} (a : tapes.Meaning A) (b : tapes.Meaning B) (k : sinks.Meaning K) (old new : Decks A B K) : Type 0 where
+pub record CopiesJoin {A B K : Type 0} (a : tapes.Meaning A) (b : tapes.Meaning B) (k : sinks.Meaning K)
+    (old new : Decks A B K) : Type 0 where
   pub from_later : a.faults old.from ≤ a.faults new.from
   pub to_later : b.faults old.to ≤ b.faults new.to
   pub sink_later : k.faults old.sink ≤ k.faults new.sink
@@ -274,7 +310,8 @@ pub record CopiesJoin {A B K : Type 0} (a : tapes.Meaning A) (b : tapes.Meaning 
   pub to_stops : StopsGoOn b old.to new.to
 
 -- What a copy promises, by the tapes and the sink before it and after it, and by its answer.
-pub record CopyPromises {A B K : Type 0} (a : tapes.Meaning A) (b : tapes.Meaning B) (k : sinks.Meaning K) (words : List (List ℕ)) (old new : Decks A B K) (answer : CopyStatus) : Type 0 where
+pub record CopyPromises {A B K : Type 0} (a : tapes.Meaning A) (b : tapes.Meaning B) (k : sinks.Meaning K) (words : List (List ℕ))
+    (old new : Decks A B K) (answer : CopyStatus) : Type 0 where
   -- Words are refused just where there are any; then, and for want of memory, nothing was touched.
   pub usage : (answer ≡ status.Usage) ↔ (words ≢ [])
   pub untouched : IsUnasked answer → new ≡ old
@@ -284,8 +321,8 @@ pub record CopyPromises {A B K : Type 0} (a : tapes.Meaning A) (b : tapes.Meanin
   pub complete : words ≡ [] → NoDeckRose a b k old new → (c : Cartridge) (one : Plain) (d : Cartridge) (other : Plain) →
       a.told old.from ≡ Some (Some c) → b.told old.to ≡ Some (Some d) → CanBeCopied c one d other →
       (answer ≡ status.NoMemory) ⊎ (answer ≡ status.Done)
-  -- A fault of a tape or of the sink comes only where its count rose; the refusals are of these kinds over any tapes, and a
-  -- volume ends early only where the source's tape doesn't tell.
+  -- The count of a tape or of the sink rises, by one, just where its fault is answered; the refusals are of these kinds over
+  -- any tapes, and a volume ends early only where the source's tape doesn't tell.
   pub cause : HasRisen a b k old new answer
   pub kind : HasKind answer
   pub short : (promised read : ℕ) → answer ≡ status.To (fault.Short promised read) → a.told old.from ≡ None
@@ -303,10 +340,12 @@ pub record CopyPromises {A B K : Type 0} (a : tapes.Meaning A) (b : tapes.Meanin
   pub to_left : IfSome (a.told old.from) (λ from. EachLeft b old.to new.to (ToLeaves from))
   pub to_lives : IfSome (a.told old.from) (λ from. EachLeft b old.to new.to TargetLives)
   pub to_grows : IfSome (a.told old.from) (λ from. EachLeft b old.to new.to (TargetGrows from))
-  pub over : (c : Cartridge) (one : Plain) (d : Cartridge) (other : Plain) → a.told old.from ≡ Some (Some c) → b.told old.to ≡ Some (Some d) →
+  pub over : (c : Cartridge) (one : Plain) (d : Cartridge) (other : Plain) → a.told old.from ≡ Some (Some c) →
+      b.told old.to ≡ Some (Some d) →
       StandAlike c one d other → CopyIsOver b k old new one other
   -- At Done it stands for all of them, whatever its volume table takes.
-  pub done : (c : Cartridge) (one : Plain) (d : Cartridge) (other : Plain) → a.told old.from ≡ Some (Some c) → b.told old.to ≡ Some (Some d) →
+  pub done : (c : Cartridge) (one : Plain) (d : Cartridge) (other : Plain) → a.told old.from ≡ Some (Some c) →
+      b.told old.to ≡ Some (Some d) →
       Stands c one → Stands d other → BeginsLike one other → answer ≡ status.Done →
       ToldNow b new.to (λ left. IsSomeAnd left (λ e. Stands e (copied one other (length one.volumes))))
   -- Two copies can be joined.

@@ -1,6 +1,7 @@
 -- The plain machine of a copy: the volumes of one cartridge are appended to another one, behind those that it has (this
 -- project's own).
-use Rattle.std.specs.Prelude.{ℕ, ◌+◌, List, [], ◌∷◌, ◌++◌, codes, length, drop, take, replicate, ◌≡◌, ◌≢◌, ◌⊎◌, ◌==◌, ◌&&◌, Bool, true, false, if◌then◌else◌, Option, Some, None}
+use Rattle.std.specs.Prelude.{ℕ, ◌+◌, List, [], ◌∷◌, ◌++◌, codes, length, drop, take, replicate, ◌≡◌, ◌≢◌, ◌⊎◌, ◌==◌, ◌&&◌, Bool, true}
+use Rattle.std.specs.Prelude.{false, if◌then◌else◌, Option, Some, None}
 use Rattle.std.specs.Str.{bytes_eq}
 use Rattle.cartridge_spec.specs.Volumes.{bytes_in, volume_length}
 use Rattle.cartridge_spec.specs.Appending.{entry_of_length}
@@ -121,7 +122,8 @@ pub record IsFull (from : Side) (e : Entry) (to : Side) (table : List (List ℕ)
 -- some first acts of an append of these bytes: the settling of the table and segments, but no entry
 pub record IsBegun (from : Side) (e : Entry) (to : Side) (table : List (List ℕ)) (bytes : List ℕ) (acts : List Act) : Type 0 where
   pub rest : List Act
-  pub parts : acts ++ rest ≡ record { steps = (kept_on to table).settling; text = [] } ∷ input_writes to.words to.entries (Some (length_on from e)) bytes
+  pub parts : acts ++ rest ≡ record { steps = (kept_on to table).settling; text = [] } ∷ input_writes to.words to.entries
+      (Some (length_on from e)) bytes
 
 -- what was done of the append, by how the giving of the volume's bytes ended
 abbrev pub DoneOf : (from : Side) → Entry → (to : Side) → (table : List (List ℕ)) → (bytes : List ℕ) → GivingEnd → List Act → Type 0

@@ -17,7 +17,8 @@ use Rattle.qic_base.specs.Tape as tapes
 -- ---- a step of the plain machine
 
 -- It took place: over the cartridge that the tape told, and this input.
-pub record Stepped {T S K : Type 0} (t : tapes.Meaning T) (s : sources.Meaning S) (k : sinks.Meaning K) (words : List (List ℕ)) (held : Option Cartridge) (input : List ℕ) (old new : Outside T S K) (answer : Status) : Type 0 where
+pub record Stepped {T S K : Type 0} (t : tapes.Meaning T) (s : sources.Meaning S) (k : sinks.Meaning K) (words : List (List ℕ))
+    (held : Option Cartridge) (input : List ℕ) (old new : Outside T S K) (answer : Status) : Type 0 where
   pub held' : Option Cartridge
   pub output : List ℕ
   pub taken : ℕ
@@ -28,13 +29,15 @@ pub record Stepped {T S K : Type 0} (t : tapes.Meaning T) (s : sources.Meaning S
   pub written : k.written new.sink ≡ option_map (λ bytes. bytes ++ output) (k.written old.sink)
 
 -- no count of faults rose
-abbrev pub NoneRose : {T S K : Type 0} (t : tapes.Meaning T) (s : sources.Meaning S) (k : sinks.Meaning K) (old new : Outside T S K) → Type 0
+abbrev pub NoneRose : {T S K : Type 0} (t : tapes.Meaning T) (s : sources.Meaning S) (k : sinks.Meaning K) (old new : Outside T S K) →
+    Type 0
 NoneRose t s k old new = (failing : Failing) → ¬ (FailingRose t s k old new failing)
 
 -- ---- a fault of the outside
 
 -- it cut off the acts of the plain machine's outcome, of a command that the words spell, over what is told
-abbrev pub IsCut : {T S K : Type 0} (t : tapes.Meaning T) (s : sources.Meaning S) (k : sinks.Meaning K) (words : List (List ℕ)) (old new : Outside T S K) → Failing → Type 0
+abbrev pub IsCut : {T S K : Type 0} (t : tapes.Meaning T) (s : sources.Meaning S) (k : sinks.Meaning K) (words : List (List ℕ))
+    (old new : Outside T S K) → Failing → Type 0
 IsCut t s k words old new failing =
     (command : Words) × Spells words command × OverTold t s old (λ held input.
     (outcome : CommandOutcome) × (command_of command).yields held input outcome × IsCutOff t s k command old new failing outcome)
@@ -46,7 +49,8 @@ IsCut t s k words old new failing =
 -- have left.
 pub record EachLeft {T : Type 0} (t : tapes.Meaning T) (old new : T) (P : (held left : Option Cartridge) → Type 0) : Type 0 where
   pub told : (held : Option Cartridge) → t.told old ≡ Some held → IsSomeAnd (t.told new) (P held)
-  pub since : (held left : Option Cartridge) → t.tells_stops old ≡ true → t.told old ≡ Some held → t.left_since new (t.moment old) left → P held left
+  pub since : (held left : Option Cartridge) → t.tells_stops old ≡ true → t.told old ≡ Some held → t.left_since new (t.moment old) left →
+      P held left
 
 -- the cartridge that stands when a run is over: that which the tape tells, and that a stop then leaves
 abbrev pub ToldNow : {T : Type 0} (t : tapes.Meaning T) (new : T) (P : (left : Option Cartridge) → Type 0) → Type 0
@@ -68,7 +72,8 @@ WordsLeave told words held left = (left ≡ held) ⊎ ((command : Words) × Spel
 -- ---- runs one after the other
 
 -- the clauses of two runs over the same objects can be put together
-pub record Joins {T S K : Type 0} (t : tapes.Meaning T) (s : sources.Meaning S) (k : sinks.Meaning K) (old new : Outside T S K) : Type 0 where
+pub record Joins {T S K : Type 0} (t : tapes.Meaning T) (s : sources.Meaning S) (k : sinks.Meaning K)
+    (old new : Outside T S K) : Type 0 where
   -- no count has fallen, and each object tells as before
   pub counts : NoneFell t s k old new
   pub tape : is_some (t.told new.tape) ≡ is_some (t.told old.tape)

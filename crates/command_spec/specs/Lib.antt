@@ -14,6 +14,7 @@ pub mod Outcome
 pub mod Promises
 pub mod Pulses
 pub mod Restore
+pub mod Room
 pub mod Script
 pub mod ScriptLists
 pub mod Scrub

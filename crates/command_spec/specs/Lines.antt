@@ -1,5 +1,6 @@
 -- The lines that commands print, and how dates and names are printed (this project's own).
-use Rattle.std.specs.Prelude.{ℕ, ◌+◌, ◌%◌, ◌/◌, ◌^◌, List, [], ◌∷◌, ◌++◌, codes, if◌then◌else◌, nat_lt, ◌==◌, ◌||◌, Bool, ◌&&◌, nat_le, map, decimal, length, true, false, ◌*◌}
+use Rattle.std.specs.Prelude.{ℕ, ◌+◌, ◌%◌, ◌/◌, ◌^◌, List, [], ◌∷◌, ◌++◌, codes, if◌then◌else◌, nat_lt, ◌==◌, ◌||◌, Bool, ◌&&◌, nat_le, map}
+use Rattle.std.specs.Prelude.{decimal, length, true, false, ◌*◌}
 use Rattle.cartridge_spec.specs.Header.{Header}
 use Rattle.cartridge_spec.specs.Shape.{marked_sectors}
 use Rattle.cartridge_spec.specs.Table.{Entry}
@@ -92,6 +93,10 @@ formatted_line segments bad = place_line (codes "formatted") segments bad
 abbrev pub protected_line : Bool → List ℕ
 protected_line true = codes "protected on\n"
 protected_line false = codes "protected off\n"
+
+-- how many bytes an append may have
+abbrev pub room_line : (bytes : ℕ) → List ℕ
+room_line bytes = number_line (codes "room") bytes
 
 -- the version of the layout before
 abbrev pub upgraded_line : (version : ℕ) → List ℕ

@@ -1,6 +1,7 @@
 -- The plain machine over words, and how a command ended: all acts of its outcome went, or a fault of the outside cut
 -- them off (this project's own).
-use Rattle.std.specs.Prelude.{ℕ, List, Option, not, ◌≡◌, ◌⊎◌, [], IfSome, ◌+◌, drop, Bool, true, false, ◌&&◌, ◌==◌, nat_lt, nat_le, ◌≤◌, ◌||◌, ◌<◌, All, IfNone, ◌≢◌, is_some}
+use Rattle.std.specs.Prelude.{ℕ, List, Option, not, ◌≡◌, ◌⊎◌, [], IfSome, ◌+◌, drop, Bool, true, false, ◌&&◌, ◌==◌, nat_lt, nat_le, ◌≤◌}
+use Rattle.std.specs.Prelude.{◌||◌, ◌<◌, All, IfNone, ◌≢◌, is_some}
 use Rattle.command_spec.specs.Command.{HasForm}
 use Rattle.command_spec.specs.Commands.{command_of, traits_of}
 use Rattle.command_spec.specs.Input.{most_items}
@@ -35,7 +36,8 @@ SpellsNone words = (command : Words) → ¬ (Spells words command)
 
 -- words, what the drive holds and the input; and then what it holds, what was printed, how many bytes of the input were
 -- taken, and the status
-abbrev pub Step : (words : List (List ℕ)) (held : Option Cartridge) (input : List ℕ) (held' : Option Cartridge) (output : List ℕ) (taken : ℕ) → Status → Type 0
+abbrev pub Step : (words : List (List ℕ)) (held : Option Cartridge) (input : List ℕ) (held' : Option Cartridge) (output : List ℕ)
+    (taken : ℕ) → Status → Type 0
 Step words held input held' output taken answer =
     (SpellsNone words × (held' ≡ held) × (output ≡ []) × (taken ≡ 0) × (answer ≡ status.Usage))
     ⊎ ((command : Words) × Spells words command × ((outcome : CommandOutcome) × (command_of command).yields held input outcome
@@ -43,7 +45,8 @@ Step words held input held' output taken answer =
 
 -- where the tape tells, a fact of what it told and of the input: that which the source told, or some input where it
 -- tells none
-abbrev pub OverTold : {T S K : Type 0} (t : tapes.Meaning T) (s : sources.Meaning S) (old : Outside T S K) (P : Option Cartridge → List ℕ → Type 0) → Type 0
+abbrev pub OverTold : {T S K : Type 0} (t : tapes.Meaning T) (s : sources.Meaning S) (old : Outside T S K)
+    (P : Option Cartridge → List ℕ → Type 0) → Type 0
 OverTold t s old P =
     IfSome (t.told old.tape) (λ held. (input : List ℕ) × IsInput (s.left old.source) input × P held input)
 
@@ -112,7 +115,8 @@ pub record NamesFault (command : Words) (input : List ℕ) (answer : Status) : T
   pub none : answer ≡ status.Done → (line place : ℕ) → ¬ ((command_of command).fault input line place)
 
 -- It was carried out or refused: all acts of its outcome went.
-pub record Finished {T S K : Type 0} (t : tapes.Meaning T) (s : sources.Meaning S) (k : sinks.Meaning K) (command : Words) (old new : Outside T S K) (answer : Status) : Type 0 where
+pub record Finished {T S K : Type 0} (t : tapes.Meaning T) (s : sources.Meaning S) (k : sinks.Meaning K) (command : Words)
+    (old new : Outside T S K) (answer : Status) : Type 0 where
   pub outcome : CommandOutcome
   pub answered : answer ≡ outcome.status
   -- over what is told the plain machine's
@@ -129,20 +133,23 @@ pub record Finished {T S K : Type 0} (t : tapes.Meaning T) (s : sources.Meaning 
   pub fault : IfSome (s.left old.source) (λ input. NamesFault command input answer)
 
 -- the acts that were done and written before the fault
-abbrev pub acts_before : {T S K : Type 0} (t : tapes.Meaning T) (s : sources.Meaning S) (k : sinks.Meaning K) (old new : Outside T S K) (acts : List Act) (failing : Failing) → Cut t s k old new acts failing → List Act
+abbrev pub acts_before : {T S K : Type 0} (t : tapes.Meaning T) (s : sources.Meaning S) (k : sinks.Meaning K) (old new : Outside T S K)
+    (acts : List Act) (failing : Failing) → Cut t s k old new acts failing → List Act
 acts_before t s k old new acts SinkFails cut = cut.at.front
 acts_before t s k old new acts failing cut = cut.front
 
 -- A fault of an object cut the acts of an outcome off. A command that prints once all is done had printed nothing before;
 -- where it is the sink's, it was carried out, and all steps were done.
-pub record IsCutOff {T S K : Type 0} (t : tapes.Meaning T) (s : sources.Meaning S) (k : sinks.Meaning K) (command : Words) (old new : Outside T S K) (failing : Failing) (outcome : CommandOutcome) : Type 0 where
+pub record IsCutOff {T S K : Type 0} (t : tapes.Meaning T) (s : sources.Meaning S) (k : sinks.Meaning K) (command : Words)
+    (old new : Outside T S K) (failing : Failing) (outcome : CommandOutcome) : Type 0 where
   pub cut : Cut t s k old new outcome.acts failing
   pub done : failing ≡ SinkFails → (traits_of command).goes ≡ false →
       (outcome.status ≡ status.Done) × tapes.Done t old.tape new.tape (steps_of outcome.acts)
   pub silent : (traits_of command).goes ≡ false → text_of (acts_before t s k old new outcome.acts failing cut) ≡ []
 
 -- A fault of an object of the outside cut it off, or came behind its last act.
-pub record Stopped {T S K : Type 0} (t : tapes.Meaning T) (s : sources.Meaning S) (k : sinks.Meaning K) (command : Words) (old new : Outside T S K) (failing : Failing) : Type 0 where
+pub record Stopped {T S K : Type 0} (t : tapes.Meaning T) (s : sources.Meaning S) (k : sinks.Meaning K) (command : Words)
+    (old new : Outside T S K) (failing : Failing) : Type 0 where
   -- over what is told in the acts of the plain machine's outcome
   pub told : OverTold t s old (λ held input. IsOfBytes command (s.left old.source) input
       × ((outcome : CommandOutcome) → (command_of command).yields held input outcome → IsCutOff t s k command old new failing outcome))
@@ -155,7 +162,8 @@ pub record Stopped {T S K : Type 0} (t : tapes.Meaning T) (s : sources.Meaning S
   pub source_tells : is_some (s.left new.source) ≡ is_some (s.left old.source)
 
 -- how a command ended
-abbrev pub CommandEnds : {T S K : Type 0} (t : tapes.Meaning T) (s : sources.Meaning S) (k : sinks.Meaning K) (command : Words) (old new : Outside T S K) → Status → Type 0
+abbrev pub CommandEnds : {T S K : Type 0} (t : tapes.Meaning T) (s : sources.Meaning S) (k : sinks.Meaning K) (command : Words)
+    (old new : Outside T S K) → Status → Type 0
 CommandEnds t s k command old new answer =
     Finished t s k command old new answer
     ⊎ ((failing : Failing) × (answer ≡ fault_of failing) × Stopped t s k command old new failing)

@@ -1,6 +1,7 @@
 -- The plain machine of `make`: the volumes that it appends, the steps of a generated run, what each does, what a run may
 -- print, how many were appended by its answer, and the command (this project's own).
-use Rattle.std.specs.Prelude.{flat_map, fold, ℕ, ◌+◌, ◌*◌, ◌%◌, List, map, ◌++◌, codes, decimal, [], ◌∷◌, take, ◌==◌, if◌then◌else◌, length, drop, Some, ◌≡◌, true, slice_get, IsSomeAnd, ◌^◌, sum, ◌⊎◌, false, ◌≢◌, ◌<◌, ◌≤◌, All, nat_lt}
+use Rattle.std.specs.Prelude.{flat_map, fold, ℕ, ◌+◌, ◌*◌, ◌%◌, List, map, ◌++◌, codes, decimal, [], ◌∷◌, take, ◌==◌, if◌then◌else◌, length}
+use Rattle.std.specs.Prelude.{drop, Some, ◌≡◌, true, slice_get, IsSomeAnd, ◌^◌, sum, ◌⊎◌, false, ◌≢◌, ◌<◌, ◌≤◌, All, nat_lt}
 use Rattle.std.specs.List.{range_with_len}
 use Rattle.cartridge_spec.specs.Appending.{room, entry_behind, Content, with_all}
 use Rattle.cartridge_spec.specs.Header.{Header}
@@ -92,7 +93,8 @@ made_answer seed words entries volume =
 
 -- The volume table reads, and is settled; and the volume's bytes are appended, as many as are promised, without a reply,
 -- or it has no room.
-pub record IsAppended (seed : ℕ) (c : Cartridge) (words : List ℕ) (entries : List Entry) (volume : ℕ) (acts : List Act) (answer : Status) : Type 0 where
+pub record IsAppended (seed : ℕ) (c : Cartridge) (words : List ℕ) (entries : List Entry) (volume : ℕ) (acts : List Act)
+    (answer : Status) : Type 0 where
   pub table : List (List ℕ)
   pub reads : TableIs c table
   pub does : acts ≡ append_acts (kept_over c words entries table) (made_name volume) 0 (Some (made_length seed volume))
@@ -177,7 +179,8 @@ MayRun seed words entries (item ∷ items) text answer =
     × MayRun seed words (after_item seed words entries item) items rest answer)
 
 -- the table is settled, and the steps of a run are carried out on the settled cartridge
-pub record Making (seed count : ℕ) (c : Cartridge) (header : Header) (words : List ℕ) (table : List (List ℕ)) (entries : List Entry) (outcome : CommandOutcome) : Type 0 where
+pub record Making (seed count : ℕ) (c : Cartridge) (header : Header) (words : List ℕ) (table : List (List ℕ)) (entries : List Entry)
+    (outcome : CommandOutcome) : Type 0 where
   pub acts : List Act
   pub answer : Status
   pub makes : Runs seed (settled table c) words entries (making seed count words entries) acts answer

@@ -50,7 +50,8 @@ with_one plain name date input n = with_all plain (take n (record { name = name;
 -- What words that append leave of a cartridge that stands for a plain one, each sector of whose table's segment takes a
 -- write. Of a script the cartridge is not protected, and the first lines spare the header, and wear no sector of the
 -- table's segment; or the stop came further.
-pub record AppendingLeaves (told : Option (List ℕ)) (words : List (List ℕ)) (c : Cartridge) (plain : Plain) (left : Option Cartridge) : Type 0 where
+pub record AppendingLeaves (told : Option (List ℕ)) (words : List (List ℕ)) (c : Cartridge) (plain : Plain)
+    (left : Option Cartridge) : Type 0 where
   pub append : (name : List ℕ) (date : ℕ) → Spells words (commands.Append name date) → TellsBytes told →
       (input : List ℕ) × IsInput told input × LeftComesBack c (with_one plain name date input) 0 1 left
   pub make : (seed count : ℕ) → Spells words (commands.Make seed count) → LeftComesBack c (with_made plain seed) 0 count left
@@ -66,7 +67,8 @@ StoppedComesBack told words held left =
 -- What stands when such words are over, and this was printed: with the volume of an append that was carried out; with
 -- all volumes of a generated run that was, or has printed anything; with all lines of a script whose reply was written
 -- whole, and none behind those that it went no further than; with all lines, once its input was carried out.
-pub record AppendingLeft {T K : Type 0} (t : tapes.Meaning T) (k : sinks.Meaning K) (told : Option (List ℕ)) (words : List (List ℕ)) (c : Cartridge) (plain : Plain) (new : T) (before behind : K) (answer : Status) : Type 0 where
+pub record AppendingLeft {T K : Type 0} (t : tapes.Meaning T) (k : sinks.Meaning K) (told : Option (List ℕ)) (words : List (List ℕ))
+    (c : Cartridge) (plain : Plain) (new : T) (before behind : K) (answer : Status) : Type 0 where
   pub text : List ℕ
   pub took : k.took before text behind
   pub append : (name : List ℕ) (date : ℕ) → Spells words (commands.Append name date) → TellsBytes told → IsCarriedOut answer →
@@ -85,7 +87,8 @@ pub record AppendingLeft {T K : Type 0} (t : tapes.Meaning T) (k : sinks.Meaning
 
 -- A sector of the table's segment may be lost behind an append, a generated run or a script, too: each cartridge that a
 -- run leaves comes back so, and so does what stands when it is over.
-pub record SurvivesOneLoss {T K : Type 0} (t : tapes.Meaning T) (k : sinks.Meaning K) (told : Option (List ℕ)) (words : List (List ℕ)) (old new : T) (before behind : K) (answer : Status) : Type 0 where
+pub record SurvivesOneLoss {T K : Type 0} (t : tapes.Meaning T) (k : sinks.Meaning K) (told : Option (List ℕ)) (words : List (List ℕ))
+    (old new : T) (before behind : K) (answer : Status) : Type 0 where
   pub stopped : EachLeft t old new (StoppedComesBack told words)
   pub over : (c : Cartridge) (plain : Plain) → t.told old ≡ Some (Some c) → Stands c plain → IsTableLive c →
       AppendingLeft t k told words c plain new before behind answer

@@ -9,7 +9,8 @@ use Rattle.qic_base.specs.Acts.{Act, text_of}
 use Rattle.qic_base.specs.Cartridge.{Cartridge, IsPlace}
 use Rattle.qic_base.specs.Step.{Step}
 use Rattle.qic_base.specs.declared.foreign.ForeignField.{ForeignField}
-use Rattle.qic_base.specs.declared.foreign.ForeignField.TheVariants.{FormatCode, FirstHeader, SecondHeader, FirstData, Tracks, TrackMaximum, SectorMaximum, Map, Slot, Range}
+use Rattle.qic_base.specs.declared.foreign.ForeignField.TheVariants.{FormatCode, FirstHeader, SecondHeader, FirstData, Tracks, TrackMaximum}
+use Rattle.qic_base.specs.declared.foreign.ForeignField.TheVariants.{SectorMaximum, Map, Slot, Range}
 use Rattle.command_spec.specs.declared.status.Status.TheVariants as status
 use Rattle.cartridge_spec.specs.Mounting as mounting
 

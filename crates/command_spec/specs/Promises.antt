@@ -16,7 +16,7 @@ use Rattle.command_spec.specs.OneLoss.{SurvivesOneLoss}
 use Rattle.command_spec.specs.Volumes.{StillHolds, FormatsOrNot, AppendedOrNot, IsChanged, GivesBack}
 use Rattle.command_spec.specs.declared.status.Status.{Status}
 use Rattle.command_spec.specs.declared.words.Words.{Words}
-use Rattle.qic_base.specs.Acts.{Outside, Failing, FailingRose}
+use Rattle.qic_base.specs.Acts.{Outside, Failing, FailingRose, OthersStood, NoneFailed}
 use Rattle.qic_base.specs.Cartridge.{Cartridge}
 use Rattle.qic_base.specs.Sink as sinks
 use Rattle.qic_base.specs.Source as sources
@@ -35,7 +35,8 @@ pub record PrintsItsText {K : Type 0} (k : sinks.Meaning K) (words : List (List 
   pub begun : (command : Words) → Spells words command → (text : List ℕ) × (command_of command).fronts text × k.took old text new
 
 -- What a run of words promises, by the objects of the outside before it and after it, and by its answer.
-pub record Promises {T S K : Type 0} (t : tapes.Meaning T) (s : sources.Meaning S) (k : sinks.Meaning K) (words : List (List ℕ)) (old new : Outside T S K) (answer : Status) : Type 0 where
+pub record Promises {T S K : Type 0} (t : tapes.Meaning T) (s : sources.Meaning S) (k : sinks.Meaning K) (words : List (List ℕ))
+    (old new : Outside T S K) (answer : Status) : Type 0 where
   -- Where no fault of the outside ended it, over what is told the plain machine's step was made, or there was no memory.
   pub carried : is_fault answer ≡ false →
       OverTold t s old (λ held input. (answer ≡ status.NoMemory) ⊎ Stepped t s k words held input old new answer)
@@ -44,8 +45,11 @@ pub record Promises {T S K : Type 0} (t : tapes.Meaning T) (s : sources.Meaning 
       OverTold t s old (λ held input. (command_of command).needs held input → (answer ≡ status.NoMemory) ⊎ (answer ≡ status.Done))
   -- A fault of the outside cut off the acts of the plain machine's outcome over what is told, ..
   pub cut : (failing : Failing) → answer ≡ fault_of failing → IsCut t s k words old new failing
-  -- .. and comes only where the count of its object rose, one of the source only to a command that reads it.
+  -- .. and is answered just where a call failed: then the count of its object rose by one, those of the others are as they were,
+  -- and all are where no fault is answered. One of the source comes only to a command that reads it.
   pub cause : (failing : Failing) → answer ≡ fault_of failing → FailingRose t s k old new failing
+  pub others : (failing : Failing) → answer ≡ fault_of failing → OthersStood t s k old new failing
+  pub stood : is_fault answer ≡ false → NoneFailed t s k old new
   pub asked : answer ≡ status.SourceFault → (command : Words) × Spells words command × ((traits_of command).reads ≡ true)
   -- Where the tape tells, the run, a stop at any moment since it began, and one now leave what the command may leave.
   pub stops : EachLeft t old.tape new.tape (WordsLeave (s.left old.source) words)
@@ -87,7 +91,8 @@ pub record Promises {T S K : Type 0} (t : tapes.Meaning T) (s : sources.Meaning 
   pub made : (seed count : ℕ) (c : Cartridge) (plain : Plain) → t.told old.tape ≡ Some (Some c) → Generated words seed count c plain →
       AllMade t k new.tape old.sink new.sink answer seed count c plain
   pub scripted : (c : Cartridge) (plain : Plain) → t.told old.tape ≡ Some (Some c) →
-      OverInput (s.left old.source) (λ input. (script : Scripted input words c plain) → AllAnswered t k new.tape old.sink new.sink answer script)
+      OverInput (s.left old.source) (λ input. (script : Scripted input words c plain) →
+      AllAnswered t k new.tape old.sink new.sink answer script)
   -- Whether it stands for a plain one or not, a cartridge that was mounted is mounted behind `append`, `make` and `script` with the
   -- old list and the appends that were carried out, but after a fault of the tape.
   pub listed : (c : Cartridge) (header : Header) (map_words : List ℕ) (table : List (List ℕ)) (entries : List Entry) →

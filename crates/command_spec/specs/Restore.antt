@@ -1,5 +1,6 @@
 -- The plain machine of `restore`: a volume's bytes, segment by segment, and how their giving ends (this project's own).
-use Rattle.std.specs.Prelude.{ℕ, zero, suc, ◌-◌, List, [], ◌∷◌, min, ◌≤◌, take, ◌≡◌, ◌++◌, codes, decimal, ◌<◌, All, length, slice_get, Option, None, Some, ◌⊎◌, ◌==◌, ◌&&◌, true, IsSomeAnd, ◌||◌, nat_lt}
+use Rattle.std.specs.Prelude.{ℕ, zero, suc, ◌-◌, List, [], ◌∷◌, min, ◌≤◌, take, ◌≡◌, ◌++◌, codes, decimal, ◌<◌, All, length, slice_get}
+use Rattle.std.specs.Prelude.{Option, None, Some, ◌⊎◌, ◌==◌, ◌&&◌, true, IsSomeAnd, ◌||◌, nat_lt}
 use Rattle.cartridge_spec.specs.Volumes.{bytes_in, carrying_segments, volume_length, Plain, Volume, Stands}
 use Rattle.cartridge_spec.specs.Mounting.{settled}
 use Rattle.cartridge_spec.specs.TableSegment.{CanBeRead}
@@ -103,7 +104,8 @@ ending_status (LostIn segment lost) = status.Lost segment lost
 ending_status (MismatchIn segment) = status.Mismatch segment
 
 -- there is a volume with this number, the cartridge gives these acts of it, and they come to this
-pub record RestoresVolume (c : Cartridge) (words : List ℕ) (entries : List Entry) (number : ℕ) (Comes : Entry → List Act → GivingEnd → Type 0) : Type 0 where
+pub record RestoresVolume (c : Cartridge) (words : List ℕ) (entries : List Entry) (number : ℕ)
+    (Comes : Entry → List Act → GivingEnd → Type 0) : Type 0 where
   pub entry : Entry
   pub numbered : volume_at entries number ≡ Some entry
   pub acts : List Act

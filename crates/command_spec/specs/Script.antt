@@ -1,5 +1,6 @@
 -- The plain machine of `script`: its lines, one after the other, over a mounted cartridge, and their replies (this project's own).
-use Rattle.std.specs.Prelude.{flat_map, fold, ℕ, List, codes, ◌++◌, decimal, [], ◌+◌, ◌∷◌, ◌≡◌, true, false, length, Some, ◌⊎◌, None, ◌<◌, ◌≤◌, drop, IsSomeAnd}
+use Rattle.std.specs.Prelude.{flat_map, fold, ℕ, List, codes, ◌++◌, decimal, [], ◌+◌, ◌∷◌, ◌≡◌, true, false, length, Some, ◌⊎◌, None, ◌<◌}
+use Rattle.std.specs.Prelude.{◌≤◌, drop, IsSomeAnd}
 use Rattle.cartridge_spec.specs.Appending.{room, entry_behind}
 use Rattle.cartridge_spec.specs.Header.{Header}
 use Rattle.cartridge_spec.specs.TableSegment.{table_cells, TableIs}
@@ -75,7 +76,8 @@ Meets c (Refuses other) = ⊥
 Meets c (Finds table) = (c.info.protected ≡ false) × TableIs c table
 
 -- its acts over bytes that are as many as were promised, or fewer at the end of the input
-abbrev pub acts_on : Cartridge → (words : List ℕ) → List Entry → (name : List ℕ) → (promised date : ℕ) → (bytes : List ℕ) → Meeting → List Act
+abbrev pub acts_on : Cartridge → (words : List ℕ) → List Entry → (name : List ℕ) → (promised date : ℕ) → (bytes : List ℕ) → Meeting →
+    List Act
 acts_on c words entries name promised date bytes (Refuses why) = []
 acts_on c words entries name promised date bytes (Finds table) =
     append_acts (kept_over c words entries table) name date (Some promised) (reply_behind (length entries)) bytes
@@ -92,7 +94,8 @@ abbrev pub append_did : Cartridge → (words : List ℕ) → List Entry → (nam
 append_did c words entries name promised date bytes (Refuses why) = line_refused [] entries why
 append_did c words entries name promised date bytes (Finds table) =
     let kept : Kept = kept_over c words entries table in
-    taken_as kept name date (acts_on c words entries name promised date bytes (Finds table)) (taking (room words entries) (Some promised) bytes)
+    taken_as kept name date (acts_on c words entries name promised date bytes (Finds table))
+    (taking (room words entries) (Some promised) bytes)
 
 -- ---- restore
 
@@ -116,7 +119,8 @@ LineDoes c words entries (line.Restore number) bytes did =
     (λ entry acts ending. did ≡ given_as words entries number entry (framed (pieces words entry) acts) ending)
 LineDoes c words entries line.Scrub bytes did =
     ((c.info.protected ≡ true) × (did ≡ line_refused [] entries why.Protected))
-    ⊎ ((c.info.protected ≡ false) × ((acts : List Act) × ScrubsAs Shallow c words entries acts × (did ≡ record { acts = acts; entries = entries })))
+    ⊎ ((c.info.protected ≡ false) × ((acts : List Act) × ScrubsAs Shallow c words entries acts
+    × (did ≡ record { acts = acts; entries = entries })))
 LineDoes c words entries (line.Lose segment sector) bytes did =
     (¬ (IsPlace c.info.segments_per_track segment sector) × (did ≡ line_refused [] entries (why.Place segment sector)))
     ⊎ (IsPlace c.info.segments_per_track segment sector
@@ -169,7 +173,8 @@ EndDoes c words entries rest other acts = acts ≡ reply end_line ∷ []
 -- ---- the outcome
 
 -- how many bytes of the input stand before what ends the items
-abbrev pub place_behind : (number place : ℕ) (input : List ℕ) (items : List Item) (ending : Ending) → HasItems IsItem number place input items ending → ℕ
+abbrev pub place_behind : (number place : ℕ) (input : List ℕ) (items : List Item) (ending : Ending) →
+    HasItems IsItem number place input items ending → ℕ
 place_behind number place input [] ending read = place
 place_behind number place input (item ∷ items) ending read =
     place_behind (number + 1) (place + length read.1.0) read.1.1.0 items ending read.1.1.1.2
@@ -188,11 +193,13 @@ pub record ScriptDoes (c : Cartridge) (words : List ℕ) (entries : List Entry) 
   pub dids : List Did
   pub did : ItemsDo c words entries items dids
   pub last : List Act
-  pub ends : EndDoes (cartridge_behind c dids) words (entries_behind entries dids) (drop (place_behind 1 0 input items ending read) input) ending last
+  pub ends : EndDoes (cartridge_behind c dids) words (entries_behind entries dids)
+      (drop (place_behind 1 0 input items ending read) input) ending last
   pub is : outcome ≡ record { acts = acts_of dids ++ last; taken = items_taken input items ending read; status = input_status ending }
 
 -- the table is settled, and the lines of an input are carried out on the settled cartridge
-pub record Scripting (input : List ℕ) (c : Cartridge) (header : Header) (words : List ℕ) (table : List (List ℕ)) (entries : List Entry) (outcome : CommandOutcome) : Type 0 where
+pub record Scripting (input : List ℕ) (c : Cartridge) (header : Header) (words : List ℕ) (table : List (List ℕ)) (entries : List Entry)
+    (outcome : CommandOutcome) : Type 0 where
   pub came : CommandOutcome
   pub does : ScriptDoes (settled table c) words entries input came
   pub is : outcome ≡ record came { acts = settling_act table c ∷ came.acts }
@@ -212,7 +219,15 @@ abbrev pub script_command : Command
 script_command =
     record (plain_command ((Word (codes "script") ∷ []) ∷ []) (λ held input outcome. OpenOutcome (Scripting input) held outcome)
     (λ text. (replies : List ℕ) × (text ≡ replies ++ end_line))) {
-      traits = record none_of_them { reads = true; lines = true; goes = true; memory = true; cartridge = true; mounts = true; appends = true };
+      traits = record none_of_them {
+        reads = true;
+        lines = true;
+        goes = true;
+        memory = true;
+        cartridge = true;
+        mounts = true;
+        appends = true;
+      };
       refused = script_refused;
       fault = λ input line place. (items : List Item) × IsScript input items (AtFault line place);
       needs = λ held input. IsSomeAnd held CanBeMounted

@@ -1,6 +1,7 @@
 -- What a script leaves of a cartridge behind the lines that were carried out: what these append, what the cartridge stands for,
 -- and the list that it is mounted with (this project's own).
-use Rattle.std.specs.Prelude.{ℕ, List, ◌==◌, length, if◌then◌else◌, [], ◌∷◌, suc, ◌≤◌, take, drop, Option, Some, IsSomeAnd, ◌<◌, ◌↔◌, ◌++◌, ◌≡◌, ◌⊎◌, ◌≢◌}
+use Rattle.std.specs.Prelude.{ℕ, List, ◌==◌, length, if◌then◌else◌, [], ◌∷◌, suc, ◌≤◌, take, drop, Option, Some, IsSomeAnd, ◌<◌, ◌↔◌, ◌++◌}
+use Rattle.std.specs.Prelude.{◌≡◌, ◌⊎◌, ◌≢◌}
 use Rattle.cartridge_spec.specs.Appending.{Content, with_all}
 use Rattle.cartridge_spec.specs.Header.{Header}
 use Rattle.cartridge_spec.specs.Mounting.{Lists}
@@ -70,7 +71,8 @@ abbrev pub GoesNoFurther : List Item → List Did → (count printed : ℕ) → 
 GoesNoFurther items dids count printed = (count ≡ length items) ⊎ (printed < printed_by dids count)
 
 -- it was stopped behind the first ones, in what the others do, or in its last acts
-pub record CameFurther (c : Cartridge) (items : List Item) (dids : List Did) (last : List Act) (count : ℕ) (left : Option Cartridge) : Type 0 where
+pub record CameFurther (c : Cartridge) (items : List Item) (dids : List Did) (last : List Act) (count : ℕ)
+    (left : Option Cartridge) : Type 0 where
   pub more : count < length items
   pub torn : Torn (steps_of (acts_of (drop count dids) ++ last)) (Some (cartridge_behind c (take count dids))) left
 
@@ -97,7 +99,8 @@ ListsBehind header words entries items dids count left =
     ItemsWearBehind (take count items) → IsSomeAnd left (λ d. Lists d header words (entries_behind entries (take count dids)))
 
 -- What is left is mounted with the list behind those items whose reply was written whole, where so many bytes were printed.
-pub record ListsAnswered (header : Header) (words : List ℕ) (entries : List Entry) (items : List Item) (dids : List Did) (printed : ℕ) (left : Option Cartridge) : Type 0 where
+pub record ListsAnswered (header : Header) (words : List ℕ) (entries : List Entry) (items : List Item) (dids : List Did) (printed : ℕ)
+    (left : Option Cartridge) : Type 0 where
   pub count : ℕ
   pub within : count ≤ length items
   pub lists : ListsBehind header words entries items dids count left
@@ -105,7 +108,8 @@ pub record ListsAnswered (header : Header) (words : List ℕ) (entries : List En
 
 -- What is left is mounted with the list behind those items whose reply was written whole, and behind the next one, if there is one:
 -- that of which the sink broke the reply off.
-pub record ListsBroken (header : Header) (words : List ℕ) (entries : List Entry) (items : List Item) (dids : List Did) (printed : ℕ) (left : Option Cartridge) : Type 0 where
+pub record ListsBroken (header : Header) (words : List ℕ) (entries : List Entry) (items : List Item) (dids : List Did) (printed : ℕ)
+    (left : Option Cartridge) : Type 0 where
   pub count : ℕ
   pub within : count ≤ length items
   pub lists : ListsBehind header words entries items dids count left

@@ -1,6 +1,7 @@
 -- The plain machine of `scrub` in its two forms: the segments that it looks at, what it finds, writes and prints of each, and its
 -- counts (this project's own).
-use Rattle.std.specs.Prelude.{ℕ, List, [], ◌∷◌, ◌+◌, ◌++◌, Bool, true, false, nat_lt, if◌then◌else◌, codes, decimal, length, ◌≡◌, map, flat_map, ◌≢◌, ◌<◌, ◌≤◌, slice_index, Option, Some, None, IsSomeAnd, ◌⊎◌}
+use Rattle.std.specs.Prelude.{ℕ, List, [], ◌∷◌, ◌+◌, ◌++◌, Bool, true, false, nat_lt, if◌then◌else◌, codes, decimal, length, ◌≡◌, map}
+use Rattle.std.specs.Prelude.{flat_map, ◌≢◌, ◌<◌, ◌≤◌, slice_index, Option, Some, None, IsSomeAnd, ◌⊎◌}
 use Rattle.cartridge_spec.specs.Header.{Header, has_signature}
 use Rattle.cartridge_spec.specs.Mounting.{settled}
 use Rattle.cartridge_spec.specs.Says.{whole_mask, cells_of, Saying, Data, LostSectors, Mismatch, with_parity, Says, unreadable_count}
@@ -207,7 +208,8 @@ pub record IsTextFor (depth : Depth) (looked : List Looked) (counts : Counts) (t
 -- ---- the commands
 
 -- once it is open the settled cartridge is scrubbed in this form
-pub record ScrubsBy (depth : Depth) (c : Cartridge) (header : Header) (words : List ℕ) (table : List (List ℕ)) (entries : List Entry) (outcome : CommandOutcome) : Type 0 where
+pub record ScrubsBy (depth : Depth) (c : Cartridge) (header : Header) (words : List ℕ) (table : List (List ℕ)) (entries : List Entry)
+    (outcome : CommandOutcome) : Type 0 where
   pub acts : List Act
   pub scrubs : ScrubsAs depth (settled table c) words entries acts
   pub is : outcome ≡ record { acts = settling_act table c ∷ acts; taken = 0; status = status.Done }

@@ -11,7 +11,8 @@ use Rattle.command_spec.specs.Machine.{Spells, is_fault}
 use Rattle.command_spec.specs.Make.{AppendedBy, made_list, with_made}
 use Rattle.command_spec.specs.Outcome.{CommandOutcome}
 use Rattle.command_spec.specs.Script.{Did, entries_behind, ScriptDoes}
-use Rattle.command_spec.specs.ScriptLists.{ItemsWearBehind, ListsAnswered, ListsBroken, CameFurther, FirstSpare, GoesNoFurther, ItemsSpare, StandsAnswered, with_items, plain_behind}
+use Rattle.command_spec.specs.ScriptLists.{ItemsWearBehind, ListsAnswered, ListsBroken, CameFurther, FirstSpare, GoesNoFurther, ItemsSpare}
+use Rattle.command_spec.specs.ScriptLists.{StandsAnswered, with_items, plain_behind}
 use Rattle.command_spec.specs.Volumes.{IsCarriedOut}
 use Rattle.qic_base.specs.Source.{IsInput}
 use Rattle.command_spec.specs.declared.status.Status.{Status}
@@ -29,7 +30,8 @@ NowLists t new header words entries = ToldNow t new (λ left. IsSomeAnd left (λ
 
 -- the list with the first ones of the made volumes; with those that were appended by the answer, where no fault of the outside ended
 -- it; with all of them, where anything was printed, the sink failed, or all was carried out
-pub record ListsMade {T K : Type 0} (t : tapes.Meaning T) (k : sinks.Meaning K) (new : T) (before behind : K) (answer : Status) (header : Header) (words : List ℕ) (entries : List Entry) (seed count : ℕ) : Type 0 where
+pub record ListsMade {T K : Type 0} (t : tapes.Meaning T) (k : sinks.Meaning K) (new : T) (before behind : K) (answer : Status)
+    (header : Header) (words : List ℕ) (entries : List Entry) (seed count : ℕ) : Type 0 where
   pub text : List ℕ
   pub took : k.took before text behind
   pub some : (n : ℕ) × (n ≤ count) × NowLists t new header words (made_list seed n words entries)
@@ -43,7 +45,8 @@ IsHeard answer = (answer ≡ status.Done) ⊎ ((line place : ℕ) × (answer ≡
 
 -- The list with the appends of those lines whose reply was written whole; and, where the sink failed, of the next one, whose reply
 -- it broke off; of all lines, where the input was carried out. None of these lines may have worn a sector of the segments 0 to 2.
-pub record ListsLines {T K : Type 0} (t : tapes.Meaning T) (k : sinks.Meaning K) (new : T) (before behind : K) (answer : Status) (header : Header) (words : List ℕ) (entries : List Entry) (items : List Item) (dids : List Did) : Type 0 where
+pub record ListsLines {T K : Type 0} (t : tapes.Meaning T) (k : sinks.Meaning K) (new : T) (before behind : K) (answer : Status)
+    (header : Header) (words : List ℕ) (entries : List Entry) (items : List Item) (dids : List Did) : Type 0 where
   pub text : List ℕ
   pub took : k.took before text behind
   pub answered : answer ≢ status.SinkFault → ToldNow t new (ListsAnswered header words entries items dids (length text))
@@ -53,7 +56,9 @@ pub record ListsLines {T K : Type 0} (t : tapes.Meaning T) (k : sinks.Meaning K)
 -- When a run is over that no fault of the tape ended, the cartridge is mounted with the old list and the appends that were carried
 -- out: that of `append` after Done and after a fault of the sink; those of the made volumes; those of the script's lines, by what
 -- these do. The input is that which the source tells, or some input where it tells none.
-pub record ListsAppends {T K : Type 0} (t : tapes.Meaning T) (k : sinks.Meaning K) (told : Option (List ℕ)) (words : List (List ℕ)) (new : T) (before behind : K) (answer : Status) (c : Cartridge) (header : Header) (map_words : List ℕ) (table : List (List ℕ)) (entries : List Entry) : Type 0 where
+pub record ListsAppends {T K : Type 0} (t : tapes.Meaning T) (k : sinks.Meaning K) (told : Option (List ℕ)) (words : List (List ℕ))
+    (new : T) (before behind : K) (answer : Status) (c : Cartridge) (header : Header) (map_words : List ℕ) (table : List (List ℕ))
+    (entries : List Entry) : Type 0 where
   pub appended : (name : List ℕ) (date : ℕ) → Spells words (commands.Append name date) → IsCarriedOut answer →
       (input : List ℕ) × IsInput told input
       × NowLists t new header map_words (entries ++ entry_behind map_words entries name date input ∷ [])
@@ -82,7 +87,8 @@ SomeMade words held left =
 -- When it is over this was printed; and where no fault of the outside ended it, as many of the volumes are there as were appended by
 -- its answer, all of them once it was carried out. Where each sector of the table's segment takes a write, all are there, too, where
 -- anything was printed, or the sink failed.
-pub record AllMade {T K : Type 0} (t : tapes.Meaning T) (k : sinks.Meaning K) (new : T) (before behind : K) (answer : Status) (seed count : ℕ) (c : Cartridge) (plain : Plain) : Type 0 where
+pub record AllMade {T K : Type 0} (t : tapes.Meaning T) (k : sinks.Meaning K) (new : T) (before behind : K) (answer : Status)
+    (seed count : ℕ) (c : Cartridge) (plain : Plain) : Type 0 where
   pub text : List ℕ
   pub took : k.took before text behind
   pub answered : is_fault answer ≡ false → (n : ℕ) × AppendedBy seed count plain.words (entries_of plain) answer n
@@ -106,7 +112,8 @@ pub record Scripted (input : List ℕ) (words : List (List ℕ)) (c : Cartridge)
   pub does : ScriptDoes (settled plain.table_area c) plain.words (entries_of plain) input outcome
 
 -- each sector that the first lines wear spares the header and the table, on the cartridge as it then stands
-abbrev pub FirstLinesSpare : {input : List ℕ} {words : List (List ℕ)} {c : Cartridge} {plain : Plain} → Scripted input words c plain → (count : ℕ) → Type 0
+abbrev pub FirstLinesSpare : {input : List ℕ} {words : List (List ℕ)} {c : Cartridge} {plain : Plain} → Scripted input words c plain →
+    (count : ℕ) → Type 0
 FirstLinesSpare {input} {words} {c} {plain} script count =
     (count ≤ length script.does.items) × FirstSpare (settled plain.table_area c) plain script.does.items script.does.dids count
 
@@ -122,7 +129,8 @@ LinesLeave input words held left =
 -- When it is over, whatever it answered, this was printed. Where each sector of the table's segment takes a write, and the lines that
 -- it went no further than spare header and table, all lines whose reply was written whole are among these, and at most one more; and
 -- all lines, also where some of these sectors take none, once the input was carried out, if all lines spare them.
-pub record AllAnswered {T K : Type 0} (t : tapes.Meaning T) (k : sinks.Meaning K) {input : List ℕ} {words : List (List ℕ)} {c : Cartridge} {plain : Plain} (new : T) (before behind : K) (answer : Status) (script : Scripted input words c plain) : Type 0 where
+pub record AllAnswered {T K : Type 0} (t : tapes.Meaning T) (k : sinks.Meaning K) {input : List ℕ} {words : List (List ℕ)} {c : Cartridge}
+    {plain : Plain} (new : T) (before behind : K) (answer : Status) (script : Scripted input words c plain) : Type 0 where
   pub text : List ℕ
   pub took : k.took before text behind
   pub answered : IsTableLive c → (count : ℕ) → GoesNoFurther script.does.items script.does.dids count (length text) →

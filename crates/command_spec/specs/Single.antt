@@ -1,13 +1,18 @@
 -- The commands that take no stream and give none: the plain machine of each, and its record (this project's own).
-use Rattle.std.specs.Prelude.{◌≡◌, ℕ, [], ◌∷◌, codes, ◌⊎◌, true, false, Option, IsSomeAnd, ◌≤◌, Bool, if◌then◌else◌, ◌*◌, List, ◌<◌, ◌^◌, length}
-use Rattle.cartridge_spec.specs.Formatting.{HasNoHeader, clearing_steps, format_steps, IsFirstDefectInFront, HasNoDefectInFront, IsFreshWith, IsLabel}
+use Rattle.std.specs.Prelude.{◌≡◌, ℕ, [], ◌∷◌, codes, ◌⊎◌, true, false, Option, IsSomeAnd, ◌≤◌, Bool, if◌then◌else◌, ◌*◌, List, ◌<◌, ◌^◌}
+use Rattle.std.specs.Prelude.{length}
+use Rattle.cartridge_spec.specs.Formatting.{HasNoHeader, clearing_steps, format_steps, IsFirstDefectInFront, HasNoDefectInFront}
+use Rattle.cartridge_spec.specs.Formatting.{IsFreshWith, IsLabel}
 use Rattle.cartridge_spec.specs.Header.{Header}
 use Rattle.cartridge_spec.specs.Shape.{marked_sectors}
 use Rattle.cartridge_spec.specs.Table.{Entry}
 use Rattle.cartridge_spec.specs.Volumes.{WearSpares}
-use Rattle.command_spec.specs.Command.{Command, plain_command, IsUnprotected, CanBeMounted, none_of_them, Word, Number, AnyNumber, Name, dated}
-use Rattle.command_spec.specs.Lines.{blank_line, defect_line, lost_line, protected_line, upgraded_line, formatted_line, info_text, list_text}
-use Rattle.command_spec.specs.Outcome.{carried_out, CommandOutcome, HeldOutcome, refused, refused_behind, HasPlace, StepOutcome, acted, Shows, OpenOutcome}
+use Rattle.command_spec.specs.Command.{Command, plain_command, IsUnprotected, CanBeMounted, none_of_them, Word, Number, AnyNumber, Name}
+use Rattle.command_spec.specs.Command.{dated}
+use Rattle.command_spec.specs.Lines.{blank_line, defect_line, lost_line, protected_line, upgraded_line, formatted_line, info_text}
+use Rattle.command_spec.specs.Lines.{list_text}
+use Rattle.command_spec.specs.Outcome.{carried_out, CommandOutcome, HeldOutcome, refused, refused_behind, HasPlace, StepOutcome, acted}
+use Rattle.command_spec.specs.Outcome.{Shows, OpenOutcome}
 use Rattle.qic_base.specs.Cartridge.{IsLength, Cartridge, view_at}
 use Rattle.qic_base.specs.Step.{Renew, Spoil, Wear, SetProtected, Upgrade}
 use Rattle.qic_base.specs.Tape.{spoil_answer}

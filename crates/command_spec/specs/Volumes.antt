@@ -25,7 +25,8 @@ use Rattle.qic_base.specs.Sink as sinks
 -- ---- what a command keeps
 
 -- A fact of a cartridge that held before holds of what is left, where the words are those of a command that keeps it.
-abbrev pub StillHolds : List (List ℕ) → (keeps : Command → Cartridge → Type 0) → (Holds : Cartridge → Type 0) → (held left : Option Cartridge) → Type 0
+abbrev pub StillHolds : List (List ℕ) → (keeps : Command → Cartridge → Type 0) → (Holds : Cartridge → Type 0) →
+    (held left : Option Cartridge) → Type 0
 StillHolds words keeps Holds held left =
     (c : Cartridge) → held ≡ Some c → Holds c →
     ((command : Words) → Spells words command → keeps (command_of command) c) → IsSomeAnd left Holds
@@ -76,7 +77,8 @@ AppendedOrNot told words held left =
 -- What words of restoring print of a volume: just its bytes, where no segment that holds some of them has lost more than
 -- three sectors; and else those of the segments before the first that has, which is named with the number of its lost ones.
 -- Behind a fault it is a front of the bytes.
-pub record GivesBack {K : Type 0} (k : sinks.Meaning K) (c : Cartridge) (plain : Plain) (volume : Volume) (before behind : K) (answer : Status) : Type 0 where
+pub record GivesBack {K : Type 0} (k : sinks.Meaning K) (c : Cartridge) (plain : Plain) (volume : Volume) (before behind : K)
+    (answer : Status) : Type 0 where
   pub whole : is_fault answer ≡ false → answer ≢ status.NoMemory → All (LosesFew c plain.words) (pieces_in plain volume) →
       (answer ≡ status.Done) × k.took before (volume_bytes plain.words volume) behind
   pub lost : (first : FirstLost c plain.words (pieces_in plain volume)) → is_fault answer ≡ false → answer ≢ status.NoMemory →
@@ -93,7 +95,8 @@ IsCarriedOut answer = (answer ≡ status.Done) ⊎ (answer ≡ status.SinkFault)
 -- What stands when a run is over: behind `new` the new cartridge, behind `format` the empty one; where a defect in front
 -- was answered, a bare one. Behind `append` of a cartridge that stands for a plain one that with the volume of the input, and
 -- where it was refused, or the input failed, what stood.
-pub record IsChanged {T : Type 0} (t : tapes.Meaning T) (told : Option (List ℕ)) (words : List (List ℕ)) (old new : T) (answer : Status) : Type 0 where
+pub record IsChanged {T : Type 0} (t : tapes.Meaning T) (told : Option (List ℕ)) (words : List (List ℕ)) (old new : T)
+    (answer : Status) : Type 0 where
   pub renewed : (segments : ℕ) (held : Option Cartridge) → IsCarriedOut answer → Spells words (commands.New segments) →
       t.told old ≡ Some held → ToldNow t new (λ left. left ≡ Some (new_cartridge segments))
   pub formatted : (label : List ℕ) (date : ℕ) (c : Cartridge) → IsCarriedOut answer → Spells words (commands.Format label date) →
@@ -101,7 +104,8 @@ pub record IsChanged {T : Type 0} (t : tapes.Meaning T) (told : Option (List ℕ
   pub cleared : (label : List ℕ) (date segment : ℕ) (c : Cartridge) → answer ≡ status.DefectInFront segment →
       Spells words (commands.Format label date) → t.told old ≡ Some (Some c) →
       ToldNow t new (λ left. IsSomeAnd left (λ d. HasNoHeader d × IsUnformatted d))
-  pub appended : (name : List ℕ) (date : ℕ) (c : Cartridge) (plain : Plain) → IsCarriedOut answer → Spells words (commands.Append name date) →
+  pub appended : (name : List ℕ) (date : ℕ) (c : Cartridge) (plain : Plain) → IsCarriedOut answer →
+      Spells words (commands.Append name date) →
       t.told old ≡ Some (Some c) → TellsBytes told → Stands c plain →
       ToldNow t new (λ left. IsSomeAnd left (StandsAppended told name date c plain))
   pub unchanged : (name : List ℕ) (date : ℕ) (c : Cartridge) (plain : Plain) → answer ≢ status.Done → answer ≢ status.SinkFault →

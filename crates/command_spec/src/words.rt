@@ -13,6 +13,7 @@ pub enum Words {
     Protect { on: bool },
     Format { label: Name, date: u32 },
     Info,
+    Room,
     Append { name: Name, date: u32 },
     List,
     Restore { number: u32 },

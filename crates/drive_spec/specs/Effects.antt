@@ -6,7 +6,9 @@ use Rattle.qic117_commands.specs.Codes.{code_of}
 use Rattle.qic117_commands.specs.Commands.{number_of}
 use Rattle.qic117_commands.specs.Views.{is_primary, is_format}
 use Rattle.qic117_commands.specs.declared.command.Command.{Command}
-use Rattle.qic117_commands.specs.declared.command.Command.TheVariants.{Reset, ReportError, LogicalForward, SeekTrack, SeekLoadPoint, EnterFormat, WriteReference, EnterVerify, StopTape, SkipReverse, SkipForward, EnterPrimary, SetFormatSegments}
+use Rattle.qic117_commands.specs.declared.command.Command.TheVariants.{Reset, ReportError, LogicalForward, SeekTrack, SeekLoadPoint}
+use Rattle.qic117_commands.specs.declared.command.Command.TheVariants.{EnterFormat, WriteReference, EnterVerify, StopTape, SkipReverse}
+use Rattle.qic117_commands.specs.declared.command.Command.TheVariants.{SkipForward, EnterPrimary, SetFormatSegments}
 use Rattle.qic117_commands.specs.declared.error_code.ErrorCode.{ErrorCode}
 use Rattle.qic117_commands.specs.declared.error_code.ErrorCode.TheVariants.{SoftwareReset}
 use Rattle.qic117_commands.specs.declared.view.Mode.TheVariants.{Primary, Format, Verify}

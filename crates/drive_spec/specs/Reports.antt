@@ -3,7 +3,8 @@ use Rattle.std.specs.Prelude.{ℕ, ◌+◌, ◌==◌, not, if◌then◌else◌}
 use Rattle.qic117_commands.specs.StatusWord.{status_of}
 use Rattle.qic117_commands.specs.Views.{is_format}
 use Rattle.qic117_commands.specs.declared.command.Command.{Command}
-use Rattle.qic117_commands.specs.declared.command.Command.TheVariants.{ReportStatus, ReportError, ReportConfiguration, ReportRom, ReportVendor, ReportTapeStatus, ReportFormatSegments}
+use Rattle.qic117_commands.specs.declared.command.Command.TheVariants.{ReportStatus, ReportError, ReportConfiguration, ReportRom}
+use Rattle.qic117_commands.specs.declared.command.Command.TheVariants.{ReportVendor, ReportTapeStatus, ReportFormatSegments}
 use Rattle.drive_spec.specs.declared.deck.Deck.{Deck}
 use Rattle.drive_spec.specs.Deck.{segments_per_track, view_of, is_at_bot, is_at_eot}
 

@@ -1,5 +1,6 @@
 -- Words for the state table that contracts and proofs cite, and no definition of the statement.
-use Rattle.std.specs.Prelude.{ℕ, ◌+◌, ◌-◌, ◌*◌, ◌%◌, ◌^◌, ◌==◌, ◌&&◌, Bool, true, false, List, [], ◌∷◌, ◌++◌, Option, not, if◌then◌else◌, nat_lt, min}
+use Rattle.std.specs.Prelude.{ℕ, ◌+◌, ◌-◌, ◌*◌, ◌%◌, ◌^◌, ◌==◌, ◌&&◌, Bool, true, false, List, [], ◌∷◌, ◌++◌, Option, not, if◌then◌else◌}
+use Rattle.std.specs.Prelude.{nat_lt, min}
 use Rattle.std.specs.Option.{option_map, option_map_or}
 use Rattle.qic_base.specs.Step.{Step}
 use Rattle.qic_base.specs.declared.tape.TapeInfo.{TapeInfo}

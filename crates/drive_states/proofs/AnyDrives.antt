@@ -1,5 +1,6 @@
 -- What a drive in whatever state does.
-use Rattle.std.proofs.Common.{◌≡◌, ℕ, Bool, true, false, List, [], ◌∷◌, Some, None, is_none, Result, Ok, Err, if◌then◌else◌, refl, sym, subst}
+use Rattle.std.proofs.Common.{◌≡◌, ℕ, Bool, true, false, List, [], ◌∷◌, Some, None, is_none, Result, Ok, Err, if◌then◌else◌, refl, sym}
+use Rattle.std.proofs.Common.{subst}
 use Rattle.qic_base.specs.Step.{Step}
 use Rattle.qic_base.specs.Tape.{Meaning, Done}
 use Rattle.qic_base.specs.TapeCalls.{Does}
@@ -12,7 +13,8 @@ use Rattle.drive_spec.specs.Terms.{refusal_of, steps_once_ticked}
 use Rattle.drive_spec.specs.Record.{Record}
 use Rattle.drive_spec.specs.Steps.{command_steps, is_idle}
 use Rattle.drive_states.specs.declared.any_drive.AnyDrive.{AnyDrive}
-use Rattle.drive_states.specs.declared.any_drive.AnyDrive.TheVariants.{LoadPoint, Primary, Format, Verify, SeekingLoadPoint, SeekingPrimary, SeekingFormat, SeekingVerify}
+use Rattle.drive_states.specs.declared.any_drive.AnyDrive.TheVariants.{LoadPoint, Primary, Format, Verify, SeekingLoadPoint, SeekingPrimary}
+use Rattle.drive_states.specs.declared.any_drive.AnyDrive.TheVariants.{SeekingFormat, SeekingVerify}
 use Rattle.drive_states.specs.AnyDrive.{drive_of, state_of}
 use Rattle.drive_states.specs.Typed.{IsIn, skip_command}
 use Rattle.drive_states.specs.Unit.{DeckAndTape}
@@ -39,11 +41,14 @@ refused_elsewhere (SeekingFormat d) c is waits taken n0 n1 n2 n3 = refused_in_se
 refused_elsewhere (SeekingVerify d) c is waits taken n0 n1 n2 n3 = refused_in_seek d.deck c is.seeks waits taken
 
 pub skips_elsewhere : {T : Type 0} (x : AnyDrive T) (forward : Bool) → IsIn (state_of x) (drive_of x).deck →
-    refusal_of (drive_of x).deck (skip_command forward) ≡ None → ((d : DeckAndTape T) → x ≡ LoadPoint d → ⊥) → ((d : DeckAndTape T) → x ≡ Primary d → ⊥) →
+    refusal_of (drive_of x).deck (skip_command forward) ≡ None → ((d : DeckAndTape T) → x ≡ LoadPoint d → ⊥) →
+    ((d : DeckAndTape T) → x ≡ Primary d → ⊥) →
     ((d : DeckAndTape T) → x ≡ Verify d → ⊥) → ⊥
 unfolding waits_for_seek illegal_in_format
-skips_elsewhere x true is taken n0 n1 n3 = refused_elsewhere x SkipForward is refl taken (λ legal. n0) (λ legal. n1) (λ legal d same. cc) (λ legal. n3)
-skips_elsewhere x false is taken n0 n1 n3 = refused_elsewhere x SkipReverse is refl taken (λ legal. n0) (λ legal. n1) (λ legal d same. cc) (λ legal. n3)
+skips_elsewhere x true is taken n0 n1 n3 = refused_elsewhere x SkipForward is refl taken (λ legal. n0) (λ legal. n1) (λ legal d same. cc)
+    (λ legal. n3)
+skips_elsewhere x false is taken n0 n1 n3 = refused_elsewhere x SkipReverse is refl taken (λ legal. n0) (λ legal. n1) (λ legal d same. cc)
+    (λ legal. n3)
 
 -- a step that was done, and then a call that only read
 pub Done-Does : {S E : Type 0} {m : Meaning S} {a b : S} (c : S) (step : Step) (result : Result (Unit {0}) E) →

@@ -1,10 +1,13 @@
 -- What commands and gaps keep true of a deck.
-use Rattle.std.proofs.Common.{◌≡◌, ℕ, ◌+◌, ◌-◌, ◌%◌, ◌<◌, ◌≤◌, ◌==◌, Bool, true, false, not, ◌&&◌, Option, Some, None, is_some, IsSome, if◌then◌else◌, nat_lt, nat_le, min, refl, arith}
+use Rattle.std.proofs.Common.{◌≡◌, ℕ, ◌+◌, ◌-◌, ◌%◌, ◌<◌, ◌≤◌, ◌==◌, Bool, true, false, not, ◌&&◌, Option, Some, None, is_some, IsSome}
+use Rattle.std.proofs.Common.{if◌then◌else◌, nat_lt, nat_le, min, refl, arith}
 use Rattle.std.proofs.lemmas.Bool.Decides.{nat_tests}
 use Rattle.std.specs.Option.{option_map_or}
 use Rattle.qic_base.specs.declared.tape.TapeInfo.{TapeInfo}
 use Rattle.qic117_commands.specs.declared.command.Command.{Command}
-use Rattle.qic117_commands.specs.declared.command.Command.TheVariants.{ReportError, LogicalForward, SeekTrack, SeekLoadPoint, EnterFormat, WriteReference, EnterVerify, StopTape, SkipReverse, SkipForward, EnterPrimary, SetFormatSegments}
+use Rattle.qic117_commands.specs.declared.command.Command.TheVariants.{ReportError, LogicalForward, SeekTrack, SeekLoadPoint, EnterFormat}
+use Rattle.qic117_commands.specs.declared.command.Command.TheVariants.{WriteReference, EnterVerify, StopTape, SkipReverse, SkipForward}
+use Rattle.qic117_commands.specs.declared.command.Command.TheVariants.{EnterPrimary, SetFormatSegments}
 use Rattle.qic117_commands.specs.declared.view.Mode.{Mode}
 use Rattle.qic117_commands.specs.declared.view.Mode.TheVariants.{Primary, Format, Verify}
 use Rattle.qic117_commands.specs.Refusals.{needs_cartridge, waits_for_seek, waits_for_stop}
@@ -43,7 +46,8 @@ small_length (Some info) long = let l = long.longest in omega arith
 pub limit_within : (d : Deck) → limit d ≤ segments_per_track d
 limit_within d = by_mode d.mode
   where
-    by_mode : (m : Mode) → (if is_format m then min d.format_segments (segments_per_track d) else segments_per_track d) ≤ segments_per_track d
+    by_mode : (m : Mode) → (if is_format m then min d.format_segments (segments_per_track d) else segments_per_track d) ≤ segments_per_track
+        d
     by_mode Primary = omega arith
     by_mode Format = omega arith
     by_mode Verify = omega arith
@@ -76,7 +80,8 @@ with_cartridge d c needs taken =
     let t = is_taken (view_of d) c taken in
     not-false (is_some d.cartridge) (rw needs at t.present)
 
-pub while_stopped : (d : Deck) (c : Command) → waits_for_seek c ≡ true → waits_for_stop c ≡ true → refusal_of d c ≡ None → d.motion ≡ Stopped
+pub while_stopped : (d : Deck) (c : Command) → waits_for_seek c ≡ true → waits_for_stop c ≡ true → refusal_of d c ≡ None →
+    d.motion ≡ Stopped
 while_stopped d c seek stop taken =
     let t = is_taken (view_of d) c taken in
     seen_stopped d.motion (rw seek at t.seeks) (rw stop at t.streams)
@@ -176,7 +181,8 @@ Knows-accepted LogicalForward d size known = by_test (is_stopped d.motion && nat
     by_test false = known
 Knows-accepted c d size known = known
 
-pub Knows-given : (c : Command) (parameter : ℕ) (d : Deck) (size : Option ℕ) → Knows d.cartridge size → Knows (given c parameter d).cartridge size
+pub Knows-given : (c : Command) (parameter : ℕ) (d : Deck) (size : Option ℕ) → Knows d.cartridge size →
+    Knows (given c parameter d).cartridge size
 Knows-given SeekTrack parameter d size known = known
 Knows-given SkipReverse parameter d size known = known
 Knows-given SkipForward parameter d size known = known
@@ -187,7 +193,8 @@ from_either_end : (same : Bool) (offset n : ℕ) → offset ≤ n → (if same t
 from_either_end true offset n h = h
 from_either_end false offset n h = omega arith
 
-pub IsSound-given : (c : Command) (parameter : ℕ) (d : Deck) → IsSound d → refusal_of d c ≡ None → IsParameter c parameter → IsSound (given c parameter d)
+pub IsSound-given : (c : Command) (parameter : ℕ) (d : Deck) → IsSound d → refusal_of d c ≡ None → IsParameter c parameter →
+    IsSound (given c parameter d)
 unfolding waits_for_seek waits_for_stop
 IsSound-given SeekTrack track d s taken fits = record {
   long = s.long;

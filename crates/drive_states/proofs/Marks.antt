@@ -1,12 +1,14 @@
 -- What a gap does to the marks that the drive knows of.
-use Rattle.std.proofs.Common.{◌≡◌, ℕ, ◌+◌, ◌-◌, ◌==◌, Bool, true, false, ◌&&◌, List, [], ◌∷◌, Option, Some, None, is_none, if◌then◌else◌, nat_lt, refl, sym, ap, ◌∙◌, arith, subst}
+use Rattle.std.proofs.Common.{◌≡◌, ℕ, ◌+◌, ◌-◌, ◌==◌, Bool, true, false, ◌&&◌, List, [], ◌∷◌, Option, Some, None, is_none, if◌then◌else◌}
+use Rattle.std.proofs.Common.{nat_lt, refl, sym, ap, ◌∙◌, arith, subst}
 use Rattle.std.proofs.lemmas.Bool.Decides.{nat_tests}
 use Rattle.qic_base.specs.declared.tape.TapeInfo.{TapeInfo}
 use Rattle.qic_base.specs.Step.{Step}
 use Rattle.qic117_commands.specs.Commands.{number_of, command_at}
 use Rattle.qic117_commands.proofs.Numbers.{number_of-command_at}
 use Rattle.qic117_commands.specs.declared.command.Command.{Command}
-use Rattle.qic117_commands.specs.declared.command.Command.TheVariants.{Reset, ReportNextBit, LogicalForward, SeekTrack, SkipReverse, SkipForward, SetFormatSegments, WriteReference}
+use Rattle.qic117_commands.specs.declared.command.Command.TheVariants.{Reset, ReportNextBit, LogicalForward, SeekTrack, SkipReverse}
+use Rattle.qic117_commands.specs.declared.command.Command.TheVariants.{SkipForward, SetFormatSegments, WriteReference}
 use Rattle.qic117_commands.specs.declared.error_code.ErrorCode.{ErrorCode}
 use Rattle.qic117_commands.specs.declared.error_code.ErrorCode.TheVariants.{IllegalInReport}
 use Rattle.drive_spec.specs.declared.deck.Deck.{Deck}
@@ -25,7 +27,8 @@ use Rattle.drive_states.specs.Laws.{marked_by}
 
 -- no other train writes the reference bursts
 pub gap_steps-none : (r : Record) → ¬ (r.train ≡ number_of WriteReference) → gap_steps r ≡ []
-gap_steps-none r other = chosen (is_idle r.under_way) (command_steps (ticked r.deck) (command_at r.train)) (by_command_at (command_at r.train) refl)
+gap_steps-none r other = chosen (is_idle r.under_way) (command_steps (ticked r.deck) (command_at r.train))
+    (by_command_at (command_at r.train) refl)
   where
     chosen : (b : Bool) (xs : List Step) → xs ≡ [] → (if b then xs else []) ≡ []
     chosen true xs e = e
@@ -56,22 +59,26 @@ cartridge-accepted LogicalForward d = by_test (is_stopped d.motion && nat_lt d.o
     by_test false = refl
 cartridge-accepted c d = refl
 
-cartridge-command : (r : Record) (train : ℕ) (o : Option Command) → (by_command r train o).deck.cartridge ≡ marked_by (command_steps r.deck o) r.deck.cartridge
+cartridge-command : (r : Record) (train : ℕ) (o : Option Command) →
+    (by_command r train o).deck.cartridge ≡ marked_by (command_steps r.deck o) r.deck.cartridge
 cartridge-command r train None = refl
 cartridge-command r train (Some c) = by_row (refusal_of r.deck c)
   where
-    by_row : (refused : Option ErrorCode) → (by_refusal r c refused).deck.cartridge ≡ marked_by (if is_none refused then reference_steps c else []) r.deck.cartridge
+    by_row : (refused : Option ErrorCode) →
+        (by_refusal r c refused).deck.cartridge ≡ marked_by (if is_none refused then reference_steps c else []) r.deck.cartridge
     by_row None = cartridge-accepted c r.deck
     by_row (Some code) = refl
 
 cartridge-taking : (r : Record) (a : Parameter) (value : ℕ) → (taking r a value).deck.cartridge ≡ r.deck.cartridge
 cartridge-taking r a value = by_value (nat_lt value (parameter_values a.command))
   where
-    by_end : (b : Bool) → (if b then record r { deck = given a.command (longer a value).value r.deck; under_way = Nothing } else record r { under_way = Awaited (longer a value) }).deck.cartridge ≡ r.deck.cartridge
+    by_end : (b : Bool) → (if b then record r { deck = given a.command (longer a value).value r.deck; under_way = Nothing } else record r
+        { under_way = Awaited (longer a value) }).deck.cartridge ≡ r.deck.cartridge
     by_end true = cartridge-given a.command (longer a value).value r.deck
     by_end false = refl
 
-    by_value : (b : Bool) → (if b then given_more r (longer a value) else latched r (parameter_code a.command) (number_of a.command)).deck.cartridge ≡ r.deck.cartridge
+    by_value : (b : Bool) → (if b then given_more r (longer a value) else latched r (parameter_code a.command)
+        (number_of a.command)).deck.cartridge ≡ r.deck.cartridge
     by_value true = by_end (a.taken + 1 == parameter_trains a.command)
     by_value false = refl
 
@@ -80,7 +87,8 @@ cartridge-showing r [] = refl
 cartridge-showing r (level ∷ []) = refl
 cartridge-showing r (level ∷ next ∷ rest) = refl
 
-cartridge-heard : (r : Record) (train : ℕ) (u : UnderWay) → (heard r train u).deck.cartridge ≡ marked_by (if is_idle u then command_steps r.deck (command_at train) else []) r.deck.cartridge
+cartridge-heard : (r : Record) (train : ℕ) (u : UnderWay) →
+    (heard r train u).deck.cartridge ≡ marked_by (if is_idle u then command_steps r.deck (command_at train) else []) r.deck.cartridge
 cartridge-heard r train Nothing = cartridge-command r train (command_at train)
 cartridge-heard r train (Awaited a) = cartridge-taking r a (train - 2)
 cartridge-heard r train (Report levels) = by_train (train == number_of ReportNextBit)
@@ -93,22 +101,27 @@ cartridge-heard r train (Report levels) = by_train (train == number_of ReportNex
 pub cartridge-gap : (r : Record) → (after_gap r).deck.cartridge ≡ marked_by (gap_steps r) r.deck.cartridge
 cartridge-gap r = by_empty (r.train == 0) refl
   where
-    unchanged : (x : Option TapeInfo) → ¬ (r.train ≡ number_of WriteReference) → x ≡ r.deck.cartridge → x ≡ marked_by (gap_steps r) r.deck.cartridge
+    unchanged : (x : Option TapeInfo) → ¬ (r.train ≡ number_of WriteReference) → x ≡ r.deck.cartridge →
+        x ≡ marked_by (gap_steps r) r.deck.cartridge
     unchanged x other same = subst (λ (ss : List Step). x ≡ marked_by ss r.deck.cartridge) (sym (gap_steps-none r other)) same
 
-    by_stream : (b : Bool) → (if b then moved_on (record r { deck = ticked r.deck }) else record r { deck = ticked r.deck }).deck.cartridge ≡ r.deck.cartridge
+    by_stream : (b : Bool) → (if b then moved_on (record r { deck = ticked r.deck }) else record r { deck = ticked r.deck }).deck.cartridge
+        ≡ r.deck.cartridge
     by_stream true = refl
     by_stream false = refl
 
     by_reset : (b : Bool) → (r.train == number_of Reset) ≡ b →
-        (if b then record r { deck = reset (ticked r.deck); line = false; train = 0; under_way = Nothing } else heard (record r { deck = ticked r.deck; line = false; train = 0 }) r.train r.under_way).deck.cartridge ≡ marked_by (gap_steps r) r.deck.cartridge
+        (if b then record r { deck = reset (ticked r.deck); line = false; train = 0; under_way = Nothing } else heard
+        (record r { deck = ticked r.deck; line = false; train = 0 }) r.train r.under_way).deck.cartridge ≡ marked_by (gap_steps r)
+        r.deck.cartridge
     by_reset true e =
         let one : r.train ≡ 1 = grind (arith, nat_tests) in
         unchanged r.deck.cartridge (λ is. omega arith) refl
     by_reset false e = cartridge-heard (record r { deck = ticked r.deck; line = false; train = 0 }) r.train r.under_way
 
     by_empty : (b : Bool) → (r.train == 0) ≡ b →
-        (if b then idled (record r { deck = ticked r.deck }) else obeyed (record r { deck = ticked r.deck; line = false; train = 0 }) r.train).deck.cartridge ≡ marked_by (gap_steps r) r.deck.cartridge
+        (if b then idled (record r { deck = ticked r.deck }) else obeyed (record r { deck = ticked r.deck; line = false; train = 0 })
+        r.train).deck.cartridge ≡ marked_by (gap_steps r) r.deck.cartridge
     by_empty true e =
         let zero : r.train ≡ 0 = grind (arith, nat_tests) in
         unchanged _ (λ is. omega arith) (by_stream (is_streaming (ticked r.deck).motion))

@@ -1,9 +1,12 @@
 -- Which commands leave the deck as it is, in each state.
 use Rattle.std.proofs.Common.{◌≡◌, ◌<◌, Bool, true, false, ◌&&◌, [], None, IsSome, refl, sym, ap, arith}
 use Rattle.qic117_commands.specs.declared.command.Command.{Command}
-use Rattle.qic117_commands.specs.declared.command.Command.TheVariants.{ReportError, LogicalForward, SeekTrack, SeekLoadPoint, EnterFormat, WriteReference, EnterVerify, StopTape, SkipReverse, SkipForward, EnterPrimary, SetFormatSegments}
+use Rattle.qic117_commands.specs.declared.command.Command.TheVariants.{ReportError, LogicalForward, SeekTrack, SeekLoadPoint, EnterFormat}
+use Rattle.qic117_commands.specs.declared.command.Command.TheVariants.{WriteReference, EnterVerify, StopTape, SkipReverse, SkipForward}
+use Rattle.qic117_commands.specs.declared.command.Command.TheVariants.{EnterPrimary, SetFormatSegments}
 use Rattle.qic117_commands.specs.declared.view.Mode.TheVariants.{Primary, Format, Verify}
-use Rattle.qic117_commands.specs.Refusals.{needs_cartridge, waits_for_seek, waits_for_stop, illegal_in_primary, illegal_in_format, illegal_in_verify}
+use Rattle.qic117_commands.specs.Refusals.{needs_cartridge, waits_for_seek, waits_for_stop, illegal_in_primary, illegal_in_format}
+use Rattle.qic117_commands.specs.Refusals.{illegal_in_verify}
 use Rattle.qic117_commands.specs.Views.{is_primary, is_format, is_verify, is_seeking as sees_seek}
 use Rattle.drive_spec.specs.declared.deck.Deck.{Deck}
 use Rattle.drive_spec.specs.declared.deck.Motion.{Motion}
@@ -52,13 +55,16 @@ legal true false e is = cc
 
 -- a command that no row refuses is legal in the mode
 pub legal_in_primary : (c : Command) (d : Deck) → d.mode ≡ Primary → refusal_of d c ≡ None → illegal_in_primary c ≡ false
-legal_in_primary c d in_mode taken = legal (illegal_in_primary c) (is_primary d.mode) (is_taken (view_of d) c taken).primary (ap is_primary in_mode)
+legal_in_primary c d in_mode taken = legal (illegal_in_primary c) (is_primary d.mode) (is_taken (view_of d) c taken).primary
+    (ap is_primary in_mode)
 
 pub legal_in_format : (c : Command) (d : Deck) → d.mode ≡ Format → refusal_of d c ≡ None → illegal_in_format c ≡ false
-legal_in_format c d in_mode taken = legal (illegal_in_format c) (is_format d.mode) (is_taken (view_of d) c taken).format (ap is_format in_mode)
+legal_in_format c d in_mode taken = legal (illegal_in_format c) (is_format d.mode) (is_taken (view_of d) c taken).format
+    (ap is_format in_mode)
 
 pub legal_in_verify : (c : Command) (d : Deck) → d.mode ≡ Verify → refusal_of d c ≡ None → illegal_in_verify c ≡ false
-legal_in_verify c d in_mode taken = legal (illegal_in_verify c) (is_verify d.mode) (is_taken (view_of d) c taken).verify (ap is_verify in_mode)
+legal_in_verify c d in_mode taken = legal (illegal_in_verify c) (is_verify d.mode) (is_taken (view_of d) c taken).verify
+    (ap is_verify in_mode)
 
 -- a command that does nothing to the cartridge
 pub steps-none : (c : Command) → Not c WriteReference → reference_steps c ≡ []
@@ -75,7 +81,8 @@ parameter_stopped SetFormatSegments d trains taken = while_stopped d SetFormatSe
 parameter_stopped c d trains taken = absurd (omega arith)
 
 -- .. and there are four
-pub no_parameter : (c : Command) → 0 < parameter_trains c → Not c SeekTrack → Not c SkipReverse → Not c SkipForward → Not c SetFormatSegments → ⊥
+pub no_parameter : (c : Command) → 0 < parameter_trains c → Not c SeekTrack → Not c SkipReverse → Not c SkipForward →
+    Not c SetFormatSegments → ⊥
 no_parameter SeekTrack trains n0 n1 n2 n3 = n0 refl
 no_parameter SkipReverse trains n0 n1 n2 n3 = n1 refl
 no_parameter SkipForward trains n0 n1 n2 n3 = n2 refl

@@ -1,5 +1,6 @@
 -- Which typed state a command leads to.
-use Rattle.std.proofs.Common.{◌≡◌, ℕ, ◌+◌, ◌*◌, ◌<◌, ◌≤◌, Bool, true, false, ◌&&◌, List, Option, Some, None, Result, is_some, IsSomeAnd, if◌then◌else◌, nat_lt, refl, sym, ◌∙◌, arith, subst}
+use Rattle.std.proofs.Common.{◌≡◌, ℕ, ◌+◌, ◌*◌, ◌<◌, ◌≤◌, Bool, true, false, ◌&&◌, List, Option, Some, None, Result, is_some, IsSomeAnd}
+use Rattle.std.proofs.Common.{if◌then◌else◌, nat_lt, refl, sym, ◌∙◌, arith, subst}
 use Rattle.std.proofs.lemmas.Bool.Decides.{nat_tests}
 use Rattle.std.proofs.lemmas.Nat.{mul-add-lt}
 use Rattle.std.specs.Option.{option_map_or}
@@ -44,7 +45,8 @@ streams_from_load_point d s at stands there =
 
 moves_on : (d : Deck) (b : Bool) → (is_stopped d.motion && nat_lt d.offset (limit d)) ≡ b →
     (d.at_load_point ≡ true → b ≡ true) → is_seeking d.motion ≡ false →
-    IsIn record { mode = d.mode; at_load_point = false; seeks = false } (if b then record d { motion = Streaming 0; at_load_point = false } else d)
+    IsIn record { mode = d.mode; at_load_point = false; seeks = false }
+    (if b then record d { motion = Streaming 0; at_load_point = false } else d)
 moves_on d true e leaves stands = record { mode = refl; at_load_point = refl; seeks = refl }
 moves_on d false e leaves stands = record { mode = refl; at_load_point = not_there d.at_load_point leaves; seeks = stands }
   where
@@ -52,7 +54,8 @@ moves_on d false e leaves stands = record { mode = refl; at_load_point = not_the
     not_there true h = sym (h refl)
     not_there false h = refl
 
-pub IsIn-forward : (p q : TypedState) (d : Deck) → IsSound d → IsIn p d → p.seeks ≡ false → q ≡ moved p → refusal_of d LogicalForward ≡ None → IsIn q (accepted LogicalForward d)
+pub IsIn-forward : (p q : TypedState) (d : Deck) → IsSound d → IsIn p d → p.seeks ≡ false → q ≡ moved p →
+    refusal_of d LogicalForward ≡ None → IsIn q (accepted LogicalForward d)
 unfolding needs_cartridge
 IsIn-forward p q d s here stands left taken =
     let there = with_cartridge d LogicalForward refl taken in
@@ -66,7 +69,8 @@ stops_seeking (Streaming next) e = cc
 stops_seeking (Seeking left) e = cc
 
 -- a seek that is over has come to the state that it sought
-pub IsIn-there : (p : TypedState) (d : Deck) → IsIn (seeking p) d → p.seeks ≡ false → is_stopped (ticked d).motion ≡ true → IsIn p (ticked d)
+pub IsIn-there : (p : TypedState) (d : Deck) → IsIn (seeking p) d → p.seeks ≡ false → is_stopped (ticked d).motion ≡ true →
+    IsIn p (ticked d)
 IsIn-there p d here stands stopped = record {
   mode = here.mode;
   at_load_point = here.at_load_point;
@@ -78,7 +82,8 @@ pub one_place : (length s i t j : ℕ) (addr : FloppyAddr) → HasAddress length
 one_place length s i t j addr a b = (omega arith, omega arith)
 
 -- the segment under the head is one of the cartridge
-pub IsPlaceOf-here : (d : Deck) (size : Option ℕ) → IsSound d → is_streaming d.motion ≡ true → Knows d.cartridge size → IsSomeAnd size (λ n. IsPlace n (segment_of d) 0)
+pub IsPlaceOf-here : (d : Deck) (size : Option ℕ) → IsSound d → is_streaming d.motion ≡ true → Knows d.cartridge size →
+    IsSomeAnd size (λ n. IsPlace n (segment_of d) 0)
 IsPlaceOf-here d size s streams known =
     on d.cartridge size d.track d.offset s.track (before d) known
   where
@@ -92,7 +97,8 @@ IsPlaceOf-here d size s streams known =
         rw known record { on_tape = omega (arith, mul-add-lt track info.segments_per_track offset 28 t o); in_segment = omega arith }
 
 -- what a write came to, said of its place
-pub Writes-at : {T : Type 0} (m : Meaning T) (old new : DeckAndTape T) (s i segment index : ℕ) (bytes : List ℕ) (b protected : Bool) (result : Result (Unit {0}) FdcFault) →
+pub Writes-at : {T : Type 0} (m : Meaning T) (old new : DeckAndTape T) (s i segment index : ℕ) (bytes : List ℕ) (b protected : Bool)
+    (result : Result (Unit {0}) FdcFault) →
     protected ≡ b → s ≡ segment → i ≡ index → Writes m old new s i bytes b result → Writes m old new segment index bytes protected result
 Writes-at m old new s i segment index bytes b protected result marked here at wrote =
     subst (λ (p : Bool). Writes m old new segment index bytes p result) (sym marked)
@@ -100,7 +106,8 @@ Writes-at m old new s i segment index bytes b protected result marked here at wr
     (subst (λ (n : ℕ). Writes m old new s n bytes b result) at wrote))
 
 -- what a read came to, said of its place
-pub Finds-at : {T : Type 0} (m : Meaning T) (old new : DeckAndTape T) (s i segment index : ℕ) (into now : List ℕ) (result : Result (Unit {0}) FdcFault) →
+pub Finds-at : {T : Type 0} (m : Meaning T) (old new : DeckAndTape T) (s i segment index : ℕ) (into now : List ℕ)
+    (result : Result (Unit {0}) FdcFault) →
     s ≡ segment → i ≡ index → Finds m old new s i into now result → Finds m old new segment index into now result
 Finds-at m old new s i segment index into now result here at found =
     subst (λ (n : ℕ). Finds m old new n index into now result) here

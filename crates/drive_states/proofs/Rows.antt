@@ -1,9 +1,11 @@
 -- What a gap keeps true of the record.
-use Rattle.std.proofs.Common.{◌≡◌, ℕ, zero, suc, ◌+◌, ◌*◌, ◌-◌, ◌^◌, ◌<◌, ◌≤◌, ◌==◌, Bool, true, false, List, [], ◌∷◌, ◌++◌, Option, Some, None, if◌then◌else◌, nat_lt, refl, ap, arith}
+use Rattle.std.proofs.Common.{◌≡◌, ℕ, zero, suc, ◌+◌, ◌*◌, ◌-◌, ◌^◌, ◌<◌, ◌≤◌, ◌==◌, Bool, true, false, List, [], ◌∷◌, ◌++◌, Option, Some}
+use Rattle.std.proofs.Common.{None, if◌then◌else◌, nat_lt, refl, ap, arith}
 use Rattle.std.proofs.lemmas.Bool.Decides.{nat_tests}
 use Rattle.qic117_commands.specs.Commands.{number_of, command_at}
 use Rattle.qic117_commands.specs.declared.command.Command.{Command}
-use Rattle.qic117_commands.specs.declared.command.Command.TheVariants.{Reset, ReportNextBit, SeekTrack, SkipReverse, SkipForward, SetFormatSegments}
+use Rattle.qic117_commands.specs.declared.command.Command.TheVariants.{Reset, ReportNextBit, SeekTrack, SkipReverse, SkipForward}
+use Rattle.qic117_commands.specs.declared.command.Command.TheVariants.{SetFormatSegments}
 use Rattle.qic117_commands.specs.declared.error_code.ErrorCode.{ErrorCode}
 use Rattle.qic117_commands.specs.declared.error_code.ErrorCode.TheVariants.{UndefinedCommand, IllegalInReport}
 use Rattle.qic117_commands.specs.Digits.{digits}
@@ -55,14 +57,16 @@ pub IsSoundRecord-moved_on : (r : Record) → IsSoundRecord r → is_streaming r
 IsSoundRecord-moved_on r s streams = record {
   deck = IsSound-run_on r.deck s.deck streams;
   train = s.train;
-  under_way = ended (ends_early r.deck) (IsUnderWay-moved r.deck (run_on r.deck) r.under_way (λ stopped. absurd (not_streaming r.deck stopped streams)) s.under_way);
+  under_way = ended (ends_early r.deck) (IsUnderWay-moved r.deck (run_on r.deck) r.under_way
+      (λ stopped. absurd (not_streaming r.deck stopped streams)) s.under_way);
 }
   where
     ended : (b : Bool) → IsUnderWay (run_on r.deck) r.under_way → IsUnderWay (run_on r.deck) (if b then Nothing else r.under_way)
     ended true h = tt
     ended false h = h
 
-IsSoundRecord-idled : (r : Record) (b : Bool) → is_streaming r.deck.motion ≡ b → IsSoundRecord r → IsSoundRecord (if b then moved_on r else r)
+IsSoundRecord-idled : (r : Record) (b : Bool) → is_streaming r.deck.motion ≡ b → IsSoundRecord r →
+    IsSoundRecord (if b then moved_on r else r)
 IsSoundRecord-idled r true streams s = IsSoundRecord-moved_on r s streams
 IsSoundRecord-idled r false streams s = s
 
@@ -85,7 +89,8 @@ record Grows (c : Command) (taken value more : ℕ) : Type 0 where
   whole : taken + 1 ≡ parameter_trains c → IsParameter c (value + more * 16 ^ taken)
   on : taken + 1 < parameter_trains c → value + more * 16 ^ taken < 16 ^ (taken + 1)
 
-grows : (c : Command) (taken value more : ℕ) → taken < parameter_trains c → value < 16 ^ taken → more < parameter_values c → Grows c taken value more
+grows : (c : Command) (taken value more : ℕ) → taken < parameter_trains c → value < 16 ^ taken → more < parameter_values c →
+    Grows c taken value more
 grows SeekTrack zero value more few fits small = record { whole = λ e. omega arith; on = λ l. absurd (omega arith) }
 grows SeekTrack (suc n) value more few fits small = absurd (omega arith)
 grows SkipReverse taken value more few fits small =
@@ -99,16 +104,19 @@ grows SetFormatSegments taken value more few fits small =
     record { whole = λ e. rw e at next; on = λ l. next }
 grows c taken value more few fits small = absurd (omega arith)
 
-IsSoundRecord-taking : (r : Record) (a : Parameter) (value : ℕ) → IsSoundRecord r → IsUnderWay r.deck (Awaited a) → IsSoundRecord (taking r a value)
+IsSoundRecord-taking : (r : Record) (a : Parameter) (value : ℕ) → IsSoundRecord r → IsUnderWay r.deck (Awaited a) →
+    IsSoundRecord (taking r a value)
 IsSoundRecord-taking r a value s h = by_value (nat_lt value (parameter_values a.command)) refl
   where
     by_end : (b : Bool) → (a.taken + 1 == parameter_trains a.command) ≡ b → Grows a.command a.taken a.value value →
-        IsSoundRecord (if b then record r { deck = given a.command (longer a value).value r.deck; under_way = Nothing } else record r { under_way = Awaited (longer a value) })
+        IsSoundRecord (if b then record r { deck = given a.command (longer a value).value r.deck; under_way = Nothing } else record r
+        { under_way = Awaited (longer a value) })
     by_end true e more =
         let all : a.taken + 1 ≡ parameter_trains a.command = grind (arith, nat_tests) in
         record { deck = IsSound-given a.command (longer a value).value r.deck s.deck h.0 (more.whole all); train = s.train; under_way = tt }
     by_end false e more =
-        let rest : ¬ (a.taken + 1 ≡ parameter_trains a.command) = λ all. let yes : (a.taken + 1 == parameter_trains a.command) ≡ true = grind (arith, nat_tests) in cc in
+        let rest : ¬ (a.taken + 1 ≡ parameter_trains a.command) = λ all. let yes : (a.taken + 1 == parameter_trains a.command) ≡ true =
+        grind (arith, nat_tests) in cc in
         let t = h.1 in
         let on : a.taken + 1 < parameter_trains a.command = omega (arith, rest) in
         record { deck = s.deck; train = s.train; under_way = (h.0, on, more.on on) }
@@ -141,13 +149,16 @@ awaits c d trains = absurd (omega arith)
 begun_fits : (c : Command) (d : Deck) → refusal_of d c ≡ None → IsUnderWay (accepted c d) (begun c d)
 begun_fits c d taken = by_report (is_report c)
   where
-    by_parameter : (b : Bool) → nat_lt 0 (parameter_trains c) ≡ b → IsUnderWay (accepted c d) (if b then Awaited record { command = c; taken = 0; value = 0 } else Nothing)
+    by_parameter : (b : Bool) → nat_lt 0 (parameter_trains c) ≡ b →
+        IsUnderWay (accepted c d) (if b then Awaited record { command = c; taken = 0; value = 0 } else Nothing)
     by_parameter true e =
         let trains : 0 < parameter_trains c = grind (arith, nat_tests) in
         (rw (awaits c d trains) taken, trains, omega arith)
     by_parameter false e = tt
 
-    by_report : (b : Bool) → IsUnderWay (accepted c d) (if b then Report (levels_of (report_width c) (report_word c d)) else (if nat_lt 0 (parameter_trains c) then Awaited record { command = c; taken = 0; value = 0 } else Nothing))
+    by_report : (b : Bool) → IsUnderWay (accepted c d)
+        (if b then Report (levels_of (report_width c) (report_word c d)) else
+        (if nat_lt 0 (parameter_trains c) then Awaited record { command = c; taken = 0; value = 0 } else Nothing))
     by_report true = levels_left (accepted c d) (digits (report_width c) (report_word c d))
     by_report false = by_parameter (nat_lt 0 (parameter_trains c)) refl
 
@@ -179,7 +190,10 @@ IsSoundRecord-obeyed r train s = by_train (train == number_of Reset)
 pub IsSoundRecord-row : (r : Record) (train : ℕ) → IsSoundRecord r → IsSoundRecord (row r train)
 IsSoundRecord-row r train s = by_train (train == 0)
   where
-    by_train : (b : Bool) → IsSoundRecord (if b then idled (record r { deck = ticked r.deck }) else obeyed (record r { deck = ticked r.deck; line = false; train = 0 }) train)
+    by_train : (b : Bool) → IsSoundRecord
+        (if b then idled (record r { deck = ticked r.deck }) else obeyed (record r { deck = ticked r.deck; line = false; train = 0 }) train)
     by_train true =
-        IsSoundRecord-idled (record r { deck = ticked r.deck }) (is_streaming (ticked r.deck).motion) refl (IsSoundRecord-ticked r r.train r.line s.train s)
-    by_train false = IsSoundRecord-obeyed (record r { deck = ticked r.deck; line = false; train = 0 }) train (IsSoundRecord-ticked r 0 false (omega arith) s)
+        IsSoundRecord-idled (record r { deck = ticked r.deck }) (is_streaming (ticked r.deck).motion) refl
+        (IsSoundRecord-ticked r r.train r.line s.train s)
+    by_train false = IsSoundRecord-obeyed (record r { deck = ticked r.deck; line = false; train = 0 }) train
+        (IsSoundRecord-ticked r 0 false (omega arith) s)

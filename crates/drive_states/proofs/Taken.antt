@@ -5,7 +5,9 @@ use Rattle.qic117_commands.specs.declared.command.Command.TheVariants.{WriteRefe
 use Rattle.qic117_commands.specs.declared.view.DriveView.{DriveView}
 use Rattle.qic117_commands.specs.declared.view.Mode.TheVariants.{Format}
 use Rattle.qic117_commands.specs.declared.view.Motion.TheVariants.{Stopped}
-use Rattle.qic117_commands.specs.Refusals.{Row, refusal_rows, first_refusal, is_unsupported, is_diagnostic, needs_cartridge, waits_for_seek, waits_for_stop, illegal_in_primary, illegal_in_format, illegal_in_verify, needs_writable, needs_known_cartridge, needs_reference, needs_logical_bot}
+use Rattle.qic117_commands.specs.Refusals.{Row, refusal_rows, first_refusal, is_unsupported, is_diagnostic, needs_cartridge, waits_for_seek}
+use Rattle.qic117_commands.specs.Refusals.{waits_for_stop, illegal_in_primary, illegal_in_format, illegal_in_verify, needs_writable}
+use Rattle.qic117_commands.specs.Refusals.{needs_known_cartridge, needs_reference, needs_logical_bot}
 use Rattle.qic117_commands.specs.RefusalTerms.{refuses}
 use Rattle.qic117_commands.specs.Views.{is_streaming, is_seeking, is_primary, is_format, is_verify}
 
@@ -51,19 +53,23 @@ is_taken v c none =
 
 -- a cartridge that is there may be stopped, where the drive does not seek
 pub stop_taken : (v : DriveView) → v.present ≡ true → is_seeking v.motion ≡ false → first_refusal v StopTape ≡ None
-unfolding first_refusal is_unsupported is_diagnostic needs_cartridge waits_for_seek waits_for_stop illegal_in_primary illegal_in_format illegal_in_verify needs_writable needs_known_cartridge needs_reference needs_logical_bot
+unfolding first_refusal is_unsupported is_diagnostic needs_cartridge waits_for_seek waits_for_stop illegal_in_primary illegal_in_format
+    illegal_in_verify needs_writable needs_known_cartridge needs_reference needs_logical_bot
 stop_taken v there stands = rw (there, stands) refl
 
 -- where the tape is stopped, a cartridge that is there allows Primary mode, ..
 pub primary_taken : (v : DriveView) → v.present ≡ true → v.motion ≡ Stopped → first_refusal v EnterPrimary ≡ None
-unfolding first_refusal is_unsupported is_diagnostic needs_cartridge waits_for_seek waits_for_stop illegal_in_primary illegal_in_format illegal_in_verify needs_writable needs_known_cartridge needs_reference needs_logical_bot
+unfolding first_refusal is_unsupported is_diagnostic needs_cartridge waits_for_seek waits_for_stop illegal_in_primary illegal_in_format
+    illegal_in_verify needs_writable needs_known_cartridge needs_reference needs_logical_bot
 primary_taken v there stopped = rw (there, stopped) refl
 
 -- .. and in Format mode the reference bursts and another number of segments
 pub reference_taken : (v : DriveView) → v.present ≡ true → v.motion ≡ Stopped → v.mode ≡ Format → first_refusal v WriteReference ≡ None
-unfolding first_refusal is_unsupported is_diagnostic needs_cartridge waits_for_seek waits_for_stop illegal_in_primary illegal_in_format illegal_in_verify needs_writable needs_known_cartridge needs_reference needs_logical_bot
+unfolding first_refusal is_unsupported is_diagnostic needs_cartridge waits_for_seek waits_for_stop illegal_in_primary illegal_in_format
+    illegal_in_verify needs_writable needs_known_cartridge needs_reference needs_logical_bot
 reference_taken v there stopped formats = rw (there, stopped, formats) refl
 
 pub segments_taken : (v : DriveView) → v.present ≡ true → v.motion ≡ Stopped → v.mode ≡ Format → first_refusal v SetFormatSegments ≡ None
-unfolding first_refusal is_unsupported is_diagnostic needs_cartridge waits_for_seek waits_for_stop illegal_in_primary illegal_in_format illegal_in_verify needs_writable needs_known_cartridge needs_reference needs_logical_bot
+unfolding first_refusal is_unsupported is_diagnostic needs_cartridge waits_for_seek waits_for_stop illegal_in_primary illegal_in_format
+    illegal_in_verify needs_writable needs_known_cartridge needs_reference needs_logical_bot
 segments_taken v there stopped formats = rw (there, stopped, formats) refl

@@ -2,7 +2,8 @@
 use Rattle.std.specs.Prelude.{true, false}
 use Rattle.qic117_commands.specs.declared.view.Mode.TheVariants as mode
 use Rattle.drive_states.specs.declared.any_drive.AnyDrive.{AnyDrive}
-use Rattle.drive_states.specs.declared.any_drive.AnyDrive.TheVariants.{LoadPoint, Primary, Format, Verify, SeekingLoadPoint, SeekingPrimary, SeekingFormat, SeekingVerify}
+use Rattle.drive_states.specs.declared.any_drive.AnyDrive.TheVariants.{LoadPoint, Primary, Format, Verify, SeekingLoadPoint, SeekingPrimary}
+use Rattle.drive_states.specs.declared.any_drive.AnyDrive.TheVariants.{SeekingFormat, SeekingVerify}
 use Rattle.drive_states.specs.Typed.{TypedState}
 use Rattle.drive_states.specs.Unit.{DeckAndTape}
 

@@ -78,7 +78,8 @@ pub record Stays {T : Type 0} (m : Meaning T) (old new : DeckAndTape T) : Type 0
   pub tape : Done m old.tape new.tape []
 
 -- A read of a sector under the head, by its answer: the bytes that it held before are in into, those after in now.
-abbrev pub Finds : {T : Type 0} (m : Meaning T) (old new : DeckAndTape T) (segment index : ℕ) (into now : List ℕ) → Result (Unit {0}) FdcFault → Type 0
+abbrev pub Finds : {T : Type 0} (m : Meaning T) (old new : DeckAndTape T) (segment index : ℕ) (into now : List ℕ) →
+    Result (Unit {0}) FdcFault → Type 0
 Finds m old new segment index into now (Ok done) =
     Passes m old new index × Tells m old.tape (λ c. view_at c segment index ≡ view.Holds now)
 Finds m old new segment index into now (Err NoAddress) =
@@ -96,7 +97,8 @@ IsFormatted m tape segment index = Tells m tape (λ c. ¬ (view_at c segment ind
 
 -- A write to a sector under the head, by its answer. A protected cartridge is only read, to learn whether the sector
 -- was formatted.
-abbrev pub Writes : {T : Type 0} (m : Meaning T) (old new : DeckAndTape T) (segment index : ℕ) (bytes : List ℕ) → (protected : Bool) → Result (Unit {0}) FdcFault → Type 0
+abbrev pub Writes : {T : Type 0} (m : Meaning T) (old new : DeckAndTape T) (segment index : ℕ) (bytes : List ℕ) → (protected : Bool) →
+    Result (Unit {0}) FdcFault → Type 0
 Writes m old new segment index bytes false (Ok done) =
     (new.deck ≡ passed old.deck index) × Done m old.tape new.tape (WriteSector segment index bytes ∷ [])
     × IsFormatted m old.tape segment index

@@ -1,5 +1,7 @@
 -- Changed sectors are a code block, and a code block that agrees asks for the corrections that were found.
-use Rattle.std.proofs.Common.{◌≡◌, ◌≢◌, ℕ, zero, suc, ◌+◌, ◌-◌, ◌<◌, ◌≤◌, refl, sym, ◌∙◌, ap, subst, arith, inl, inr, bit_xor, List, [], ◌∷◌, length, All, get_or, set, slice_get, slice_index, get_or-set_same, get_or-set_other, Some, false, zero-add, ◌/◌, ◌%◌, ◌^◌}
+use Rattle.std.proofs.Common.{◌≡◌, ◌≢◌, ℕ, zero, suc, ◌+◌, ◌-◌, ◌<◌, ◌≤◌, refl, sym, ◌∙◌, ap, subst, arith, inl, inr, bit_xor, List, []}
+use Rattle.std.proofs.Common.{◌∷◌, length, All, get_or, set, slice_get, slice_index, get_or-set_same, get_or-set_other, Some, false}
+use Rattle.std.proofs.Common.{zero-add, ◌/◌, ◌%◌, ◌^◌}
 use Rattle.std.specs.Int.Bits.{xor_assoc, xor_self, xor_zero_l}
 use Rattle.std.proofs.Math.ListN.{length-set}
 use Rattle.std.proofs.Math.Nat.{zero-div}
@@ -21,7 +23,8 @@ use Rattle.gf256_qic.proofs.Agreement.{length-column, get_or-column, any_default
 use Rattle.gf256_qic.proofs.Parities.{bytes_of_column, block_count}
 use Rattle.erasure_solve.specs.Lost.{lost_count}
 use Rattle.erasure_solve.specs.Rows.{AreValues, AddsRow, weighed_sum, weighed_byte, weighed_row}
-use Rattle.erasure_solve.specs.Correction.{scale, correction, correction_factors, Corrections, IsCorrection, AreDegrees, Found, FitsDegree, Agree, Applied, AllApplied}
+use Rattle.erasure_solve.specs.Correction.{scale, correction, correction_factors, Corrections, IsCorrection, AreDegrees, Found, FitsDegree}
+use Rattle.erasure_solve.specs.Correction.{Agree, Applied, AllApplied}
 use Rattle.erasure_solve.specs.declared.values.Values.{Values}
 use Rattle.erasure_solve.proofs.Algebra.{Powers, AddUp, scale_byte, only_correction, corrections_fit, correction_byte, correction_from}
 use Rattle.erasure_solve.proofs.Places.{lost_below-count}

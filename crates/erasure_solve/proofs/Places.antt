@@ -1,5 +1,6 @@
 -- The degrees of the lost places, gathered place by place.
-use Rattle.std.proofs.Common.{◌≡◌, ◌≢◌, ℕ, zero, suc, ◌+◌, ◌-◌, ◌/◌, ◌%◌, ◌^◌, ◌<◌, ◌≤◌, refl, sym, ◌∙◌, ap, subst, arith, inl, inr, true, cond, List, [], ◌∷◌, length, get_or, set, get_or-set_same, get_or-set_other, add-zero, add-one, Bool}
+use Rattle.std.proofs.Common.{◌≡◌, ◌≢◌, ℕ, zero, suc, ◌+◌, ◌-◌, ◌/◌, ◌%◌, ◌^◌, ◌<◌, ◌≤◌, refl, sym, ◌∙◌, ap, subst, arith, inl, inr, true}
+use Rattle.std.proofs.Common.{cond, List, [], ◌∷◌, length, get_or, set, get_or-set_same, get_or-set_other, add-zero, add-one, Bool}
 use Rattle.std.proofs.Math.ListN.{length-append, length-set}
 use Rattle.std.proofs.lemmas.Bool.{cases_eq, cases_lt, eqb-true, eq-eqb, ne_eqb}
 use Rattle.qic_base.specs.CartridgeTerms.{IsLost, is_lost}

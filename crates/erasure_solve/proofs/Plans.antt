@@ -1,5 +1,6 @@
 -- What a plan has prepared, and what it does to sectors.
-use Rattle.std.proofs.Common.{◌≡◌, ℕ, ◌-◌, ◌<◌, ◌≤◌, refl, sym, ◌∙◌, ap, subst, arith, inl, inr, bit_xor, List, [], ◌∷◌, length, All, get_or, set, slice_get, Some, map, false, zero-add}
+use Rattle.std.proofs.Common.{◌≡◌, ℕ, ◌-◌, ◌<◌, ◌≤◌, refl, sym, ◌∙◌, ap, subst, arith, inl, inr, bit_xor, List, [], ◌∷◌, length, All}
+use Rattle.std.proofs.Common.{get_or, set, slice_get, Some, map, false, zero-add}
 use Rattle.std.proofs.Math.ListN.{length-set}
 use Rattle.std.proofs.lemmas.Bool.{cases_lt}
 use Rattle.std.proofs.lemmas.List.{same_lists}
@@ -19,7 +20,8 @@ use Rattle.erasure_solve.specs.Plan.{planned_count, planned_lost, corrections_of
 use Rattle.erasure_solve.specs.declared.coefficients.Coefficients.{Coefficients}
 use Rattle.erasure_solve.specs.declared.values.Values.{Values}
 use Rattle.erasure_solve.specs.declared.plan.Plan.{Plan}
-use Rattle.erasure_solve.proofs.Blocks.{ThreeDegrees, three_degrees, third_from_others, any_default_of, get_or-weighed_row, is_correction, made_block, must_agree, none_lost}
+use Rattle.erasure_solve.proofs.Blocks.{ThreeDegrees, three_degrees, third_from_others, any_default_of, get_or-weighed_row, is_correction}
+use Rattle.erasure_solve.proofs.Blocks.{made_block, must_agree, none_lost}
 use Rattle.qic_base.specs.CartridgeTerms.{is_lost}
 
 found_by :
@@ -80,16 +82,19 @@ size_of_applied degree row old new applied =
 all_applied_to : (mask : ℕ) (old : List (List ℕ)) (corrections : Corrections) → Found mask old corrections →
     (new : List (List ℕ)) × AllApplied corrections old new
 all_applied_to mask old corrections found =
-    let within : (k degree : ℕ) → k < 3 → get_or (corrections.first.degree ∷ corrections.second.degree ∷ corrections.third.degree ∷ []) k 0 ≡ degree →
+    let within : (k degree : ℕ) → k < 3 → get_or (corrections.first.degree ∷ corrections.second.degree ∷ corrections.third.degree ∷ []) k
+    0 ≡ degree →
     degree < 32 → degree < length old =
     λ k degree hk at small. subst (λ (x : ℕ). x < length old) at (found.degrees.within k hk (subst (λ (x : ℕ). x < 32) (sym at) small)) in
     let one = applied_to corrections.first.degree corrections.first.bytes old (within 0 corrections.first.degree (omega arith) refl) in
     let size1 : length one.0 ≡ length old = size_of_applied corrections.first.degree corrections.first.bytes old one.0 one.1 in
     let two = applied_to corrections.second.degree corrections.second.bytes one.0
-    (λ small. let real : corrections.second.degree < length old = within 1 corrections.second.degree (omega arith) refl small in omega arith) in
+    (λ small. let real : corrections.second.degree < length old = within 1 corrections.second.degree (omega arith) refl small in
+    omega arith) in
     let size2 : length two.0 ≡ length one.0 = size_of_applied corrections.second.degree corrections.second.bytes one.0 two.0 two.1 in
     let three = applied_to corrections.third.degree corrections.third.bytes two.0
-    (λ small. let real : corrections.third.degree < length old = within 2 corrections.third.degree (omega arith) refl small in omega arith) in
+    (λ small. let real : corrections.third.degree < length old = within 2 corrections.third.degree (omega arith) refl small in omega arith)
+    in
     (three.0, record { once = one.0; twice = two.0; first = one.1; second = two.1; third = three.1 })
 
 -- corrections that can be made make some code block

@@ -1,12 +1,14 @@
 -- Equations between polynomials over the field, decided by expanding both sides. A polynomial expands to the
 -- list of its terms, a term to the list of its variables, and a term that stands twice falls out.
-use Rattle.std.proofs.Common.{◌≡◌, ℕ, zero, suc, ◌<◌, refl, sym, ◌∙◌, ap, arith, inl, inr, bit_xor, Bool, true, false, ◌&&◌, cond, nat_eq, nat_lt, List, [], ◌∷◌, get_or}
+use Rattle.std.proofs.Common.{◌≡◌, ℕ, zero, suc, ◌<◌, refl, sym, ◌∙◌, ap, arith, inl, inr, bit_xor, Bool, true, false, ◌&&◌, cond, nat_eq}
+use Rattle.std.proofs.Common.{nat_lt, List, [], ◌∷◌, get_or}
 use Rattle.std.specs.Int.Bits.{xor_assoc, xor_zero_l, xor_zero_r}
 use Rattle.std.proofs.lemmas.Nat.{xor_comm}
 use Rattle.std.proofs.lemmas.Bool.{cases_Bool, eqb-true, and_parts, false≢true}
 use Rattle.cartridge_spec.specs.Code.{product}
 use Rattle.gf256_qic.proofs.Sums.{equal_from_sum, sum_cancel}
-use Rattle.gf256_qic.proofs.Products.{product_byte, product_comm, product_assoc, product_sum_left, product_sum_right, product_zero_left, product_zero_right, product_one_left, product_one_right}
+use Rattle.gf256_qic.proofs.Products.{product_byte, product_comm, product_assoc, product_sum_left, product_sum_right, product_zero_left}
+use Rattle.gf256_qic.proofs.Products.{product_zero_right, product_one_left, product_one_right}
 use Rattle.gf256_qic.proofs.Values.{first_byte, other_bytes}
 use Rattle.qic_base.specs.Disk.{AreBytes}
 

@@ -1,6 +1,7 @@
 -- The corrections at three places of a segment that make its columns codewords. A place's degree is the
 -- number of places behind it; degrees from 32 on are those of no place.
-use Rattle.std.specs.Prelude.{◌≡◌, ◌≢◌, ℕ, ◌+◌, ◌-◌, ◌<◌, ◌≤◌, true, List, [], ◌∷◌, length, slice_index, slice_index_or, slice_set, bit_xor, All}
+use Rattle.std.specs.Prelude.{◌≡◌, ◌≢◌, ℕ, ◌+◌, ◌-◌, ◌<◌, ◌≤◌, true, List, [], ◌∷◌, length, slice_index, slice_index_or, slice_set, bit_xor}
+use Rattle.std.specs.Prelude.{All}
 use Rattle.cartridge_spec.specs.Code.{product, power, value_at, column}
 use Rattle.gf256_qic.specs.Code.{inverse}
 use Rattle.qic_base.specs.Cartridge.{IsSector}

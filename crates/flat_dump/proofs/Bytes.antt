@@ -1,5 +1,6 @@
 -- Where the bytes of a sector lie in a dump.
-use Rattle.std.proofs.Common.{◌≡◌, ℕ, zero, suc, ◌+◌, ◌-◌, ◌*◌, ◌<◌, List, [], ◌∷◌, ◌++◌, length, get_or, take, drop, All, refl, ap, ◌∙◌, arith, length-append}
+use Rattle.std.proofs.Common.{◌≡◌, ℕ, zero, suc, ◌+◌, ◌-◌, ◌*◌, ◌<◌, List, [], ◌∷◌, ◌++◌, length, get_or, take, drop, All, refl, ap, ◌∙◌}
+use Rattle.std.proofs.Common.{arith, length-append}
 use Rattle.std.proofs.lemmas.List.{length-replicate, take_at}
 use Rattle.std.proofs.Math.Seq.{drop-append-add}
 use Rattle.std.specs.List.{slice_range}
@@ -34,7 +35,8 @@ length-views_bytes (view ∷ views) all =
     length-append (sector_bytes view) (views_bytes views) ∙ (omega arith)
 
 -- the bytes of a sector
-taken : (views : List SectorView) (q : ℕ) → All IsView views → q < length views → take 1024 (drop (1024 * q) (views_bytes views)) ≡ sector_bytes (get_or views q Blank)
+taken : (views : List SectorView) (q : ℕ) → All IsView views → q < length views →
+    take 1024 (drop (1024 * q) (views_bytes views)) ≡ sector_bytes (get_or views q Blank)
 taken [] q all within = absurd (omega arith)
 taken (view ∷ views) zero all within =
     let long = length-sector_bytes view (first_view view views all) in
@@ -49,7 +51,8 @@ taken (view ∷ views) (suc q) all within =
 pub range_of : (views : List SectorView) (q : ℕ) → All IsView views → q < length views →
     slice_range (views_bytes views) (1024 * q) (1024 * q + 1024) ≡ sector_bytes (get_or views q Blank)
 range_of views q all within =
-    ap (λ (n : ℕ). take n (drop (1024 * q) (views_bytes views))) (let e : 1024 * q + 1024 - 1024 * q ≡ 1024 = omega arith in e) ∙ taken views q all within
+    ap (λ (n : ℕ). take n (drop (1024 * q) (views_bytes views))) (let e : 1024 * q + 1024 - 1024 * q ≡ 1024 = omega arith in e)
+    ∙ taken views q all within
 
 pub dump_is_whole : DumpIsWhole
 dump_is_whole c is = let n = is.sectors in length-views_bytes c.views is.views ∙ (omega arith)

@@ -1,5 +1,6 @@
 -- What is imported of a dump and a map: one cartridge, and of an exported one the same again.
-use Rattle.std.proofs.Common.{◌≡◌, inl, inr, ℕ, ◌+◌, ◌*◌, ◌/◌, ◌<◌, ◌≤◌, List, length, get_or, Option, Some, refl, sym, ap, ◌∙◌, subst, arith}
+use Rattle.std.proofs.Common.{◌≡◌, inl, inr, ℕ, ◌+◌, ◌*◌, ◌/◌, ◌<◌, ◌≤◌, List, length, get_or, Option, Some, refl, sym, ap, ◌∙◌, subst}
+use Rattle.std.proofs.Common.{arith}
 use Rattle.std.proofs.lemmas.List.{same_lists, get_or_default, get_or-map, length-map}
 use Rattle.qic_base.specs.Cartridge.{Cartridge}
 use Rattle.qic_base.specs.CartridgeTerms.{IsCartridge}
@@ -17,7 +18,8 @@ use Rattle.flat_dump.specs.Laws.{ImportsOne, BringsBack}
 use Rattle.flat_dump.proofs.Bytes.{dump_is_whole, range_of}
 use Rattle.flat_dump.proofs.Maps.{few_words, rescued_is_held}
 
-one_view : (dump : List ℕ) (blocks : Option (List Block)) (q : ℕ) (v w : SectorView) → IsImportedView dump blocks q v → IsImportedView dump blocks q w → v ≡ w
+one_view : (dump : List ℕ) (blocks : Option (List Block)) (q : ℕ) (v w : SectorView) → IsImportedView dump blocks q v →
+    IsImportedView dump blocks q w → v ≡ w
 one_view dump blocks q v w (inl a) (inl b) = a.1 ∙ sym b.1
 one_view dump blocks q v w (inl a) (inr b) = absurd (b.0 a.0)
 one_view dump blocks q v w (inr a) (inl b) = absurd (a.0 b.0)
@@ -48,20 +50,24 @@ map_blocks c blocks is reading =
     ap (λ (r : Reading). block_list r blocks) both
 
 -- a sector that holds something is taken, and no other one is
-held_is_whole : (c : Cartridge) (q : ℕ) → IsCartridge c → q < 896 * c.info.segments_per_track → IsHeld c q → IsWhole (runs_of (held_mask c)) q
+held_is_whole : (c : Cartridge) (q : ℕ) → IsCartridge c → q < 896 * c.info.segments_per_track → IsHeld c q →
+    IsWhole (runs_of (held_mask c)) q
 held_is_whole c q is within held byte low high =
     let at : q ≡ byte / 1024 = omega arith in
     (rescued_is_held c byte is (omega arith)).1 (subst (IsHeld c) at held)
 
-whole_is_held : (c : Cartridge) (q : ℕ) → IsCartridge c → q < 896 * c.info.segments_per_track → IsWhole (runs_of (held_mask c)) q → IsHeld c q
+whole_is_held : (c : Cartridge) (q : ℕ) → IsCartridge c → q < 896 * c.info.segments_per_track → IsWhole (runs_of (held_mask c)) q →
+    IsHeld c q
 whole_is_held c q is within whole =
     let at : 1024 * q / 1024 ≡ q = omega arith in
     subst (IsHeld c) at ((rescued_is_held c (1024 * q) is (omega arith)).0 (whole (1024 * q) (omega arith) (omega arith)))
 
-not_held : (c : Cartridge) (q : ℕ) (view : SectorView) → get_or c.views q Blank ≡ view → ((bytes : List ℕ) → view ≡ Holds bytes → ⊥) → IsHeld c q → ⊥
+not_held : (c : Cartridge) (q : ℕ) (view : SectorView) → get_or c.views q Blank ≡ view → ((bytes : List ℕ) → view ≡ Holds bytes → ⊥) →
+    IsHeld c q → ⊥
 not_held c q view e other held = other held.0 (sym e ∙ held.1)
 
-come_view : (c : Cartridge) (q : ℕ) (view : SectorView) → IsCartridge c → q < 896 * c.info.segments_per_track → get_or c.views q Blank ≡ view →
+come_view : (c : Cartridge) (q : ℕ) (view : SectorView) → IsCartridge c → q < 896 * c.info.segments_per_track →
+    get_or c.views q Blank ≡ view →
     IsImportedView (dump_of c) (Some (runs_of (held_mask c))) q (brought_view view)
 come_view c q Blank is within e = inr ((λ t. not_held c q Blank e (λ bytes f. cc) (whole_is_held c q is within t.1)), refl)
 come_view c q Defect is within e = inr ((λ t. not_held c q Defect e (λ bytes f. cc) (whole_is_held c q is within t.1)), refl)
@@ -83,5 +89,6 @@ brings_back c blocks is reading =
       size = length-map c.views brought_view ∙ n;
       views = λ q within.
           let P : SectorView → Type 0 = λ view. IsImportedView (dump_of c) (Some (runs_of (held_mask c))) q view in
-          subst P (sym (get_or-map brought_view c.views q Blank Blank (omega arith))) (come_view c q (get_or c.views q Blank) is within refl);
+          subst P (sym (get_or-map brought_view c.views q Blank Blank (omega arith)))
+          (come_view c q (get_or c.views q Blank) is within refl);
     })

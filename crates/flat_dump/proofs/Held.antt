@@ -1,5 +1,6 @@
 -- The words of the sectors that hold bytes.
-use Rattle.std.proofs.Common.{◌≡◌, ℕ, zero, suc, ◌+◌, ◌*◌, ◌^◌, ◌%◌, ◌<◌, ◌≤◌, List, [], ◌∷◌, ◌++◌, length, bit_or, bit_and, take, drop, ap, ap₂, ◌∙◌, arith, length-drop}
+use Rattle.std.proofs.Common.{◌≡◌, ℕ, zero, suc, ◌+◌, ◌*◌, ◌^◌, ◌%◌, ◌<◌, ◌≤◌, List, [], ◌∷◌, ◌++◌, length, bit_or, bit_and, take, drop, ap}
+use Rattle.std.proofs.Common.{ap₂, ◌∙◌, arith, length-drop}
 use Rattle.std.proofs.Math.Numerals.{add-one}
 use Rattle.std.proofs.lemmas.List.{take_all, take-append-le, drop-append-le}
 use Rattle.std.proofs.Math.Nat.{pow-suc}
@@ -23,7 +24,8 @@ held_word-small (view ∷ views) =
     let rest = held_word-small views in
     let p : 2 ^ suc (length views) ≡ 2 ^ length views * 2 = pow-suc 2 (length views) in omega arith
 
-pub held_word-more : (views : List SectorView) (view : SectorView) → held_word (views ++ view ∷ []) ≡ held_word views + held_bit view * 2 ^ length views
+pub held_word-more : (views : List SectorView) (view : SectorView) →
+    held_word (views ++ view ∷ []) ≡ held_word views + held_bit view * 2 ^ length views
 held_word-more [] view = omega arith
 held_word-more (first ∷ views) view =
     let rest = held_word-more views view in
@@ -36,7 +38,8 @@ pub or_above : (word k : ℕ) → word < 2 ^ k → k < 32 → bit_or word (1 * 2
 or_above word k below few =
     let small : 2 ^ k < 2 ^ 32 = pow-lt few in
     let same : 1 * 2 ^ k % 2 ^ 32 ≡ 2 ^ k = omega arith in
-    let none : bit_and word (2 ^ k) ≡ zero = and_pow word k ∙ ap (λ (b : ℕ). b * 2 ^ k) (bit_at_above word k k below (omega arith)) ∙ (omega arith) in
+    let none : bit_and word (2 ^ k) ≡ zero = and_pow word k ∙ ap (λ (b : ℕ). b * 2 ^ k) (bit_at_above word k k below (omega arith))
+    ∙ (omega arith) in
     ap (bit_or word) same ∙ or_disjoint word (2 ^ k) none
 
 -- the word of a segment more

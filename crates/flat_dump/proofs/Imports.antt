@@ -1,5 +1,7 @@
 -- How an import ends.
-use Rattle.std.proofs.Common.{◌≡◌, ℕ, ◌+◌, ◌-◌, ◌*◌, ◌<◌, ◌≤◌, inl, inr, Bool, true, false, List, [], ◌++◌, length, get_or, replicate, map, nat_le, ◌&&◌, if◌then◌else◌, Option, Some, None, IfSome, Result, Err, ⊎_elim, refl, sym, ◌∙◌, ap, subst, arith}
+use Rattle.std.proofs.Common.{◌≡◌, ℕ, ◌+◌, ◌-◌, ◌*◌, ◌<◌, ◌≤◌, inl, inr, Bool, true, false, List, [], ◌++◌, length, get_or, replicate, map}
+use Rattle.std.proofs.Common.{nat_le, ◌&&◌, if◌then◌else◌, Option, Some, None, IfSome, Result, Err, ⊎_elim, refl, sym, ◌∙◌, ap, subst}
+use Rattle.std.proofs.Common.{arith}
 use Rattle.std.specs.List.{range_with_len, slice_range}
 use Rattle.std.specs.Option.{option_map}
 use Rattle.std.proofs.Math.ListN.{get_or-append}
@@ -20,9 +22,11 @@ use Rattle.cart_image.specs.Layout.{resize}
 use Rattle.cart_image.specs.Run.{Runs}
 use Rattle.rescue_map.specs.Text.{is_marked}
 use Rattle.flat_dump.specs.Cells.{lost_cell}
-use Rattle.flat_dump.specs.Import.{IsDumpOf, IsNoDump, IsNoImage, IsNoneOrWhole, Cleared, WasImported, Imports, counted, lost_bit, lost_count}
+use Rattle.flat_dump.specs.Import.{IsDumpOf, IsNoDump, IsNoImage, IsNoneOrWhole, Cleared, WasImported, Imports, counted, lost_bit}
+use Rattle.flat_dump.specs.Import.{lost_count}
 use Rattle.flat_dump.specs.Imported.{imported_by, imported_view}
-use Rattle.flat_dump.specs.Importing.{IsCell, IsLaid, IsNoneOr, FailedSince, Finished, Unfinished, WasCopied, Copies, Fills, begun, image_with, lost_cells}
+use Rattle.flat_dump.specs.Importing.{IsCell, IsLaid, IsNoneOr, FailedSince, Finished, Unfinished, WasCopied, Copies, Fills, begun}
+use Rattle.flat_dump.specs.Importing.{image_with, lost_cells}
 use Rattle.flat_dump.specs.declared.importing.Copied.{Copied}
 use Rattle.flat_dump.specs.declared.importing.Imported.{Imported}
 use Rattle.flat_dump.specs.declared.importing.ImportError.{ImportError}
@@ -52,7 +56,8 @@ none_counted asked len none n long fits =
 
 lacks : (dump mask : List ℕ) (q : ℕ) → length dump < 1024 * q + 1024 → imported_view dump mask q ≡ Lost
 lacks dump mask q less =
-    by_marked (is_marked mask q) (nat_le (1024 * q + 1024) (length dump)) (slice_range dump (1024 * q) (1024 * q + 1024)) (lt-leb (1024 * q + 1024) (length dump) less)
+    by_marked (is_marked mask q) (nat_le (1024 * q + 1024) (length dump)) (slice_range dump (1024 * q) (1024 * q + 1024))
+    (lt-leb (1024 * q + 1024) (length dump) less)
   where
     by_marked : (a b : Bool) (bytes : List ℕ) → b ≡ false → (if a && b then Holds bytes else Lost) ≡ Lost
     by_marked true true bytes e = cc
@@ -60,8 +65,10 @@ lacks dump mask q less =
     by_marked false b bytes e = refl
 
 -- a dump whose segments were copied, and the lost sectors behind them
-module _ {S D : Type 0} (s : sources.Meaning S) (m : disks.Meaning D) (source : S) (old mid : D) (mask : List ℕ) (most : ℕ) (copied : Copied)
-    (was : WasCopied s m source old mid mask most copied) (n more : ℕ) (long : IsLength n) (order : copied.segments + more ≡ 28 * n) (enough : 28 * n ≤ most) where
+module _ {S D : Type 0} (s : sources.Meaning S) (m : disks.Meaning D) (source : S) (old mid : D) (mask : List ℕ) (most : ℕ)
+    (copied : Copied)
+    (was : WasCopied s m source old mid mask most copied) (n more : ℕ) (long : IsLength n) (order : copied.segments + more ≡ 28 * n)
+    (enough : 28 * n ≤ most) where
   abbrev views : List SectorView
   views = was.views ++ replicate (32 * more) Lost
 
@@ -85,7 +92,8 @@ module _ {S D : Type 0} (s : sources.Meaning S) (m : disks.Meaning D) (source : 
       (cases_lt q (32 * copied.segments))
 
   views_are : views ≡ map (imported_view was.dump mask) (range_with_len 0 (896 * n))
-  views_are = same_lists views (map (imported_view was.dump mask) (range_with_len 0 (896 * n))) (length-views ∙ sym (length-map-range_with_len (imported_view was.dump mask) 0 (896 * n))) (λ q d within.
+  views_are = same_lists views (map (imported_view was.dump mask) (range_with_len 0 (896 * n)))
+      (length-views ∙ sym (length-map-range_with_len (imported_view was.dump mask) 0 (896 * n))) (λ q d within.
       let there : q < 896 * n = let l = length-views in omega arith in
       get_or_default views q d Blank within
       ∙ view_at q there
@@ -98,7 +106,8 @@ module _ {S D : Type 0} (s : sources.Meaning S) (m : disks.Meaning D) (source : 
       let there : q < 32 * more = let l = length-behind in omega arith in
       let C : List ℕ → Type 0 = λ c. IsCell c (get_or behind q Blank) in
       let V : SectorView → Type 0 = λ v. IsCell lost_cell v in
-      subst C (sym (get_or-replicate (32 * more) q lost_cell [] there)) (subst V (sym (get_or-replicate (32 * more) q Lost Blank there)) lost_is_cell))
+      subst C (sym (get_or-replicate (32 * more) q lost_cell [] there))
+      (subst V (sym (get_or-replicate (32 * more) q Lost Blank there)) lost_is_cell))
 
   pub shows : cartridge_of (image_with n (was.file ++ lost_cells more)) ≡ Some (imported_by was.dump mask n)
   shows = image_shows n (was.file ++ lost_cells more) views long length-views laid
@@ -115,9 +124,18 @@ module _ {S D : Type 0} (s : sources.Meaning S) (m : disks.Meaning D) (source : 
   module _ (asked : Option ℕ) (fits : IsDumpOf asked (length was.dump) n) where
     pub whole_is : (left : List ℕ) → IsNoneOr (image_with n (was.file ++ lost_cells more)) left → IsNoneOrWhole s source mask asked left
     whole_is left (inl none) = inl none
-    whole_is left (inr same) = inr (record { dump = was.dump; told = was.told; n = n; long = long; fits = fits; shows = ap cartridge_of same ∙ shows })
+    whole_is left (inr same) = inr (record {
+      dump = was.dump;
+      told = was.told;
+      n = n;
+      long = long;
+      fits = fits;
+      shows = ap cartridge_of same
+          ∙ shows;
+    })
 
-    pub imported_is : (first new : D) (imported : Imported) → Finished m first new (image_with n (was.file ++ lost_cells more)) → imported.segments ≡ 28 * n → imported.lost ≡ copied.lost + 32 * more →
+    pub imported_is : (first new : D) (imported : Imported) → Finished m first new (image_with n (was.file ++ lost_cells more)) →
+        imported.segments ≡ 28 * n → imported.lost ≡ copied.lost + 32 * more →
         WasImported s m source first new mask asked imported
     imported_is first new imported done segments lost = record {
       dump = was.dump;
@@ -126,66 +144,88 @@ module _ {S D : Type 0} (s : sources.Meaning S) (m : disks.Meaning D) (source : 
       long = long;
       fits = fits;
       shows = by_told (m.told first) (m.told new) done.told;
+      stood = done.stood;
       settled = done.settled;
       segments = segments;
       lost = lost ∙ lost_is;
       crashes = λ left stops is. whole_is left (done.since left stops is);
     }
       where
-        by_told : (o p : Option (List ℕ)) → p ≡ option_map (λ b. image_with n (was.file ++ lost_cells more)) o → IfSome p (λ bytes. cartridge_of bytes ≡ Some (imported_by was.dump mask n))
-        by_told None p e = subst (λ (x : Option (List ℕ)). IfSome x (λ bytes. cartridge_of bytes ≡ Some (imported_by was.dump mask n))) (sym e) tt
-        by_told (Some b) p e = subst (λ (x : Option (List ℕ)). IfSome x (λ bytes. cartridge_of bytes ≡ Some (imported_by was.dump mask n))) (sym e) shows
+        by_told : (o p : Option (List ℕ)) → p ≡ option_map (λ b. image_with n (was.file ++ lost_cells more)) o →
+            IfSome p (λ bytes. cartridge_of bytes ≡ Some (imported_by was.dump mask n))
+        by_told None p e = subst (λ (x : Option (List ℕ)). IfSome x (λ bytes. cartridge_of bytes ≡ Some (imported_by was.dump mask n)))
+            (sym e) tt
+        by_told (Some b) p e = subst (λ (x : Option (List ℕ)). IfSome x (λ bytes. cartridge_of bytes ≡ Some (imported_by was.dump mask n)))
+            (sym e) shows
 
-    pub failed_is : (first new : D) → FailedSince m first new (IsNoneOr (image_with n (was.file ++ lost_cells more))) → FailedSince m first new (IsNoneOrWhole s source mask asked)
+    pub failed_is : (first new : D) → FailedSince m first new (IsNoneOr (image_with n (was.file ++ lost_cells more))) →
+        FailedSince m first new (IsNoneOrWhole s source mask asked)
     failed_is first new failed = record {
       cause = failed.cause;
-      stays = stays_as m first new (IsNoneOr (image_with n (was.file ++ lost_cells more))) (IsNoneOrWhole s source mask asked) (IsNoneOr (image_with n (was.file ++ lost_cells more))) (IsNoneOrWhole s source mask asked)
+      stays = stays_as m first new (IsNoneOr (image_with n (was.file ++ lost_cells more))) (IsNoneOrWhole s source mask asked)
+          (IsNoneOr (image_with n (was.file ++ lost_cells more))) (IsNoneOrWhole s source mask asked)
           whole_is whole_is failed.stays;
     }
 
 -- a failure that left no image
-pub failed_none : {S D : Type 0} (s : sources.Meaning S) (m : disks.Meaning D) (source : S) (mask : List ℕ) (asked : Option ℕ) (first new : D) → FailedSince m first new IsNoImage →
+pub failed_none : {S D : Type 0} (s : sources.Meaning S) (m : disks.Meaning D) (source : S) (mask : List ℕ) (asked : Option ℕ)
+    (first new : D) → FailedSince m first new IsNoImage →
     FailedSince m first new (IsNoneOrWhole s source mask asked)
 failed_none s m source mask asked first new failed = record {
   cause = failed.cause;
-  stays = stays_as m first new IsNoImage (IsNoneOrWhole s source mask asked) IsNoImage (IsNoneOrWhole s source mask asked) (λ b none. inl none) (λ b none. inl none) failed.stays;
+  stays = stays_as m first new IsNoImage (IsNoneOrWhole s source mask asked) IsNoImage (IsNoneOrWhole s source mask asked)
+      (λ b none. inl none) (λ b none. inl none) failed.stays;
 }
 
 -- ---- the file made empty
 
-cleared_since : {D : Type 0} (m : disks.Meaning D) (old mid new : D) (P : List ℕ → Type 0) → m.faults old ≤ m.faults mid → Cleared m mid new P → Cleared m old new P
-cleared_since m old mid new P later (inl empty) = inl empty
-cleared_since m old mid new P later (inr failed) = inr (Rose-after (m.faults old) (m.faults mid) (m.faults new) later failed.0, failed.1)
+cleared_since : {D : Type 0} (m : disks.Meaning D) (old mid new : D) (P : List ℕ → Type 0) → m.faults mid ≡ m.faults old →
+    Cleared m mid new P → Cleared m old new P
+cleared_since m old mid new P stood (inl empty) = inl (empty.0, empty.1 ∙ stood)
+cleared_since m old mid new P stood (inr failed) = inr (Rose-after (m.faults old) (m.faults mid) (m.faults new) stood failed.0, failed.1)
 
-pub imports_cleared : {S D T E : Type 0} (s : sources.Meaning S) (m : disks.Meaning D) (left_now : (d : D) → IsLeftNow m d) (right : (d : D) → IsToldRight m d) (source ended : S) (old mid new : D) (mask : List ℕ) (asked : Option ℕ)
-    (e : ImportError) (cleared : Result T E) → Fills s m source ended old mid mask asked (Err e) → Runs m mid new (resize 0) cleared → Imports s m source ended old new mask asked (Err e)
+pub imports_cleared : {S D T E : Type 0} (s : sources.Meaning S) (m : disks.Meaning D) (left_now : (d : D) → IsLeftNow m d)
+    (right : (d : D) → IsToldRight m d) (source ended : S) (old mid new : D) (mask : List ℕ) (asked : Option ℕ)
+    (e : ImportError) (cleared : Result T E) → Fills s m source ended old mid mask asked (Err e) → Runs m mid new (resize 0) cleared →
+    Imports s m source ended old new mask asked (Err e)
 imports_cleared s m left_now right source ended old mid new mask asked (error.Length bytes) cleared fills runs =
-    let stays = fills.stays in
-    let all = clear_leaves m left_now right old mid new IsNoImage cleared (λ b none. none) stays runs in
-    record { dump = fills.dump; told = fills.told; none = fills.none; count = fills.count; cleared = cleared_since m old mid new IsNoImage stays.later all.2; crashes = all.1 }
+    let since = fills.since in
+    let all = clear_leaves m left_now right old mid new IsNoImage cleared (λ b none. none) since.stays runs in
+    record {
+      dump = fills.dump;
+      told = fills.told;
+      none = fills.none;
+      count = fills.count;
+      cleared = cleared_since m old mid new IsNoImage since.stood all.2;
+      crashes = all.1;
+    }
 imports_cleared s m left_now right source ended old mid new mask asked error.Source cleared fills runs =
-    let stays = fills.1 in
-    let all = clear_leaves m left_now right old mid new IsNoImage cleared (λ b none. none) stays runs in
-    record { cause = fills.0; cleared = cleared_since m old mid new IsNoImage stays.later all.2; crashes = all.1 }
+    let since = fills.1 in
+    let all = clear_leaves m left_now right old mid new IsNoImage cleared (λ b none. none) since.stays runs in
+    record { cause = fills.0; cleared = cleared_since m old mid new IsNoImage since.stood all.2; crashes = all.1 }
 imports_cleared s m left_now right source ended old mid new mask asked error.Disk cleared fills runs =
     let all = clear_leaves m left_now right old mid new (IsNoneOrWhole s source mask asked) cleared (λ b none. inl none) fills.stays runs in
     record { failed = mid; cause = fills.cause; later = all.0; cleared = all.2; crashes = all.1 }
 
 -- ---- a copy that broke off
 
-pub copies_failed : {S D : Type 0} (s : sources.Meaning S) (m : disks.Meaning D) (source ended : S) (first old new : D) (mask : List ℕ) (most : ℕ) (asked : Option ℕ) (e : ImportError) →
+pub copies_failed : {S D : Type 0} (s : sources.Meaning S) (m : disks.Meaning D) (source ended : S) (first old new : D) (mask : List ℕ)
+    (most : ℕ) (asked : Option ℕ) (e : ImportError) →
     Copies s m source ended old new mask most (Err e) → Unfinished m first old begun → Fills s m source ended first new mask asked (Err e)
 copies_failed s m source ended first old new mask most asked (error.Length bytes) copies begins = absurd copies
 copies_failed s m source ended first old new mask most asked error.Source copies begins = (copies.0, copies.1 first begins)
-copies_failed s m source ended first old new mask most asked error.Disk copies begins = failed_none s m source mask asked first new (copies first begins)
+copies_failed s m source ended first old new mask most asked error.Disk copies begins = failed_none s m source mask asked first new
+    (copies first begins)
 
-pub refused_is : {S D : Type 0} (s : sources.Meaning S) (m : disks.Meaning D) (source ended : S) (first old new : D) (mask : List ℕ) (most : ℕ) (asked : Option ℕ) (copied : Copied) →
-    WasCopied s m source old new mask most copied → IsNoDump asked copied.bytes → Unfinished m first old begun → Fills s m source ended first new mask asked (Err (error.Length copied.bytes))
+pub refused_is : {S D : Type 0} (s : sources.Meaning S) (m : disks.Meaning D) (source ended : S) (first old new : D) (mask : List ℕ)
+    (most : ℕ) (asked : Option ℕ) (copied : Copied) →
+    WasCopied s m source old new mask most copied → IsNoDump asked copied.bytes → Unfinished m first old begun →
+    Fills s m source ended first new mask asked (Err (error.Length copied.bytes))
 refused_is s m source ended first old new mask most asked copied was none begins =
     record {
       dump = was.dump;
       told = was.told;
       none = none_counted asked (length was.dump) (subst (IsNoDump asked) was.bytes none);
       count = was.bytes;
-      stays = no_image_yet m first new was.file (was.goes first begins);
+      since = no_image_yet m first new was.file (was.goes first begins);
     }

@@ -1,10 +1,12 @@
 -- What the bytes of a file with cells behind a head are read as.
-use Rattle.std.proofs.Common.{◌≡◌, ℕ, zero, suc, ◌+◌, ◌-◌, ◌*◌, ◌/◌, ◌%◌, ◌<◌, ⊎_elim, Bool, true, false, List, [], ◌∷◌, ◌++◌, length, get_or, take, drop, replicate, Some, refl, sym, ◌∙◌, ap, ap₂, subst, arith}
+use Rattle.std.proofs.Common.{◌≡◌, ℕ, zero, suc, ◌+◌, ◌-◌, ◌*◌, ◌/◌, ◌%◌, ◌<◌, ⊎_elim, Bool, true, false, List, [], ◌∷◌, ◌++◌, length}
+use Rattle.std.proofs.Common.{get_or, take, drop, replicate, Some, refl, sym, ◌∙◌, ap, ap₂, subst, arith}
 use Rattle.std.specs.Prelude.{slice_range}
 use Rattle.std.proofs.Math.ListN.{get_or-append}
 use Rattle.std.proofs.Math.Seq.{drop-append-add}
 use Rattle.std.proofs.lemmas.Bool.{cases_lt, le-leb}
-use Rattle.std.proofs.lemmas.List.{take_at, drop_at, same_lists, get_or_default, get_or-take, get_or-drop, get_or-append_right, get_or-replicate, length-replicate, length-append, replicate-append-replicate}
+use Rattle.std.proofs.lemmas.List.{take_at, drop_at, same_lists, get_or_default, get_or-take, get_or-drop, get_or-append_right}
+use Rattle.std.proofs.lemmas.List.{get_or-replicate, length-replicate, length-append, replicate-append-replicate}
 use Rattle.std.proofs.lemmas.List.Concat.{flat_map-append}
 use Rattle.std.proofs.lemmas.List.Edits.{length-between, get_or-between}
 use Rattle.std.proofs.lemmas.List as lists
@@ -30,17 +32,20 @@ use Rattle.cart_image.proofs.Changes.{get_or-views}
 
 -- ---- cells, one behind the other
 
-other_cells : (cell : List ℕ) (cells : List (List ℕ)) → ((q : ℕ) → q < length (cell ∷ cells) → length (get_or (cell ∷ cells) q []) ≡ 1027) → (q : ℕ) → q < length cells → length (get_or cells q []) ≡ 1027
+other_cells : (cell : List ℕ) (cells : List (List ℕ)) → ((q : ℕ) → q < length (cell ∷ cells) → length (get_or (cell ∷ cells) q []) ≡ 1027) →
+    (q : ℕ) → q < length cells → length (get_or cells q []) ≡ 1027
 other_cells cell cells each q within = each (suc q) (omega arith)
 
-pub length-joined : (cells : List (List ℕ)) → ((q : ℕ) → q < length cells → length (get_or cells q []) ≡ 1027) → length (joined cells) ≡ 1027 * length cells
+pub length-joined : (cells : List (List ℕ)) → ((q : ℕ) → q < length cells → length (get_or cells q []) ≡ 1027) →
+    length (joined cells) ≡ 1027 * length cells
 length-joined [] each = refl
 length-joined (cell ∷ cells) each =
     let one = each zero (omega arith) in
     let rest = length-joined cells (other_cells cell cells each) in
     length-append cell (joined cells) ∙ (omega arith)
 
-cell_at : (cells : List (List ℕ)) (q : ℕ) → ((k : ℕ) → k < length cells → length (get_or cells k []) ≡ 1027) → q < length cells → take 1027 (drop (1027 * q) (joined cells)) ≡ get_or cells q []
+cell_at : (cells : List (List ℕ)) (q : ℕ) → ((k : ℕ) → k < length cells → length (get_or cells k []) ≡ 1027) → q < length cells →
+    take 1027 (drop (1027 * q) (joined cells)) ≡ get_or cells q []
 cell_at [] q each within = absurd (omega arith)
 cell_at (cell ∷ cells) zero each within = take_at cell (joined cells) 1027 (each zero (omega arith))
 cell_at (cell ∷ cells) (suc q) each within =
@@ -51,7 +56,8 @@ cell_at (cell ∷ cells) (suc q) each within =
     ∙ cell_at cells q (other_cells cell cells each) (omega arith)
 
 -- a byte of a cell
-byte_at : (cells : List (List ℕ)) (q j : ℕ) → ((k : ℕ) → k < length cells → length (get_or cells k []) ≡ 1027) → q < length cells → j < 1027 → get_or (joined cells) (1027 * q + j) 0 ≡ get_or (get_or cells q []) j 0
+byte_at : (cells : List (List ℕ)) (q j : ℕ) → ((k : ℕ) → k < length cells → length (get_or cells k []) ≡ 1027) → q < length cells →
+    j < 1027 → get_or (joined cells) (1027 * q + j) 0 ≡ get_or (get_or cells q []) j 0
 byte_at cells q j each within small =
     sym (get_or-drop (1027 * q) (joined cells) j 0)
     ∙ sym (get_or-take 1027 (drop (1027 * q) (joined cells)) j 0 small)
@@ -62,7 +68,8 @@ byte_at cells q j each within small =
 pub laid_none : IsLaid begun []
 laid_none = record { cells = []; bytes = sym (lists.append-nil begun); size = refl; each = λ q within. absurd (omega arith) }
 
-pub laid_more : (file : List ℕ) (views : List SectorView) (cells : List (List ℕ)) (more : List SectorView) → IsLaid file views → length cells ≡ length more →
+pub laid_more : (file : List ℕ) (views : List SectorView) (cells : List (List ℕ)) (more : List SectorView) → IsLaid file views →
+    length cells ≡ length more →
     ((q : ℕ) → q < length more → IsCell (get_or cells q []) (get_or more q Blank)) → IsLaid (file ++ joined cells) (views ++ more)
 laid_more file views cells more laid size each = record {
   cells = laid.cells ++ cells;
@@ -75,8 +82,10 @@ laid_more file views cells more laid size each = record {
       ⊎_elim
       (λ below. subst (λ (c : List ℕ). IsCell c (get_or (views ++ more) q Blank)) (sym (get_or-append laid.cells cells [] q (omega arith)))
       (subst (λ (v : SectorView). IsCell (get_or laid.cells q []) v) (sym (get_or-append views more Blank q below)) (laid.each q below)))
-      (λ past. subst (λ (c : List ℕ). IsCell c (get_or (views ++ more) q Blank)) (sym (get_or-append_right laid.cells cells (length views) q [] before past))
-      (subst (λ (v : SectorView). IsCell (get_or cells (q - length views) []) v) (sym (get_or-append_right views more (length views) q Blank refl past)) (each (q - length views) (omega arith))))
+      (λ past. subst (λ (c : List ℕ). IsCell c (get_or (views ++ more) q Blank))
+      (sym (get_or-append_right laid.cells cells (length views) q [] before past))
+      (subst (λ (v : SectorView). IsCell (get_or cells (q - length views) []) v)
+      (sym (get_or-append_right views more (length views) q Blank refl past)) (each (q - length views) (omega arith))))
       (cases_lt q (length views));
 }
 
@@ -118,7 +127,8 @@ module _ (n : ℕ) (long : IsLength n) where
   unfolding imported_head little_endian_bytes
   length-head = refl
 
-  module _ (cells : List (List ℕ)) (views : List SectorView) (count : length cells ≡ 896 * n) (size : length views ≡ 896 * n) (each : (q : ℕ) → q < 896 * n → IsCell (get_or cells q []) (get_or views q Blank)) where
+  module _ (cells : List (List ℕ)) (views : List SectorView) (count : length cells ≡ 896 * n) (size : length views ≡ 896 * n)
+      (each : (q : ℕ) → q < 896 * n → IsCell (get_or cells q []) (get_or views q Blank)) where
     abbrev bytes : List ℕ
     bytes = imported_head n ++ joined cells
 
@@ -126,11 +136,13 @@ module _ (n : ℕ) (long : IsLength n) where
     are_long q within = let c = each q (omega arith) in c.size
 
     length-bytes : length bytes ≡ image_len n
-    length-bytes = let h = length-head in let j = length-joined cells are_long in length-append (imported_head n) (joined cells) ∙ (omega arith)
+    length-bytes = let h = length-head in let j = length-joined cells are_long in length-append (imported_head n) (joined cells)
+        ∙ (omega arith)
 
     head_is : head_of bytes ≡ Some head_told
     unfolding head_of
-    head_is = ap (λ (l : ℕ). head_by l (slice_range bytes 0 read_len)) length-bytes ∙ ap (head_by (image_len n)) (front (joined cells)) ∙ told
+    head_is = ap (λ (l : ℕ). head_by l (slice_range bytes 0 read_len)) length-bytes ∙ ap (head_by (image_len n)) (front (joined cells))
+        ∙ told
 
     byte_of : (q j p : ℕ) → q < 896 * n → j < 1027 → p ≡ 64 + 1027 * q + j → get_or bytes p 0 ≡ get_or (get_or cells q []) j 0
     byte_of q j p within small at =
@@ -159,7 +171,8 @@ module _ (n : ℕ) (long : IsLength n) where
     view_of q within =
         let c = each q within in
         view_in-is layout bytes q
-        ∙ view_by-is _ _ _ _ _ _ _ _ (byte_of q 2 (place layout DefectByte q) within (omega arith) (omega arith)) (byte_of q 1 (place layout FormedByte q) within (omega arith) (omega arith))
+        ∙ view_by-is _ _ _ _ _ _ _ _ (byte_of q 2 (place layout DefectByte q) within (omega arith) (omega arith))
+        (byte_of q 1 (place layout FormedByte q) within (omega arith) (omega arith))
         (byte_of q 0 (place layout GateByte q) within (omega arith) (omega arith)) (data_of q within)
         ∙ c.shows
 
@@ -169,7 +182,8 @@ module _ (n : ℕ) (long : IsLength n) where
         get_or-views layout bytes q d there ∙ view_of q there ∙ get_or_default views q Blank d (omega arith))
 
     shows : cartridge_of bytes ≡ Some (record { info = imported_info n; version = 2; views = views })
-    shows = cartridge_of-read bytes head_told head_is ∙ ap (λ (vs : List SectorView). Some (record { info = imported_info n; version = 2; views = vs })) views_are
+    shows = cartridge_of-read bytes head_told head_is
+        ∙ ap (λ (vs : List SectorView). Some (record { info = imported_info n; version = 2; views = vs })) views_are
 
 pub image_shows : (n : ℕ) (file : List ℕ) (views : List SectorView) → IsLength n → length views ≡ 896 * n → IsLaid file views →
     cartridge_of (image_with n file) ≡ Some (record { info = imported_info n; version = 2; views = views })
@@ -197,7 +211,8 @@ pub length-lost : length (joined (replicate 32 lost_cell)) ≡ 32864
 length-lost =
     let c = lost_is_cell in
     let l : length (replicate 32 lost_cell) ≡ 32 = length-replicate {A = List ℕ} 32 lost_cell in
-    length-joined (replicate 32 lost_cell) (λ q within. ap (λ (x : List ℕ). length x) (get_or-replicate 32 q lost_cell [] (omega arith)) ∙ c.size) ∙ (omega arith)
+    length-joined (replicate 32 lost_cell) (λ q within. ap (λ (x : List ℕ). length x) (get_or-replicate 32 q lost_cell [] (omega arith))
+    ∙ c.size) ∙ (omega arith)
 
 pub lost_more : (k : ℕ) → lost_cells (k + 1) ≡ lost_cells k ++ joined (replicate 32 lost_cell)
 lost_more k =
@@ -210,4 +225,5 @@ pub length-lost_cells : (k : ℕ) → length (lost_cells k) ≡ 32864 * k
 length-lost_cells k =
     let c = lost_is_cell in
     let l : length (replicate (32 * k) lost_cell) ≡ 32 * k = length-replicate {A = List ℕ} (32 * k) lost_cell in
-    length-joined (replicate (32 * k) lost_cell) (λ q within. ap (λ (x : List ℕ). length x) (get_or-replicate (32 * k) q lost_cell [] (omega arith)) ∙ c.size) ∙ (omega arith)
+    length-joined (replicate (32 * k) lost_cell)
+    (λ q within. ap (λ (x : List ℕ). length x) (get_or-replicate (32 * k) q lost_cell [] (omega arith)) ∙ c.size) ∙ (omega arith)

@@ -1,5 +1,6 @@
 -- The mask of a cartridge has just the sectors that hold bytes, and so has its map.
-use Rattle.std.proofs.Common.{◌≡◌, ◌↔◌, ℕ, zero, suc, ◌+◌, ◌*◌, ◌/◌, ◌%◌, ◌<◌, ◌≤◌, List, [], ◌∷◌, length, get_or, take, drop, refl, sym, ap, ◌∙◌, arith}
+use Rattle.std.proofs.Common.{◌≡◌, ◌↔◌, ℕ, zero, suc, ◌+◌, ◌*◌, ◌/◌, ◌%◌, ◌<◌, ◌≤◌, List, [], ◌∷◌, length, get_or, take, drop, refl, sym}
+use Rattle.std.proofs.Common.{ap, ◌∙◌, arith}
 use Rattle.std.specs.Int.{bit_at}
 use Rattle.std.proofs.lemmas.List.{get_or-drop, get_or-take, drop-drop}
 use Rattle.std.proofs.lemmas.Nat.Bits.{bit_at-suc, bit_at_lowest, bit_at-zero}
@@ -25,7 +26,8 @@ bit_of_word [] i = bit_at-zero i
 bit_of_word (view ∷ views) zero = bit_at_lowest (held_word (view ∷ views)) ∙ (let small = held_bit-small view in omega arith)
 bit_of_word (view ∷ views) (suc i) =
     bit_at-suc (held_word (view ∷ views)) i
-    ∙ ap (λ (n : ℕ). bit_at n i) (let small = held_bit-small view in let e : (held_bit view + 2 * held_word views) / 2 ≡ held_word views = omega arith in e)
+    ∙ ap (λ (n : ℕ). bit_at n i) (let small = held_bit-small view in let e : (held_bit view + 2 * held_word views) / 2 ≡ held_word views =
+    omega arith in e)
     ∙ bit_of_word views i
 
 word_of : (n s : ℕ) (views : List SectorView) → s < n → get_or (held_words n views) s 0 ≡ held_word (take 32 (drop (32 * s) views))
@@ -33,16 +35,19 @@ word_of zero s views within = absurd (omega arith)
 word_of (suc n) zero views within = refl
 word_of (suc n) (suc s) views within =
     let far : 32 + 32 * s ≡ 32 * suc s = omega arith in
-    word_of n s (drop 32 views) (omega arith) ∙ ap (λ (vs : List SectorView). held_word (take 32 vs)) (drop-drop (32 * s) 32 views ∙ ap (λ (k : ℕ). drop k views) far)
+    word_of n s (drop 32 views) (omega arith) ∙ ap (λ (vs : List SectorView). held_word (take 32 vs))
+    (drop-drop (32 * s) 32 views ∙ ap (λ (k : ℕ). drop k views) far)
 
 -- the bit of a sector
-bit_of : (n q : ℕ) (views : List SectorView) → q < 32 * n → bit_at (get_or (held_words n views) (q / 32) 0) (q % 32) ≡ held_bit (get_or views q Blank)
+bit_of : (n q : ℕ) (views : List SectorView) → q < 32 * n → bit_at (get_or (held_words n views) (q / 32) 0) (q % 32) ≡ held_bit
+    (get_or views q Blank)
 bit_of n q views within =
     let low : q % 32 < 32 = omega arith in
     let place : 32 * (q / 32) + q % 32 ≡ q = omega arith in
     ap (λ (w : ℕ). bit_at w (q % 32)) (word_of n (q / 32) views (omega arith))
     ∙ bit_of_word (take 32 (drop (32 * (q / 32)) views)) (q % 32)
-    ∙ ap held_bit (get_or-take 32 (drop (32 * (q / 32)) views) (q % 32) Blank low ∙ get_or-drop (32 * (q / 32)) views (q % 32) Blank ∙ ap (λ (k : ℕ). get_or views k Blank) place)
+    ∙ ap held_bit (get_or-take 32 (drop (32 * (q / 32)) views) (q % 32) Blank low ∙ get_or-drop (32 * (q / 32)) views (q % 32) Blank
+    ∙ ap (λ (k : ℕ). get_or views k Blank) place)
 
 held_by_bit : (view : SectorView) → held_bit view ≡ 1 → (bytes : List ℕ) × (view ≡ Holds bytes)
 held_by_bit Blank e = absurd (omega arith)
@@ -64,7 +69,8 @@ length-held_mask c = length-held_words (28 * c.info.segments_per_track) c.views
 pub few_words : (c : Cartridge) → IsCartridge c → length (held_mask c) ≤ 6888
 few_words c is = let n = length-held_mask c in let long = is.long.longest in omega arith
 
-pub rescued_is_held : (c : Cartridge) (byte : ℕ) → IsCartridge c → byte < 917504 * c.info.segments_per_track → (Rescued (runs_of (held_mask c)) byte ↔ IsHeld c (byte / 1024))
+pub rescued_is_held : (c : Cartridge) (byte : ℕ) → IsCartridge c → byte < 917504 * c.info.segments_per_track →
+    (Rescued (runs_of (held_mask c)) byte ↔ IsHeld c (byte / 1024))
 rescued_is_held c byte is within =
     let n = length-held_mask c in
     let few = few_words c is in

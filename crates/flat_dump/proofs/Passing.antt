@@ -1,12 +1,15 @@
 -- What steps leave of a file that is written and is no image yet.
-use Rattle.std.proofs.Common.{◌≡◌, ℕ, zero, suc, ◌+◌, ◌-◌, ◌*◌, ◌≤◌, inl, inr, Bool, true, false, List, [], ◌∷◌, ◌++◌, length, get_or, take, drop, replicate, Option, Some, None, is_some, IsSome, IfSome, Result, Ok, Err, refl, sym, ◌∙◌, ap, subst, arith, append-nil}
+use Rattle.std.proofs.Common.{◌≡◌, ℕ, zero, suc, ◌+◌, ◌-◌, ◌*◌, ◌≤◌, inl, inr, Bool, true, false, List, [], ◌∷◌, ◌++◌, length, get_or, take}
+use Rattle.std.proofs.Common.{drop, replicate, Option, Some, None, is_some, IsSome, IfSome, Result, Ok, Err, refl, sym, ◌∙◌, ap, subst}
+use Rattle.std.proofs.Common.{arith, append-nil}
 use Rattle.std.specs.Prelude.{◌==◌, slice_index}
 use Rattle.std.specs.Option.{option_map}
 use Rattle.std.proofs.lemmas.Bool.{eqb-true}
 use Rattle.std.proofs.lemmas.List.{take_all, drop_all, take_at, same_lists, get_or_default, length-take-le}
 use Rattle.std.proofs.lemmas.List as lists
 use Rattle.qic_base.proofs.Steps.{Rose-after}
-use Rattle.qic_base.specs.Disk.{Meaning, DiskStep, WriteAt, SetLen, Sync, stored, resized, TornRange, Unsynced, Inside, Crashes, Stored, Failed, IsSettled, IsToldRight, IsLeftNow}
+use Rattle.qic_base.specs.Disk.{Meaning, DiskStep, WriteAt, SetLen, Sync, stored, resized, TornRange, Unsynced, Inside, Crashes, Stored}
+use Rattle.qic_base.specs.Disk.{Failed, IsSettled, IsToldRight, IsLeftNow}
 use Rattle.qic_base.specs.Field.{overwritten, little_endian_bytes}
 use Rattle.cart_image.specs.declared.layout.Head.{Head}
 use Rattle.cart_image.specs.Image.{head_of, cartridge_of}
@@ -27,7 +30,8 @@ tells_on : (step : DiskStep) (p q : Option (List ℕ)) → q ≡ option_map (sto
 tells_on step None q e = ap is_some e
 tells_on step (Some x) q e = ap is_some e
 
-told_on : (step : DiskStep) (file : List ℕ) (o p q : Option (List ℕ)) → q ≡ option_map (stored step) p → p ≡ option_map (λ b. file) o → q ≡ option_map (λ b. stored step file) o
+told_on : (step : DiskStep) (file : List ℕ) (o p q : Option (List ℕ)) → q ≡ option_map (stored step) p → p ≡ option_map (λ b. file) o →
+    q ≡ option_map (λ b. stored step file) o
 told_on step file None p q e f = e ∙ ap (option_map (stored step)) f
 told_on step file (Some b) p q e f = e ∙ ap (option_map (stored step)) f
 
@@ -58,7 +62,8 @@ none_short bytes short = by_head (head_of bytes) refl
 
 -- ---- a step more
 
-pub stays_as : {D : Type 0} (m : Meaning D) (first now : D) (P Q R S : List ℕ → Type 0) → ((b : List ℕ) → P b → Q b) → ((b : List ℕ) → R b → S b) → Stays m first now P R → Stays m first now Q S
+pub stays_as : {D : Type 0} (m : Meaning D) (first now : D) (P Q R S : List ℕ → Type 0) → ((b : List ℕ) → P b → Q b) →
+    ((b : List ℕ) → R b → S b) → Stays m first now P R → Stays m first now Q S
 stays_as m first now P Q R S one two s = record {
   tells = s.tells;
   later = s.later;
@@ -72,7 +77,8 @@ module _ {D : Type 0} (m : Meaning D) (left_now : (d : D) → IsLeftNow m d) (ri
   stays_on : (first old new : D) (step : DiskStep) (P Q R : List ℕ → Type 0) →
       ((before left : List ℕ) → P before → Unsynced step before left → Q left) → ((left : List ℕ) → Q left → R left) →
       is_some (m.told new) ≡ is_some (m.told old) → m.faults old ≤ m.faults new →
-      ((left : List ℕ) → m.may_leave new left → Inside m old step left) → Crashes m old new step → Stays m first old P R → Stays m first new Q R
+      ((left : List ℕ) → m.may_leave new left → Inside m old step left) → Crashes m old new step → Stays m first old P R →
+      Stays m first new Q R
   stays_on first old new step P Q R closes gives tells later leaves crashes before = record {
     tells = tells ∙ before.tells;
     later = let a = before.later in omega arith;
@@ -87,7 +93,8 @@ module _ {D : Type 0} (m : Meaning D) (left_now : (d : D) → IsLeftNow m d) (ri
   }
 
   -- a sync leaves what is told alone
-  stays_synced : (first old new : D) (P R : List ℕ → Type 0) → ((b : List ℕ) → P b → R b) → Stored m old new Sync → Stays m first old P R → Stays m first new P R
+  stays_synced : (first old new : D) (P R : List ℕ → Type 0) → ((b : List ℕ) → P b → R b) → Stored m old new Sync → Stays m first old P R →
+      Stays m first new P R
   stays_synced first old new P R gives sync before = record {
     tells = tells_on Sync (m.told old) (m.told new) sync.told ∙ before.tells;
     later = let a = before.later in let b = sync.later in omega arith;
@@ -107,7 +114,8 @@ module _ {D : Type 0} (m : Meaning D) (left_now : (d : D) → IsLeftNow m d) (ri
   }
 
   -- .. where the file is known
-  stays_exact : (first now : D) (P Q R : List ℕ → Type 0) (file : List ℕ) → m.told now ≡ option_map (λ b. file) (m.told first) → IsSettled m now → Q file → Stays m first now P R → Stays m first now Q R
+  stays_exact : (first now : D) (P Q R : List ℕ → Type 0) (file : List ℕ) → m.told now ≡ option_map (λ b. file) (m.told first) →
+      IsSettled m now → Q file → Stays m first now P R → Stays m first now Q R
   stays_exact first now P Q R file told settled q s = record {
     tells = s.tells;
     later = s.later;
@@ -118,11 +126,13 @@ module _ {D : Type 0} (m : Meaning D) (left_now : (d : D) → IsLeftNow m d) (ri
   }
 
   -- a failed step
-  stays_failed : (first old new : D) (step : DiskStep) (P Q R : List ℕ → Type 0) → ((before left : List ℕ) → P before → Unsynced step before left → Q left) → ((left : List ℕ) → Q left → R left) →
-      Failed m old new step → Stays m first old P R → FailedSince m first new R
-  stays_failed first old new step P Q R closes gives failed before = record {
-    cause = Rose-after (m.faults first) (m.faults old) (m.faults new) before.later failed.cause;
-    stays = stays_as m first new Q R R R gives (λ b r. r) (stays_on first old new step P Q R closes gives failed.tells failed.later failed.leaves failed.crashes before);
+  stays_failed : (first old new : D) (step : DiskStep) (P Q R : List ℕ → Type 0) →
+      ((before left : List ℕ) → P before → Unsynced step before left → Q left) → ((left : List ℕ) → Q left → R left) →
+      Failed m old new step → m.faults old ≡ m.faults first → Stays m first old P R → FailedSince m first new R
+  stays_failed first old new step P Q R closes gives failed stood before = record {
+    cause = Rose-after (m.faults first) (m.faults old) (m.faults new) stood failed.cause;
+    stays = stays_as m first new Q R R R gives (λ b r. r)
+        (stays_on first old new step P Q R closes gives failed.tells failed.later failed.leaves failed.crashes before);
   }
 
   -- what is told now
@@ -134,21 +144,27 @@ module _ {D : Type 0} (m : Meaning D) (left_now : (d : D) → IsLeftNow m d) (ri
 
   -- ---- a file that is no image yet
 
-  writes_on : (first old new : D) (step : DiskStep) (file : List ℕ) → KeepsFirst step → ((left : List ℕ) → m.may_leave new left → Inside m old step left) → Stored m old new step →
+  writes_on : (first old new : D) (step : DiskStep) (file : List ℕ) → KeepsFirst step →
+      ((left : List ℕ) → m.may_leave new left → Inside m old step left) → Stored m old new step →
       Unfinished m first old file → Unfinished m first new (stored step file)
   writes_on first old new step file keeps leaves did before = record {
     told = told_on step file (m.told first) (m.told old) (m.told new) did.told before.told;
-    stays = stays_on first old new step IsUnsigned IsUnsigned IsNoImage (λ b left one torn. kept_first step b left keeps one torn) unsigned_none
-        (tells_on step (m.told old) (m.told new) did.told) did.later leaves did.crashes before.stays;
+    stood = did.later ∙ before.stood;
+    stays = stays_on first old new step IsUnsigned IsUnsigned IsNoImage (λ b left one torn. kept_first step b left keeps one torn)
+        unsigned_none
+        (tells_on step (m.told old) (m.told new) did.told) (let e = did.later in omega arith) leaves did.crashes before.stays;
   }
 
-  fails_on : (first old new : D) (step : DiskStep) (file : List ℕ) → KeepsFirst step → Failed m old new step → Unfinished m first old file → FailedSince m first new IsNoImage
+  fails_on : (first old new : D) (step : DiskStep) (file : List ℕ) → KeepsFirst step → Failed m old new step → Unfinished m first old file →
+      FailedSince m first new IsNoImage
   fails_on first old new step file keeps failed before =
-      stays_failed first old new step IsUnsigned IsUnsigned IsNoImage (λ b left one torn. kept_first step b left keeps one torn) unsigned_none failed before.stays
+      stays_failed first old new step IsUnsigned IsUnsigned IsNoImage (λ b left one torn. kept_first step b left keeps one torn)
+      unsigned_none failed before.stood before.stays
 
   -- ---- begun
 
-  pub begin_goes : {T E : Type 0} (old new : D) (result : Result T E) → IsEmpty m old → Runs m old new (resize head_len) result → Goes m old new begun result
+  pub begin_goes : {T E : Type 0} (old new : D) (result : Result T E) → IsEmpty m old → Runs m old new (resize head_len) result →
+      Goes m old new begun result
   begin_goes {T} {E} old new result empty runs = by_result result runs where
     Early : List ℕ → Type 0
     Early b = length b ≤ 64
@@ -178,28 +194,39 @@ module _ {D : Type 0} (m : Meaning D) (left_now : (d : D) → IsLeftNow m d) (ri
     closes b left none (inl same) = let l : length left ≡ 0 = ap (λ (xs : List ℕ). length xs) (same ∙ none) in omega arith
     closes b left none (inr torn) = let l = torn.size in omega arith
 
-    told_begun : (o p : Option (List ℕ)) → IfSome o (λ b. b ≡ []) → p ≡ option_map (stored (SetLen head_len)) o → p ≡ option_map (λ b. begun) o
+    told_begun : (o p : Option (List ℕ)) → IfSome o (λ b. b ≡ []) → p ≡ option_map (stored (SetLen head_len)) o →
+        p ≡ option_map (λ b. begun) o
     told_begun None p nothing e = e
     told_begun (Some b) p nothing e = e ∙ ap (λ (xs : List ℕ). Some (resized head_len xs)) nothing
 
     by_result : (r : Result T E) → Runs m old new (resize head_len) r → Goes m old new begun r
     by_result (Ok x) (mid, longer, (last, synced, same)) =
         let one = stays_on old old mid (SetLen head_len) (λ b. b ≡ []) Early IsNoImage closes none_short
-        (tells_on (SetLen head_len) (m.told old) (m.told mid) longer.told) longer.later longer.leaves longer.crashes before in
+        (tells_on (SetLen head_len) (m.told old) (m.told mid) longer.told)
+        (let e = longer.later in omega arith) longer.leaves longer.crashes before in
         let two = stays_synced old mid last Early IsNoImage none_short synced one in
-        let told = told_on Sync begun (m.told old) (m.told mid) (m.told last) synced.told (told_begun (m.told old) (m.told mid) empty.told longer.told) in
+        let told = told_on Sync begun (m.told old) (m.told mid) (m.told last) synced.told
+        (told_begun (m.told old) (m.told mid) empty.told longer.told) in
         subst (λ (d : D). Unfinished m old d begun) (sym same)
-        (record { told = told; stays = stays_exact old last Early IsUnsigned IsNoImage begun told synced.leaves refl two })
-    by_result (Err e) (inl failed) = stays_failed old old new (SetLen head_len) (λ b. b ≡ []) Early IsNoImage closes none_short failed before
+        (record {
+          told = told;
+          stood = synced.later ∙ longer.later;
+          stays = stays_exact old last Early IsUnsigned IsNoImage begun told synced.leaves refl two;
+        })
+    by_result (Err e) (inl failed) = stays_failed old old new (SetLen head_len) (λ b. b ≡ []) Early IsNoImage closes none_short failed refl
+        before
     by_result (Err e) (inr (mid, longer, inl failed)) =
         let one = stays_on old old mid (SetLen head_len) (λ b. b ≡ []) Early IsNoImage closes none_short
-        (tells_on (SetLen head_len) (m.told old) (m.told mid) longer.told) longer.later longer.leaves longer.crashes before in
-        stays_failed old mid new Sync Early Early IsNoImage (λ b left few same. subst Early (sym same) few) none_short failed one
+        (tells_on (SetLen head_len) (m.told old) (m.told mid) longer.told)
+        (let e = longer.later in omega arith) longer.leaves longer.crashes before in
+        stays_failed old mid new Sync Early Early IsNoImage (λ b left few same. subst Early (sym same) few) none_short failed longer.later
+        one
     by_result (Err e) (inr (mid, longer, inr other)) = absurd other.2
 
   -- ---- a segment more
 
-  written_behind : (file cells : List ℕ) (place : ℕ) → length file ≡ place → stored (WriteAt place cells) (stored (SetLen (place + length cells)) file) ≡ file ++ cells
+  written_behind : (file cells : List ℕ) (place : ℕ) → length file ≡ place →
+      stored (WriteAt place cells) (stored (SetLen (place + length cells)) file) ≡ file ++ cells
   unfolding overwritten
   written_behind file cells place long =
       let all : take (place + length cells) file ≡ file = take_all (place + length cells) file (omega arith) in
@@ -207,16 +234,20 @@ module _ {D : Type 0} (m : Meaning D) (left_now : (d : D) → IsLeftNow m d) (ri
       let zeros : List ℕ = replicate (place + length cells - length file) 0 in
       let front : take place (resized (place + length cells) file) ≡ file =
       ap (λ (xs : List ℕ). take place (xs ++ zeros)) all ∙ take_at file zeros place long in
-      let rest : drop (place + length cells) (resized (place + length cells) file) ≡ [] = drop_all (place + length cells) (resized (place + length cells) file) (omega arith) in
+      let rest : drop (place + length cells) (resized (place + length cells) file) ≡ [] = drop_all (place + length cells)
+      (resized (place + length cells) file) (omega arith) in
       ap (λ (xs : List ℕ). xs ++ cells ++ drop (place + length cells) (resized (place + length cells) file)) front
       ∙ ap (λ (xs : List ℕ). file ++ cells ++ xs) rest ∙ append-nil (file ++ cells)
 
-  pub append_goes : {T E : Type 0} (first old new : D) (segment : ℕ) (file cells : List ℕ) (result : Result T E) → length file ≡ head_len + 32864 * segment → length cells ≡ 32864 →
+  pub append_goes : {T E : Type 0} (first old new : D) (segment : ℕ) (file cells : List ℕ) (result : Result T E) →
+      length file ≡ head_len + 32864 * segment → length cells ≡ 32864 →
       Unfinished m first old file → Runs m old new (append_steps segment cells) result → Goes m first new (file ++ cells) result
   append_goes first old new segment file cells (Ok x) long size before (mid, longer, (last, wrote, same)) =
       let one = writes_on first old mid (SetLen (head_len + 32864 * segment + 32864)) file (omega arith) longer.leaves longer before in
-      let two = writes_on first mid last (WriteAt (head_len + 32864 * segment) cells) (stored (SetLen (head_len + 32864 * segment + 32864)) file) (omega arith) wrote.leaves wrote one in
-      let at : stored (WriteAt (head_len + 32864 * segment) cells) (stored (SetLen (head_len + 32864 * segment + 32864)) file) ≡ file ++ cells =
+      let two = writes_on first mid last (WriteAt (head_len + 32864 * segment) cells)
+      (stored (SetLen (head_len + 32864 * segment + 32864)) file) (omega arith) wrote.leaves wrote one in
+      let at : stored (WriteAt (head_len + 32864 * segment) cells)
+      (stored (SetLen (head_len + 32864 * segment + 32864)) file) ≡ file ++ cells =
       ap (λ (n : ℕ). stored (WriteAt (head_len + 32864 * segment) cells) (stored (SetLen (head_len + 32864 * segment + n)) file)) (sym size)
       ∙ written_behind file cells (head_len + 32864 * segment) long in
       subst (λ (d : D). Unfinished m first d (file ++ cells)) (sym same) (subst (λ (f : List ℕ). Unfinished m first last f) at two)
@@ -224,20 +255,26 @@ module _ {D : Type 0} (m : Meaning D) (left_now : (d : D) → IsLeftNow m d) (ri
       fails_on first old new (SetLen (head_len + 32864 * segment + 32864)) file (omega arith) failed before
   append_goes first old new segment file cells (Err e) long size before (inr (mid, longer, inl failed)) =
       let one = writes_on first old mid (SetLen (head_len + 32864 * segment + 32864)) file (omega arith) longer.leaves longer before in
-      fails_on first mid new (WriteAt (head_len + 32864 * segment) cells) (stored (SetLen (head_len + 32864 * segment + 32864)) file) (omega arith) failed one
+      fails_on first mid new (WriteAt (head_len + 32864 * segment) cells) (stored (SetLen (head_len + 32864 * segment + 32864)) file)
+      (omega arith) failed one
   append_goes first old new segment file cells (Err e) long size before (inr (mid, longer, inr other)) = absurd other.2
 
-  pub append_fails : (first old new : D) (segment : ℕ) (file cells : List ℕ) → length file ≡ head_len + 32864 * segment → length cells ≡ 32864 → Unfinished m first old file →
+  pub append_fails : (first old new : D) (segment : ℕ) (file cells : List ℕ) → length file ≡ head_len + 32864 * segment →
+      length cells ≡ 32864 → Unfinished m first old file →
       Halted m old new (append_steps segment cells) → FailedSince m first new IsNoImage
-  append_fails first old new segment file cells long size before halted = append_goes {T = Unit {0}} {E = Unit {0}} first old new segment file cells (Err tt) long size before halted
+  append_fails first old new segment file cells long size before halted =
+      append_goes {T = Unit {0}} {E = Unit {0}} first old new segment file cells (Err tt) long size before halted
 
-  pub append_ran : (first old new : D) (segment : ℕ) (file cells : List ℕ) → length file ≡ head_len + 32864 * segment → length cells ≡ 32864 → Unfinished m first old file →
+  pub append_ran : (first old new : D) (segment : ℕ) (file cells : List ℕ) → length file ≡ head_len + 32864 * segment →
+      length cells ≡ 32864 → Unfinished m first old file →
       Ran m old new (append_steps segment cells) → Unfinished m first new (file ++ cells)
-  append_ran first old new segment file cells long size before ran = append_goes {T = Unit {0}} {E = Unit {0}} first old new segment file cells (Ok tt) long size before ran
+  append_ran first old new segment file cells long size before ran =
+      append_goes {T = Unit {0}} {E = Unit {0}} first old new segment file cells (Ok tt) long size before ran
 
   -- ---- the file made empty
 
-  pub clear_leaves : {T E : Type 0} (first old new : D) (P : List ℕ → Type 0) (result : Result T E) → ((b : List ℕ) → IsNoImage b → P b) → Stays m first old P P → Runs m old new (resize 0) result →
+  pub clear_leaves : {T E : Type 0} (first old new : D) (P : List ℕ → Type 0) (result : Result T E) → ((b : List ℕ) → IsNoImage b → P b) →
+      Stays m first old P P → Runs m old new (resize 0) result →
       (m.faults old ≤ m.faults new) × CrashesLeave m first new P × Cleared m old new P
   clear_leaves {T} {E} first old new P result none before runs = by_result result runs where
     closes : (b left : List ℕ) → P b → Unsynced (SetLen 0) b left → P left
@@ -259,22 +296,31 @@ module _ {D : Type 0} (m : Meaning D) (left_now : (d : D) → IsLeftNow m d) (ri
     told_same (Some b) p e none = subst (λ (q : Option (List ℕ)). IfSome q (λ c. c ≡ [])) (sym e) none
 
     shorter : (mid : D) → Stored m old mid (SetLen 0) → Stays m first mid P P
-    shorter mid cut = stays_on first old mid (SetLen 0) P P P closes (λ b p. p) (tells_on (SetLen 0) (m.told old) (m.told mid) cut.told) cut.later cut.leaves cut.crashes before
+    shorter mid cut = stays_on first old mid (SetLen 0) P P P closes (λ b p. p) (tells_on (SetLen 0) (m.told old) (m.told mid) cut.told)
+        (let e = cut.later in omega arith) cut.leaves cut.crashes before
 
-    by_result : (r : Result T E) → Runs m old new (resize 0) r → (m.faults old ≤ m.faults new) × CrashesLeave m first new P × Cleared m old new P
+    by_result : (r : Result T E) → Runs m old new (resize 0) r → (m.faults old ≤ m.faults new) × CrashesLeave m first new P
+        × Cleared m old new P
     by_result (Ok x) (mid, cut, (last, synced, same)) =
         let two = stays_synced first mid last P P (λ b p. p) synced (shorter mid cut) in
         let Q : D → Type 0 = λ d. (m.faults old ≤ m.faults d) × CrashesLeave m first d P × Cleared m old d P in
         subst Q (sym same) (
           (let a = cut.later in let b = synced.later in let c : m.faults old ≤ m.faults last = omega arith in c),
           two.since,
-          inl (record { told = told_same (m.told mid) (m.told last) synced.told (told_empty (m.told old) (m.told mid) cut.told); settled = synced.leaves }),
+          inl (
+            record {
+              told = told_same (m.told mid) (m.told last) synced.told (told_empty (m.told old) (m.told mid) cut.told);
+              settled = synced.leaves;
+            },
+            synced.later ∙ cut.later,
+          ),
         )
     by_result (Err e) (inl failed) =
         let all = stays_on first old new (SetLen 0) P P P closes (λ b p. p) failed.tells failed.later failed.leaves failed.crashes before in
         (failed.later, all.since, inr (failed.cause, told_is first new P P all))
     by_result (Err e) (inr (mid, cut, inl failed)) =
-        let all = stays_on first mid new Sync P P P same_left (λ b p. p) failed.tells failed.later failed.leaves failed.crashes (shorter mid cut) in (
+        let all = stays_on first mid new Sync P P P same_left (λ b p. p) failed.tells failed.later failed.leaves failed.crashes
+        (shorter mid cut) in (
           (let a = cut.later in let b = failed.later in let c : m.faults old ≤ m.faults new = omega arith in c),
           all.since,
           inr (Rose-after (m.faults old) (m.faults mid) (m.faults new) cut.later failed.cause, told_is first new P P all),
@@ -339,13 +385,15 @@ module _ {D : Type 0} (m : Meaning D) (left_now : (d : D) → IsLeftNow m d) (ri
             let a = now in
             let b = later in
             same_lists left (signed file) (a.size ∙ sym b.size) (λ k d within.
-            get_or_default left k d 0 within ∙ at first k ∙ get_or_default (signed file) k 0 d (let s = a.size in let t = b.size in omega arith))
+            get_or_default left k d 0 within ∙ at first k ∙ get_or_default (signed file) k 0 d
+            (let s = a.size in let t = b.size in omega arith))
 
         by_first : (holds : Bool) → (slice_index left 0 == first_letter) ≡ holds → IsNoneOr (image_with n file) left
         by_first false e = inl (none-by-first left e)
         by_first true e = inr (is (eqb-true (slice_index left 0) first_letter e) ∙ signed_is file long)
 
-    pub sign_ends : {T E : Type 0} (first old new : D) (file : List ℕ) (result : Result T E) → 64 ≤ length file → Unfinished m first old file → Runs m old new (sign_steps n) result →
+    pub sign_ends : {T E : Type 0} (first old new : D) (file : List ℕ) (result : Result T E) → 64 ≤ length file →
+        Unfinished m first old file → Runs m old new (sign_steps n) result →
         Ends m first new (image_with n file) result
     sign_ends {T} {E} first old new file result long before runs = by_result result runs where
       none_or : (b : List ℕ) → IsNoImage b → IsNoneOr (image_with n file) b
@@ -354,15 +402,23 @@ module _ {D : Type 0} (m : Meaning D) (left_now : (d : D) → IsLeftNow m d) (ri
       written : (mid : D) → Stored m old mid (WriteAt 1 rest) → Unfinished m first mid (unsigned file)
       written mid wrote = writes_on first old mid (WriteAt 1 rest) file (omega arith) wrote.leaves wrote before
 
-      told_synced : (mid next : D) → Stored m old mid (WriteAt 1 rest) → Stored m mid next Sync → m.told next ≡ option_map (λ b. unsigned file) (m.told first)
-      told_synced mid next wrote synced = told_on Sync (unsigned file) (m.told first) (m.told mid) (m.told next) synced.told (let u = written mid wrote in u.told)
+      told_synced : (mid next : D) → Stored m old mid (WriteAt 1 rest) → Stored m mid next Sync →
+          m.told next ≡ option_map (λ b. unsigned file) (m.told first)
+      told_synced mid next wrote synced = told_on Sync (unsigned file) (m.told first) (m.told mid) (m.told next) synced.told
+          (let u = written mid wrote in u.told)
 
-      settled : (mid next : D) → Stored m old mid (WriteAt 1 rest) → Stored m mid next Sync → Stays m first next (λ b. b ≡ unsigned file) (IsNoneOr (image_with n file))
+      stood_synced : (mid next : D) → Stored m old mid (WriteAt 1 rest) → Stored m mid next Sync → m.faults next ≡ m.faults first
+      stood_synced mid next wrote synced = synced.later ∙ wrote.later ∙ before.stood
+
+      settled : (mid next : D) → Stored m old mid (WriteAt 1 rest) → Stored m mid next Sync → Stays m first next (λ b. b ≡ unsigned file)
+          (IsNoneOr (image_with n file))
       settled mid next wrote synced =
           let u = written mid wrote in
           let s = stays_synced first mid next IsUnsigned IsNoImage unsigned_none synced u.stays in
-          stays_as m first next (λ b. b ≡ unsigned file) (λ b. b ≡ unsigned file) IsNoImage (IsNoneOr (image_with n file)) (λ b e. e) none_or
-          (stays_exact first next IsUnsigned (λ b. b ≡ unsigned file) IsNoImage (unsigned file) (told_synced mid next wrote synced) synced.leaves refl s)
+          stays_as m first next (λ b. b ≡ unsigned file) (λ b. b ≡ unsigned file) IsNoImage (IsNoneOr (image_with n file))
+          (λ b e. e) none_or
+          (stays_exact first next IsUnsigned (λ b. b ≡ unsigned file) IsNoImage (unsigned file)
+          (told_synced mid next wrote synced) synced.leaves refl s)
 
       closes : (b left : List ℕ) → b ≡ unsigned file → Unsynced (WriteAt 0 (first_letter ∷ [])) b left → IsNoneOr (image_with n file) left
       closes b left same torn = torn_first file left long (subst (λ (c : List ℕ). TornRange 0 1 c left) same torn)
@@ -372,40 +428,63 @@ module _ {D : Type 0} (m : Meaning D) (left_now : (d : D) → IsLeftNow m d) (ri
 
       by_result : (r : Result T E) → Runs m old new (sign_steps n) r → Ends m first new (image_with n file) r
       by_result (Ok x) (mid, wrote, (next, synced, (third, signs, (last, ended, same)))) =
-          let three = stays_on first next third (WriteAt 0 (first_letter ∷ [])) (λ b. b ≡ unsigned file) (IsNoneOr (image_with n file)) (IsNoneOr (image_with n file)) closes (λ b p. p)
-          (tells_on (WriteAt 0 (first_letter ∷ [])) (m.told next) (m.told third) signs.told) signs.later signs.leaves signs.crashes (settled mid next wrote synced) in
+          let three = stays_on first next third (WriteAt 0 (first_letter ∷ [])) (λ b. b ≡ unsigned file) (IsNoneOr (image_with n file))
+          (IsNoneOr (image_with n file)) closes (λ b p. p)
+          (tells_on (WriteAt 0 (first_letter ∷ [])) (m.told next) (m.told third) signs.told)
+          (let e = signs.later in omega arith) signs.leaves signs.crashes (settled mid next wrote synced) in
           let four = stays_synced first third last (IsNoneOr (image_with n file)) (IsNoneOr (image_with n file)) (λ b p. p) ended three in
           let told = told_on Sync (signed file) (m.told first) (m.told third) (m.told last) ended.told
-          (told_on (WriteAt 0 (first_letter ∷ [])) (unsigned file) (m.told first) (m.told next) (m.told third) signs.told (told_synced mid next wrote synced)) in
+          (told_on (WriteAt 0 (first_letter ∷ [])) (unsigned file) (m.told first) (m.told next) (m.told third) signs.told
+          (told_synced mid next wrote synced)) in
           subst (λ (d : D). Finished m first d (image_with n file)) (sym same) (record {
             told = told ∙ ap (λ (f : List ℕ). option_map (λ b. f) (m.told first)) (signed_is file long);
+            stood = ended.later ∙ signs.later ∙ stood_synced mid next wrote synced;
             settled = ended.leaves;
             since = four.since;
           })
       by_result (Err e) (inl failed) = weaker (fails_on first old new (WriteAt 1 rest) file (omega arith) failed before)
         where
           weaker : FailedSince m first new IsNoImage → FailedSince m first new (IsNoneOr (image_with n file))
-          weaker f = record { cause = f.cause; stays = stays_as m first new IsNoImage (IsNoneOr (image_with n file)) IsNoImage (IsNoneOr (image_with n file)) none_or none_or f.stays }
+          weaker f = record {
+            cause = f.cause;
+            stays = stays_as m first new IsNoImage (IsNoneOr (image_with n file)) IsNoImage
+                (IsNoneOr (image_with n file)) none_or none_or f.stays;
+          }
       by_result (Err e) (inr (mid, wrote, inl failed)) = weaker (fails_on first mid new Sync (unsigned file) tt failed (written mid wrote))
         where
           weaker : FailedSince m first new IsNoImage → FailedSince m first new (IsNoneOr (image_with n file))
-          weaker f = record { cause = f.cause; stays = stays_as m first new IsNoImage (IsNoneOr (image_with n file)) IsNoImage (IsNoneOr (image_with n file)) none_or none_or f.stays }
+          weaker f = record {
+            cause = f.cause;
+            stays = stays_as m first new IsNoImage (IsNoneOr (image_with n file)) IsNoImage
+                (IsNoneOr (image_with n file)) none_or none_or f.stays;
+          }
       by_result (Err e) (inr (mid, wrote, inr (next, synced, inl failed))) =
-          stays_failed first next new (WriteAt 0 (first_letter ∷ [])) (λ b. b ≡ unsigned file) (IsNoneOr (image_with n file)) (IsNoneOr (image_with n file)) closes (λ b p. p) failed (settled mid next wrote synced)
+          stays_failed first next new (WriteAt 0 (first_letter ∷ [])) (λ b. b ≡ unsigned file) (IsNoneOr (image_with n file))
+          (IsNoneOr (image_with n file)) closes (λ b p. p) failed (stood_synced mid next wrote synced) (settled mid next wrote synced)
       by_result (Err e) (inr (mid, wrote, inr (next, synced, inr (third, signs, inl failed)))) =
-          let three = stays_on first next third (WriteAt 0 (first_letter ∷ [])) (λ b. b ≡ unsigned file) (IsNoneOr (image_with n file)) (IsNoneOr (image_with n file)) closes (λ b p. p)
-          (tells_on (WriteAt 0 (first_letter ∷ [])) (m.told next) (m.told third) signs.told) signs.later signs.leaves signs.crashes (settled mid next wrote synced) in
-          stays_failed first third new Sync (IsNoneOr (image_with n file)) (IsNoneOr (image_with n file)) (IsNoneOr (image_with n file)) same_left (λ b p. p) failed three
+          let three = stays_on first next third (WriteAt 0 (first_letter ∷ [])) (λ b. b ≡ unsigned file) (IsNoneOr (image_with n file))
+          (IsNoneOr (image_with n file)) closes (λ b p. p)
+          (tells_on (WriteAt 0 (first_letter ∷ [])) (m.told next) (m.told third) signs.told)
+          (let e = signs.later in omega arith) signs.leaves signs.crashes (settled mid next wrote synced) in
+          stays_failed first third new Sync (IsNoneOr (image_with n file)) (IsNoneOr (image_with n file))
+          (IsNoneOr (image_with n file)) same_left (λ b p. p) failed (signs.later ∙ stood_synced mid next wrote synced) three
       by_result (Err e) (inr (mid, wrote, inr (next, synced, inr (third, signs, inr (last, ended, other))))) = absurd other
 
 -- a call's answer
-pub goes_err : {D T E : Type 0} (m : Meaning D) (first now : D) (file : List ℕ) (result : Result T E) (e : E) → result ≡ Err e → FailedSince m first now IsNoImage → Goes m first now file result
+pub goes_err : {D T E : Type 0} (m : Meaning D) (first now : D) (file : List ℕ) (result : Result T E) (e : E) → result ≡ Err e →
+    FailedSince m first now IsNoImage → Goes m first now file result
 goes_err m first now file (Ok x) e same failed = cc
 goes_err m first now file (Err x) e same failed = failed
 
-pub ends_err : {D T E : Type 0} (m : Meaning D) (first now : D) (image : List ℕ) (result : Result T E) (e : E) → result ≡ Err e → FailedSince m first now (IsNoneOr image) → Ends m first now image result
+pub ends_err : {D T E : Type 0} (m : Meaning D) (first now : D) (image : List ℕ) (result : Result T E) (e : E) → result ≡ Err e →
+    FailedSince m first now (IsNoneOr image) → Ends m first now image result
 ends_err m first now image (Ok x) e same failed = cc
 ends_err m first now image (Err x) e same failed = failed
 
-pub none_or : {D : Type 0} (m : Meaning D) (first now : D) (image : List ℕ) → FailedSince m first now IsNoImage → FailedSince m first now (IsNoneOr image)
-none_or m first now image failed = record { cause = failed.cause; stays = stays_as m first now IsNoImage (IsNoneOr image) IsNoImage (IsNoneOr image) (λ b none. inl none) (λ b none. inl none) failed.stays }
+pub none_or : {D : Type 0} (m : Meaning D) (first now : D) (image : List ℕ) → FailedSince m first now IsNoImage →
+    FailedSince m first now (IsNoneOr image)
+none_or m first now image failed = record {
+  cause = failed.cause;
+  stays = stays_as m first now IsNoImage (IsNoneOr image) IsNoImage
+      (IsNoneOr image) (λ b none. inl none) (λ b none. inl none) failed.stays;
+}

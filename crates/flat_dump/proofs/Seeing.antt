@@ -1,5 +1,7 @@
 -- What a read of a sector shows of it.
-use Rattle.std.proofs.Common.{◌≡◌, ◌≢◌, ℕ, ◌+◌, ◌*◌, ◌%◌, ◌^◌, ◌<◌, List, [], ◌∷◌, ◌++◌, length, get_or, set, take, bit_or, Option, Some, None, IfSome, Bool, true, false, if◌then◌else◌, ⊎_elim, refl, sym, ◌∙◌, ap, ap₂, subst, arith, append_assoc, length-append}
+use Rattle.std.proofs.Common.{◌≡◌, ◌≢◌, ℕ, ◌+◌, ◌*◌, ◌%◌, ◌^◌, ◌<◌, List, [], ◌∷◌, ◌++◌, length, get_or, set, take, bit_or, Option, Some}
+use Rattle.std.proofs.Common.{None, IfSome, Bool, true, false, if◌then◌else◌, ⊎_elim, refl, sym, ◌∙◌, ap, ap₂, subst, arith, append_assoc}
+use Rattle.std.proofs.Common.{length-append}
 use Rattle.std.proofs.lemmas.Bool.{cases_lt}
 use Rattle.std.proofs.lemmas.List.{take_more_set}
 use Rattle.std.proofs.lemmas.List.Elements.{All-append, All-cons, All-nil}
@@ -51,33 +53,41 @@ not_read Defect old new answer other reads = record { is_view = tt; bytes = refl
 not_read Lost old new answer other reads = record { is_view = tt; bytes = refl; bit = refl }
 not_read (Holds bytes) old new answer other reads = absurd (other reads.0)
 
-pub other_seen : {T : Type 0} (t : Meaning T) (tape : T) (segment sector : ℕ) (old new bytes : List ℕ) (answer : SectorRead) → answer ≢ read.Good →
+pub other_seen : {T : Type 0} (t : Meaning T) (tape : T) (segment sector : ℕ) (old new bytes : List ℕ) (answer : SectorRead) →
+    answer ≢ read.Good →
     Tells t tape (λ c. Reads (view_at c segment sector) old new answer) → bytes ≡ zero_sector → IsSeen t tape segment sector bytes false
 other_seen {T} t tape segment sector old new bytes answer other reads zero = by_told (t.told tape) refl reads where
-  seen : (view : SectorView) → HoldsNone view → Tells t tape (λ c. view ≡ view_at c segment sector) → IsSeen t tape segment sector bytes false
+  seen : (view : SectorView) → HoldsNone view → Tells t tape (λ c. view ≡ view_at c segment sector) →
+      IsSeen t tape segment sector bytes false
   seen view none told = record { view = view; is_view = none.is_view; told = told; shown = zero ∙ none.bytes; bit = none.bit }
 
-  tells : (view : SectorView) (held : Option (Option Cartridge)) → t.told tape ≡ held → IfSome held (λ h. IfSome h (λ c. view ≡ view_at c segment sector)) →
+  tells : (view : SectorView) (held : Option (Option Cartridge)) → t.told tape ≡ held →
+      IfSome held (λ h. IfSome h (λ c. view ≡ view_at c segment sector)) →
       Tells t tape (λ c. view ≡ view_at c segment sector)
-  tells view held e fact = subst (λ (o : Option (Option Cartridge)). IfSome o (λ h. IfSome h (λ c. view ≡ view_at c segment sector))) (sym e) fact
+  tells view held e fact = subst (λ (o : Option (Option Cartridge)). IfSome o (λ h. IfSome h (λ c. view ≡ view_at c segment sector)))
+      (sym e) fact
 
-  by_told : (held : Option (Option Cartridge)) → t.told tape ≡ held → IfSome held (λ h. IfSome h (λ c. Reads (view_at c segment sector) old new answer)) →
+  by_told : (held : Option (Option Cartridge)) → t.told tape ≡ held →
+      IfSome held (λ h. IfSome h (λ c. Reads (view_at c segment sector) old new answer)) →
       IsSeen t tape segment sector bytes false
   by_told None e r = seen Lost (record { is_view = tt; bytes = refl; bit = refl }) (tells Lost None e tt)
   by_told (Some None) e r = seen Lost (record { is_view = tt; bytes = refl; bit = refl }) (tells Lost (Some None) e tt)
   by_told (Some (Some c)) e r =
-      seen (view_at c segment sector) (not_read (view_at c segment sector) old new answer other r) (tells (view_at c segment sector) (Some (Some c)) e refl)
+      seen (view_at c segment sector) (not_read (view_at c segment sector) old new answer other r)
+      (tells (view_at c segment sector) (Some (Some c)) e refl)
 
 -- ---- sectors that are seen one behind the other
 
 pub views_bytes-append : (xs ys : List SectorView) → views_bytes (xs ++ ys) ≡ views_bytes xs ++ views_bytes ys
 views_bytes-append [] ys = refl
 views_bytes-append (x ∷ xs) ys =
-    ap (λ (bytes : List ℕ). sector_bytes x ++ bytes) (views_bytes-append xs ys) ∙ sym (append_assoc (sector_bytes x) (views_bytes xs) (views_bytes ys))
+    ap (λ (bytes : List ℕ). sector_bytes x ++ bytes) (views_bytes-append xs ys)
+    ∙ sym (append_assoc (sector_bytes x) (views_bytes xs) (views_bytes ys))
 
 -- a view more, behind others
 view_more : (views : List SectorView) (view : SectorView) (count : ℕ) (at : ℕ → SectorView) → length views ≡ count →
-    ((k : ℕ) → k < count → get_or views k Blank ≡ at k) → view ≡ at count → (k : ℕ) → k < count + 1 → get_or (views ++ view ∷ []) k Blank ≡ at k
+    ((k : ℕ) → k < count → get_or views k Blank ≡ at k) → view ≡ at count → (k : ℕ) → k < count + 1 →
+    get_or (views ++ view ∷ []) k Blank ≡ at k
 view_more views view count at size before here k within = ⊎_elim
     (λ below. get_or-append views (view ∷ []) Blank k (omega arith) ∙ before k below)
     (λ past.
@@ -85,14 +95,17 @@ view_more views view count at size before here k within = ⊎_elim
     ap (λ (j : ℕ). get_or (views ++ view ∷ []) j Blank) (is ∙ sym size) ∙ get_or-append_seam views view [] Blank ∙ here ∙ ap at (sym is))
     (cases_lt k count)
 
-pub next_seen : {T : Type 0} (t : Meaning T) (first tape : T) (segment count : ℕ) (sectors : List (List ℕ)) (bytes : List ℕ) (word next : ℕ) (held : Bool) → count < 32 → length sectors ≡ 32 →
+pub next_seen : {T : Type 0} (t : Meaning T) (first tape : T) (segment count : ℕ) (sectors : List (List ℕ)) (bytes : List ℕ) (word next : ℕ)
+    (held : Bool) → count < 32 → length sectors ≡ 32 →
     Done t first tape [] → AreSeen t first segment count sectors word → IsSeen t tape segment count bytes held →
-    next ≡ (if held then bit_or word (1 * 2 ^ count % 2 ^ 32) else word) → AreSeen t first segment (count + 1) (set sectors count bytes) next
+    next ≡ (if held then bit_or word (1 * 2 ^ count % 2 ^ 32) else word) → AreSeen t first segment (count + 1)
+    (set sectors count bytes) next
 next_seen t first tape segment count sectors bytes word next held few room did seen one is = record {
   views = seen.views ++ one.view ∷ [];
   each = All-append IsView seen.views (one.view ∷ []) seen.each (All-cons IsView one.view [] one.is_view (All-nil IsView));
   size = length-append seen.views (one.view ∷ []) ∙ ap (λ (n : ℕ). n + 1) seen.size;
-  told = tells_two t first (λ c. (k : ℕ) → k < count → get_or seen.views k Blank ≡ view_at c segment k) (λ c. one.view ≡ view_at c segment count)
+  told = tells_two t first (λ c. (k : ℕ) → k < count → get_or seen.views k Blank ≡ view_at c segment k)
+      (λ c. one.view ≡ view_at c segment count)
       (λ c. (k : ℕ) → k < count + 1 → get_or (seen.views ++ one.view ∷ []) k Blank ≡ view_at c segment k)
       (λ c before here. view_more seen.views one.view count (view_at c segment) seen.size before here)
       seen.told (Tells-read (λ c. one.view ≡ view_at c segment count) did one.told);
@@ -107,7 +120,8 @@ next_seen t first tape segment count sectors bytes word next held few room did s
     long = seen.size
 
     below : word < 2 ^ count
-    below = let s = held_word-small seen.views in subst (λ (n : ℕ). word < 2 ^ n) long (subst (λ (w : ℕ). w < 2 ^ length seen.views) (sym seen.masked) s)
+    below = let s = held_word-small seen.views in
+        subst (λ (n : ℕ). word < 2 ^ n) long (subst (λ (w : ℕ). w < 2 ^ length seen.views) (sym seen.masked) s)
 
     by_held : (h : Bool) → held_bit one.view ≡ (if h then 1 else 0) →
         (if h then bit_or word (1 * 2 ^ count % 2 ^ 32) else word) ≡ held_word seen.views + held_bit one.view * 2 ^ length seen.views

@@ -65,7 +65,8 @@ cells_alike c d s alike = record {
   no_less = λ i bytes at. held_before d c s whole_mask i bytes alike.no_less at;
 }
 
-table_alike : (c d : Cartridge) (area : List (List ℕ)) → ReadsAlike c d → Written (table_cells c) area ⊎ ReadsAll (table_cells c) area → Written (table_cells d) area ⊎ ReadsAll (table_cells d) area
+table_alike : (c d : Cartridge) (area : List (List ℕ)) → ReadsAlike c d → Written (table_cells c) area ⊎ ReadsAll (table_cells c) area →
+    Written (table_cells d) area ⊎ ReadsAll (table_cells d) area
 table_alike c d area alike (inl written) = inl (written_less c d 2 whole_mask area alike.no_more written)
 table_alike c d area alike (inr reads) = inr (record {
   size = reads.size;
@@ -94,4 +95,5 @@ brought_stands c plain stood =
 pub stands_again : StandsAgain
 stands_again c d blocks plain is reading stood imported =
     let P : Cartridge → Type 0 = λ x. Stands x plain in
-    subst P (imports_one _ (Some blocks) c.info.segments_per_track (brought_back c) d (brings_back c blocks is reading) imported) (brought_stands c plain stood)
+    subst P (imports_one _ (Some blocks) c.info.segments_per_track (brought_back c) d (brings_back c blocks is reading) imported)
+    (brought_stands c plain stood)

@@ -11,7 +11,8 @@ use Rattle.flat_dump.specs.ImageLaws.{UnsignedIsNone}
 pub unsigned_none : UnsignedIsNone
 unsigned_none bytes zero_first = none-by-first bytes (ap (λ (b : ℕ). b == first_letter) (get_or_from_slice_get bytes 0 0 0 zero_first))
 
-pub kept_first : (step : DiskStep) (before left : List ℕ) → KeepsFirst step → IsUnsigned before → Unsynced step before left → IsUnsigned left
+pub kept_first : (step : DiskStep) (before left : List ℕ) → KeepsFirst step → IsUnsigned before → Unsynced step before left →
+    IsUnsigned left
 kept_first Look before left keeps first same = ap (λ (b : List ℕ). slice_get b 0) same ∙ first
 kept_first (WriteAt place part) before left keeps first torn = torn.below 0 keeps ∙ first
 kept_first (SetLen n) before left keeps first (inl same) = ap (λ (b : List ℕ). slice_get b 0) same ∙ first

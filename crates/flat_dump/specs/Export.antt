@@ -53,7 +53,8 @@ pub record SinkBroke {T K : Type 0} (t : tapes.Meaning T) (k : sinks.Meaning K) 
   pub first : AreFirst t old views
   pub broke : sink_calls.BrokeOff k from to (views_bytes views)
 
-abbrev pub Exports : {T K : Type 0} (t : tapes.Meaning T) (k : sinks.Meaning K) (old new : T) (from to : K) (mask : List ℕ) → Result (Unit {0}) ExportError → Type 0
+abbrev pub Exports : {T K : Type 0} (t : tapes.Meaning T) (k : sinks.Meaning K) (old new : T) (from to : K) (mask : List ℕ) →
+    Result (Unit {0}) ExportError → Type 0
 Exports t k old new from to mask (Ok done) = Exported t k old new from to mask
 Exports t k old new from to mask (Err error.NoCartridge) = HadNone t k old new from to
 Exports t k old new from to mask (Err error.Tape) = TapeBroke t k old new from to

@@ -9,7 +9,8 @@ use Rattle.flat_dump.specs.Stops.{IsUnsigned}
 abbrev pub CellShows : Type 0
 CellShows =
     (held : Bool) (bytes : List ℕ) → length bytes ≡ 1024 →
-    view_by (slice_index (cell_bytes held bytes) 2) (slice_index (cell_bytes held bytes) 1) (slice_index (cell_bytes held bytes) 0) (slice_range (cell_bytes held bytes) 3 1027)
+    view_by (slice_index (cell_bytes held bytes) 2) (slice_index (cell_bytes held bytes) 1) (slice_index (cell_bytes held bytes) 0)
+    (slice_range (cell_bytes held bytes) 3 1027)
     ≡ (if held then Holds bytes else Lost)
 
 -- a file whose first byte is there and is zero is no image

@@ -1,5 +1,6 @@
 -- How an import ended (this project's own).
-use Rattle.std.specs.Prelude.{◌≡◌, ℕ, ◌-◌, ◌*◌, ◌^◌, ◌≤◌, ◌⊎◌, true, List, [], length, min, sum_by, Option, Some, None, IfSome, Result, Ok, Err}
+use Rattle.std.specs.Prelude.{◌≡◌, ℕ, ◌-◌, ◌*◌, ◌^◌, ◌≤◌, ◌⊎◌, true, List, [], length, min, sum_by, Option, Some, None, IfSome, Result, Ok}
+use Rattle.std.specs.Prelude.{Err}
 use Rattle.qic_base.specs.Cartridge.{IsLength}
 use Rattle.qic_base.specs.Tape.{Rose}
 use Rattle.qic_base.specs.Disk as disks
@@ -66,27 +67,36 @@ IsNoneOrWhole s source mask asked bytes = IsNoImage bytes ⊎ IsImageOf s source
 abbrev pub CrashesLeave : {D : Type 0} (m : disks.Meaning D) (old new : D) → (List ℕ → Type 0) → Type 0
 CrashesLeave m old new P = (left : List ℕ) → m.tells_stops old ≡ true → m.left_since new (m.moment old) left → P left
 
--- The file was emptied, or the disk failed at that and tells such bytes.
+-- The count of the source's faults, where an import ends with this error: a read of the dump failed, or none did.
+abbrev pub CountsBy : (before now : ℕ) → ImportError → Type 0
+CountsBy before now (error.Length bytes) = now ≡ before
+CountsBy before now error.Source = Rose before now
+CountsBy before now error.Disk = now ≡ before
+
+-- The file was emptied and no call of the disk failed, or the disk failed at that and tells such bytes.
 abbrev pub Cleared : {D : Type 0} (m : disks.Meaning D) (old new : D) → (List ℕ → Type 0) → Type 0
-Cleared m old new P = IsEmpty m new ⊎ (Rose (m.faults old) (m.faults new) × IfSome (m.told new) P)
+Cleared m old new P = (IsEmpty m new × (m.faults new ≡ m.faults old)) ⊎ (Rose (m.faults old) (m.faults new) × IfSome (m.told new) P)
 
 -- ---- how it ended
 
--- The file is the image of the dump, with these segments and lost sectors.
-pub record WasImported {S D : Type 0} (s : sources.Meaning S) (m : disks.Meaning D) (source : S) (old new : D) (mask : List ℕ) (asked : Option ℕ) (imported : Imported) : Type 0 where
+-- The file is the image of the dump, with these segments and lost sectors. No call of the disk failed.
+pub record WasImported {S D : Type 0} (s : sources.Meaning S) (m : disks.Meaning D) (source : S) (old new : D) (mask : List ℕ)
+    (asked : Option ℕ) (imported : Imported) : Type 0 where
   pub dump : List ℕ
   pub told : IsInput (s.left source) dump
   pub n : ℕ
   pub long : IsLength n
   pub fits : IsDumpOf asked (length dump) n
   pub shows : IfSome (m.told new) (λ bytes. cartridge_of bytes ≡ Some (imported_by dump mask n))
+  pub stood : m.faults new ≡ m.faults old
   pub settled : disks.IsSettled m new
   pub segments : imported.segments ≡ 28 * n
   pub lost : imported.lost ≡ lost_count (imported_by dump mask n).views
   pub crashes : CrashesLeave m old new (IsNoneOrWhole s source mask asked)
 
 -- The dump is none of a cartridge, and has so many bytes.
-pub record WasRefused {S D : Type 0} (s : sources.Meaning S) (m : disks.Meaning D) (source : S) (old new : D) (asked : Option ℕ) (bytes : ℕ) : Type 0 where
+pub record WasRefused {S D : Type 0} (s : sources.Meaning S) (m : disks.Meaning D) (source : S) (old new : D) (asked : Option ℕ)
+    (bytes : ℕ) : Type 0 where
   pub dump : List ℕ
   pub told : IsInput (s.left source) dump
   pub none : IsNoDump asked (length dump)
@@ -102,14 +112,16 @@ pub record SourceBroke {S D : Type 0} (s : sources.Meaning S) (m : disks.Meaning
 
 -- A call of the disk failed. Where the clearing failed, too, the file is no image, or the whole one: its first byte may
 -- stand there by a write that failed.
-pub record DiskBroke {S D : Type 0} (s : sources.Meaning S) (m : disks.Meaning D) (source : S) (old new : D) (mask : List ℕ) (asked : Option ℕ) : Type 0 where
+pub record DiskBroke {S D : Type 0} (s : sources.Meaning S) (m : disks.Meaning D) (source : S) (old new : D) (mask : List ℕ)
+    (asked : Option ℕ) : Type 0 where
   pub failed : D
   pub cause : Rose (m.faults old) (m.faults failed)
   pub later : m.faults failed ≤ m.faults new
   pub cleared : Cleared m failed new (IsNoneOrWhole s source mask asked)
   pub crashes : CrashesLeave m old new (IsNoneOrWhole s source mask asked)
 
-abbrev pub Imports : {S D : Type 0} (s : sources.Meaning S) (m : disks.Meaning D) (source ended : S) (old new : D) (mask : List ℕ) (asked : Option ℕ) → Result Imported ImportError → Type 0
+abbrev pub Imports : {S D : Type 0} (s : sources.Meaning S) (m : disks.Meaning D) (source ended : S) (old new : D) (mask : List ℕ)
+    (asked : Option ℕ) → Result Imported ImportError → Type 0
 Imports s m source ended old new mask asked (Ok imported) = WasImported s m source old new mask asked imported
 Imports s m source ended old new mask asked (Err (error.Length bytes)) = WasRefused s m source old new asked bytes
 Imports s m source ended old new mask asked (Err error.Source) = SourceBroke s m source ended old new

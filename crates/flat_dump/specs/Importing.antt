@@ -1,5 +1,6 @@
 -- How an import goes on (this project's own).
-use Rattle.std.specs.Prelude.{◌≡◌, ℕ, ◌+◌, ◌*◌, ◌<◌, ◌≤◌, ◌⊎◌, List, [], ◌++◌, drop, length, replicate, Option, Some, None, is_some, IsSome, Result, Ok, Err, slice_index, slice_index_or, slice_range}
+use Rattle.std.specs.Prelude.{◌≡◌, ℕ, ◌+◌, ◌*◌, ◌<◌, ◌≤◌, ◌⊎◌, List, [], ◌++◌, drop, length, replicate, Option, Some, None, is_some, IsSome}
+use Rattle.std.specs.Prelude.{Result, Ok, Err, slice_index, slice_index_or, slice_range}
 use Rattle.std.specs.Option.{option_map}
 use Rattle.qic_base.specs.Cartridge.{IsLength}
 use Rattle.qic_base.specs.Tape.{Rose}
@@ -31,10 +32,16 @@ pub record Stays {D : Type 0} (m : disks.Meaning D) (first now : D) (Now Since :
   pub leaves : IsSome (m.told first) → (left : List ℕ) → m.may_leave now left → Now left
   pub since : CrashesLeave m first now Since
 
--- the file has these bytes, and is no image yet
+-- the file has these bytes, and is no image yet; no call of the disk failed
 pub record Unfinished {D : Type 0} (m : disks.Meaning D) (first now : D) (file : List ℕ) : Type 0 where
   pub told : m.told now ≡ option_map (λ bytes. file) (m.told first)
+  pub stood : m.faults now ≡ m.faults first
   pub stays : Stays m first now IsUnsigned IsNoImage
+
+-- no call of the disk failed, and the file is no image yet
+pub record StoodSince {D : Type 0} (m : disks.Meaning D) (first now : D) : Type 0 where
+  pub stood : m.faults now ≡ m.faults first
+  pub stays : Stays m first now IsNoImage IsNoImage
 
 -- a call of the disk failed
 pub record FailedSince {D : Type 0} (m : disks.Meaning D) (first now : D) (Now : List ℕ → Type 0) : Type 0 where
@@ -50,9 +57,10 @@ Goes m first now file (Err e) = FailedSince m first now IsNoImage
 abbrev pub IsNoneOr : (image bytes : List ℕ) → Type 0
 IsNoneOr image bytes = IsNoImage bytes ⊎ (bytes ≡ image)
 
--- the file has these bytes, and nothing is pending
+-- the file has these bytes, and nothing is pending; no call of the disk failed
 pub record Finished {D : Type 0} (m : disks.Meaning D) (first now : D) (image : List ℕ) : Type 0 where
   pub told : m.told now ≡ option_map (λ bytes. image) (m.told first)
+  pub stood : m.faults now ≡ m.faults first
   pub settled : disks.IsSettled m now
   pub since : CrashesLeave m first now (IsNoneOr image)
 
@@ -95,7 +103,8 @@ Counts s source before (Ok bytes) = (rest : List ℕ) × IsInput (s.left source)
 Counts s source before (Err e) = Unit {0}
 
 -- The segments of the dump were copied, up to so many, and its bytes were counted.
-pub record WasCopied {S D : Type 0} (s : sources.Meaning S) (m : disks.Meaning D) (source : S) (old new : D) (mask : List ℕ) (most : ℕ) (copied : Copied) : Type 0 where
+pub record WasCopied {S D : Type 0} (s : sources.Meaning S) (m : disks.Meaning D) (source : S) (old new : D) (mask : List ℕ) (most : ℕ)
+    (copied : Copied) : Type 0 where
   pub dump : List ℕ
   pub told : IsInput (s.left source) dump
   pub bytes : copied.bytes ≡ counted (length dump)
@@ -110,12 +119,14 @@ pub record WasCopied {S D : Type 0} (s : sources.Meaning S) (m : disks.Meaning D
   pub laid : IsLaid file views
   pub goes : (first : D) → Unfinished m first old begun → Unfinished m first new file
 
-abbrev pub Copies : {S D : Type 0} (s : sources.Meaning S) (m : disks.Meaning D) (source ended : S) (old new : D) (mask : List ℕ) (most : ℕ) → Result Copied ImportError → Type 0
+abbrev pub Copies : {S D : Type 0} (s : sources.Meaning S) (m : disks.Meaning D) (source ended : S) (old new : D) (mask : List ℕ)
+    (most : ℕ) → Result Copied ImportError → Type 0
 Copies {D = D} s m source ended old new mask most (Ok copied) = WasCopied s m source old new mask most copied
 Copies {D = D} s m source ended old new mask most (Err (error.Length bytes)) = ⊥
 Copies {D = D} s m source ended old new mask most (Err error.Source) =
-    Rose (s.faults source) (s.faults ended) × ((first : D) → Unfinished m first old begun → Stays m first new IsNoImage IsNoImage)
-Copies {D = D} s m source ended old new mask most (Err error.Disk) = (first : D) → Unfinished m first old begun → FailedSince m first new IsNoImage
+    Rose (s.faults source) (s.faults ended) × ((first : D) → Unfinished m first old begun → StoodSince m first new)
+Copies {D = D} s m source ended old new mask most (Err error.Disk) = (first : D) → Unfinished m first old begun →
+    FailedSince m first new IsNoImage
 
 -- the segments per track of a dump of so many bytes, where it is one
 abbrev pub Fits : (asked : Option ℕ) (bytes : ℕ) → Option ℕ → Type 0
@@ -125,16 +136,18 @@ Fits asked bytes (Some n) = IsLength n × IsDumpOf asked bytes n
 -- ---- the image
 
 -- The dump is none of a cartridge, and has so many bytes.
-pub record IsRefused {S D : Type 0} (s : sources.Meaning S) (m : disks.Meaning D) (source : S) (old new : D) (asked : Option ℕ) (bytes : ℕ) : Type 0 where
+pub record IsRefused {S D : Type 0} (s : sources.Meaning S) (m : disks.Meaning D) (source : S) (old new : D) (asked : Option ℕ)
+    (bytes : ℕ) : Type 0 where
   pub dump : List ℕ
   pub told : IsInput (s.left source) dump
   pub none : IsNoDump asked (length dump)
   pub count : bytes ≡ counted (length dump)
-  pub stays : Stays m old new IsNoImage IsNoImage
+  pub since : StoodSince m old new
 
 -- how the writing of an image ended
-abbrev pub Fills : {S D : Type 0} (s : sources.Meaning S) (m : disks.Meaning D) (source ended : S) (old new : D) (mask : List ℕ) (asked : Option ℕ) → Result Imported ImportError → Type 0
+abbrev pub Fills : {S D : Type 0} (s : sources.Meaning S) (m : disks.Meaning D) (source ended : S) (old new : D) (mask : List ℕ)
+    (asked : Option ℕ) → Result Imported ImportError → Type 0
 Fills s m source ended old new mask asked (Ok imported) = WasImported s m source old new mask asked imported
 Fills s m source ended old new mask asked (Err (error.Length bytes)) = IsRefused s m source old new asked bytes
-Fills s m source ended old new mask asked (Err error.Source) = Rose (s.faults source) (s.faults ended) × Stays m old new IsNoImage IsNoImage
+Fills s m source ended old new mask asked (Err error.Source) = Rose (s.faults source) (s.faults ended) × StoodSince m old new
 Fills s m source ended old new mask asked (Err error.Disk) = FailedSince m old new (IsNoneOrWhole s source mask asked)

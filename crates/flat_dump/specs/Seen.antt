@@ -41,14 +41,16 @@ pub record SegmentsSeen {T : Type 0} (t : tapes.Meaning T) (tape : T) (count : �
   pub masked : mask ≡ held_words count views
 
 -- All segments were read and written.
-pub record Dumped {T K : Type 0} (t : tapes.Meaning T) (k : sinks.Meaning K) (old new : T) (from to : K) (n : ℕ) (mask : List ℕ) : Type 0 where
+pub record Dumped {T K : Type 0} (t : tapes.Meaning T) (k : sinks.Meaning K) (old new : T) (from to : K) (n : ℕ)
+    (mask : List ℕ) : Type 0 where
   pub did : tapes.Done t old new []
   pub text : List ℕ
   pub seen : SegmentsSeen t old (28 * n) text mask
   pub wrote : sinks.Wrote k from to text
 
 -- how the writing of all segments ended, with n of them per track
-abbrev pub Dumps : {T K : Type 0} (t : tapes.Meaning T) (k : sinks.Meaning K) (old new : T) (from to : K) (n : ℕ) (mask : List ℕ) → Result (Unit {0}) ExportError → Type 0
+abbrev pub Dumps : {T K : Type 0} (t : tapes.Meaning T) (k : sinks.Meaning K) (old new : T) (from to : K) (n : ℕ) (mask : List ℕ) →
+    Result (Unit {0}) ExportError → Type 0
 Dumps t k old new from to n mask (Ok done) = Dumped t k old new from to n mask
 Dumps t k old new from to n mask (Err error.NoCartridge) = ⊥
 Dumps t k old new from to n mask (Err error.Tape) = TapeBroke t k old new from to

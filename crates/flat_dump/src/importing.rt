@@ -1,11 +1,11 @@
 //! The import of a flat dump.
 
-ghost use Rattle.std.specs.Prelude.{◌≡◌, ℕ, ◌+◌, ◌*◌, ◌≤◌, ◌++◌, List, length, IfOk, IfSome, OnOk};
+ghost use Rattle.std.specs.Prelude.{◌≡◌, ℕ, ◌+◌, ◌*◌, ◌≤◌, ◌++◌, List, length, IfOk, IfErr, IfSome, OnOk};
 ghost use Rattle.qic_base.specs.Cartridge.{IsLength};
 ghost use Rattle.qic_base.specs.Cause.{HasCause};
 ghost use Rattle.rescue_map.specs.Laws.{most_words};
 ghost use Rattle.cart_image.specs.Layout.{head_len};
-ghost use Rattle.flat_dump.specs.Import.{IsDumpOf, IsEmpty, Imports};
+ghost use Rattle.flat_dump.specs.Import.{IsDumpOf, IsEmpty, CountsBy, Imports};
 ghost use Rattle.flat_dump.specs.Importing.{Unfinished, Ends, Counts, Copies, Fits, Fills, begun, lost_cells, image_with};
 
 use crate::cells::{append_lost, begin, clear, sign, write_segment};
@@ -80,6 +80,9 @@ fn copy_segments<S: Source, D: Disk>(
     ensures seen { OnOk result (head_len ≤ D.means.seen_len disk.new) }
     ensures kept { S.means.keeps source.old source.new }
     ensures later { S.means.faults source.old ≤ S.means.faults source.new }
+    ensures stood { OnOk result (S.means.faults source.new ≡ S.means.faults source.old) }
+    ensures counts { IfErr result (λ error.
+        CountsBy (S.means.faults source.old) (S.means.faults source.new) error) }
 {
     let mut sectors = [[0; SECTOR]; SECTORS as usize];
     let mut copied = Copied {
@@ -190,6 +193,9 @@ fn fill_image<S: Source, D: Disk>(
         mask.now segments_per_track result }
     ensures kept { S.means.keeps source.old source.new }
     ensures later { S.means.faults source.old ≤ S.means.faults source.new }
+    ensures stood { OnOk result (S.means.faults source.new ≡ S.means.faults source.old) }
+    ensures counts { IfErr result (λ error.
+        CountsBy (S.means.faults source.old) (S.means.faults source.new) error) }
 {
     let most = most_segments(segments_per_track);
     let copied = match copy_segments(source, mask, most, disk) {
@@ -220,6 +226,9 @@ fn write_image<S: Source, D: Disk>(
         mask.now segments_per_track result }
     ensures kept { S.means.keeps source.old source.new }
     ensures later { S.means.faults source.old ≤ S.means.faults source.new }
+    ensures stood { OnOk result (S.means.faults source.new ≡ S.means.faults source.old) }
+    ensures counts { IfErr result (λ error.
+        CountsBy (S.means.faults source.old) (S.means.faults source.new) error) }
 {
     match begin(disk) {
         Ok(()) => fill_image(source, mask, segments_per_track, disk),
@@ -245,6 +254,9 @@ pub fn import<S: Source, D: Disk>(
         mask.now segments_per_track result }
     ensures kept { S.means.keeps source.old source.new }
     ensures later { S.means.faults source.old ≤ S.means.faults source.new }
+    ensures stood { OnOk result (S.means.faults source.new ≡ S.means.faults source.old) }
+    ensures counts { IfErr result (λ error.
+        CountsBy (S.means.faults source.old) (S.means.faults source.new) error) }
 {
     match write_image(source, mask, segments_per_track, disk) {
         Ok(imported) => Ok(imported),

@@ -1,5 +1,6 @@
 -- The map of the unreadable sectors, sector by sector.
-use Rattle.std.proofs.Common.{refl, ◌≡◌, ◌≢◌, ◌↔◌, ℕ, ◌+◌, ◌^◌, ◌<◌, inl, inr, sym, ◌∙◌, ap, subst, arith, List, length, get_or, set, max, get_or-set_same, get_or-set_other, w32, Option, Some, None, IfSome}
+use Rattle.std.proofs.Common.{refl, ◌≡◌, ◌≢◌, ◌↔◌, ℕ, ◌+◌, ◌^◌, ◌<◌, inl, inr, sym, ◌∙◌, ap, subst, arith, List, length, get_or, set, max}
+use Rattle.std.proofs.Common.{get_or-set_same, get_or-set_other, w32, Option, Some, None, IfSome}
 use Rattle.std.specs.Int.{bit_at, trailing_zeros}
 use Rattle.std.proofs.Math.ListN.{length-set}
 use Rattle.std.proofs.Math.Pow.{pow-lt}
@@ -76,7 +77,11 @@ marks_bad c words s i there within unreadable m = record {
         let one = one_place s i t j within low same in
         let bit : IsMarked now t j = subst (λ (k : ℕ). IsMarked now k j) (sym one.0)
         (subst (λ (k : ℕ). IsMarked now s k) (sym one.1) (ap (λ (word : ℕ). bit_at word i) word_same ∙ bit_same (get_or words s 0) i)) in (
-          λ is. (omega arith, subst (λ (k : ℕ). IsUnreadable (view_at c k j)) (sym one.0) (subst (λ (k : ℕ). IsUnreadable (view_at c s k)) (sym one.1) unreadable)),
+          λ is. (
+            omega arith,
+            subst (λ (k : ℕ). IsUnreadable (view_at c k j)) (sym one.0)
+                (subst (λ (k : ℕ). IsUnreadable (view_at c s k)) (sym one.1) unreadable),
+          ),
           λ both. bit,
         )
     | inr apart ↦
@@ -108,13 +113,15 @@ marks_bad c words s i there within unreadable m = record {
     ]
 
 -- by the answer of the read
-pub read_good : (view : SectorView) (old now : List ℕ) (answer : SectorRead) → answer ≡ read.Good → Reads view old now answer → ¬ (IsUnreadable view)
+pub read_good : (view : SectorView) (old now : List ℕ) (answer : SectorRead) → answer ≡ read.Good → Reads view old now answer →
+    ¬ (IsUnreadable view)
 read_good Blank old now answer good r = let no : read.Good ≡ read.Blank = sym good ∙ r.0 in absurd (cc)
 read_good Defect old now answer good r = let no : read.Good ≡ read.Lost = sym good ∙ r.0 in absurd (cc)
 read_good Lost old now answer good r = let no : read.Good ≡ read.Lost = sym good ∙ r.0 in absurd (cc)
 read_good (Holds bytes) old now answer good r = λ bad. false≢true bad
 
-pub read_bad : (view : SectorView) (old now : List ℕ) (answer : SectorRead) → answer ≢ read.Good → Reads view old now answer → IsUnreadable view
+pub read_bad : (view : SectorView) (old now : List ℕ) (answer : SectorRead) → answer ≢ read.Good → Reads view old now answer →
+    IsUnreadable view
 read_bad Blank old now answer bad r = refl
 read_bad Defect old now answer bad r = refl
 read_bad Lost old now answer bad r = refl
@@ -141,10 +148,12 @@ no_mark words segment sector none is =
 
 -- ---- what is told
 
-pub tells_chain : {S : Type 0} (m : Meaning S) (s : S) (P Q R : Cartridge → Type 0) → Tells m s (λ c. P c → Q c) → Tells m s (λ c. Q c → R c) → Tells m s (λ c. P c → R c)
+pub tells_chain : {S : Type 0} (m : Meaning S) (s : S) (P Q R : Cartridge → Type 0) → Tells m s (λ c. P c → Q c) →
+    Tells m s (λ c. Q c → R c) → Tells m s (λ c. P c → R c)
 tells_chain m s P Q R first next = by_cases (m.told s) first next
   where
-    by_cases : (held : Option (Option Cartridge)) → IfSome held (λ h. IfSome h (λ c. P c → Q c)) → IfSome held (λ h. IfSome h (λ c. Q c → R c)) → IfSome held (λ h. IfSome h (λ c. P c → R c))
+    by_cases : (held : Option (Option Cartridge)) → IfSome held (λ h. IfSome h (λ c. P c → Q c)) →
+        IfSome held (λ h. IfSome h (λ c. Q c → R c)) → IfSome held (λ h. IfSome h (λ c. P c → R c))
     by_cases None f g = tt
     by_cases (Some None) f g = tt
     by_cases (Some (Some c)) f g = λ p. g (f p)

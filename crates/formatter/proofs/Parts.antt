@@ -1,5 +1,6 @@
 -- The formats of the segments, joined.
-use Rattle.std.proofs.Common.{◌≡◌, ℕ, zero, suc, ◌+◌, ◌-◌, ◌*◌, ◌≤◌, sym, ◌∙◌, ap, subst, arith, List, [], ◌∷◌, ◌++◌, add-zero, append_assoc}
+use Rattle.std.proofs.Common.{◌≡◌, ℕ, zero, suc, ◌+◌, ◌-◌, ◌*◌, ◌≤◌, sym, ◌∙◌, ap, subst, arith, List, [], ◌∷◌, ◌++◌, add-zero}
+use Rattle.std.proofs.Common.{append_assoc}
 use Rattle.std.proofs.lemmas.List.{append-nil}
 use Rattle.std.proofs.lemmas.List.FromFn.{map-range_with_len_more}
 use Rattle.qic_base.specs.Step.{Step, FormatSegment}
@@ -32,7 +33,8 @@ tracks_more n track =
     ap (formats_from 0) all ∙ formats_append 0 (track * n) n ∙ ap (λ (s : ℕ). formats_from 0 (track * n) ++ formats_from s n) first
 
 -- a part of the segments was formatted, and the next one broken off, or a part of more
-broke_of : {S : Type 0} {m : Meaning S} {a b : S} (first n all : ℕ) → n ≤ all → Broke m a b (formats_from first n) → Broke m a b (formats_from first all)
+broke_of : {S : Type 0} {m : Meaning S} {a b : S} (first n all : ℕ) → n ≤ all → Broke m a b (formats_from first n) →
+    Broke m a b (formats_from first all)
 broke_of {m = m} {a = a} {b = b} first n all within broke =
     let whole : n + (all - n) ≡ all = omega arith in
     let parts : formats_from first n ++ formats_from (first + n) (all - n) ≡ formats_from first all =
@@ -40,23 +42,27 @@ broke_of {m = m} {a = a} {b = b} first n all within broke =
     subst (λ (steps : List Step). Broke m a b steps) parts
     (Broke-front {xs = formats_from first n} (formats_from (first + n) (all - n)) broke)
 
-pub done_one : {S : Type 0} {m : Meaning S} {a b c : S} (first n : ℕ) → Done m a b (formats_from first n) → Done m b c (FormatSegment (first + n) ∷ []) → Done m a c (formats_from first (n + 1))
+pub done_one : {S : Type 0} {m : Meaning S} {a b c : S} (first n : ℕ) → Done m a b (formats_from first n) →
+    Done m b c (FormatSegment (first + n) ∷ []) → Done m a c (formats_from first (n + 1))
 done_one {m = m} {a = a} {c = c} first n before more =
     subst (λ (steps : List Step). Done m a c steps) (sym (formats_more first n))
     (Done-Done {xs = formats_from first n} {ys = FormatSegment (first + n) ∷ []} before more)
 
-pub broke_one : {S : Type 0} {m : Meaning S} {a b c : S} (first n all : ℕ) → n + 1 ≤ all → Done m a b (formats_from first n) → Broke m b c (FormatSegment (first + n) ∷ []) → Broke m a c (formats_from first all)
+pub broke_one : {S : Type 0} {m : Meaning S} {a b c : S} (first n all : ℕ) → n + 1 ≤ all → Done m a b (formats_from first n) →
+    Broke m b c (FormatSegment (first + n) ∷ []) → Broke m a c (formats_from first all)
 broke_one {m = m} {a = a} {c = c} first n all within before more =
     broke_of first (n + 1) all within
     (subst (λ (steps : List Step). Broke m a c steps) (sym (formats_more first n))
     (Done-Broke {xs = formats_from first n} {ys = FormatSegment (first + n) ∷ []} before more))
 
-pub done_track : {S : Type 0} {m : Meaning S} {a b c : S} (n track : ℕ) → Done m a b (formats_from 0 (track * n)) → Done m b c (track_formats n track) → Done m a c (formats_from 0 ((track + 1) * n))
+pub done_track : {S : Type 0} {m : Meaning S} {a b c : S} (n track : ℕ) → Done m a b (formats_from 0 (track * n)) →
+    Done m b c (track_formats n track) → Done m a c (formats_from 0 ((track + 1) * n))
 done_track {m = m} {a = a} {c = c} n track before more =
     subst (λ (steps : List Step). Done m a c steps) (sym (tracks_more n track))
     (Done-Done {xs = formats_from 0 (track * n)} {ys = track_formats n track} before more)
 
-pub broke_track : {S : Type 0} {m : Meaning S} {a b c : S} (n track all : ℕ) → (track + 1) * n ≤ all → Done m a b (formats_from 0 (track * n)) → Broke m b c (track_formats n track) → Broke m a c (formats_from 0 all)
+pub broke_track : {S : Type 0} {m : Meaning S} {a b c : S} (n track all : ℕ) → (track + 1) * n ≤ all →
+    Done m a b (formats_from 0 (track * n)) → Broke m b c (track_formats n track) → Broke m a c (formats_from 0 all)
 broke_track {m = m} {a = a} {c = c} n track all within before more =
     broke_of 0 ((track + 1) * n) all within
     (subst (λ (steps : List Step). Broke m a c steps) (sym (tracks_more n track))

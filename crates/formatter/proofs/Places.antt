@@ -1,5 +1,6 @@
 -- Where the head stands on its way over the segments of a track.
-use Rattle.std.proofs.Common.{◌≡◌, ℕ, ◌+◌, ◌*◌, ◌%◌, ◌<◌, ◌≤◌, Bool, true, false, refl, sym, ◌∙◌, ap, subst, arith, Option, Some, None, IsSomeAnd}
+use Rattle.std.proofs.Common.{◌≡◌, ℕ, ◌+◌, ◌*◌, ◌%◌, ◌<◌, ◌≤◌, Bool, true, false, refl, sym, ◌∙◌, ap, subst, arith, Option, Some, None}
+use Rattle.std.proofs.Common.{IsSomeAnd}
 use Rattle.std.specs.Option.{option_map_or}
 use Rattle.std.proofs.Math.Nat.{mul-le-mul_right}
 use Rattle.std.proofs.lemmas.Nat.{mod-mul-add}
@@ -23,7 +24,8 @@ use Rattle.drive_states.proofs.Bounds.{limit_within}
 pub length_known : {T : Type 0} {m : Meaning T} {h : Host} {u : UnitView T} → Fits m h u → segments_of h ≡ segments_per_track u.drive.deck
 length_known {h = h} {u = u} f = by_cartridge u.drive.deck.cartridge f.cartridge
   where
-    by_cartridge : (o : Option TapeInfo) → IsSomeAnd o (λ info. info.segments_per_track ≡ segments_of h) → segments_of h ≡ option_map_or (λ (c : TapeInfo). c.segments_per_track) o 0
+    by_cartridge : (o : Option TapeInfo) → IsSomeAnd o (λ info. info.segments_per_track ≡ segments_of h) →
+        segments_of h ≡ option_map_or (λ (c : TapeInfo). c.segments_per_track) o 0
     by_cartridge None there = absurd there
     by_cartridge (Some info) there = sym there
 
@@ -60,7 +62,8 @@ before_first n first d some at = record {
 }
 
 -- a segment of a track lies on the tape
-pub segment_within : (track offset count long n : ℕ) → count ≡ n → offset < count → track < 28 → long ≡ 28 * n → track * count + offset < long
+pub segment_within : (track offset count long n : ℕ) → count ≡ n → offset < count → track < 28 → long ≡ 28 * n →
+    track * count + offset < long
 segment_within track offset count long n same within on_tape size =
     let next : track + 1 ≤ 28 = omega arith in
     let most : (track + 1) * count ≤ 28 * count = mul-le-mul_right count next in
@@ -107,23 +110,29 @@ pub length_referenced : (a b : Deck) → b.cartridge ≡ referenced_as true a.ca
 length_referenced a b marks =
     ap (λ (o : Option TapeInfo). option_map_or (λ (c : TapeInfo). c.segments_per_track) o 0) marks ∙ by_cartridge a.cartridge
   where
-    by_cartridge : (o : Option TapeInfo) → option_map_or (λ (c : TapeInfo). c.segments_per_track) (referenced_as true o) 0 ≡ option_map_or (λ (c : TapeInfo). c.segments_per_track) o 0
+    by_cartridge : (o : Option TapeInfo) → option_map_or (λ (c : TapeInfo). c.segments_per_track) (referenced_as true o) 0 ≡ option_map_or
+        (λ (c : TapeInfo). c.segments_per_track) o 0
     by_cartridge None = refl
     by_cartridge (Some info) = refl
 
 -- and so is the tape's size
-pub size_known : {T : Type 0} {m : Meaning T} {h : Host} {u : UnitView T} → Fits m h u → m.size u.tape ≡ Some (segments_per_track u.drive.deck)
+pub size_known : {T : Type 0} {m : Meaning T} {h : Host} {u : UnitView T} → Fits m h u →
+    m.size u.tape ≡ Some (segments_per_track u.drive.deck)
 size_known {m = m} {h = h} {u = u} f = by_cartridge u.drive.deck.cartridge f.cartridge f.sound.known
   where
-    by_cartridge : (o : Option TapeInfo) → IsSomeAnd o (λ info. info.segments_per_track ≡ segments_of h) → Knows o (m.size u.tape) → m.size u.tape ≡ Some (option_map_or (λ (c : TapeInfo). c.segments_per_track) o 0)
+    by_cartridge : (o : Option TapeInfo) → IsSomeAnd o (λ info. info.segments_per_track ≡ segments_of h) → Knows o (m.size u.tape) →
+        m.size u.tape ≡ Some (option_map_or (λ (c : TapeInfo). c.segments_per_track) o 0)
     by_cartridge None there known = absurd there
     by_cartridge (Some info) there known = known
 
 -- a cartridge that gets the reference bursts is referenced, ..
-pub referenced_by : (h : Host) (a b : Deck) → IsSomeAnd a.cartridge (λ info. info.segments_per_track ≡ segments_of h) → b.cartridge ≡ referenced_as true a.cartridge → is_referenced b ≡ true
-referenced_by h a b there marks = ap (λ (o : Option TapeInfo). option_map_or (λ (c : TapeInfo). c.referenced) o false) marks ∙ by_cartridge a.cartridge there
+pub referenced_by : (h : Host) (a b : Deck) → IsSomeAnd a.cartridge (λ info. info.segments_per_track ≡ segments_of h) →
+    b.cartridge ≡ referenced_as true a.cartridge → is_referenced b ≡ true
+referenced_by h a b there marks = ap (λ (o : Option TapeInfo). option_map_or (λ (c : TapeInfo). c.referenced) o false) marks
+    ∙ by_cartridge a.cartridge there
   where
-    by_cartridge : (o : Option TapeInfo) → IsSomeAnd o (λ info. info.segments_per_track ≡ segments_of h) → option_map_or (λ (c : TapeInfo). c.referenced) (referenced_as true o) false ≡ true
+    by_cartridge : (o : Option TapeInfo) → IsSomeAnd o (λ info. info.segments_per_track ≡ segments_of h) →
+        option_map_or (λ (c : TapeInfo). c.referenced) (referenced_as true o) false ≡ true
     by_cartridge None none = absurd none
     by_cartridge (Some info) some = refl
 
@@ -132,7 +141,8 @@ pub mark_kept : (a b : Deck) → b.cartridge ≡ a.cartridge → is_referenced a
 mark_kept a b same was = ap (λ (o : Option TapeInfo). option_map_or (λ (c : TapeInfo). c.referenced) o false) same ∙ was
 
 -- .. and may be written where it could be before them
-pub unmarked : (a b c : Deck) → b.cartridge ≡ referenced_as true a.cartridge → c.cartridge ≡ b.cartridge → (is_protected a ≡ true → ⊥) → is_protected c ≡ false
+pub unmarked : (a b c : Deck) → b.cartridge ≡ referenced_as true a.cartridge → c.cartridge ≡ b.cartridge → (is_protected a ≡ true → ⊥) →
+    is_protected c ≡ false
 unmarked a b c marks same writable =
     ap (λ (o : Option TapeInfo). option_map_or (λ (i : TapeInfo). i.protected) o false) (same ∙ marks) ∙ by_cartridge a.cartridge writable
   where
@@ -140,6 +150,7 @@ unmarked a b c marks same writable =
     by_mark true other = absurd (other refl)
     by_mark false other = refl
 
-    by_cartridge : (o : Option TapeInfo) → (option_map_or (λ (i : TapeInfo). i.protected) o false ≡ true → ⊥) → option_map_or (λ (i : TapeInfo). i.protected) (referenced_as true o) false ≡ false
+    by_cartridge : (o : Option TapeInfo) → (option_map_or (λ (i : TapeInfo). i.protected) o false ≡ true → ⊥) →
+        option_map_or (λ (i : TapeInfo). i.protected) (referenced_as true o) false ≡ false
     by_cartridge None other = refl
     by_cartridge (Some info) other = by_mark info.protected other

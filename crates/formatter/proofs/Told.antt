@@ -1,5 +1,6 @@
 -- What a cleared tape tells of the cartridge that was cleared.
-use Rattle.std.proofs.Common.{◌≡◌, ◌↔◌, ℕ, ◌*◌, ◌<◌, ◌≤◌, List, length, get_or, refl, sym, ◌∙◌, ap, subst, arith, Option, Some, None, IfSome, append_assoc}
+use Rattle.std.proofs.Common.{◌≡◌, ◌↔◌, ℕ, ◌*◌, ◌<◌, ◌≤◌, List, length, get_or, refl, sym, ◌∙◌, ap, subst, arith, Option, Some, None}
+use Rattle.std.proofs.Common.{IfSome, append_assoc}
 use Rattle.std.specs.Option.{option_map}
 use Rattle.qic_base.specs.Cartridge.{Cartridge, view_at}
 use Rattle.qic_base.specs.CartridgeTerms.{IsCartridge}
@@ -8,7 +9,8 @@ use Rattle.qic_base.specs.Tape.{Meaning, Done, Broke}
 use Rattle.qic_base.specs.TapeCalls.{Tells, IsToldRight}
 use Rattle.qic_base.proofs.Steps.{Done-Done, Done-Broke}
 use Rattle.cartridge_laws.specs.Segment.{IsUnreadable}
-use Rattle.cartridge_spec.specs.Formatting.{IsDefect, MarksDefects, clearing_steps, copy_writes, format_steps, HasNoDefectInFront, IsFirstDefectInFront}
+use Rattle.cartridge_spec.specs.Formatting.{IsDefect, MarksDefects, clearing_steps, copy_writes, format_steps, HasNoDefectInFront}
+use Rattle.cartridge_spec.specs.Formatting.{IsFirstDefectInFront}
 use Rattle.cartridge_spec.specs.Settling.{changed_by}
 use Rattle.cartridge_spec.specs.Says.{with_parity}
 use Rattle.cartridge_laws.proofs.FormatWriting.{effects-some}
@@ -29,7 +31,8 @@ cleared_tells m a b n P Q right size done told follows = by_told (m.told a) refl
     by_told (Some (Some c)) is r =
         let after : m.told b ≡ Some (Some (changed_by (clearing_steps n) c)) =
         done.told ∙ ap (option_map (effects (clearing_steps n))) is ∙ ap Some (effects-some (clearing_steps n) c) in
-        let length_is : IfSome (Some n) (λ k. c.info.segments_per_track ≡ k) = subst (λ (o : Option ℕ). IfSome o (λ k. c.info.segments_per_track ≡ k)) size r.1 in
+        let length_is : IfSome (Some n) (λ k. c.info.segments_per_track ≡ k) =
+        subst (λ (o : Option ℕ). IfSome o (λ k. c.info.segments_per_track ≡ k)) size r.1 in
         follows c r.0 length_is (subst (λ (held : Option (Option Cartridge)). IfSome held (λ h. IfSome h P)) after told)
 
 -- the sectors of the cleared cartridge are unreadable just where there were defects
@@ -37,7 +40,8 @@ shows : (c : Cartridge) (n segment sector : ℕ) → IsCartridge c → c.info.se
     IsUnreadable (view_at (changed_by (clearing_steps n) c) segment sector) ↔ IsDefect (view_at c segment sector)
 shows c n segment sector whole length there within =
     subst (λ (k : ℕ). IsUnreadable (view_at (changed_by (clearing_steps k) c) segment sector) ↔ IsDefect (view_at c segment sector)) length
-    (cleared_shows_defects c (changed_by (clearing_steps c.info.segments_per_track) c) segment sector (clearing_clears c whole) (omega arith) within)
+    (cleared_shows_defects c (changed_by (clearing_steps c.info.segments_per_track) c) segment sector (clearing_clears c whole)
+    (omega arith) within)
 
 marks_defects : (c : Cartridge) (n : ℕ) (words : List ℕ) → IsCartridge c → c.info.segments_per_track ≡ n → length words ≡ 28 * n →
     MarksUnreadable (changed_by (clearing_steps n) c) words → MarksDefects c words
@@ -51,7 +55,8 @@ marks_defects c n words whole is size marks = record {
 }
 
 -- no word in front has a mark
-no_defect : (c : Cartridge) (words : List ℕ) (segment : ℕ) → IsCartridge c → MarksDefects c words → segment < 3 → get_or words segment 0 ≡ 0 →
+no_defect : (c : Cartridge) (words : List ℕ) (segment : ℕ) → IsCartridge c → MarksDefects c words → segment < 3 →
+    get_or words segment 0 ≡ 0 →
     (index : ℕ) → index < 32 → ¬ (IsDefect (view_at c segment index))
 no_defect c words segment whole marks front none index within =
     let long : 3 ≤ c.info.segments_per_track = whole.long.shortest in
@@ -93,11 +98,13 @@ first_defect m a b n words segment right size long done told first =
 pub all_done : {S : Type 0} (m : Meaning S) (a b c : S) (n : ℕ) (area : List (List ℕ)) → Done m a b (clearing_steps n) →
     Done m b c (header_writes area) → Done m a c (format_steps n area)
 all_done m a b c n area first next =
-    subst (λ (steps : List Step). Done m a c steps) (sym (append_assoc (clearing_steps n) (copy_writes 0 (with_parity area)) (copy_writes 1 (with_parity area))))
+    subst (λ (steps : List Step). Done m a c steps)
+    (sym (append_assoc (clearing_steps n) (copy_writes 0 (with_parity area)) (copy_writes 1 (with_parity area))))
     (Done-Done {xs = clearing_steps n} {ys = header_writes area} first next)
 
 pub all_broken : {S : Type 0} (m : Meaning S) (a b c : S) (n : ℕ) (area : List (List ℕ)) → Done m a b (clearing_steps n) →
     Broke m b c (header_writes area) → Broke m a c (format_steps n area)
 all_broken m a b c n area first next =
-    subst (λ (steps : List Step). Broke m a c steps) (sym (append_assoc (clearing_steps n) (copy_writes 0 (with_parity area)) (copy_writes 1 (with_parity area))))
+    subst (λ (steps : List Step). Broke m a c steps)
+    (sym (append_assoc (clearing_steps n) (copy_writes 0 (with_parity area)) (copy_writes 1 (with_parity area))))
     (Done-Broke {xs = clearing_steps n} {ys = header_writes area} first next)

@@ -4,7 +4,8 @@ use Rattle.qic_base.specs.Step.{Step}
 use Rattle.qic_base.specs.Tape.{Meaning, Done, Broke}
 use Rattle.qic_base.specs.TapeCalls.{Does, Tells}
 use Rattle.cartridge_spec.specs.Shape.{marked_sectors}
-use Rattle.cartridge_spec.specs.Formatting.{MarksDefects, clearing_steps, copy_writes, format_steps, HasNoDefectInFront, IsFirstDefectInFront}
+use Rattle.cartridge_spec.specs.Formatting.{MarksDefects, clearing_steps, copy_writes, format_steps, HasNoDefectInFront}
+use Rattle.cartridge_spec.specs.Formatting.{IsFirstDefectInFront}
 use Rattle.cartridge_spec.specs.Says.{with_parity}
 use Rattle.cartridge_laws.specs.HeaderTerms.{IsFreshArea}
 use Rattle.formatter.specs.declared.fault.FormatFault.{FormatFault}
@@ -18,7 +19,8 @@ abbrev pub MarksFormattable : {T : Type 0} (m : Meaning T) (tape : T) (words : L
 MarksFormattable m tape words = Tells m tape (λ c. MarksDefects c words × HasNoDefectInFront c)
 
 -- all steps were done, with a header that has this label, this date and the words of this map
-pub record HasFormatted {T : Type 0} (m : Meaning T) (n : ℕ) (label : List ℕ) (date : ℕ) (old new : T) (words : List ℕ) (report : FormatReport) : Type 0 where
+pub record HasFormatted {T : Type 0} (m : Meaning T) (n : ℕ) (label : List ℕ) (date : ℕ) (old new : T) (words : List ℕ)
+    (report : FormatReport) : Type 0 where
   pub area : List (List ℕ)
   pub fresh : IsFreshArea n label date words area
   pub did : Done m old new (format_steps n area)
@@ -40,7 +42,8 @@ pub record HasBrokenOff {T : Type 0} (m : Meaning T) (n : ℕ) (label : List ℕ
   pub marks : MarksFormattable m old words
 
 -- for a cartridge of n segments per track, with the words of the map that was made
-abbrev pub Formats : {T : Type 0} (m : Meaning T) (n : ℕ) (label : List ℕ) (date : ℕ) (old new : T) (words : List ℕ) → Result FormatReport FormatFault → Type 0
+abbrev pub Formats : {T : Type 0} (m : Meaning T) (n : ℕ) (label : List ℕ) (date : ℕ) (old new : T) (words : List ℕ) →
+    Result FormatReport FormatFault → Type 0
 Formats m n label date old new words (Ok report) = HasFormatted m n label date old new words report
 Formats m n label date old new words (Err Protected) = Done m old new []
 Formats m n label date old new words (Err (DefectInFront segment)) = HasRefused m n old new segment
@@ -61,7 +64,8 @@ abbrev pub header_writes : (area : List (List ℕ)) → List Step
 header_writes area = copy_writes 0 (with_parity area) ++ copy_writes 1 (with_parity area)
 
 -- they were written with some header data that have this label, this date and these words
-pub record WritesHeader {T E : Type 0} (m : Meaning T) (n : ℕ) (label : List ℕ) (date : ℕ) (words : List ℕ) (old new : T) (result : Result (Unit {0}) E) : Type 0 where
+pub record WritesHeader {T E : Type 0} (m : Meaning T) (n : ℕ) (label : List ℕ) (date : ℕ) (words : List ℕ) (old new : T)
+    (result : Result (Unit {0}) E) : Type 0 where
   pub area : List (List ℕ)
   pub fresh : IsFreshArea n label date words area
   pub did : Does m old new (header_writes area) result

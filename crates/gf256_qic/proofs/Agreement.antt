@@ -1,5 +1,6 @@
 -- Codewords that agree at all but at most three places are equal, and so are code blocks.
-use Rattle.std.proofs.Common.{◌≡◌, ◌≢◌, ℕ, zero, suc, ◌+◌, ◌<◌, ◌≤◌, refl, sym, ◌∙◌, ap, subst, arith, inl, inr, bit_xor, Bool, false, cond, nat_eq, List, [], ◌∷◌, length, All, get_or, slice_get, slice_index, Some}
+use Rattle.std.proofs.Common.{◌≡◌, ◌≢◌, ℕ, zero, suc, ◌+◌, ◌<◌, ◌≤◌, refl, sym, ◌∙◌, ap, subst, arith, inl, inr, bit_xor, Bool, false, cond}
+use Rattle.std.proofs.Common.{nat_eq, List, [], ◌∷◌, length, All, get_or, slice_get, slice_index, Some}
 use Rattle.std.specs.Option.{option_map}
 use Rattle.std.specs.Int.Bits.{xor_self}
 use Rattle.std.proofs.Math.Nat.{suc_inj}

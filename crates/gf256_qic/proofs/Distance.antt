@@ -1,6 +1,7 @@
 -- Two codewords of equal length differ at none or at least four places: their sum has the value 0 at the
 -- three roots, and three terms at different powers have it at no three roots together.
-use Rattle.std.proofs.Common.{◌≡◌, ◌≢◌, ℕ, zero, suc, ◌<◌, ◌≤◌, refl, sym, ◌∙◌, ap, arith, bit_xor, true, false, nat_eq, not, ◌||◌, List, [], ◌∷◌, length}
+use Rattle.std.proofs.Common.{◌≡◌, ◌≢◌, ℕ, zero, suc, ◌<◌, ◌≤◌, refl, sym, ◌∙◌, ap, arith, bit_xor, true, false, nat_eq, not, ◌||◌, List}
+use Rattle.std.proofs.Common.{[], ◌∷◌, length}
 use Rattle.std.specs.Int.Bits.{xor_self, xor_zero_l, xor_zero_r}
 use Rattle.std.proofs.lemmas.Nat.{xor_comm}
 use Rattle.std.proofs.lemmas.Bool.{eqb-true, ne_eqb, eq-eqb, false≢true}
@@ -9,7 +10,8 @@ use Rattle.gf256_qic.specs.Code.{inverse}
 use Rattle.gf256_qic.specs.Laws.{TwoHasOrder255, PlacesDiffer}
 use Rattle.gf256_qic.proofs.Tables.{all_below, all_below_at}
 use Rattle.gf256_qic.proofs.Sums.{swap4, equal_from_sum, sum_byte}
-use Rattle.gf256_qic.proofs.Products.{product_byte, product_comm, product_assoc, product_sum_left, product_sum_right, product_zero_left, product_zero_right, product_one_left, product_one_right}
+use Rattle.gf256_qic.proofs.Products.{product_byte, product_comm, product_assoc, product_sum_left, product_sum_right, product_zero_left}
+use Rattle.gf256_qic.proofs.Products.{product_zero_right, product_one_left, product_one_right}
 use Rattle.gf256_qic.proofs.Powers.{power_none, power_more, power_byte, product_inverse, inverse_byte}
 use Rattle.gf256_qic.proofs.Values.{first_byte, other_bytes, value_at-none, value_at-first}
 use Rattle.qic_base.specs.Disk.{AreBytes}

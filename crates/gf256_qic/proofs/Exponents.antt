@@ -1,5 +1,6 @@
 -- The tables of logarithms and powers, and calculating with exponents.
-use Rattle.std.proofs.Common.{◌≡◌, ◌≢◌, ℕ, zero, suc, ◌+◌, ◌-◌, ◌*◌, ◌/◌, ◌%◌, ◌<◌, refl, sym, ◌∙◌, ap, arith, bit_xor, bit_and, true, ◌&&◌, nat_eq, nat_lt, get_or}
+use Rattle.std.proofs.Common.{◌≡◌, ◌≢◌, ℕ, zero, suc, ◌+◌, ◌-◌, ◌*◌, ◌/◌, ◌%◌, ◌<◌, refl, sym, ◌∙◌, ap, arith, bit_xor, bit_and, true, ◌&&◌}
+use Rattle.std.proofs.Common.{nat_eq, nat_lt, get_or}
 use Rattle.std.proofs.lemmas.Bool.{eqb-true, ltb-true, and_parts}
 use Rattle.gf256_qic.specs.declared.logarithms.TheConstants.{POWERS, LOGARITHMS}
 use Rattle.cartridge_spec.specs.Code.{shifted_copies, remainder, product, power}

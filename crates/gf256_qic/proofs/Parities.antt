@@ -1,15 +1,18 @@
 -- Data followed by its parity is a codeword, and the only one with that data; likewise for sectors.
-use Rattle.std.proofs.Common.{◌≡◌, ℕ, ◌+◌, ◌<◌, ◌≤◌, refl, sym, ◌∙◌, ap, subst, arith, bit_xor, List, [], ◌∷◌, ◌++◌, length, All, get_or, slice_index, lit<, zero-add}
+use Rattle.std.proofs.Common.{◌≡◌, ℕ, ◌+◌, ◌<◌, ◌≤◌, refl, sym, ◌∙◌, ap, subst, arith, bit_xor, List, [], ◌∷◌, ◌++◌, length, All, get_or}
+use Rattle.std.proofs.Common.{slice_index, lit<, zero-add}
 use Rattle.std.specs.Int.Bits.{xor_self, xor_zero_r}
 use Rattle.std.proofs.lemmas.List.{length-map, map-append}
 use Rattle.std.proofs.lemmas.List.FromFn.{length-map-range_with_len, get_or-map-range_with_len}
 use Rattle.std.proofs.lemmas.List.Elements.{All-get_or, All-from_get_or, All-append, All-nil, All-cons, All-head, All-tail}
 use Rattle.std.proofs.Math.ListN.{length-append}
-use Rattle.cartridge_spec.specs.Code.{shifted_copies, remainder, product, power, value_at, added, lagrange, parity, parity_sectors, column, IsCodeword, IsCodeBlock}
+use Rattle.cartridge_spec.specs.Code.{shifted_copies, remainder, product, power, value_at, added, lagrange, parity, parity_sectors, column}
+use Rattle.cartridge_spec.specs.Code.{IsCodeword, IsCodeBlock}
 use Rattle.gf256_qic.specs.Code.{through, parity_sector, data_sum, scaled, distance}
 use Rattle.qic_base.specs.Cartridge.{IsSector}
 use Rattle.gf256_qic.proofs.Products.{product_one_right, product_zero_right}
-use Rattle.gf256_qic.proofs.Values.{no_bytes, more_bytes, value_at-append, value_at-added, value_at-scaled, length-added, bytes_of_added, bytes_of_scaled, value_at-zeros, data_sum-value, data_sum-byte}
+use Rattle.gf256_qic.proofs.Values.{no_bytes, more_bytes, value_at-append, value_at-added, value_at-scaled, length-added, bytes_of_added}
+use Rattle.gf256_qic.proofs.Values.{bytes_of_scaled, value_at-zeros, data_sum-value, data_sum-byte}
 use Rattle.gf256_qic.proofs.Agreement.{distance-le, near_columns, length-column, same_from_columns}
 use Rattle.gf256_qic.proofs.Distance.{AtRoots}
 use Rattle.gf256_qic.proofs.Sums.{equal_from_sum}
@@ -114,7 +117,8 @@ value_at-through p a b c hp ha hb hc =
 through_at_inverse : (a b c : ℕ) → a < 256 → b < 256 → c < 256 → value_at 0xC3 (through a b c) ≡ a
 through_at_inverse a b c ha hb hc =
     value_at-through 0xC3 a b c (omega arith) ha hb hc
-    ∙ ap (λ x. bit_xor (product a x) (bit_xor (product b (value_at 0xC3 (lagrange 1 0xC3 2))) (product c (value_at 0xC3 (lagrange 2 0xC3 1))))) basis_inverse.at_own
+    ∙ ap (λ x. bit_xor (product a x) (bit_xor (product b (value_at 0xC3 (lagrange 1 0xC3 2)))
+    (product c (value_at 0xC3 (lagrange 2 0xC3 1))))) basis_inverse.at_own
     ∙ ap (λ x. bit_xor (product a 1) (bit_xor (product b x) (product c (value_at 0xC3 (lagrange 2 0xC3 1))))) basis_one.at_second
     ∙ ap (λ x. bit_xor (product a 1) (bit_xor (product b 0) (product c x))) basis_generator.at_second
     ∙ ap (λ x. bit_xor x (bit_xor (product b 0) (product c 0))) (product_one_right a ha)
@@ -125,7 +129,8 @@ through_at_inverse a b c ha hb hc =
 through_at_one : (a b c : ℕ) → a < 256 → b < 256 → c < 256 → value_at 1 (through a b c) ≡ b
 through_at_one a b c ha hb hc =
     value_at-through 1 a b c (omega arith) ha hb hc
-    ∙ ap (λ x. bit_xor (product a x) (bit_xor (product b (value_at 1 (lagrange 1 0xC3 2))) (product c (value_at 1 (lagrange 2 0xC3 1))))) basis_inverse.at_second
+    ∙ ap (λ x. bit_xor (product a x) (bit_xor (product b (value_at 1 (lagrange 1 0xC3 2))) (product c (value_at 1 (lagrange 2 0xC3 1)))))
+    basis_inverse.at_second
     ∙ ap (λ x. bit_xor (product a 0) (bit_xor (product b x) (product c (value_at 1 (lagrange 2 0xC3 1))))) basis_one.at_own
     ∙ ap (λ x. bit_xor (product a 0) (bit_xor (product b 1) (product c x))) basis_generator.at_third
     ∙ ap (λ x. bit_xor x (bit_xor (product b 1) (product c 0))) (product_zero_right a)
@@ -135,7 +140,8 @@ through_at_one a b c ha hb hc =
 through_at_generator : (a b c : ℕ) → a < 256 → b < 256 → c < 256 → value_at 2 (through a b c) ≡ c
 through_at_generator a b c ha hb hc =
     value_at-through 2 a b c (omega arith) ha hb hc
-    ∙ ap (λ x. bit_xor (product a x) (bit_xor (product b (value_at 2 (lagrange 1 0xC3 2))) (product c (value_at 2 (lagrange 2 0xC3 1))))) basis_inverse.at_third
+    ∙ ap (λ x. bit_xor (product a x) (bit_xor (product b (value_at 2 (lagrange 1 0xC3 2))) (product c (value_at 2 (lagrange 2 0xC3 1)))))
+    basis_inverse.at_third
     ∙ ap (λ x. bit_xor (product a 0) (bit_xor (product b x) (product c (value_at 2 (lagrange 2 0xC3 1))))) basis_one.at_third
     ∙ ap (λ x. bit_xor (product a 0) (bit_xor (product b 0) (product c x))) basis_generator.at_own
     ∙ ap (λ x. bit_xor x (bit_xor (product b 0) (product c 1))) (product_zero_right a)

@@ -1,5 +1,6 @@
 -- Powers of an element, and the inverse.
-use Rattle.std.proofs.Common.{◌≡◌, ◌≢◌, ℕ, zero, suc, ◌+◌, ◌*◌, ◌%◌, ◌^◌, ◌<◌, refl, sym, ◌∙◌, ap, arith, bit_xor, true, nat_eq, add-one, zero-add, suc-add}
+use Rattle.std.proofs.Common.{◌≡◌, ◌≢◌, ℕ, zero, suc, ◌+◌, ◌*◌, ◌%◌, ◌^◌, ◌<◌, refl, sym, ◌∙◌, ap, arith, bit_xor, true, nat_eq, add-one}
+use Rattle.std.proofs.Common.{zero-add, suc-add}
 use Rattle.std.specs.Int.{bit_at}
 use Rattle.std.specs.Int.Bits.{xor_shifted}
 use Rattle.std.proofs.Math.Nat.{zero-mul, one-mul, mod-one, mod-lt}
@@ -8,7 +9,8 @@ use Rattle.std.proofs.lemmas.Bool.{eqb-true}
 use Rattle.cartridge_spec.specs.Code.{shifted_copies, remainder, product, power}
 use Rattle.gf256_qic.specs.Code.{inverse}
 use Rattle.gf256_qic.proofs.Tables.{all_below, all_below_at}
-use Rattle.gf256_qic.proofs.Products.{product_byte, product_comm, product_assoc, product_one_left, product_one_right, product_sum_right, product_zero_right}
+use Rattle.gf256_qic.proofs.Products.{product_byte, product_comm, product_assoc, product_one_left, product_one_right, product_sum_right}
+use Rattle.gf256_qic.proofs.Products.{product_zero_right}
 
 pub power_none : (a : ℕ) → power a 0 ≡ 1
 unfolding power

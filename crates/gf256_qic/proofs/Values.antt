@@ -1,5 +1,6 @@
 -- A column's value at a byte, as the column grows, is added to another or scaled.
-use Rattle.std.proofs.Common.{◌≡◌, ℕ, zero, suc, ◌+◌, ◌<◌, refl, sym, ◌∙◌, ap, subst, arith, bit_xor, List, [], ◌∷◌, ◌++◌, length, get_or, set}
+use Rattle.std.proofs.Common.{◌≡◌, ℕ, zero, suc, ◌+◌, ◌<◌, refl, sym, ◌∙◌, ap, subst, arith, bit_xor, List, [], ◌∷◌, ◌++◌, length, get_or}
+use Rattle.std.proofs.Common.{set}
 use Rattle.std.specs.Int.Bits.{xor_assoc, xor_zero_l, xor_zero_r}
 use Rattle.std.proofs.Math.ListN.{length-append, length-set}
 use Rattle.std.proofs.lemmas.Nat.{xor_comm}
@@ -8,7 +9,8 @@ use Rattle.std.proofs.lemmas.List.Elements.{All-nil, All-cons, All-head, All-tai
 use Rattle.cartridge_spec.specs.Code.{product, power, value_at, added}
 use Rattle.gf256_qic.specs.Code.{data_sum, scaled}
 use Rattle.gf256_qic.proofs.Sums.{swap4, sum_byte, sum_cancel}
-use Rattle.gf256_qic.proofs.Products.{product_comm, product_byte, product_assoc, product_sum_left, product_sum_right, product_zero_left, product_zero_right, product_one_right}
+use Rattle.gf256_qic.proofs.Products.{product_comm, product_byte, product_assoc, product_sum_left, product_sum_right, product_zero_left}
+use Rattle.gf256_qic.proofs.Products.{product_zero_right, product_one_right}
 use Rattle.gf256_qic.proofs.Powers.{power_none, power_one, power_byte, power_sum}
 use Rattle.qic_base.specs.Disk.{AreBytes}
 

@@ -1,6 +1,7 @@
 -- The code of QIC-80 over byte columns (QIC-80-MC). A column has a byte of each usable sector of a segment, in
 -- order of index; as a polynomial its first byte has the highest degree, and its last three bytes are parity.
-use Rattle.std.specs.Prelude.{ℕ, ◌+◌, cond, List, [], ◌∷◌, map, bit_xor, ◌==◌, zero, suc, Bool, ◌<◌, ◌≡◌, false, length, slice_get, slice_index}
+use Rattle.std.specs.Prelude.{ℕ, ◌+◌, cond, List, [], ◌∷◌, map, bit_xor, ◌==◌, zero, suc, Bool, ◌<◌, ◌≡◌, false, length, slice_get}
+use Rattle.std.specs.Prelude.{slice_index}
 use Rattle.std.specs.List.{range_with_len}
 use Rattle.cartridge_spec.specs.Code.{IsCodeBlock, product, power, added, lagrange, parity, column}
 

@@ -1,6 +1,7 @@
 -- The ways in which a command ends that reads no input: refused, cut off, or with one text printed once all is done; and the
 -- outcomes of the commands of a hand.
-use Rattle.std.proofs.Common.{◌≡◌, false, List, [], ◌∷◌, ℕ, None, refl, Option, Some, IfSome, ◌≢◌, true, ◌++◌, Result, Ok, Err, sym, subst, inl, inr, arith, append-nil, Bool, ap}
+use Rattle.std.proofs.Common.{◌≡◌, false, List, [], ◌∷◌, ℕ, None, refl, Option, Some, IfSome, ◌≢◌, true, ◌++◌, Result, Ok, Err, sym, subst}
+use Rattle.std.proofs.Common.{inl, inr, arith, append-nil, Bool, ap}
 use Rattle.command_laws.proofs.CommandEndings.{Rules, appends_none, any_input, nothing_front, text_front, none_printed}
 use Rattle.command_laws.proofs.CommandTable.{plain_is_function}
 use Rattle.command_spec.specs.Commands.{traits_of}
@@ -49,7 +50,8 @@ none_taken (status.ScriptFault line place) taken = (0, refl, inl (omega arith))
 none_taken answer taken = refl
 
 -- its rule over what is told, with some input
-over_rules : (held : Option (Option Cartridge)) (command : Words) (outcome : CommandOutcome) → IsBlind command → IfSome held (λ h. Rules command h outcome) →
+over_rules : (held : Option (Option Cartridge)) (command : Words) (outcome : CommandOutcome) → IsBlind command →
+    IfSome held (λ h. Rules command h outcome) →
     IfSome held (λ h. (input : List ℕ) × Unit {0} × (IsOfBytes command None input × Yields command h input outcome))
 over_rules None command outcome blind known = tt
 over_rules (Some h) command outcome blind known = ([], tt, (appends_none command None [] blind.reads, known []))
@@ -66,7 +68,8 @@ module _ {T K : Type 0} (t : tapes.Meaning T) (k : sinks.Meaning K) where
 
   -- it was carried out, and printed its output
   done : (command : Words) → IsBlind command → (a b : T) (x y : K) (outcome : CommandOutcome) →
-      outcome.status ≡ status.Done → outcome ≡ acted (first_act outcome).steps (first_act outcome).text → CommandPrints command (first_act outcome).text →
+      outcome.status ≡ status.Done → outcome ≡ acted (first_act outcome).steps (first_act outcome).text →
+      CommandPrints command (first_act outcome).text →
       IfSome (t.told a) (λ held. Rules command held outcome) →
       tapes.Done t a b (first_act outcome).steps → sinks.Wrote k x y (first_act outcome).text → EndsBlind t k command a b x y status.Done
   done command blind a b x y outcome ends one prints told did wrote =
@@ -103,7 +106,8 @@ module _ {T K : Type 0} (t : tapes.Meaning T) (k : sinks.Meaning K) where
   })
 
   -- .. with some steps done
-  pub turned_behind : (command : Words) → IsBlind command → (a b : T) (x : K) (why : Status) (steps : List TapeStep) → ((z : K) → k.took z [] z) →
+  pub turned_behind : (command : Words) → IsBlind command → (a b : T) (x : K) (why : Status) (steps : List TapeStep) →
+      ((z : K) → k.took z [] z) →
       may_come_from why command ≡ true → why ≢ status.Done → IfSome (t.told a) (λ held. Rules command held (refused_behind steps why)) →
       tapes.Done t a b steps → EndsBlind t k command a b x x why
   turned_behind command blind a b x why steps nothing sound other told did = inl (record {
@@ -121,9 +125,11 @@ module _ {T K : Type 0} (t : tapes.Meaning T) (k : sinks.Meaning K) where
 
   -- the sink broke its output off
   unprinted : (command : Words) → IsBlind command → (a b : T) (x y : K) (outcome : CommandOutcome) →
-      outcome.status ≡ status.Done → outcome ≡ acted (first_act outcome).steps (first_act outcome).text → CommandPrints command (first_act outcome).text →
+      outcome.status ≡ status.Done → outcome ≡ acted (first_act outcome).steps (first_act outcome).text →
+      CommandPrints command (first_act outcome).text →
       IfSome (t.told a) (λ held. Rules command held outcome) →
-      tapes.Done t a b (first_act outcome).steps → sink_calls.BrokeOff k x y (first_act outcome).text → EndsBlind t k command a b x y status.SinkFault
+      tapes.Done t a b (first_act outcome).steps → sink_calls.BrokeOff k x y (first_act outcome).text →
+      EndsBlind t k command a b x y status.SinkFault
   unprinted command blind a b x y outcome ends one prints told did broke =
       let act : Act = first_act outcome in
       let cut : SinkCut t no_source k (around a x) (around b y) (act ∷ []) = record {
@@ -154,7 +160,8 @@ module _ {T K : Type 0} (t : tapes.Meaning T) (k : sinks.Meaning K) where
     where
       by_told : (o : Option (Option Cartridge)) → IfSome o (λ held. Rules command held outcome) →
           IsCutOff t no_source k command (around a x) (around b y) SinkFails outcome →
-          IfSome o (λ held. (input : List ℕ) × Unit {0} × (IsOfBytes command None input × ((other : CommandOutcome) → Yields command held input other →
+          IfSome o (λ held. (input : List ℕ) × Unit {0}
+          × (IsOfBytes command None input × ((other : CommandOutcome) → Yields command held input other →
           IsCutOff t no_source k command (around a x) (around b y) SinkFails other)))
       by_told None told off = tt
       by_told (Some held) told off = (
@@ -170,11 +177,15 @@ module _ {T K : Type 0} (t : tapes.Meaning T) (k : sinks.Meaning K) where
 
   -- it was carried out, and its output written or broken off
   pub printed : (command : Words) → IsBlind command → (a b : T) (x y : K) (outcome : CommandOutcome) (r : Result (Unit {0}) SinkFailed) →
-      outcome.status ≡ status.Done → outcome ≡ acted (first_act outcome).steps (first_act outcome).text → CommandPrints command (first_act outcome).text →
+      outcome.status ≡ status.Done → outcome ≡ acted (first_act outcome).steps (first_act outcome).text →
+      CommandPrints command (first_act outcome).text →
       IfSome (t.told a) (λ held. Rules command held outcome) →
-      tapes.Done t a b (first_act outcome).steps → sink_calls.Writes k x y (first_act outcome).text r → EndsBlind t k command a b x y (printed_status r)
-  printed command blind a b x y outcome (Ok all) ends one prints told did wrote = done command blind a b x y outcome ends one prints told did wrote
-  printed command blind a b x y outcome (Err failed) ends one prints told did broke = unprinted command blind a b x y outcome ends one prints told did broke
+      tapes.Done t a b (first_act outcome).steps → sink_calls.Writes k x y (first_act outcome).text r →
+      EndsBlind t k command a b x y (printed_status r)
+  printed command blind a b x y outcome (Ok all) ends one prints told did wrote =
+      done command blind a b x y outcome ends one prints told did wrote
+  printed command blind a b x y outcome (Err failed) ends one prints told did broke =
+      unprinted command blind a b x y outcome ends one prints told did broke
 
   abbrev tape_cut_first : (a b : T) (x : K) (acts : List Act) → ((z : K) → k.took z [] z) → tapes.Broke t a b (next_steps acts) →
       TapeCut t no_source k (around a x) (around b x) acts
@@ -190,7 +201,8 @@ module _ {T K : Type 0} (t : tapes.Meaning T) (k : sinks.Meaning K) where
 
   -- the tape failed in a front of its steps
   pub cut_off : (command : Words) → IsBlind command → (a b : T) (x : K) (steps : List TapeStep) → ((z : K) → k.took z [] z) →
-      IfSome (t.told a) (λ held. (outcome : CommandOutcome) → Rules command held outcome → (rest : List TapeStep) × (steps ++ rest ≡ first_steps outcome)) →
+      IfSome (t.told a) (λ held. (outcome : CommandOutcome) → Rules command held outcome → (rest : List TapeStep)
+      × (steps ++ rest ≡ first_steps outcome)) →
       tapes.Broke t a b steps → EndsBlind t k command a b x x status.TapeFault
   cut_off command blind a b x steps nothing front broke =
       inr (
@@ -208,8 +220,10 @@ module _ {T K : Type 0} (t : tapes.Meaning T) (k : sinks.Meaning K) where
       )
     where
       by_told : (o : Option (Option Cartridge)) →
-          IfSome o (λ held. (outcome : CommandOutcome) → Rules command held outcome → (rest : List TapeStep) × (steps ++ rest ≡ first_steps outcome)) →
-          IfSome o (λ held. (input : List ℕ) × Unit {0} × (IsOfBytes command None input × ((outcome : CommandOutcome) → Yields command held input outcome →
+          IfSome o (λ held. (outcome : CommandOutcome) → Rules command held outcome → (rest : List TapeStep)
+          × (steps ++ rest ≡ first_steps outcome)) →
+          IfSome o (λ held. (input : List ℕ) × Unit {0}
+          × (IsOfBytes command None input × ((outcome : CommandOutcome) → Yields command held input outcome →
           IsCutOff t no_source k command (around a x) (around b x) TapeFails outcome)))
       by_told None front = tt
       by_told (Some held) front = (
@@ -233,7 +247,8 @@ module _ {T K : Type 0} (t : tapes.Meaning T) (k : sinks.Meaning K) where
   cut_off_first command blind a b x nothing broke = cut_off command blind a b x [] nothing (nothing_yet (t.told a)) broke
     where
       nothing_yet : (held : Option (Option Cartridge)) →
-          IfSome held (λ h. (outcome : CommandOutcome) → Rules command h outcome → (rest : List TapeStep) × ([] ++ rest ≡ first_steps outcome))
+          IfSome held (λ h. (outcome : CommandOutcome) → Rules command h outcome → (rest : List TapeStep)
+          × ([] ++ rest ≡ first_steps outcome))
       nothing_yet None = tt
       nothing_yet (Some h) = λ outcome plain. (first_steps outcome, refl)
 
@@ -248,7 +263,8 @@ told_both None P Q one other = tt
 told_both (Some a) P Q one other = (one, other)
 
 -- what is told behind calls that only read was told before them
-pub told_back : {T : Type 0} (t : tapes.Meaning T) (a b : T) (P : Option Cartridge → Type 0) → tapes.Done t a b [] → IfSome (t.told b) P → IfSome (t.told a) P
+pub told_back : {T : Type 0} (t : tapes.Meaning T) (a b : T) (P : Option Cartridge → Type 0) → tapes.Done t a b [] → IfSome (t.told b) P →
+    IfSome (t.told a) P
 told_back t a b P read told = subst (λ (held : Option (Option Cartridge)). IfSome held P) (Done-told read) told
 
 -- ---- by what the drive knows of the cartridge
@@ -257,11 +273,13 @@ pub protect_absent : (on : Bool) (held : Option Cartridge) → IsInfoOf None hel
 protect_absent on None known = refl
 protect_absent on (Some c) known = cc
 
-pub protect_present : (on : Bool) (info : TapeInfo) (held : Option Cartridge) → IsInfoOf (Some info) held → ProtectOutcome on held (carried_out (SetProtected on) (protected_line on))
+pub protect_present : (on : Bool) (info : TapeInfo) (held : Option Cartridge) → IsInfoOf (Some info) held →
+    ProtectOutcome on held (carried_out (SetProtected on) (protected_line on))
 protect_present on info None known = cc
 protect_present on info (Some c) known = refl
 
-pub protect_front : (on : Bool) (info : TapeInfo) (held : Option Cartridge) (outcome : CommandOutcome) → IsInfoOf (Some info) held → ProtectOutcome on held outcome → SetProtected on ∷ [] ≡ first_steps outcome
+pub protect_front : (on : Bool) (info : TapeInfo) (held : Option Cartridge) (outcome : CommandOutcome) → IsInfoOf (Some info) held →
+    ProtectOutcome on held outcome → SetProtected on ∷ [] ≡ first_steps outcome
 protect_front on info None outcome known plain = cc
 protect_front on info (Some c) outcome known plain = sym (ap (λ (o : CommandOutcome). first_steps o) plain)
 
@@ -269,59 +287,77 @@ pub upgrade_absent : (held : Option Cartridge) → IsInfoOf None held → Upgrad
 upgrade_absent None known = refl
 upgrade_absent (Some c) known = cc
 
-pub upgrade_present : (info : TapeInfo) (version : ℕ) (held : Option Cartridge) → IsInfoOf (Some info) held → IfSome held (λ c. version ≡ c.version) → UpgradeOutcome held (carried_out Upgrade (upgraded_line version))
+pub upgrade_present : (info : TapeInfo) (version : ℕ) (held : Option Cartridge) → IsInfoOf (Some info) held →
+    IfSome held (λ c. version ≡ c.version) → UpgradeOutcome held (carried_out Upgrade (upgraded_line version))
 upgrade_present info version None known told = cc
 upgrade_present info version (Some c) known told = ap (λ (v : ℕ). carried_out Upgrade (upgraded_line v)) told
 
-pub upgrade_front : (info : TapeInfo) (held : Option Cartridge) (outcome : CommandOutcome) → IsInfoOf (Some info) held → UpgradeOutcome held outcome → Upgrade ∷ [] ≡ first_steps outcome
+pub upgrade_front : (info : TapeInfo) (held : Option Cartridge) (outcome : CommandOutcome) → IsInfoOf (Some info) held →
+    UpgradeOutcome held outcome → Upgrade ∷ [] ≡ first_steps outcome
 upgrade_front info None outcome known plain = cc
 upgrade_front info (Some c) outcome known plain = sym (ap (λ (o : CommandOutcome). first_steps o) plain)
 
-pub lose_absent : (segment sector : ℕ) (held : Option Cartridge) → IsInfoOf None held → LoseOutcome segment sector held (refused status.NoCartridge)
+pub lose_absent : (segment sector : ℕ) (held : Option Cartridge) → IsInfoOf None held →
+    LoseOutcome segment sector held (refused status.NoCartridge)
 lose_absent segment sector None known = refl
 lose_absent segment sector (Some c) known = cc
 
 -- a place by the length that the drive knows is one of the cartridge
-place_known : (info : TapeInfo) (c : Cartridge) (segment sector : ℕ) → IsInfoOf (Some info) (Some c) → IsPlace info.segments_per_track segment sector → IsPlace c.info.segments_per_track segment sector
+place_known : (info : TapeInfo) (c : Cartridge) (segment sector : ℕ) → IsInfoOf (Some info) (Some c) →
+    IsPlace info.segments_per_track segment sector → IsPlace c.info.segments_per_track segment sector
 place_known info c segment sector known place =
     let same : info ≡ c.info = cc in
     subst (λ (i : TapeInfo). IsPlace i.segments_per_track segment sector) same place
 
-place_told : (info : TapeInfo) (c : Cartridge) (segment sector : ℕ) → IsInfoOf (Some info) (Some c) → IsPlace c.info.segments_per_track segment sector → IsPlace info.segments_per_track segment sector
+place_told : (info : TapeInfo) (c : Cartridge) (segment sector : ℕ) → IsInfoOf (Some info) (Some c) →
+    IsPlace c.info.segments_per_track segment sector → IsPlace info.segments_per_track segment sector
 place_told info c segment sector known place =
     let same : c.info ≡ info = cc in
     subst (λ (i : TapeInfo). IsPlace i.segments_per_track segment sector) same place
 
-pub lose_misplaced : (segment sector : ℕ) (info : TapeInfo) (held : Option Cartridge) → IsInfoOf (Some info) held → ¬ (IsPlace info.segments_per_track segment sector) → LoseOutcome segment sector held (refused status.BadPlace)
+pub lose_misplaced : (segment sector : ℕ) (info : TapeInfo) (held : Option Cartridge) → IsInfoOf (Some info) held →
+    ¬ (IsPlace info.segments_per_track segment sector) → LoseOutcome segment sector held (refused status.BadPlace)
 lose_misplaced segment sector info None known none = cc
 lose_misplaced segment sector info (Some c) known none = inl ((λ place. none (place_told info c segment sector known place)), refl)
 
-pub lose_placed : (segment sector : ℕ) (info : TapeInfo) (held : Option Cartridge) → IsInfoOf (Some info) held → IsPlace info.segments_per_track segment sector → LoseOutcome segment sector held (carried_out (Wear segment sector) (lost_line segment sector))
+pub lose_placed : (segment sector : ℕ) (info : TapeInfo) (held : Option Cartridge) → IsInfoOf (Some info) held →
+    IsPlace info.segments_per_track segment sector →
+    LoseOutcome segment sector held (carried_out (Wear segment sector) (lost_line segment sector))
 lose_placed segment sector info None known place = cc
 lose_placed segment sector info (Some c) known place = inr (place_known info c segment sector known place, refl)
 
-pub lose_front : (segment sector : ℕ) (info : TapeInfo) (held : Option Cartridge) (outcome : CommandOutcome) → IsInfoOf (Some info) held → IsPlace info.segments_per_track segment sector → LoseOutcome segment sector held outcome → Wear segment sector ∷ [] ≡ first_steps outcome
+pub lose_front : (segment sector : ℕ) (info : TapeInfo) (held : Option Cartridge) (outcome : CommandOutcome) → IsInfoOf (Some info) held →
+    IsPlace info.segments_per_track segment sector → LoseOutcome segment sector held outcome →
+    Wear segment sector ∷ [] ≡ first_steps outcome
 lose_front segment sector info None outcome known place plain = cc
 lose_front segment sector info (Some c) outcome known place (inl plain) = absurd (plain.0 (place_known info c segment sector known place))
 lose_front segment sector info (Some c) outcome known place (inr plain) = sym (ap (λ (o : CommandOutcome). first_steps o) plain.1)
 
-pub defect_absent : (segment sector : ℕ) (held : Option Cartridge) → IsInfoOf None held → DefectOutcome segment sector held (refused status.NoCartridge)
+pub defect_absent : (segment sector : ℕ) (held : Option Cartridge) → IsInfoOf None held →
+    DefectOutcome segment sector held (refused status.NoCartridge)
 defect_absent segment sector None known = refl
 defect_absent segment sector (Some c) known = cc
 
-pub defect_misplaced : (segment sector : ℕ) (info : TapeInfo) (held : Option Cartridge) → IsInfoOf (Some info) held → ¬ (IsPlace info.segments_per_track segment sector) → DefectOutcome segment sector held (refused status.BadPlace)
+pub defect_misplaced : (segment sector : ℕ) (info : TapeInfo) (held : Option Cartridge) → IsInfoOf (Some info) held →
+    ¬ (IsPlace info.segments_per_track segment sector) → DefectOutcome segment sector held (refused status.BadPlace)
 defect_misplaced segment sector info None known none = cc
 defect_misplaced segment sector info (Some c) known none = inl ((λ place. none (place_told info c segment sector known place)), refl)
 
-pub defect_placed : (segment sector : ℕ) (info : TapeInfo) (held : Option Cartridge) → IsInfoOf (Some info) held → IsPlace info.segments_per_track segment sector → IfSome held (λ c. spoil_answer (view_at c segment sector) ≡ true) → DefectOutcome segment sector held (carried_out (Spoil segment sector) (defect_line segment sector))
+pub defect_placed : (segment sector : ℕ) (info : TapeInfo) (held : Option Cartridge) → IsInfoOf (Some info) held →
+    IsPlace info.segments_per_track segment sector → IfSome held (λ c. spoil_answer (view_at c segment sector) ≡ true) →
+    DefectOutcome segment sector held (carried_out (Spoil segment sector) (defect_line segment sector))
 defect_placed segment sector info None known place spoiled = cc
 defect_placed segment sector info (Some c) known place spoiled = inr (inr (place_known info c segment sector known place, spoiled, refl))
 
-pub defect_formatted : (segment sector : ℕ) (info : TapeInfo) (held : Option Cartridge) → IsInfoOf (Some info) held → IsPlace info.segments_per_track segment sector → IfSome held (λ c. spoil_answer (view_at c segment sector) ≡ false) → DefectOutcome segment sector held (refused_behind (Spoil segment sector ∷ []) status.NotBlank)
+pub defect_formatted : (segment sector : ℕ) (info : TapeInfo) (held : Option Cartridge) → IsInfoOf (Some info) held →
+    IsPlace info.segments_per_track segment sector → IfSome held (λ c. spoil_answer (view_at c segment sector) ≡ false) →
+    DefectOutcome segment sector held (refused_behind (Spoil segment sector ∷ []) status.NotBlank)
 defect_formatted segment sector info None known place kept = cc
 defect_formatted segment sector info (Some c) known place kept = inr (inl (place_known info c segment sector known place, kept, refl))
 
-pub defect_front : (segment sector : ℕ) (info : TapeInfo) (held : Option Cartridge) (outcome : CommandOutcome) → IsInfoOf (Some info) held → IsPlace info.segments_per_track segment sector → DefectOutcome segment sector held outcome → Spoil segment sector ∷ [] ≡ first_steps outcome
+pub defect_front : (segment sector : ℕ) (info : TapeInfo) (held : Option Cartridge) (outcome : CommandOutcome) → IsInfoOf (Some info) held →
+    IsPlace info.segments_per_track segment sector → DefectOutcome segment sector held outcome →
+    Spoil segment sector ∷ [] ≡ first_steps outcome
 defect_front segment sector info None outcome known place plain = cc
 defect_front segment sector info (Some c) outcome known place (inl plain) = absurd (plain.0 (place_known info c segment sector known place))
 defect_front segment sector info (Some c) outcome known place (inr (inl plain)) = sym (ap (λ (o : CommandOutcome). first_steps o) plain.2)

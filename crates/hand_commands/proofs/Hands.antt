@@ -19,20 +19,24 @@ pub record Misplaced (cartridge : Option TapeInfo) (segment sector : ℕ) : Type
   pub none : ¬ (IsPlace info.segments_per_track segment sector)
 
 -- a call for a sector that was not refused came to it
-pub reached : (cartridge : Option TapeInfo) (segment sector : ℕ) (result : Result (Unit {0}) HandFault) (P : Result (Unit {0}) HandFault → Type 0) →
+pub reached : (cartridge : Option TapeInfo) (segment sector : ℕ) (result : Result (Unit {0}) HandFault)
+    (P : Result (Unit {0}) HandFault → Type 0) →
     IfNone cartridge (result ≡ Err NoCartridge) →
     IfSome cartridge (λ info. ¬ (IsPlace info.segments_per_track segment sector) → result ≡ Err BadPlace) →
     IfSome cartridge (λ info. IsPlace info.segments_per_track segment sector → P result) →
     result ≢ Err NoCartridge → result ≢ Err BadPlace → Reached cartridge segment sector (P result)
 reached None segment sector result P absent misplaced placed some good = absurd (some absent)
-reached (Some info) segment sector result P absent misplaced placed some good = by_place (place_or_not info.segments_per_track segment sector)
+reached (Some info) segment sector result P absent misplaced placed some good =
+    by_place (place_or_not info.segments_per_track segment sector)
   where
-    by_place : IsPlace info.segments_per_track segment sector ⊎ ¬ (IsPlace info.segments_per_track segment sector) → Reached (Some info) segment sector (P result)
+    by_place : IsPlace info.segments_per_track segment sector ⊎ ¬ (IsPlace info.segments_per_track segment sector) →
+        Reached (Some info) segment sector (P result)
     by_place (inl place) = record { info = info; known = refl; place = place; fact = placed place }
     by_place (inr none) = absurd (good (misplaced none))
 
 -- one that was refused for want of a cartridge
-pub unknown : (cartridge : Option TapeInfo) (segment sector : ℕ) (result : Result (Unit {0}) HandFault) (P : Result (Unit {0}) HandFault → Type 0) →
+pub unknown : (cartridge : Option TapeInfo) (segment sector : ℕ) (result : Result (Unit {0}) HandFault)
+    (P : Result (Unit {0}) HandFault → Type 0) →
     IfSome cartridge (λ info. ¬ (IsPlace info.segments_per_track segment sector) → result ≡ Err BadPlace) →
     IfSome cartridge (λ info. IsPlace info.segments_per_track segment sector → P result) →
     result ≡ Err NoCartridge → ¬ (P (Err NoCartridge)) → cartridge ≡ None
@@ -44,7 +48,8 @@ unknown (Some info) segment sector result P misplaced placed is never = by_place
     by_place (inr none) = let other = misplaced none in absurd (cc)
 
 -- .. and for want of the sector
-pub no_place : (cartridge : Option TapeInfo) (segment sector : ℕ) (result : Result (Unit {0}) HandFault) (P : Result (Unit {0}) HandFault → Type 0) →
+pub no_place : (cartridge : Option TapeInfo) (segment sector : ℕ) (result : Result (Unit {0}) HandFault)
+    (P : Result (Unit {0}) HandFault → Type 0) →
     IfNone cartridge (result ≡ Err NoCartridge) →
     IfSome cartridge (λ info. IsPlace info.segments_per_track segment sector → P result) →
     result ≡ Err BadPlace → ¬ (P (Err BadPlace)) → Misplaced cartridge segment sector
@@ -64,11 +69,13 @@ pub record NotSwitched (cartridge : Option TapeInfo) (Q : Type 0) : Type 0 where
   pub same : Q
 
 pub switched : {A : Type 0} (cartridge : Option TapeInfo) (result : Result A HandFault) (P : Result A HandFault → Type 0) (Q : Type 0) →
-    IfNone cartridge ((result ≡ Err NoCartridge) × Q) → IfSome cartridge (λ info. P result) → result ≢ Err NoCartridge → Switched cartridge (P result)
+    IfNone cartridge ((result ≡ Err NoCartridge) × Q) → IfSome cartridge (λ info. P result) → result ≢ Err NoCartridge →
+    Switched cartridge (P result)
 switched None result P Q absent present some = absurd (some absent.0)
 switched (Some info) result P Q absent present some = record { info = info; known = refl; fact = present }
 
 pub no_switch : {A : Type 0} (cartridge : Option TapeInfo) (result : Result A HandFault) (P : Result A HandFault → Type 0) (Q : Type 0) →
-    IfNone cartridge ((result ≡ Err NoCartridge) × Q) → IfSome cartridge (λ info. P result) → result ≡ Err NoCartridge → ¬ (P (Err NoCartridge)) → NotSwitched cartridge Q
+    IfNone cartridge ((result ≡ Err NoCartridge) × Q) → IfSome cartridge (λ info. P result) → result ≡ Err NoCartridge →
+    ¬ (P (Err NoCartridge)) → NotSwitched cartridge Q
 no_switch None result P Q absent present is never = record { known = refl; same = absent.1 }
 no_switch (Some info) result P Q absent present is never = absurd (never (subst P is present))

@@ -1,5 +1,6 @@
 -- What one line did.
-use Rattle.std.proofs.Common.{◌≡◌, ℕ, zero, suc, Bool, ◌<◌, ◌≤◌, List, [], ◌∷◌, ◌++◌, length, Option, Some, None, IfSome, codes, refl, sym, ap, ◌∙◌, subst, arith, append-nil, inl}
+use Rattle.std.proofs.Common.{◌≡◌, ℕ, zero, suc, Bool, ◌<◌, ◌≤◌, List, [], ◌∷◌, ◌++◌, length, Option, Some, None, IfSome, codes, refl, sym}
+use Rattle.std.proofs.Common.{ap, ◌∙◌, subst, arith, append-nil, inl}
 use Rattle.std.specs.Option.{option_map}
 use Rattle.std.proofs.lemmas.List.{nil_from_length}
 use Rattle.qic_base.specs.Tape.{Rose}
@@ -61,19 +62,24 @@ gave_on s old new train n read = record {
 
 module _ {T S K : Type 0} {t : tapes.Meaning T} {s : sources.Meaning S} {k : sinks.Meaning K} where
   -- nothing was sent, and nothing written
-  pub rests : (now : Outside T S K) (source : S) → k.took now.sink [] now.sink → s.faults now.source ≤ s.faults source →
+  pub rests : (now : Outside T S K) (source : S) → k.took now.sink [] now.sink → s.faults source ≡ s.faults now.source →
       Went t s k now (record now { source = source }) []
-  rests now source nothing later = record { did = Done-nothing t now.tape; wrote = record { took = nothing; later = omega arith }; source_later = later }
+  rests now source nothing later = record {
+    did = Done-nothing t now.tape;
+    wrote = record { took = nothing; later = omega arith };
+    source_later = later;
+  }
 
   -- the source failed, and nothing was sent
   pub source_cut : (now : Outside T S K) (source : S) → k.took now.sink [] now.sink → s.faults now.source ≤ s.faults source →
       Rose (s.faults now.source) (s.faults source) → Cut t s k now (record now { source = source }) [] SourceFails
   source_cut now source nothing later rose =
-      let none = rests now source nothing later in
-      record { front = []; rest = []; parts = refl; did = none.did; wrote = none.wrote; cause = rose; source_later = later }
+      let wrote : sinks.Wrote k now.sink now.sink [] = record { took = nothing; later = refl } in
+      record { front = []; rest = []; parts = refl; did = Done-nothing t now.tape; wrote = wrote; cause = rose; source_later = later }
 
   -- the tape failed in the steps of the first act, or where there is none
-  pub steps_cut : (a b : Outside T S K) (acts : List Act) → s.faults a.source ≤ s.faults b.source → tapes.Broke t a.tape b.tape (next_steps acts) →
+  pub steps_cut : (a b : Outside T S K) (acts : List Act) → s.faults b.source ≡ s.faults a.source →
+      tapes.Broke t a.tape b.tape (next_steps acts) →
       sinks.Wrote k a.sink b.sink [] → TapeCut t s k a b acts
   steps_cut a b acts later broke wrote =
       record { front = []; rest = acts; parts = refl; broke = broke; here = broke.torn; wrote = wrote; source_later = later }
@@ -81,10 +87,12 @@ module _ {T S K : Type 0} {t : tapes.Meaning T} {s : sources.Meaning S} {k : sin
 -- ---- a train
 
 -- the level that was written is the one behind the train
-level_is : (line : Bool) (now after : Record) (text : List ℕ) → text ≡ level_line line → line ≡ now.line → now ≡ after → text ≡ level_line after.line
+level_is : (line : Bool) (now after : Record) (text : List ℕ) → text ≡ level_line line → line ≡ now.line → now ≡ after →
+    text ≡ level_line after.line
 level_is line now after text text_is line_is now_is = text_is ∙ ap level_line line_is ∙ ap (λ (r : Record). level_line r.line) now_is
 
-module _ {T S K : Type 0} (t : tapes.Meaning T) (s : sources.Meaning S) (k : sinks.Meaning K) (a b : Outside T S K) (r : Record) (train n : ℕ) (read : GaveTrain s a.source b.source train n) (later : s.faults a.source ≤ s.faults b.source) where
+module _ {T S K : Type 0} (t : tapes.Meaning T) (s : sources.Meaning S) (k : sinks.Meaning K) (a b : Outside T S K) (r : Record)
+    (train n : ℕ) (read : GaveTrain s a.source b.source train n) (later : s.faults b.source ≡ s.faults a.source) where
   -- what was read is its line
   heard : (Came : ℕ → Type 0) → Came train → Heard s a.source b.source Came
   heard Came came =
@@ -96,13 +104,14 @@ module _ {T S K : Type 0} (t : tapes.Meaning T) (s : sources.Meaning S) (k : sin
       }
 
   -- it was not sent
-  pub unsent : k.took a.sink [] b.sink → k.faults a.sink ≤ k.faults b.sink → tapes.Broke t a.tape b.tape (train_changes r train) →
+  pub unsent : k.took a.sink [] b.sink → k.faults b.sink ≡ k.faults a.sink → tapes.Broke t a.tape b.tape (train_changes r train) →
       Heard s a.source b.source (λ p. Cut t s k a b (train_act r p ∷ []) TapeFails)
   unsent nothing sink_later broke =
       heard (λ p. Cut t s k a b (train_act r p ∷ []) TapeFails)
       (steps_cut a b (train_act r train ∷ []) later broke (record { took = nothing; later = sink_later }))
 
-  module _ (line : Bool) (now : Record) (text : List ℕ) (text_is : text ≡ level_line line) (line_is : line ≡ now.line) (now_is : now ≡ pulsed_row r train) (did : tapes.Done t a.tape b.tape (train_changes r train)) where
+  module _ (line : Bool) (now : Record) (text : List ℕ) (text_is : text ≡ level_line line) (line_is : line ≡ now.line)
+      (now_is : now ≡ pulsed_row r train) (did : tapes.Done t a.tape b.tape (train_changes r train)) where
     -- it was sent, and its level not written
     pub unshown : sink_calls.BrokeOff k a.sink b.sink text → Heard s a.source b.source (λ p. Cut t s k a b (train_act r p ∷ []) SinkFails)
     unshown broke =

@@ -1,5 +1,6 @@
 -- Inputs that begin with the lines of trains.
-use Rattle.std.proofs.Common.{◌≡◌, ℕ, ◌+◌, ◌≤◌, ◌<◌, List, [], ◌∷◌, ◌++◌, length, Option, Some, None, IfSome, codes, get_or, refl, sym, ap, ◌∙◌, subst, arith, append_assoc}
+use Rattle.std.proofs.Common.{◌≡◌, ℕ, ◌+◌, ◌≤◌, ◌<◌, List, [], ◌∷◌, ◌++◌, length, Option, Some, None, IfSome, codes, get_or, refl, sym, ap}
+use Rattle.std.proofs.Common.{◌∙◌, subst, arith, append_assoc}
 use Rattle.std.specs.Option.{option_map}
 use Rattle.std.proofs.lemmas.List.{length-append, append_cancel_left, nil_from_length}
 use Rattle.command_laws.specs.Inputs.{IsTrain}
@@ -46,7 +47,8 @@ read_behind (p ∷ ps) qs rest line here place at ending are few same equal read
           (
             append_assoc (train_line p) (train_lines ps) rest,
             are.0,
-            read_behind ps qs rest (line + 1) here (place + length (train_line p)) at ending are.1 (omega arith) (omega arith) (omega arith) read,
+            read_behind ps qs rest (line + 1) here (place + length (train_line p)) at ending are.1 (omega arith) (omega arith)
+                (omega arith) read,
           ),
         ),
       ),
@@ -81,7 +83,8 @@ no_ending line place p input rest AtStop is few e ends = inputs.pulses.no_stop (
 no_ending line place p input rest (AtFault n m) is few e ends = ends.0.no_item few (p, (train_line p, (rest, (e, is))))
 
 -- where lines of trains begin an input, its trains begin with these
-pub comes_first : (ps rest : List ℕ) (line place : ℕ) (trains : List ℕ) (ending : Ending) → ArePulses ps → line + length ps ≤ most_items + 1 →
+pub comes_first : (ps rest : List ℕ) (line place : ℕ) (trains : List ℕ) (ending : Ending) → ArePulses ps →
+    line + length ps ≤ most_items + 1 →
     HasItems IsPulse line place (train_lines ps ++ rest) trains ending → IsFront ps trains
 comes_first [] rest line place trains ending are few read = (trains, refl)
 comes_first (p ∷ ps) rest line place [] ending are few read =
@@ -119,7 +122,8 @@ no_line line = record {
   without (b ∷ before) rest e = nothing before rest (cc)
 
 -- bytes were given, and no line began there
-pub fault_rest : (o p : Option (List ℕ)) (line n : ℕ) (bytes : List ℕ) → 0 < n → length bytes ≡ n → o ≡ option_map (λ rest. bytes ++ rest) p →
+pub fault_rest : (o p : Option (List ℕ)) (line n : ℕ) (bytes : List ℕ) → 0 < n → length bytes ≡ n →
+    o ≡ option_map (λ rest. bytes ++ rest) p →
     IfSome o (λ all. (text rest : List ℕ) → all ≡ text ++ rest → ¬ (text ≡ codes "end\n")) →
     (line ≤ most_items → (train : ℕ) → IfSome o (λ all. (text rest : List ℕ) → all ≡ text ++ rest → ¬ (IsPulse text train))) →
     Rest o (IsFault IsPulse line)

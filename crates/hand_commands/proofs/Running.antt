@@ -1,5 +1,6 @@
 -- A run of `pulses`, line after line: the acts so far went, and then those of what is left went or were cut off.
-use Rattle.std.proofs.Common.{◌≡◌, inl, inr, ℕ, ◌+◌, ◌*◌, ◌≤◌, ◌<◌, List, [], ◌∷◌, ◌++◌, length, Option, Some, None, IfSome, Result, Ok, Err, codes, refl, sym, ap, ◌∙◌, subst, arith, append-nil}
+use Rattle.std.proofs.Common.{◌≡◌, ◌≢◌, inl, inr, ℕ, ◌+◌, ◌*◌, ◌≤◌, ◌<◌, List, [], ◌∷◌, ◌++◌, length, Option, Some, None, IfSome, Result}
+use Rattle.std.proofs.Common.{Ok, Err, codes, refl, sym, ap, ◌∙◌, subst, arith, append-nil}
 use Rattle.std.proofs.lemmas.List.{length-append, length_push}
 use Rattle.qic_base.specs.declared.tape.TapeInfo.{TapeInfo}
 use Rattle.qic_base.specs.Cartridge.{Cartridge, info_of}
@@ -44,7 +45,8 @@ abbrev IsKnown : {T : Type 0} → tapes.Meaning T → T → Option TapeInfo → 
 IsKnown t tape known = IfSome (t.told tape) (λ held. known ≡ info_of held)
 
 -- so many lines were trains, with so many bytes; the acts of all of them went
-pub record SoFar {T S K : Type 0} (t : tapes.Meaning T) (s : sources.Meaning S) (k : sinks.Meaning K) (start now : Outside T S K) (r : Record) (lines place : ℕ) : Type 0 where
+pub record SoFar {T S K : Type 0} (t : tapes.Meaning T) (s : sources.Meaning S) (k : sinks.Meaning K) (start now : Outside T S K)
+    (r : Record) (lines place : ℕ) : Type 0 where
   pub known : Option TapeInfo
   pub cartridge : IsKnown t start.tape known
   pub trains : List ℕ
@@ -57,7 +59,8 @@ pub record SoFar {T S K : Type 0} (t : tapes.Meaning T) (s : sources.Meaning S) 
   pub went : Went t s k start now (train_acts (power_on known) trains)
   pub gave : Gave s start.source now.source (train_lines trains)
 
-told_before : {T : Type 0} (t : tapes.Meaning T) (a b : T) (known : Option TapeInfo) → tapes.Done t a b [] → IsKnown t b known → IsKnown t a known
+told_before : {T : Type 0} (t : tapes.Meaning T) (a b : T) (known : Option TapeInfo) → tapes.Done t a b [] → IsKnown t b known →
+    IsKnown t a known
 told_before t a b known did told =
     let P : Option (Option Cartridge) → Type 0 = λ o. IfSome o (λ held. known ≡ info_of held) in subst P (Done-told did) told
 
@@ -67,7 +70,8 @@ known_told (Some held) = (info_of held, refl)
 
 module _ {T S K : Type 0} {t : tapes.Meaning T} {s : sources.Meaning S} {k : sinks.Meaning K} where
   -- the cartridge was put in
-  pub begin : (start : Outside T S K) (unit : UnitView T) → k.took start.sink [] start.sink → tapes.Done t start.tape unit.tape [] → IsInserted t unit →
+  pub begin : (start : Outside T S K) (unit : UnitView T) → k.took start.sink [] start.sink → tapes.Done t start.tape unit.tape [] →
+      IsInserted t unit →
       SoFar t s k start (record start { tape = unit.tape }) unit.drive 0 0
   begin start unit nothing did inserted = record {
     known = unit.drive.deck.cartridge;
@@ -84,18 +88,25 @@ module _ {T S K : Type 0} {t : tapes.Meaning T} {s : sources.Meaning S} {k : sin
   }
 
   -- trains that were read are a front of the input's
-  cut_off : (start new : Outside T S K) (now : S) (known : Option TapeInfo) (sent : List ℕ) (failing : Failing) → IsKnown t start.tape known → ArePulses sent →
-      length sent ≤ most_items → Gave s start.source now (train_lines sent) → Cut t s k start new (train_acts (power_on known) sent) failing →
+  cut_off : (start new : Outside T S K) (now : S) (known : Option TapeInfo) (sent : List ℕ) (failing : Failing) →
+      IsKnown t start.tape known → ArePulses sent →
+      length sent ≤ most_items → Gave s start.source now (train_lines sent) →
+      Cut t s k start new (train_acts (power_on known) sent) failing →
       CutOff t s k start new failing
   cut_off start new now known sent failing cartridge are few gave cut =
       let behind = any_rest (s.left now) in
       let input : List ℕ = train_lines sent ++ behind.rest in
       let reading = each_pulses input in
-      let front = fronts_do_fronts (power_on known) sent reading.0 (comes_first sent behind.rest 1 0 reading.0 reading.1.0 are (omega arith) reading.1.1) in
+      let front = fronts_do_fronts (power_on known) sent reading.0
+      (comes_first sent behind.rest 1 0 reading.0 reading.1.0 are (omega arith) reading.1.1) in
       record {
         known = known;
         input = input;
-        over = record { cartridge = cartridge; bytes = whole_told (s.left start.source) (s.left now) (train_lines sent) behind.rest gave behind.told };
+        over = record {
+          cartridge = cartridge;
+          bytes = whole_told (s.left start.source) (s.left now)
+              (train_lines sent) behind.rest gave behind.told;
+        };
         outcome = outcome_of (power_on known) input reading.0 reading.1.0;
         plain = record { trains = reading.0; ending = reading.1.0; read = reading.1.1; comes = refl };
         cut = subst (λ (acts : List Act). Cut t s k start new acts failing) front.1
@@ -111,9 +122,11 @@ module _ {T S K : Type 0} {t : tapes.Meaning T} {s : sources.Meaning S} {k : sin
       cut_off start new start.source known.0 [] TapeFails known.1 tt (omega arith) (Gave-nothing s start.source start.source refl)
       (steps_cut start new [] (omega arith) broke (record { took = nothing; later = omega arith }))
 
-  module _ (both : TakesBoth k) (start now new : Outside T S K) (r after : Record) (lines place : ℕ) (far : SoFar t s k start now r lines place) where
+  module _ (both : TakesBoth k) (start now new : Outside T S K) (r after : Record) (lines place : ℕ)
+      (far : SoFar t s k start now r lines place) where
     -- the line of a train more was read
-    gave_push : (train : ℕ) → Gave s now.source new.source (train_line train) → Gave s start.source new.source (train_lines (push far.trains train))
+    gave_push : (train : ℕ) → Gave s now.source new.source (train_line train) →
+        Gave s start.source new.source (train_lines (push far.trains train))
     gave_push train gave =
         subst (Gave s start.source new.source) (train_lines-push far.trains train)
         (Gave-Gave s start.source now.source new.source (train_lines far.trains) (train_line train) far.gave gave)
@@ -131,7 +144,8 @@ module _ {T S K : Type 0} {t : tapes.Meaning T} {s : sources.Meaning S} {k : sin
           number = length_push far.trains heard.train ∙ ap (λ (m : ℕ). m + 1) far.number;
           bytes = (let e = far.bytes in let m = heard.came.0 in let l = length-append (train_lines far.trains) (train_line heard.train) in
               let p = ap length (train_lines-push far.trains heard.train) in omega arith);
-          short = (let e = far.short in let m = heard.came.0 in let l = pulse_short (train_line heard.train) heard.train heard.pulse in omega arith);
+          short = (let e = far.short in let m = heard.came.0 in let l = pulse_short (train_line heard.train) heard.train heard.pulse in
+              omega arith);
           drive = drive ∙ sym (after_trains-append (power_on far.known) far.trains (heard.train ∷ []));
           no_pulse = ap (λ (x : Record). x.train) drive ∙ pulsed_row-counted before heard.train;
           went = subst (Went t s k start new) (sym (train_acts-append (power_on far.known) far.trains (heard.train ∷ [])))
@@ -144,19 +158,26 @@ module _ {T S K : Type 0} {t : tapes.Meaning T} {s : sources.Meaning S} {k : sin
 
     -- how the input ends behind the trains is how it ends
     ended_so : (rest : List ℕ) (ending : Ending) (answer : Answer) → lines ≤ most_items → Went t s k now new [] → after ≡ r →
-        IfSome (s.left now.source) (λ bytes. bytes ≡ rest) → ItemsEnd IsPulse (lines + 1) place rest ending → pulses_answer ending ≡ answer →
-        Leaves s start.source new.source (pulses_taken (train_lines far.trains ++ rest) far.trains ending) answer → Ended t s k start new after answer
+        IfSome (s.left now.source) (λ bytes. bytes ≡ rest) → ItemsEnd IsPulse (lines + 1) place rest ending →
+        pulses_answer ending ≡ answer →
+        Leaves s start.source new.source (pulses_taken (train_lines far.trains ++ rest) far.trains ending) answer →
+        Ended t s k start new after answer
     ended_so rest ending answer few none drive told ends answered left =
         let input : List ℕ = train_lines far.trains ++ rest in
         let acts : List Act = train_acts (power_on far.known) far.trains in
         let read : HasItems IsPulse 1 0 input (far.trains ++ []) ending =
-        read_behind far.trains [] rest 1 (lines + 1) 0 place ending far.are (let n = far.number in omega arith) (let n = far.number in omega arith)
+        read_behind far.trains [] rest 1 (lines + 1) 0 place ending far.are (let n = far.number in omega arith)
+        (let n = far.number in omega arith)
         (let b = far.bytes in omega arith) ends in
         let P : List ℕ → Type 0 = λ ps. HasItems IsPulse 1 0 input ps ending in
         record {
           known = far.known;
           input = input;
-          over = record { cartridge = far.cartridge; bytes = whole_told (s.left start.source) (s.left now.source) (train_lines far.trains) rest far.gave told };
+          over = record {
+            cartridge = far.cartridge;
+            bytes = whole_told (s.left start.source) (s.left now.source)
+                (train_lines far.trains) rest far.gave told;
+          };
           outcome = outcome_of (power_on far.known) input far.trains ending;
           plain = record { trains = far.trains; ending = ending; read = subst P (append-nil far.trains) read; comes = refl };
           answered = answered;
@@ -176,15 +197,18 @@ module _ {T S K : Type 0} {t : tapes.Meaning T} {s : sources.Meaning S} {k : sin
     over few (none, drive, inr stop) =
         let behind = stop_rest (s.left now.source) (s.left new.source) stop in
         ended_so behind.rest AtStop AllSent few none drive behind.told behind.has refl
-        (left_behind (s.left start.source) (s.left new.source) (train_lines far.trains ++ codes "end\n") (length (train_lines far.trains) + length (codes "end\n"))
+        (left_behind (s.left start.source) (s.left new.source) (train_lines far.trains ++ codes "end\n")
+        (length (train_lines far.trains) + length (codes "end\n"))
         (Gave-Gave s start.source now.source new.source (train_lines far.trains) (codes "end\n") far.gave stop)
         (sym (length-append (train_lines far.trains) (codes "end\n"))))
 
     -- a line is none
-    faulty : (number at : ℕ) → lines ≤ most_items → Went t s k now new [] → after ≡ r → number ≡ lines + 1 → at ≡ place → (on : GaveNoEnd s now.source new.source) →
+    faulty : (number at : ℕ) → lines ≤ most_items → Went t s k now new [] → after ≡ r → number ≡ lines + 1 → at ≡ place →
+        (on : GaveNoEnd s now.source new.source) →
         (lines + 1 ≤ most_items → HasNoTrain s now.source) → Ended t s k start new after (ScriptFault number at)
     faulty number at few none drive same equal on no_train =
-        let behind = fault_rest (s.left now.source) (s.left new.source) (lines + 1) on.n on.gave.0 on.some on.gave.1 on.gave.2 on.no_stop no_train in
+        let behind = fault_rest (s.left now.source) (s.left new.source) (lines + 1) on.n on.gave.0 on.some on.gave.1 on.gave.2 on.no_stop
+        no_train in
         ended_so behind.rest (AtFault number at) (ScriptFault number at) few none drive behind.told (behind.has, same, equal) refl (
           on.n,
           on.few,
@@ -202,33 +226,44 @@ module _ {T S K : Type 0} {t : tapes.Meaning T} {s : sources.Meaning S} {k : sin
         (went_then_cut t s k both start now new acts [] SourceFails far.went cut))
 
     -- the act of a train was cut off
-    act_failed : (failing : Failing) → lines < most_items → Heard s now.source new.source (λ train. Cut t s k now new (train_act r train ∷ []) failing) →
+    act_failed : (failing : Failing) → lines < most_items →
+        Heard s now.source new.source (λ train. Cut t s k now new (train_act r train ∷ []) failing) →
         CutOff t s k start new failing
     act_failed failing few heard =
         let before : Record = after_trains (power_on far.known) far.trains in
-        cut_off start new new.source far.known (push far.trains heard.train) failing far.cartridge (ArePulses-push far.trains heard.train far.are heard.pulse)
+        cut_off start new new.source far.known (push far.trains heard.train) failing far.cartridge
+        (ArePulses-push far.trains heard.train far.are heard.pulse)
         (let n = far.number in let l = length_push far.trains heard.train in omega arith) (gave_push heard.train heard.gave)
-        (subst (λ (acts : List Act). Cut t s k start new acts failing) (sym (train_acts-append (power_on far.known) far.trains (heard.train ∷ [])))
-        (went_then_cut t s k both start now new (train_acts (power_on far.known) far.trains) (train_act before heard.train ∷ []) failing far.went
+        (subst (λ (acts : List Act). Cut t s k start new acts failing)
+        (sym (train_acts-append (power_on far.known) far.trains (heard.train ∷ [])))
+        (went_then_cut t s k both start now new (train_acts (power_on far.known) far.trains)
+        (train_act before heard.train ∷ []) failing far.went
         (subst (λ (x : Record). Cut t s k now new (train_act x heard.train ∷ []) failing) far.drive heard.came)))
 
     -- how a line ended it
-    pub line_failed : lines < most_items → (why : PulseFault) → Hears t s k now new r after (lines + 1) place (Err why) → runs.PulsesEnd t s k start new after (Err why)
-    line_failed few (fault.Script number at) hears = faulty number at (omega arith) hears.0 hears.1 hears.2 hears.3 hears.4 (λ within. hears.5)
+    pub line_failed : lines < most_items → (why : PulseFault) → Hears t s k now new r after (lines + 1) place (Err why) →
+        runs.PulsesEnd t s k start new after (Err why)
+    line_failed few (fault.Script number at) hears = faulty number at (omega arith) hears.0 hears.1 hears.2 hears.3 hears.4
+        (λ within. hears.5)
     line_failed few fault.Source hears = source_failed (omega arith) hears
     line_failed few fault.Sink hears = act_failed SinkFails few hears
     line_failed few fault.Tape hears = act_failed TapeFails few hears
 
   -- how the line behind the last train ended it
-  pub end_came : TakesBoth k → (start now : Outside T S K) (r : Record) (source : S) (lines place : ℕ) (far : SoFar t s k start now r lines place) → lines ≡ most_items →
-      k.took now.sink [] now.sink → s.faults now.source ≤ s.faults source → (result : Result (Unit {0}) PulseFault) →
-      HearsEnd s now.source source (most_items + 1) place result → runs.PulsesEnd t s k start (record now { source = source }) r result
-  end_came both start now r source lines place far all nothing later (Ok done) hears =
-      over both start now (record now { source = source }) r r lines place far (omega arith) (rests now source nothing later, refl, hears)
-  end_came both start now r source lines place far all nothing later (Err (fault.Script number at)) hears =
-      faulty both start now (record now { source = source }) r r lines place far number at (omega arith) (rests now source nothing later) refl
+  pub end_came : TakesBoth k → (start now : Outside T S K) (r : Record) (source : S) (lines place : ℕ)
+      (far : SoFar t s k start now r lines place) → lines ≡ most_items →
+      k.took now.sink [] now.sink → (result : Result (Unit {0}) PulseFault) → s.faults now.source ≤ s.faults source →
+      (result ≢ Err fault.Source → s.faults source ≡ s.faults now.source) → HearsEnd s now.source source (most_items + 1) place result →
+      runs.PulsesEnd t s k start (record now { source = source }) r result
+  end_came both start now r source lines place far all nothing (Ok done) later stood hears =
+      over both start now (record now { source = source }) r r lines place far (omega arith)
+      (rests now source nothing (stood (λ e. cc)), refl, hears)
+  end_came both start now r source lines place far all nothing (Err (fault.Script number at)) later stood hears =
+      faulty both start now (record now { source = source }) r r lines place far number at (omega arith)
+      (rests now source nothing (stood (λ e. cc))) refl
       (hears.0 ∙ ap (λ (n : ℕ). n + 1) (sym all)) hears.1 hears.2 (λ within. absurd (omega arith))
-  end_came both start now r source lines place far all nothing later (Err fault.Source) hears =
-      source_failed both start now (record now { source = source }) r r lines place far (omega arith) (source_cut now source nothing later hears)
-  end_came both start now r source lines place far all nothing later (Err fault.Sink) hears = absurd hears
-  end_came both start now r source lines place far all nothing later (Err fault.Tape) hears = absurd hears
+  end_came both start now r source lines place far all nothing (Err fault.Source) later stood hears =
+      source_failed both start now (record now { source = source }) r r lines place far (omega arith)
+      (source_cut now source nothing later hears)
+  end_came both start now r source lines place far all nothing (Err fault.Sink) later stood hears = absurd hears
+  end_came both start now r source lines place far all nothing (Err fault.Tape) later stood hears = absurd hears

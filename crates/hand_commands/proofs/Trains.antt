@@ -1,5 +1,6 @@
 -- How `pulses` ended, by how the sending of its trains did.
-use Rattle.std.proofs.Common.{◌≡◌, ℕ, true, List, [], Option, Some, None, IfSome, Result, Ok, Err, refl, sym, ap, ◌∙◌, subst, inl, inr, append-nil}
+use Rattle.std.proofs.Common.{◌≡◌, ℕ, true, List, [], Option, Some, None, IfSome, Result, Ok, Err, refl, sym, ap, ◌∙◌, subst, inl, inr}
+use Rattle.std.proofs.Common.{append-nil}
 use Rattle.std.specs.Prelude.{is_some}
 use Rattle.qic_base.specs.Cartridge.{Cartridge, info_of}
 use Rattle.qic_base.specs.declared.tape.TapeInfo.{TapeInfo}
@@ -39,16 +40,19 @@ answer_done : (answer : Answer) → sent_status answer ≡ status.Done → answe
 answer_done AllSent is = refl
 answer_done (ScriptFault number before) is = cc
 
-names_fault : (known : Option TapeInfo) (input : List ℕ) (came : PulseRun) (answer : Answer) → PulsesOutcome known input came → came.answer ≡ answer →
+names_fault : (known : Option TapeInfo) (input : List ℕ) (came : PulseRun) (answer : Answer) → PulsesOutcome known input came →
+    came.answer ≡ answer →
     NamesFault words.Pulses input (sent_status answer)
 names_fault known input came answer plain is =
     let ends : came.answer ≡ pulses_answer plain.ending = ap (λ (o : PulseRun). o.answer) plain.comes in record {
       named = λ line place same. (
         plain.trains,
-        subst (IsPulses input plain.trains) (fault_ended plain.ending line place (sym ends ∙ is ∙ answer_named answer line place same)) plain.read,
+        subst (IsPulses input plain.trains) (fault_ended plain.ending line place (sym ends ∙ is ∙ answer_named answer line place same))
+            plain.read,
       );
       none = λ done line place fault.
-          let same = inputs.one_reading IsPulse inputs.pulses 1 0 input plain.trains fault.0 plain.ending (AtFault line place) plain.read fault.1 in
+          let same = inputs.one_reading IsPulse inputs.pulses 1 0 input plain.trains fault.0 plain.ending
+          (AtFault line place) plain.read fault.1 in
           let other : pulses_answer plain.ending ≡ ScriptFault line place = ap pulses_answer same.1 in
           let all : answer ≡ AllSent = answer_done answer done in
           cc;
@@ -56,7 +60,8 @@ names_fault known input came answer plain is =
 
 -- ---- over what is told
 
-over_known : (told : Option (Option Cartridge)) (left : Option (List ℕ)) (known : Option TapeInfo) (input : List ℕ) (P : Option Cartridge → List ℕ → Type 0) →
+over_known : (told : Option (Option Cartridge)) (left : Option (List ℕ)) (known : Option TapeInfo) (input : List ℕ)
+    (P : Option Cartridge → List ℕ → Type 0) →
     IfSome told (λ held. known ≡ info_of held) → IsInput left input → ((held : Option Cartridge) → known ≡ info_of held → P held input) →
     IfSome told (λ held. (input : List ℕ) × IsInput left input × P held input)
 over_known None left known input P cartridge bytes follows = tt
@@ -67,12 +72,14 @@ told_input None input P told is = tt
 told_input (Some bytes) input P told is = subst P told is
 
 -- a line at fault is one of those that an input may have
-sound_answer : (known : Option TapeInfo) (input : List ℕ) (came : PulseRun) (answer : Answer) → PulsesOutcome known input came → came.answer ≡ answer →
+sound_answer : (known : Option TapeInfo) (input : List ℕ) (came : PulseRun) (answer : Answer) → PulsesOutcome known input came →
+    came.answer ≡ answer →
     may_come_from (sent_status answer) words.Pulses ≡ true
 sound_answer known input came AllSent plain is = refl
 sound_answer known input came (ScriptFault line place) plain is =
     fault_line IsPulse 0 input plain.trains line place
-    (subst (IsPulses input plain.trains) (fault_ended plain.ending line place (sym (ap (λ (o : PulseRun). o.answer) plain.comes) ∙ is)) plain.read)
+    (subst (IsPulses input plain.trains) (fault_ended plain.ending line place (sym (ap (λ (o : PulseRun). o.answer) plain.comes) ∙ is))
+    plain.read)
 
 -- a result with no value
 abbrev of_unit : Result (Unit {0}) PulseFault → Result (Unit {0}) PulseFault
@@ -87,28 +94,36 @@ answered (Err fault.Sink) = status.SinkFault
 answered (Err fault.Tape) = status.TapeFault
 
 -- an outcome over what the drive knows is the one that came
-same_acts : (known : Option TapeInfo) (held : Option Cartridge) (input : List ℕ) (came : PulseRun) (outcome : CommandOutcome) → known ≡ info_of held →
+same_acts : (known : Option TapeInfo) (held : Option Cartridge) (input : List ℕ) (came : PulseRun) (outcome : CommandOutcome) →
+    known ≡ info_of held →
     PulsesOutcome known input came → SentOutcome held input outcome → came.acts ≡ outcome.acts
 same_acts known held input came outcome same plain sends =
     let run = run_of held input outcome sends in
-    ap (λ (o : PulseRun). o.acts) (one_outcome (info_of held) input came run.0 (subst (λ (k : Option TapeInfo). PulsesOutcome k input came) same plain) run.1)
+    ap (λ (o : PulseRun). o.acts) (one_outcome (info_of held) input came run.0
+    (subst (λ (k : Option TapeInfo). PulsesOutcome k input came) same plain) run.1)
     ∙ sym (ap (λ (o : CommandOutcome). o.acts) run.2)
 
 module _ {T S K : Type 0} (t : tapes.Meaning T) (s : sources.Meaning S) (k : sinks.Meaning K) (old new : Outside T S K) (r : Record) where
-  left_behind : (taken : ℕ) (answer : Answer) → runs.Leaves s old.source new.source taken answer → InputLeft (sent_status answer) taken (s.left old.source) (s.left new.source)
+  left_behind : (taken : ℕ) (answer : Answer) → runs.Leaves s old.source new.source taken answer → InputLeft (sent_status answer) taken
+      (s.left old.source) (s.left new.source)
   left_behind taken AllSent left = left
   left_behind taken (ScriptFault line place) left = (left.0, left.2, inl left.1)
 
   ended : (answer : Answer) → runs.Ended t s k old new r answer → CommandEnds t s k words.Pulses old new (sent_status answer)
   ended answer run =
-      let levels : AreLevels (text_of run.outcome.acts) = (run.known, (run.plain.trains, ap (λ (o : PulseRun). text_of o.acts) run.plain.comes)) in
+      let levels : AreLevels (text_of run.outcome.acts) =
+      (run.known, (run.plain.trains, ap (λ (o : PulseRun). text_of o.acts) run.plain.comes)) in
       inl (record {
         outcome = sent run.outcome;
         answered = sym (ap sent_status run.answered);
         told = over_known (t.told old.tape) (s.left old.source) run.known run.input
             (λ held input. IsOfBytes words.Pulses (s.left old.source) input × SentOutcome held input (sent run.outcome))
             run.over.cartridge run.over.bytes
-            (λ held same. (λ is. absurd (cc), sends_of held run.input run.outcome (subst (λ (known : Option TapeInfo). PulsesOutcome known run.input run.outcome) same run.plain)));
+            (λ held same. (
+              λ is. absurd (cc),
+              sends_of held run.input run.outcome
+                  (subst (λ (known : Option TapeInfo). PulsesOutcome known run.input run.outcome) same run.plain),
+            ));
         went = run.went;
         left = left_behind run.outcome.taken answer run.left;
         sound = sound_answer run.known run.input run.outcome answer run.plain run.answered;
@@ -132,7 +147,8 @@ module _ {T S K : Type 0} (t : tapes.Meaning T) (s : sources.Meaning S) (k : sin
           (λ held same. (
             λ is. absurd (cc),
             λ outcome plain. record {
-              cut = subst (λ (acts : List Act). Cut t s k old new acts failing) (same_acts run.known held run.input run.outcome outcome same run.plain plain) run.cut;
+              cut = subst (λ (acts : List Act). Cut t s k old new acts failing)
+                  (same_acts run.known held run.input run.outcome outcome same run.plain plain) run.cut;
               done = λ sink still. absurd (cc);
               silent = λ still. absurd (cc);
             },
@@ -150,7 +166,8 @@ module _ {T S K : Type 0} (t : tapes.Meaning T) (s : sources.Meaning S) (k : sin
     },
   )
 
-  pub pulses_end : (result : Result (Unit {0}) PulseFault) → runs.PulsesEnd t s k old new r result → is_some (s.left new.source) ≡ is_some (s.left old.source) →
+  pub pulses_end : (result : Result (Unit {0}) PulseFault) → runs.PulsesEnd t s k old new r result → is_some (s.left new.source) ≡ is_some
+      (s.left old.source) →
       CommandEnds t s k words.Pulses old new (answered result)
   pulses_end (Ok done) run tells = ended AllSent run
   pulses_end (Err (fault.Script line place)) run tells = ended (ScriptFault line place) run
@@ -158,6 +175,8 @@ module _ {T S K : Type 0} (t : tapes.Meaning T) (s : sources.Meaning S) (k : sin
   pulses_end (Err fault.Sink) run tells = cut_off SinkFails run tells
   pulses_end (Err fault.Tape) run tells = cut_off TapeFails run tells
 
-  pub pulses_failed : (f is : PulseFault) → f ≡ is → runs.PulsesEnd t s k old new r (of_unit (Err f)) → is_some (s.left new.source) ≡ is_some (s.left old.source) →
+  pub pulses_failed : (f is : PulseFault) → f ≡ is → runs.PulsesEnd t s k old new r (of_unit (Err f)) →
+      is_some (s.left new.source) ≡ is_some (s.left old.source) →
       CommandEnds t s k words.Pulses old new (answered (Err is))
-  pulses_failed f is same run tells = subst (λ (g : PulseFault). CommandEnds t s k words.Pulses old new (answered (Err g))) same (pulses_end (Err f) run tells)
+  pulses_failed f is same run tells = subst (λ (g : PulseFault). CommandEnds t s k words.Pulses old new (answered (Err g))) same
+      (pulses_end (Err f) run tells)

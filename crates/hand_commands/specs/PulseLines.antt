@@ -33,7 +33,8 @@ HasNoTrain s old = (train : ℕ) → BeginsWithNo s old (λ text. IsPulse text t
 -- What a line did that may be a train, with this number and so many bytes before it, and with the drive before and
 -- after: it was a train's, of so many bytes, whose act went; the input is over; it is none; or a fault of the outside
 -- cut it off.
-abbrev pub Hears : {T S K : Type 0} (t : tapes.Meaning T) (s : sources.Meaning S) (k : sinks.Meaning K) (old new : Outside T S K) (before after : Record) (line place : ℕ) → Result (Option ℕ) PulseFault → Type 0
+abbrev pub Hears : {T S K : Type 0} (t : tapes.Meaning T) (s : sources.Meaning S) (k : sinks.Meaning K) (old new : Outside T S K)
+    (before after : Record) (line place : ℕ) → Result (Option ℕ) PulseFault → Type 0
 Hears t s k old new before after line place (Ok (Some n)) =
     Heard s old.source new.source (λ train.
     (n ≡ length (train_line train)) × (after ≡ pulsed_row before train) × Went t s k old new (train_act before train ∷ []))

@@ -16,7 +16,8 @@ use Rattle.qic_base.specs.Cartridge.{info_of}
 
 -- What the drive learnt when the cartridge was put in, and the input: what the tape and the source told, or some where
 -- they tell none.
-pub record Over {T S K : Type 0} (t : tapes.Meaning T) (s : sources.Meaning S) (old : Outside T S K) (known : Option TapeInfo) (input : List ℕ) : Type 0 where
+pub record Over {T S K : Type 0} (t : tapes.Meaning T) (s : sources.Meaning S) (old : Outside T S K) (known : Option TapeInfo)
+    (input : List ℕ) : Type 0 where
   pub cartridge : IfSome (t.told old.tape) (λ held. known ≡ info_of held)
   pub bytes : IsInput (s.left old.source) input
 
@@ -26,7 +27,8 @@ Leaves s old new taken AllSent = s.left new ≡ option_map (drop taken) (s.left 
 Leaves s old new taken (ScriptFault line place) = LeftFromLine s old new place
 
 -- It came to its end, with this drive and this answer: the plain machine's outcome, all of whose acts went.
-pub record Ended {T S K : Type 0} (t : tapes.Meaning T) (s : sources.Meaning S) (k : sinks.Meaning K) (old new : Outside T S K) (r : Record) (answer : Answer) : Type 0 where
+pub record Ended {T S K : Type 0} (t : tapes.Meaning T) (s : sources.Meaning S) (k : sinks.Meaning K) (old new : Outside T S K) (r : Record)
+    (answer : Answer) : Type 0 where
   pub known : Option TapeInfo
   pub input : List ℕ
   pub over : Over t s old known input
@@ -38,7 +40,8 @@ pub record Ended {T S K : Type 0} (t : tapes.Meaning T) (s : sources.Meaning S) 
   pub left : Leaves s old.source new.source outcome.taken answer
 
 -- A fault of this object of the outside cut it off, in the midst of the acts of the plain machine's outcome.
-pub record CutOff {T S K : Type 0} (t : tapes.Meaning T) (s : sources.Meaning S) (k : sinks.Meaning K) (old new : Outside T S K) (failing : Failing) : Type 0 where
+pub record CutOff {T S K : Type 0} (t : tapes.Meaning T) (s : sources.Meaning S) (k : sinks.Meaning K) (old new : Outside T S K)
+    (failing : Failing) : Type 0 where
   pub known : Option TapeInfo
   pub input : List ℕ
   pub over : Over t s old known input
@@ -47,7 +50,8 @@ pub record CutOff {T S K : Type 0} (t : tapes.Meaning T) (s : sources.Meaning S)
   pub cut : Cut t s k old new outcome.acts failing
 
 -- how a run ended, and with which drive
-abbrev pub PulsesEnd : {T S K : Type 0} (t : tapes.Meaning T) (s : sources.Meaning S) (k : sinks.Meaning K) (old new : Outside T S K) (r : Record) → Result (Unit {0}) PulseFault → Type 0
+abbrev pub PulsesEnd : {T S K : Type 0} (t : tapes.Meaning T) (s : sources.Meaning S) (k : sinks.Meaning K) (old new : Outside T S K)
+    (r : Record) → Result (Unit {0}) PulseFault → Type 0
 PulsesEnd t s k old new r (Ok done) = Ended t s k old new r AllSent
 PulsesEnd t s k old new r (Err (fault.Script line place)) = Ended t s k old new r (ScriptFault line place)
 PulsesEnd t s k old new r (Err fault.Source) = CutOff t s k old new SourceFails

@@ -1,5 +1,6 @@
 -- The tests of a header's fields, as a reader makes them.
-use Rattle.std.proofs.Common.{◌≡◌, ℕ, ◌-◌, ◌/◌, ◌%◌, ◌<◌, List, [], get_or, refl, arith, zero, suc, ◌+◌, ◌∷◌, take, drop, ◌∙◌, ◌==◌, true, None, sym, eq-eqb, false, Some, Bool, cond, ap, Option}
+use Rattle.std.proofs.Common.{◌≡◌, ℕ, ◌-◌, ◌/◌, ◌%◌, ◌<◌, List, [], get_or, refl, arith, zero, suc, ◌+◌, ◌∷◌, take, drop, ◌∙◌, ◌==◌, true}
+use Rattle.std.proofs.Common.{None, sym, eq-eqb, false, Some, Bool, cond, ap, Option}
 use Rattle.std.proofs.lemmas.Option.{unwrap_or-slice_get}
 use Rattle.std.specs.Option.{option_map}
 use Rattle.std.proofs.lemmas.Bool.{ne_eqb}
@@ -35,12 +36,14 @@ pub number_in-byte : (area : List (List ℕ)) (at : ℕ) → at < 1024 → numbe
 number_in-byte area at h = number_in-first area at 1 h ∙ number_at-one (get_or area 0 []) at
 
 -- a test by the number that was found
-pub tested-same : (area : List (List ℕ)) (name : ForeignField) (at width value found : ℕ) → found ≡ number_in area at width → found ≡ value → None ≡ option_map foreign (field_fault area (tested name at width value))
+pub tested-same : (area : List (List ℕ)) (name : ForeignField) (at width value found : ℕ) → found ≡ number_in area at width →
+    found ≡ value → None ≡ option_map foreign (field_fault area (tested name at width value))
 tested-same area name at width value found is same =
     let equal : (number_in area at width == value) ≡ true = eq-eqb _ _ (sym is ∙ same) in
     rw equal refl
 
-pub tested-other : (area : List (List ℕ)) (name : ForeignField) (at width value found : ℕ) → found ≡ number_in area at width → (found ≡ value → ⊥) → Some (Foreign name found) ≡ option_map foreign (field_fault area (tested name at width value))
+pub tested-other : (area : List (List ℕ)) (name : ForeignField) (at width value found : ℕ) → found ≡ number_in area at width →
+    (found ≡ value → ⊥) → Some (Foreign name found) ≡ option_map foreign (field_fault area (tested name at width value))
 tested-other area name at width value found is other =
     let unequal : (number_in area at width == value) ≡ false = ne_eqb _ _ (λ e. other (is ∙ e)) in
     rw (is, unequal) refl
@@ -67,8 +70,10 @@ refusal-segments area n none = by_signature (has_signature area) refl
         let some : refusal area n ≡ Some NoSignature = refusal-unsigned area n unsigned in
         absurd (cc)
 
-pub map_fault-first : (area : List (List ℕ)) (s : ℕ) → s < 3 → ((j : ℕ) → j < s → word_in area j ≡ 0) → (word_in area s ≡ 0 → ⊥) → map_fault area ≡ Some (fault_as Map s)
+pub map_fault-first : (area : List (List ℕ)) (s : ℕ) → s < 3 → ((j : ℕ) → j < s → word_in area j ≡ 0) → (word_in area s ≡ 0 → ⊥) →
+    map_fault area ≡ Some (fault_as Map s)
 map_fault-first area zero h before bad = rw (ne_eqb _ 0 bad) refl
 map_fault-first area (suc zero) h before bad = rw (eq-eqb _ 0 (before 0 (omega arith)), ne_eqb _ 0 bad) refl
-map_fault-first area (suc (suc zero)) h before bad = rw (eq-eqb _ 0 (before 0 (omega arith)), eq-eqb _ 0 (before 1 (omega arith)), ne_eqb _ 0 bad) refl
+map_fault-first area (suc (suc zero)) h before bad =
+    rw (eq-eqb _ 0 (before 0 (omega arith)), eq-eqb _ 0 (before 1 (omega arith)), ne_eqb _ 0 bad) refl
 map_fault-first area (suc (suc (suc n))) h before bad = absurd (omega arith)

@@ -11,7 +11,8 @@ use Rattle.qic_base.specs.Field.{little_endian_bytes, overwritten}
 -- ---- single writes
 
 -- one byte as a field
-pub set-overwritten : (sector : List ℕ) (at value : ℕ) → at < length sector → value < 256 → set sector at value ≡ overwritten sector at (little_endian_bytes 1 value)
+pub set-overwritten : (sector : List ℕ) (at value : ℕ) → at < length sector → value < 256 → set sector at value ≡ overwritten sector at
+    (little_endian_bytes 1 value)
 unfolding overwritten little_endian_bytes
 set-overwritten sector at value h small =
     let same : value % 256 ≡ value = omega arith in

@@ -2,4 +2,5 @@ pub mod Added
 pub mod Formats
 pub mod Mounted
 pub mod Restored
+pub mod Rooms
 pub mod Scrubbed

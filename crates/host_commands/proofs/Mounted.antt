@@ -1,5 +1,6 @@
 -- How the commands that mount a cartridge end.
-use Rattle.std.proofs.Common.{◌≡◌, ◌≢◌, ◌⊎◌, ℕ, ◌++◌, ◌∷◌, Bool, true, false, List, [], length, Option, Some, None, IfSome, IsSomeAnd, Result, Err, refl, sym, ap, ◌∙◌, subst, inl, inr, append-nil, arith, ◌&&◌, nat_le}
+use Rattle.std.proofs.Common.{◌≡◌, ◌≢◌, ◌⊎◌, ℕ, ◌++◌, ◌∷◌, Bool, true, false, List, [], length, Option, Some, None, IfSome, IsSomeAnd}
+use Rattle.std.proofs.Common.{Result, Err, refl, sym, ap, ◌∙◌, subst, inl, inr, append-nil, arith, ◌&&◌, nat_le}
 use Rattle.qic_base.specs.Cartridge.{Cartridge}
 use Rattle.qic_base.specs.declared.tape.TapeInfo.{TapeInfo}
 use Rattle.qic_base.specs.declared.sink.SinkFailed.{SinkFailed}
@@ -35,7 +36,8 @@ use Rattle.volume_store.proofs.Started.{Present}
 use Rattle.cartridge_front.specs.declared.fault.StoreFault.{StoreFault}
 use Rattle.cartridge_front.specs.Learning.{MountRefuses}
 use Rattle.hand_commands.specs.Outcome.{first_steps}
-use Rattle.host_commands.specs.Opening.{IsRefusal, RefusesOpening, is_opening, NoStart, OpeningRefused, OpeningEnds, IsUnlocked, WritableEnds}
+use Rattle.host_commands.specs.Opening.{IsRefusal, RefusesOpening, is_opening, NoStart, OpeningRefused, OpeningEnds, IsUnlocked}
+use Rattle.host_commands.specs.Opening.{WritableEnds}
 use Rattle.host_commands.specs.Statuses.{store_status, open_status}
 use Rattle.hand_commands.specs.Writing.{printed_status}
 use Rattle.hand_commands.proofs.Endings.{IsBlind, printed, turned_down, cut_off, told_map}
@@ -57,8 +59,10 @@ use Rattle.volume_store.specs.declared.opening.OpenFault.TheVariants as open_fau
 -- ---- outcomes
 
 -- a cartridge was opened, and a command does this on it
-pub opened_is : (goes : Going) (outcome : CommandOutcome) (store : StoreView) (steps : List TapeStep) (held : Option Cartridge) → IsSomeAnd held (λ c. IsOpened c store steps) →
-    ((c : Cartridge) (table : List (List ℕ)) → held ≡ Some c → mounting.Mounts c (mounting.Mounted store.header store.words table store.entries) → steps ≡ settling_steps table c →
+pub opened_is : (goes : Going) (outcome : CommandOutcome) (store : StoreView) (steps : List TapeStep) (held : Option Cartridge) →
+    IsSomeAnd held (λ c. IsOpened c store steps) →
+    ((c : Cartridge) (table : List (List ℕ)) → held ≡ Some c →
+    mounting.Mounts c (mounting.Mounted store.header store.words table store.entries) → steps ≡ settling_steps table c →
     goes c store.header store.words table store.entries outcome) → OpenOutcome goes held outcome
 opened_is goes outcome store steps None is does = absurd is
 opened_is goes outcome store steps (Some c) is does =
@@ -85,27 +89,34 @@ BeginsSettling goes =
     (c : Cartridge) (header : Header) (ws : List ℕ) (table : List (List ℕ)) (entries : List Entry) (outcome : CommandOutcome) →
     goes c header ws table entries outcome → first_steps outcome ≡ settling_steps table c
 
-pub begins_is : (goes : Going) → BeginsSettling goes → (steps : List TapeStep) (held : Option Cartridge) → (steps ≡ []) ⊎ IsSomeAnd held (λ c. IsSettling c steps) →
+pub begins_is : (goes : Going) → BeginsSettling goes → (steps : List TapeStep) (held : Option Cartridge) → (steps ≡ [])
+    ⊎ IsSomeAnd held (λ c. IsSettling c steps) →
     (outcome : CommandOutcome) → OpenOutcome goes held outcome → BeginsSteps steps outcome
-begins_is goes first steps held (inl none) outcome plain = (first_steps outcome, ap (λ (ss : List TapeStep). ss ++ first_steps outcome) none)
+begins_is goes first steps held (inl none) outcome plain =
+    (first_steps outcome, ap (λ (ss : List TapeStep). ss ++ first_steps outcome) none)
 begins_is goes first steps None (inr settling) outcome plain = absurd settling
 begins_is goes first steps (Some c) (inr settling) outcome (m, mounts, is) =
     let found = settling.settles in
-    let same : m ≡ mounting.Mounted settling.header settling.words found.table settling.entries = mounts_is_function c m _ mounts found.mounts in
-    let does : goes c settling.header settling.words found.table settling.entries outcome = subst (λ (n : Mounting). Opened goes c n outcome) same is in
+    let same : m ≡ mounting.Mounted settling.header settling.words found.table settling.entries =
+    mounts_is_function c m _ mounts found.mounts in
+    let does : goes c settling.header settling.words found.table settling.entries outcome =
+    subst (λ (n : Mounting). Opened goes c n outcome) same is in
     ([], append-nil steps ∙ found.settles ∙ sym (first c settling.header settling.words found.table settling.entries outcome does))
 
 -- ---- with a cartridge that is written on
 
-pub locked_is : (goes : Going) (held : Option Cartridge) → IsSomeAnd held (λ c. c.info.protected ≡ true) → WritableOutcome goes held (refused status.Protected)
+pub locked_is : (goes : Going) (held : Option Cartridge) → IsSomeAnd held (λ c. c.info.protected ≡ true) →
+    WritableOutcome goes held (refused status.Protected)
 locked_is goes None locked = absurd locked
 locked_is goes (Some c) locked = inl (locked, refl)
 
-pub unlocked_refused_is : (goes : Going) (why : Status) (held : Option Cartridge) → IfSome held (λ c. c.info.protected ≡ false) → RefusesOpening held why → WritableOutcome goes held (refused why)
+pub unlocked_refused_is : (goes : Going) (why : Status) (held : Option Cartridge) → IfSome held (λ c. c.info.protected ≡ false) →
+    RefusesOpening held why → WritableOutcome goes held (refused why)
 unlocked_refused_is goes why None free is = ap refused is
 unlocked_refused_is goes why (Some c) free is = inr (free, refused_is goes why (Some c) is)
 
-pub writable_begins : (goes : Going) → BeginsSettling goes → (steps : List TapeStep) (held : Option Cartridge) → (steps ≡ []) ⊎ IsSomeAnd held (λ c. IsSettling c steps) →
+pub writable_begins : (goes : Going) → BeginsSettling goes → (steps : List TapeStep) (held : Option Cartridge) → (steps ≡ [])
+    ⊎ IsSomeAnd held (λ c. IsSettling c steps) →
     (outcome : CommandOutcome) → WritableOutcome goes held outcome → BeginsSteps steps outcome
 writable_begins goes first steps None front outcome plain = begins_is goes first steps None front outcome plain
 writable_begins goes first steps (Some c) front outcome (inr (free, plain)) = begins_is goes first steps (Some c) front outcome plain
@@ -118,7 +129,8 @@ writable_begins goes first steps (Some c) front outcome (inl (locked, is)) =
 
 -- ---- how a mounting ends
 
-refuses_mounting : (f : StoreFault) (held : Option Cartridge) → IsSomeAnd held (λ c. MountRefuses c f) → RefusesOpening held (store_status f)
+refuses_mounting : (f : StoreFault) (held : Option Cartridge) → IsSomeAnd held (λ c. MountRefuses c f) →
+    RefusesOpening held (store_status f)
 refuses_mounting f None refuses = absurd refuses
 refuses_mounting fault.NotFormatted (Some c) refuses = (mounting.NotFormatted, refuses, refl)
 refuses_mounting (fault.Foreign field value) (Some c) refuses = (mounting.Foreign (fault_as field value), refuses, refl)
@@ -133,7 +145,8 @@ absent_told (Some None) none = refl
 absent_told (Some (Some c)) none = absurd (cc)
 
 -- the refusals of an opening have an answer each
-pub never_short : {T : Type 0} (t : tapes.Meaning T) (a b : T) (why : OpenFault) → OpenFails t a b why → (promised read : ℕ) → why ≢ open_fault.Refused (fault.Short promised read)
+pub never_short : {T : Type 0} (t : tapes.Meaning T) (a b : T) (why : OpenFault) → OpenFails t a b why → (promised read : ℕ) →
+    why ≢ open_fault.Refused (fault.Short promised read)
 never_short t a b open_fault.NoCartridge fails promised read is = cc
 never_short t a b (open_fault.Refused (fault.Short p r)) fails promised read is = let kind = fails.kind in absurd (cc)
 never_short t a b (open_fault.Refused f) fails promised read is = cc
@@ -143,7 +156,8 @@ start_failed t a b open_fault.NoCartridge fails = inl (refl, fails)
 start_failed t a b (open_fault.Refused fault.Tape) fails = inr (refl, fails)
 start_failed t a b (open_fault.Refused f) fails = absurd fails
 
-turned : {T : Type 0} (t : tapes.Meaning T) (a b : T) (f : StoreFault) → IsTurnedDown t a b f → is_opening (store_status f) ≡ true → OpeningRefused t a b (store_status f)
+turned : {T : Type 0} (t : tapes.Meaning T) (a b : T) (f : StoreFault) → IsTurnedDown t a b f → is_opening (store_status f) ≡ true →
+    OpeningRefused t a b (store_status f)
 turned t a b f refused sound = record {
   did = refused.did;
   sound = sound;
@@ -151,7 +165,8 @@ turned t a b f refused sound = record {
 }
 
 -- a cartridge can't be opened
-pub open_failed : {T : Type 0} (t : tapes.Meaning T) (a : T) (b : UnitView T) (why : OpenFault) → OpenFails t a b.tape why → OpeningEnds t a b (Err (open_status why))
+pub open_failed : {T : Type 0} (t : tapes.Meaning T) (a : T) (b : UnitView T) (why : OpenFault) → OpenFails t a b.tape why →
+    OpeningEnds t a b (Err (open_status why))
 open_failed t a b open_fault.NoCartridge fails = inl (record { did = fails.0; sound = refl; told = absent_told (t.told a) fails.1 })
 open_failed t a b (open_fault.Refused fault.NotFormatted) fails = inl (turned t a b.tape fault.NotFormatted fails refl)
 open_failed t a b (open_fault.Refused (fault.Foreign field value)) fails =
@@ -165,24 +180,28 @@ open_failed t a b (open_fault.Refused f) fails = let kind = fails.kind in absurd
 
 -- ---- .. of a cartridge to write on
 
-pub unlocked_known : {T : Type 0} (t : tapes.Meaning T) (a b : T) (info : TapeInfo) → Present t a b info → info.protected ≡ false → IsUnlocked t a
+pub unlocked_known : {T : Type 0} (t : tapes.Meaning T) (a b : T) (info : TapeInfo) → Present t a b info → info.protected ≡ false →
+    IsUnlocked t a
 unlocked_known t a b info there free = told_map (t.told a) _ _ there.known (λ held known. by_held held known)
   where
     by_held : (held : Option Cartridge) → IsInfoOf (Some info) held → IfSome held (λ c. c.info.protected ≡ false)
     by_held None known = tt
     by_held (Some c) known = let same : info ≡ c.info = cc in ap (λ (i : TapeInfo). i.protected) (sym same) ∙ free
 
-absent_unlocked : (o : Option (Option Cartridge)) → IfSome o (λ held. held ≡ None) → IfSome o (λ held. IfSome held (λ c. c.info.protected ≡ false))
+absent_unlocked : (o : Option (Option Cartridge)) → IfSome o (λ held. held ≡ None) →
+    IfSome o (λ held. IfSome held (λ c. c.info.protected ≡ false))
 absent_unlocked None none = tt
 absent_unlocked (Some None) none = tt
 absent_unlocked (Some (Some c)) none = absurd (cc)
 
-pub writable_unstarted : {T : Type 0} (t : tapes.Meaning T) (a : T) (b : UnitView T) (why : Status) → NoStart t a b.tape why → WritableEnds t a b (Err why)
+pub writable_unstarted : {T : Type 0} (t : tapes.Meaning T) (a : T) (b : UnitView T) (why : Status) → NoStart t a b.tape why →
+    WritableEnds t a b (Err why)
 writable_unstarted t a b why (inl (is, (did, none))) =
     inr (inl (absent_unlocked (t.told a) none, record { did = did; sound = ap is_opening is; told = rw is (absent_told (t.told a) none) }))
 writable_unstarted t a b why (inr (is, broke)) = inr (inr (is, cut_first t a b.tape broke))
 
-pub writable_failed : {T : Type 0} (t : tapes.Meaning T) (a : T) (b : UnitView T) (why : Status) → IsUnlocked t a → OpeningEnds t a b (Err why) → WritableEnds t a b (Err why)
+pub writable_failed : {T : Type 0} (t : tapes.Meaning T) (a : T) (b : UnitView T) (why : Status) → IsUnlocked t a →
+    OpeningEnds t a b (Err why) → WritableEnds t a b (Err why)
 writable_failed t a b why free (inl turned) = inr (inl (free, turned))
 writable_failed t a b why free (inr cut) = inr (inr cut)
 
@@ -192,7 +211,8 @@ pub no_outcome : (why : Status) → is_opening why ≡ true → why ≢ status.D
 no_outcome why sound same = let no = ap is_opening same in cc
 
 -- a segment that an opening finds lost is that of the volume table
-pub table_lost : (segment lost : ℕ) (b : Bool) → (nat_lt 3 lost && segment == 2) ≡ true → (segment ≡ 2 → b ≡ true) → (nat_lt 3 lost && (nat_le 2 segment && b)) ≡ true
+pub table_lost : (segment lost : ℕ) (b : Bool) → (nat_lt 3 lost && segment == 2) ≡ true → (segment ≡ 2 → b ≡ true) →
+    (nat_lt 3 lost && (nat_le 2 segment && b)) ≡ true
 table_lost segment lost b sound allows =
     let both = and_parts (nat_lt 3 lost) (segment == 2) sound in
     let at : segment ≡ 2 = eqb-true segment 2 both.1 in
@@ -243,43 +263,57 @@ info_follows = record {
   found = found_by_info;
 }
 
-pub refuses : {T K : Type 0} (t : tapes.Meaning T) (k : sinks.Meaning K) (command : Words) (goes : Going) (a : T) (b : UnitView T) (x : K) (why : Status) → Follows command goes → ((z : K) → k.took z [] z) →
+pub refuses : {T K : Type 0} (t : tapes.Meaning T) (k : sinks.Meaning K) (command : Words) (goes : Going) (a : T) (b : UnitView T) (x : K)
+    (why : Status) → Follows command goes → ((z : K) → k.took z [] z) →
     OpeningEnds t a b (Err why) → EndsBlind t k command a b.tape x x why
 refuses t k command goes a b x why follows nothing (inl turned) =
     turned_down t k command follows.blind a b.tape x why nothing (follows.found why turned.sound) (no_outcome why turned.sound)
     (told_map (t.told a) _ _ turned.told (λ held is. follows.rules held (refused why) (refused_is goes why held is))) turned.did
 refuses t k command goes a b x why follows nothing (inr (is, cut)) =
     rw is (cut_off t k command follows.blind a b.tape x cut.steps nothing
-    (told_map (t.told a) _ _ cut.front (λ held front outcome rules. begins_is goes follows.first cut.steps held front outcome (follows.plain held outcome rules))) cut.broke)
+    (told_map (t.told a) _ _ cut.front (λ held front outcome rules. begins_is goes follows.first cut.steps held front outcome
+    (follows.plain held outcome rules))) cut.broke)
 
-shows : {T K : Type 0} (t : tapes.Meaning T) (k : sinks.Meaning K) (command : Words) (prints : Printing) (a : T) (b : UnitView T) (x y : K) (store : StoreView) (r : Result (Unit {0}) SinkFailed) → Follows command (Shows prints) →
-    CommandPrints command (prints store.header store.words store.entries) → HasOpened t a b store → sink_calls.Writes k x y (prints store.header store.words store.entries) r → EndsBlind t k command a b.tape x y (printed_status r)
+shows : {T K : Type 0} (t : tapes.Meaning T) (k : sinks.Meaning K) (command : Words) (prints : Printing) (a : T) (b : UnitView T) (x y : K)
+    (store : StoreView) (r : Result (Unit {0}) SinkFailed) → Follows command (Shows prints) →
+    CommandPrints command (prints store.header store.words store.entries) → HasOpened t a b store →
+    sink_calls.Writes k x y (prints store.header store.words store.entries) r → EndsBlind t k command a b.tape x y (printed_status r)
 shows t k command prints a b x y store r follows text opening writes =
     printed t k command follows.blind a b.tape x y (acted opening.steps (prints store.header store.words store.entries)) r refl refl text
-    (told_map (t.told a) _ _ opening.told (λ held is. follows.rules held (acted opening.steps (prints store.header store.words store.entries))
+    (told_map (t.told a) _ _ opening.told
+    (λ held is. follows.rules held (acted opening.steps (prints store.header store.words store.entries))
     (opened_is (Shows prints) (acted opening.steps (prints store.header store.words store.entries)) store opening.steps held is
-    (λ c table there mounts settles. ap (λ (ss : List TapeStep). acted ss (prints store.header store.words store.entries)) settles)))) opening.did writes
+    (λ c table there mounts settles. ap (λ (ss : List TapeStep). acted ss (prints store.header store.words store.entries)) settles))))
+    opening.did writes
 
-pub list_refused : {T K : Type 0} (t : tapes.Meaning T) (k : sinks.Meaning K) (a : T) (b : UnitView T) (x : K) (why : Status) → ((z : K) → k.took z [] z) → OpeningEnds t a b (Err why) → EndsBlind t k words.List a b.tape x x why
+pub list_refused : {T K : Type 0} (t : tapes.Meaning T) (k : sinks.Meaning K) (a : T) (b : UnitView T) (x : K) (why : Status) →
+    ((z : K) → k.took z [] z) → OpeningEnds t a b (Err why) → EndsBlind t k words.List a b.tape x x why
 list_refused t k a b x why nothing ends = refuses t k words.List (Shows listing) a b x why list_follows nothing ends
 
-pub list_printed : {T K : Type 0} (t : tapes.Meaning T) (k : sinks.Meaning K) (a : T) (b : UnitView T) (x y : K) (store : StoreView) (r : Result (Unit {0}) SinkFailed) → HasOpened t a b store →
+pub list_printed : {T K : Type 0} (t : tapes.Meaning T) (k : sinks.Meaning K) (a : T) (b : UnitView T) (x y : K) (store : StoreView)
+    (r : Result (Unit {0}) SinkFailed) → HasOpened t a b store →
     sink_calls.Writes k x y (list_text store.words store.entries) r → EndsBlind t k words.List a b.tape x y (printed_status r)
-list_printed t k a b x y store r mounted printed = shows t k words.List listing a b x y store r list_follows (store.header, (store.words, (store.entries, refl))) mounted printed
+list_printed t k a b x y store r mounted printed = shows t k words.List listing a b x y store r list_follows
+    (store.header, (store.words, (store.entries, refl))) mounted printed
 
-pub info_refused : {T K : Type 0} (t : tapes.Meaning T) (k : sinks.Meaning K) (a : T) (b : UnitView T) (x : K) (why : Status) → ((z : K) → k.took z [] z) → OpeningEnds t a b (Err why) → EndsBlind t k words.Info a b.tape x x why
+pub info_refused : {T K : Type 0} (t : tapes.Meaning T) (k : sinks.Meaning K) (a : T) (b : UnitView T) (x : K) (why : Status) →
+    ((z : K) → k.took z [] z) → OpeningEnds t a b (Err why) → EndsBlind t k words.Info a b.tape x x why
 info_refused t k a b x why nothing ends = refuses t k words.Info (Shows telling) a b x why info_follows nothing ends
 
-pub info_printed : {T K : Type 0} (t : tapes.Meaning T) (k : sinks.Meaning K) (a : T) (b : UnitView T) (x y : K) (store : StoreView) (r : Result (Unit {0}) SinkFailed) → HasOpened t a b store →
-    sink_calls.Writes k x y (info_text store.header store.words (length store.entries)) r → EndsBlind t k words.Info a b.tape x y (printed_status r)
+pub info_printed : {T K : Type 0} (t : tapes.Meaning T) (k : sinks.Meaning K) (a : T) (b : UnitView T) (x y : K) (store : StoreView)
+    (r : Result (Unit {0}) SinkFailed) → HasOpened t a b store →
+    sink_calls.Writes k x y (info_text store.header store.words (length store.entries)) r → EndsBlind t k words.Info a b.tape x y
+    (printed_status r)
 info_printed t k a b x y store r mounted printed =
     shows t k words.Info telling a b x y store r info_follows (store.header, (store.words, (store.entries, refl))) mounted printed
 
 -- ---- commands that read an input
 
 -- the opening was cut off before anything of the input was taken
-pub input_unread : {T S K : Type 0} (t : tapes.Meaning T) (s : sources.Meaning S) (k : sinks.Meaning K) (command : Words) (a b : T) (i : S) (x : K) (cut : SettlingBreaks t a b) → ((z : K) → k.took z [] z) →
-    IfSome (t.told a) (λ held. (outcome : CommandOutcome) → Yields command held (input_of (s.left i)) outcome → BeginsSteps cut.steps outcome) →
+pub input_unread : {T S K : Type 0} (t : tapes.Meaning T) (s : sources.Meaning S) (k : sinks.Meaning K) (command : Words) (a b : T) (i : S)
+    (x : K) (cut : SettlingBreaks t a b) → ((z : K) → k.took z [] z) →
+    IfSome (t.told a) (λ held. (outcome : CommandOutcome) → Yields command held (input_of (s.left i)) outcome →
+    BeginsSteps cut.steps outcome) →
     CommandEnds t s k command (outside a i x) (outside b i x) status.TapeFault
 input_unread t s k command a b i x cut nothing front = inr (
   TapeFails,

@@ -1,5 +1,6 @@
 -- How the restoring of a volume ends.
-use Rattle.std.proofs.Common.{◌≡◌, ◌≢◌, ℕ, false, List, [], ◌∷◌, length, true, Some, None, Ok, Err, refl, sym, ap, ◌∙◌, subst, inl, inr, arith}
+use Rattle.std.proofs.Common.{◌≡◌, ◌≢◌, ℕ, false, List, [], ◌∷◌, length, true, Some, None, Ok, Err, refl, sym, ap, ◌∙◌, subst, inl, inr}
+use Rattle.std.proofs.Common.{arith}
 use Rattle.command_laws.proofs.RestoreBehind.{piece_behind}
 use Rattle.cartridge_laws.specs.Table.{IsSoundList}
 use Rattle.std.specs.Prelude.{◌==◌, ◌&&◌, nat_lt, zero, suc, ◌||◌, nat_le, ◌≤◌}
@@ -50,7 +51,8 @@ gives_first number c header ws table entries outcome (inl none) = ap (λ (o : Co
 gives_first number c header ws table entries outcome (inr found) = ap (λ (o : CommandOutcome). first_steps o) found.is
 
 -- there is no volume of the number
-none_sound : (entries : List Entry) (number : ℕ) → volume_at entries number ≡ None → (command_of (words.Restore number)).is_no_volume number (length entries) ≡ true
+none_sound : (entries : List Entry) (number : ℕ) → volume_at entries number ≡ None → (command_of (words.Restore number)).is_no_volume number
+    (length entries) ≡ true
 none_sound entries zero none = refl
 none_sound entries (suc n) none =
     elim (slice_get_cases entries n).1 [
@@ -77,21 +79,27 @@ restore_follows number = record {
   found = found_by_restore number;
 }
 
-pub restore_refused : {T K : Type 0} (t : tapes.Meaning T) (k : sinks.Meaning K) (number : ℕ) (a : T) (b : UnitView T) (x : K) (why : Status) → ((z : K) → k.took z [] z) →
+pub restore_refused : {T K : Type 0} (t : tapes.Meaning T) (k : sinks.Meaning K) (number : ℕ) (a : T) (b : UnitView T) (x : K)
+    (why : Status) → ((z : K) → k.took z [] z) →
     OpeningEnds t a b (Err why) → EndsBlind t k (words.Restore number) a b.tape x x why
-restore_refused t k number a b x why nothing ends = refuses t k (words.Restore number) (Gives number) a b x why (restore_follows number) nothing ends
+restore_refused t k number a b x why nothing ends = refuses t k (words.Restore number) (Gives number) a b x why
+    (restore_follows number) nothing ends
 
 -- a segment that ends a restore is one of the volume's
-ending_sound : (number : ℕ) (ws : List ℕ) (last : ℕ) (entries : List Entry) (e : Entry) (done : ℕ) (ending : GivingEnd) → IsSoundList last entries → volume_at entries number ≡ Some e →
+ending_sound : (number : ℕ) (ws : List ℕ) (last : ℕ) (entries : List Entry) (e : Entry) (done : ℕ) (ending : GivingEnd) →
+    IsSoundList last entries → volume_at entries number ≡ Some e →
     EndsAt (pieces ws e) done ending → may_come_from (ending_status ending) (words.Restore number) ≡ true
 ending_sound number ws last entries e done Restored order there at = refl
 ending_sound number ws last entries e done (LostIn segment lost) order there at =
     let behind : 3 ≤ segment = piece_behind ws last entries number e done segment order there at.1 in
-    both_true (nat_lt 3 lost) (nat_le 2 segment && true) (lt-ltb 3 lost at.0) (both_true (nat_le 2 segment) true (le-leb 2 segment (omega arith)) refl)
-ending_sound number ws last entries e done (MismatchIn segment) order there at = le-leb 3 segment (piece_behind ws last entries number e done segment order there at)
+    both_true (nat_lt 3 lost) (nat_le 2 segment && true) (lt-ltb 3 lost at.0)
+    (both_true (nat_le 2 segment) true (le-leb 2 segment (omega arith)) refl)
+ending_sound number ws last entries e done (MismatchIn segment) order there at =
+    le-leb 3 segment (piece_behind ws last entries number e done segment order there at)
 
 -- some of the bytes, where a segment doesn't read
-refused_prints : (number : ℕ) (ending : GivingEnd) (text : List ℕ) → ending_status ending ≢ status.Done → RefusedPrints (words.Restore number) (ending_status ending) text
+refused_prints : (number : ℕ) (ending : GivingEnd) (text : List ℕ) → ending_status ending ≢ status.Done →
+    RefusedPrints (words.Restore number) (ending_status ending) text
 refused_prints number Restored text other = absurd (other refl)
 refused_prints number (LostIn segment lost) text other = tt
 refused_prints number (MismatchIn segment) text other = tt
@@ -100,7 +108,8 @@ refused_prints number (MismatchIn segment) text other = tt
 abbrev given : List Act → Status → CommandOutcome
 given acts answer = record { acts = acts; taken = 0; status = answer }
 
-module _ {T K : Type 0} (t : tapes.Meaning T) (k : sinks.Meaning K) (number : ℕ) (a : T) (b : UnitView T) (store : StoreView) (opening : HasOpened t a b store) where
+module _ {T K : Type 0} (t : tapes.Meaning T) (k : sinks.Meaning K) (number : ℕ) (a : T) (b : UnitView T) (store : StoreView)
+    (opening : HasOpened t a b store) where
   abbrev needed : Entry → List Piece
   needed e = pieces store.words e
 
@@ -108,14 +117,18 @@ module _ {T K : Type 0} (t : tapes.Meaning T) (k : sinks.Meaning K) (number : �
   pub none_given : (x : K) → ((z : K) → k.took z [] z) → volume_at store.entries number ≡ None →
       EndsBlind t k (words.Restore number) a b.tape x x (status.NoVolume number (length store.entries))
   none_given x nothing none =
-      turned_behind t k (words.Restore number) (restore_follows number).blind a b.tape x (status.NoVolume number (length store.entries)) opening.steps nothing (none_sound store.entries number none) (λ is. cc)
+      turned_behind t k (words.Restore number) (restore_follows number).blind a b.tape x
+      (status.NoVolume number (length store.entries)) opening.steps nothing (none_sound store.entries number none) (λ is. cc)
       (told_map (t.told a) _ _ opening.told (λ held is input.
       opened_is (Gives number) (refused_behind opening.steps (status.NoVolume number (length store.entries))) store opening.steps held is
-      (λ c table there mounts settles. inl (none, ap (λ (ss : List TapeStep). refused_behind ss (status.NoVolume number (length store.entries))) settles)))) opening.did
+      (λ c table there mounts settles. inl
+      (none, ap (λ (ss : List TapeStep). refused_behind ss (status.NoVolume number (length store.entries))) settles)))) opening.did
 
   -- its bytes were given, up to this ending
-  pub restored : (c : T) (x y : K) (e : Entry) (ending : GivingEnd) → TakesBoth k → ((z : K) → k.took z [] z) → volume_at store.entries number ≡ Some e →
-      GaveVolume t k store.words (needed e) false (around b.tape x) (around c y) ending → EndsBlind t k (words.Restore number) a c x y (ending_status ending)
+  pub restored : (c : T) (x y : K) (e : Entry) (ending : GivingEnd) → TakesBoth k → ((z : K) → k.took z [] z) →
+      volume_at store.entries number ≡ Some e →
+      GaveVolume t k store.words (needed e) false (around b.tape x) (around c y) ending → EndsBlind t k (words.Restore number) a c x y
+      (ending_status ending)
   restored c x y e ending both nothing numbered gave =
       let outcome : CommandOutcome = given (quiet opening.steps ∷ gave.acts) (ending_status ending) in
       inl (record {
@@ -151,14 +164,18 @@ module _ {T K : Type 0} (t : tapes.Meaning T) (k : sinks.Meaning K) (number : �
       })
 
   -- over a mounted cartridge the acts of the outcome were cut off
-  restoring_cut : (c : T) (x y : K) (e : Entry) (failing : Failing) → TakesBoth k → ((z : K) → k.took z [] z) → volume_at store.entries number ≡ Some e → (d : Cartridge) → (is : IsOpened d store opening.steps) →
-      ((acts : List Act) (ending : GivingEnd) → Restores (mounting.settled is.table d) store.words (needed e) acts ending → Cut t no_source k (around b.tape x) (around c y) acts failing) →
-      (outcome : CommandOutcome) → RestoreOutcome number (Some d) outcome → IsCutOff t no_source k (words.Restore number) (around a x) (around c y) failing outcome
+  restoring_cut : (c : T) (x y : K) (e : Entry) (failing : Failing) → TakesBoth k → ((z : K) → k.took z [] z) →
+      volume_at store.entries number ≡ Some e → (d : Cartridge) → (is : IsOpened d store opening.steps) →
+      ((acts : List Act) (ending : GivingEnd) → Restores (mounting.settled is.table d) store.words (needed e) acts ending →
+      Cut t no_source k (around b.tape x) (around c y) acts failing) →
+      (outcome : CommandOutcome) → RestoreOutcome number (Some d) outcome → IsCutOff t no_source k (words.Restore number) (around a x)
+      (around c y) failing outcome
   restoring_cut c x y e failing both nothing numbered d is each outcome (m, mounts, does) =
       let same : m ≡ mounting.Mounted store.header store.words is.table store.entries = mounts_is_function d m _ mounts is.mounts in
       by_volume (subst (λ (n : Mounting). Opened (Gives number) d n outcome) same does)
     where
-      by_volume : Gives number d store.header store.words is.table store.entries outcome → IsCutOff t no_source k (words.Restore number) (around a x) (around c y) failing outcome
+      by_volume : Gives number d store.header store.words is.table store.entries outcome → IsCutOff t no_source k (words.Restore number)
+          (around a x) (around c y) failing outcome
       by_volume (inl none) = let p = none.0 in absurd (cc)
       by_volume (inr found) =
           let p = found.numbered in
@@ -167,8 +184,10 @@ module _ {T K : Type 0} (t : tapes.Meaning T) (k : sinks.Meaning K) (number : �
           let restores : Restores (mounting.settled is.table d) store.words (needed e) acts found.ending =
           subst (λ (f : Entry). Restores (mounting.settled is.table d) store.words (needed f) acts found.ending) entry found.restores in
           let cut : Cut t no_source k (around a x) (around c y) (quiet opening.steps ∷ acts) failing =
-          cut_behind t no_source k both nothing a b.tape tt x (around c y) opening.steps acts failing opening.did (each acts found.ending restores) in
-          let off : IsCutOff t no_source k (words.Restore number) (around a x) (around c y) failing (given (quiet opening.steps ∷ acts) (ending_status found.ending)) = record {
+          cut_behind t no_source k both nothing a b.tape tt x (around c y) opening.steps acts failing opening.did
+          (each acts found.ending restores) in
+          let off : IsCutOff t no_source k (words.Restore number) (around a x) (around c y) failing
+          (given (quiet opening.steps ∷ acts) (ending_status found.ending)) = record {
             cut = cut;
             done = λ sink still. absurd (cc);
             silent = λ still. absurd (cc);
@@ -177,14 +196,17 @@ module _ {T K : Type 0} (t : tapes.Meaning T) (k : sinks.Meaning K) (number : �
           (ap (λ (ss : List TapeStep). given (quiet ss ∷ acts) (ending_status found.ending)) is.settles ∙ sym found.is) off
 
   -- a fault cut that off
-  pub restore_cut : (c : T) (x y : K) (e : Entry) (failing : Failing) → failing ≢ SourceFails → TakesBoth k → ((z : K) → k.took z [] z) → volume_at store.entries number ≡ Some e →
-      VolumeCut t k store.words (needed e) false (around b.tape x) (around c y) failing → EndsBlind t k (words.Restore number) a c x y (fault_of failing)
+  pub restore_cut : (c : T) (x y : K) (e : Entry) (failing : Failing) → failing ≢ SourceFails → TakesBoth k → ((z : K) → k.took z [] z) →
+      volume_at store.entries number ≡ Some e →
+      VolumeCut t k store.words (needed e) false (around b.tape x) (around c y) failing → EndsBlind t k (words.Restore number) a c x y
+      (fault_of failing)
   restore_cut c x y e failing other both nothing numbered cut = inr (
     failing,
     refl,
     record {
       told = settled_told t a b store opening
-          (λ d. (acts : List Act) (ending : GivingEnd) → Restores d store.words (needed e) acts ending → Cut t no_source k (around b.tape x) (around c y) acts failing) _ cut.told
+          (λ d. (acts : List Act) (ending : GivingEnd) → Restores d store.words (needed e) acts ending → Cut t no_source k (around b.tape x)
+          (around c y) acts failing) _ cut.told
           (λ d is each. (
             [],
             tt,
@@ -200,19 +222,25 @@ module _ {T K : Type 0} (t : tapes.Meaning T) (k : sinks.Meaning K) (number : �
   )
 
   -- by the answer of the call
-  pub restore_done : (c : T) (x y : K) (bytes : ℕ) → TakesBoth k → ((z : K) → k.took z [] z) → RestoreEnds t k store number false (around b.tape x) (around c y) (Ok bytes) →
+  pub restore_done : (c : T) (x y : K) (bytes : ℕ) → TakesBoth k → ((z : K) → k.took z [] z) →
+      RestoreEnds t k store number false (around b.tape x) (around c y) (Ok bytes) →
       EndsBlind t k (words.Restore number) a c x y status.Done
   restore_done c x y bytes both nothing (e, numbered, gave) = restored c x y e Restored both nothing numbered gave.1
 
-  pub restore_failed : (c : T) (x y : K) (f : StoreFault) → TakesBoth k → ((z : K) → k.took z [] z) → RestoreEnds t k store number false (around b.tape x) (around c y) (Err f) →
+  pub restore_failed : (c : T) (x y : K) (f : StoreFault) → TakesBoth k → ((z : K) → k.took z [] z) →
+      RestoreEnds t k store number false (around b.tape x) (around c y) (Err f) →
       EndsBlind t k (words.Restore number) a c x y (store_status f)
   restore_failed c x y (fault.NoVolume asked count) both nothing none =
       subst (λ (why : Status). EndsBlind t k (words.Restore number) a c x y why)
-      (ap (λ (n : ℕ). status.NoVolume n (length store.entries)) (sym none.named) ∙ ap (λ (n : ℕ). status.NoVolume asked n) (sym none.counted))
+      (ap (λ (n : ℕ). status.NoVolume n (length store.entries)) (sym none.named) ∙ ap (λ (n : ℕ). status.NoVolume asked n)
+      (sym none.counted))
       (subst (λ (z : K). EndsBlind t k (words.Restore number) a c x z (status.NoVolume number (length store.entries))) (sym none.sink)
-      (subst (λ (w : T). EndsBlind t k (words.Restore number) a w x x (status.NoVolume number (length store.entries))) (sym none.tape) (none_given x nothing none.none)))
-  restore_failed c x y (fault.Lost segment lost) both nothing (e, numbered, gave) = restored c x y e (LostIn segment lost) both nothing numbered gave
-  restore_failed c x y (fault.Mismatch segment) both nothing (e, numbered, gave) = restored c x y e (MismatchIn segment) both nothing numbered gave
+      (subst (λ (w : T). EndsBlind t k (words.Restore number) a w x x (status.NoVolume number (length store.entries))) (sym none.tape)
+      (none_given x nothing none.none)))
+  restore_failed c x y (fault.Lost segment lost) both nothing (e, numbered, gave) =
+      restored c x y e (LostIn segment lost) both nothing numbered gave
+  restore_failed c x y (fault.Mismatch segment) both nothing (e, numbered, gave) =
+      restored c x y e (MismatchIn segment) both nothing numbered gave
   restore_failed c x y fault.Sink both nothing (e, numbered, cut) = restore_cut c x y e SinkFails (λ same. cc) both nothing numbered cut
   restore_failed c x y fault.Tape both nothing (e, numbered, cut) = restore_cut c x y e TapeFails (λ same. cc) both nothing numbered cut
   restore_failed c x y f both nothing never = absurd never

@@ -28,7 +28,8 @@ use Rattle.command_spec.specs.declared.status.Status.{Status}
 use Rattle.command_spec.specs.Outcome.{CommandOutcome, Opened, WritableOutcome}
 use Rattle.volume_store.specs.Opening.{HasOpened}
 use Rattle.command_spec.specs.Machine.{IsCutOff, fault_of, may_come_from}
-use Rattle.volume_store.proofs.Opened.{IsKnown, went_behind, cut_behind, settled_told, opened_known, known_before, found_locked, never_both, unlocked}
+use Rattle.volume_store.proofs.Opened.{IsKnown, went_behind, cut_behind, settled_told, opened_known, known_before, found_locked, never_both}
+use Rattle.volume_store.proofs.Opened.{unlocked}
 use Rattle.command_laws.proofs.CommandOpened.{quiet}
 use Rattle.cartridge_front.specs.declared.fault.StoreFault.{StoreFault}
 use Rattle.host_commands.specs.Opening.{IsUnlocked, WritableEnds, is_opening}
@@ -72,15 +73,18 @@ found_by_deep why sound = cc
 -- What both forms have in common: a command that opens a cartridge that isn't protected, settles it, and does the acts of a scrub in
 -- this form on it.
 pub record IsForm (command : Words) (depth : Depth) : Type 0 where
-  yields : (held : Option Cartridge) (input : List ℕ) (outcome : CommandOutcome) → WritableOutcome (ScrubsBy depth) held outcome → Yields command held input outcome
-  opens : (held : Option Cartridge) (input : List ℕ) (outcome : CommandOutcome) → Yields command held input outcome → WritableOutcome (ScrubsBy depth) held outcome
+  yields : (held : Option Cartridge) (input : List ℕ) (outcome : CommandOutcome) → WritableOutcome (ScrubsBy depth) held outcome →
+      Yields command held input outcome
+  opens : (held : Option Cartridge) (input : List ℕ) (outcome : CommandOutcome) → Yields command held input outcome →
+      WritableOutcome (ScrubsBy depth) held outcome
   blind : IsBlind command
   appends : (traits_of command).appends ≡ false
   prints : (traits_of command).goes ≡ true
   locked : may_come_from status.Protected command ≡ true
   found : (why : Status) → is_opening why ≡ true → may_come_from why command ≡ true
   shows : (words : List ℕ) (entries : List Entry) (text : List ℕ) → ScrubShown depth words entries text → CommandPrints command text
-  fronts : (words : List ℕ) (entries : List Entry) (text rest : List ℕ) → ScrubShown depth words entries (text ++ rest) → FrontPrints command text
+  fronts : (words : List ℕ) (entries : List Entry) (text rest : List ℕ) → ScrubShown depth words entries (text ++ rest) →
+      FrontPrints command text
 
 pub scrub_form : IsForm words.Scrub Shallow
 scrub_form = record {
@@ -112,35 +116,45 @@ begins : (depth : Depth) → BeginsSettling (ScrubsBy depth)
 begins depth c header words table entries outcome on = ap (λ (o : CommandOutcome). first_steps o) on.is
 
 module _ (command : Words) (depth : Depth) (form : IsForm command depth) where
-  pub refused_form : {T K : Type 0} (t : tapes.Meaning T) (k : sinks.Meaning K) (a : T) (b : UnitView T) (x : K) (why : Status) → ((z : K) → k.took z [] z) →
+  pub refused_form : {T K : Type 0} (t : tapes.Meaning T) (k : sinks.Meaning K) (a : T) (b : UnitView T) (x : K) (why : Status) →
+      ((z : K) → k.took z [] z) →
       WritableEnds t a b (Err why) → EndsBlind t k command a b.tape x x why
   refused_form t k a b x why nothing (inl locked) =
       rw locked.answered (turned_down t k command form.blind a b.tape x status.Protected nothing form.locked (λ is. cc)
       (told_map (t.told a) _ _ locked.told (λ held is input. form.yields held input _ (locked_is (ScrubsBy depth) held is))) locked.did)
   refused_form t k a b x why nothing (inr (inl (free, turned))) =
       turned_down t k command form.blind a b.tape x why nothing (form.found why turned.sound) (no_outcome why turned.sound)
-      (told_map (t.told a) _ _ (told_both (t.told a) _ _ free turned.told) (λ held is input. form.yields held input _ (unlocked_refused_is (ScrubsBy depth) why held is.0 is.1))) turned.did
+      (told_map (t.told a) _ _ (told_both (t.told a) _ _ free turned.told)
+      (λ held is input. form.yields held input _ (unlocked_refused_is (ScrubsBy depth) why held is.0 is.1))) turned.did
   refused_form t k a b x why nothing (inr (inr (is, cut))) =
       rw is (cut_off t k command form.blind a b.tape x cut.steps nothing
-      (told_map (t.told a) _ _ cut.front (λ held front outcome rules. writable_begins (ScrubsBy depth) (begins depth) cut.steps held front outcome (form.opens held [] outcome (rules [])))) cut.broke)
+      (told_map (t.told a) _ _ cut.front
+      (λ held front outcome rules. writable_begins (ScrubsBy depth) (begins depth) cut.steps held front outcome
+      (form.opens held [] outcome (rules [])))) cut.broke)
 
-  module _ {T K : Type 0} (t : tapes.Meaning T) (k : sinks.Meaning K) (a : T) (b : UnitView T) (store : StoreView) (opening : HasOpened t a b store) where
+  module _ {T K : Type 0} (t : tapes.Meaning T) (k : sinks.Meaning K) (a : T) (b : UnitView T) (store : StoreView)
+      (opening : HasOpened t a b store) where
     -- a protected one is none that is told
-    locked_form : (x : K) → ((z : K) → k.took z [] z) → IsUnlocked t a → is_protected b.drive.deck ≡ true → EndsBlind t k command a b.tape x x status.Protected
+    locked_form : (x : K) → ((z : K) → k.took z [] z) → IsUnlocked t a → is_protected b.drive.deck ≡ true →
+        EndsBlind t k command a b.tape x x status.Protected
     locked_form x nothing free locked =
         turned_behind t k command form.blind a b.tape x status.Protected opening.steps nothing form.locked (λ is. cc)
-        (told_map (t.told a) _ _ (told_both (t.told a) _ _ free (found_locked t a b store opening locked)) (λ held is. absurd (never_both held is.0 is.1))) opening.did
+        (told_map (t.told a) _ _ (told_both (t.told a) _ _ free (found_locked t a b store opening locked))
+        (λ held is. absurd (never_both held is.0 is.1))) opening.did
 
     -- what was learnt of the cartridge, beside what is told of its scrubbing
     abbrev Beside : (Cartridge → Type 0) → Cartridge → Type 0
     Beside P d = IsKnown d store false × P d
 
-    beside : (P : Cartridge → Type 0) → is_protected b.drive.deck ≡ false → tape_calls.Tells t b.tape P → tape_calls.Tells t b.tape (Beside P)
-    beside P free told = tells_two t b.tape (λ d. IsKnown d store false) P (Beside P) (λ d known is. (known, is)) (opened_known t a b store opening false free) told
+    beside : (P : Cartridge → Type 0) → is_protected b.drive.deck ≡ false → tape_calls.Tells t b.tape P →
+        tape_calls.Tells t b.tape (Beside P)
+    beside P free told = tells_two t b.tape (λ d. IsKnown d store false) P (Beside P) (λ d known is. (known, is))
+        (opened_known t a b store opening false free) told
 
     -- it was scrubbed
     done_form : (c : T) (x y : K) (acts : List Act) → TakesBoth k → ((z : K) → k.took z [] z) → is_protected b.drive.deck ≡ false →
-        Went t no_source k (around b.tape x) (around c y) acts → tape_calls.Tells t b.tape (λ d. ScrubsAs depth d store.words store.entries acts) →
+        Went t no_source k (around b.tape x) (around c y) acts →
+        tape_calls.Tells t b.tape (λ d. ScrubsAs depth d store.words store.entries acts) →
         ScrubShown depth store.words store.entries (text_of acts) → EndsBlind t k command a c x y status.Done
     done_form c x y acts both nothing free went told text =
         let P : Cartridge → Type 0 = λ d. ScrubsAs depth d store.words store.entries acts in
@@ -173,15 +187,19 @@ module _ (command : Words) (depth : Depth) (form : IsForm command depth) where
         })
 
     -- over a mounted cartridge the acts of the outcome were cut off
-    mounted_cut : (c : T) (x y : K) (failing : Failing) → TakesBoth k → ((z : K) → k.took z [] z) → (d : Cartridge) → (is : IsOpened d store opening.steps) → d.info.protected ≡ false →
-        ((acts : List Act) → ScrubsAs depth (settled is.table d) store.words store.entries acts → Cut t no_source k (around b.tape x) (around c y) acts failing) →
-        (outcome : CommandOutcome) → WritableOutcome (ScrubsBy depth) (Some d) outcome → IsCutOff t no_source k command (around a x) (around c y) failing outcome
+    mounted_cut : (c : T) (x y : K) (failing : Failing) → TakesBoth k → ((z : K) → k.took z [] z) → (d : Cartridge) →
+        (is : IsOpened d store opening.steps) → d.info.protected ≡ false →
+        ((acts : List Act) → ScrubsAs depth (settled is.table d) store.words store.entries acts → Cut t no_source k (around b.tape x)
+        (around c y) acts failing) →
+        (outcome : CommandOutcome) → WritableOutcome (ScrubsBy depth) (Some d) outcome → IsCutOff t no_source k command (around a x)
+        (around c y) failing outcome
     mounted_cut c x y failing both nothing d is free each outcome (inl locked) = let p = locked.0 in absurd (cc)
     mounted_cut c x y failing both nothing d is free each outcome (inr (unlocked, (m, mounts, opened))) =
         let same : m ≡ mounting.Mounted store.header store.words is.table store.entries = mounts_is_function d m _ mounts is.mounts in
         by_acts (subst (λ (n : Mounting). Opened (ScrubsBy depth) d n outcome) same opened)
       where
-        by_acts : ScrubsBy depth d store.header store.words is.table store.entries outcome → IsCutOff t no_source k command (around a x) (around c y) failing outcome
+        by_acts : ScrubsBy depth d store.header store.words is.table store.entries outcome → IsCutOff t no_source k command (around a x)
+            (around c y) failing outcome
         by_acts on =
             let acts : List Act = on.acts in
             let cut : Cut t no_source k (around a x) (around c y) (quiet opening.steps ∷ acts) failing =
@@ -195,13 +213,16 @@ module _ (command : Words) (depth : Depth) (form : IsForm command depth) where
             (ap (λ (ss : List TapeStep). mended (quiet ss ∷ acts)) is.settles ∙ sym on.is) off
 
     -- a fault cut that off, over any tape in such acts
-    cut_form : (c : T) (x y : K) (failing : Failing) (acts : List Act) (rest : List ℕ) → failing ≢ SourceFails → TakesBoth k → ((z : K) → k.took z [] z) →
+    cut_form : (c : T) (x y : K) (failing : Failing) (acts : List Act) (rest : List ℕ) → failing ≢ SourceFails → TakesBoth k →
+        ((z : K) → k.took z [] z) →
         is_protected b.drive.deck ≡ false →
-        tape_calls.Tells t b.tape (λ d. (acts : List Act) → ScrubsAs depth d store.words store.entries acts → Cut t no_source k (around b.tape x) (around c y) acts failing) →
+        tape_calls.Tells t b.tape (λ d. (acts : List Act) → ScrubsAs depth d store.words store.entries acts →
+        Cut t no_source k (around b.tape x) (around c y) acts failing) →
         Cut t no_source k (around b.tape x) (around c y) acts failing → ScrubShown depth store.words store.entries (text_of acts ++ rest) →
         EndsBlind t k command a c x y (fault_of failing)
     cut_form c x y failing acts rest other both nothing free told cut text =
-        let P : Cartridge → Type 0 = λ d. (acts : List Act) → ScrubsAs depth d store.words store.entries acts → Cut t no_source k (around b.tape x) (around c y) acts failing in
+        let P : Cartridge → Type 0 = λ d. (acts : List Act) → ScrubsAs depth d store.words store.entries acts →
+        Cut t no_source k (around b.tape x) (around c y) acts failing in
         inr (
           failing,
           refl,
@@ -213,7 +234,8 @@ module _ (command : Words) (depth : Depth) (form : IsForm command depth) where
                   (
                     λ no. let none = form.appends in absurd (cc),
                     λ outcome plain.
-                        mounted_cut c x y failing both nothing d is (known_before d store false opening.steps is each.0).protected each.1 outcome
+                        mounted_cut c x y failing both nothing d is (known_before d store false opening.steps is each.0).protected each.1
+                        outcome
                         (form.opens (Some d) [] outcome plain),
                   ),
                 ));
@@ -237,18 +259,25 @@ module _ (command : Words) (depth : Depth) (form : IsForm command depth) where
     pub scrubbed : (c : T) (x y : K) (report : ScrubReport) → TakesBoth k → ((z : K) → k.took z [] z) → is_protected b.drive.deck ≡ false →
         HasScrubbed t k depth store.words store.entries (around b.tape x) (around c y) report → EndsBlind t k command a c x y status.Done
     scrubbed c x y report both nothing free did =
-        let P : Cartridge → Type 0 = λ d. (scrubs : ScrubsAs depth d store.words store.entries did.acts) × (reported report ≡ counts_for d (looked_at store.words store.entries) scrubs.findings) in
+        let P : Cartridge → Type 0 = λ d. (scrubs : ScrubsAs depth d store.words store.entries did.acts)
+        × (reported report ≡ counts_for d (looked_at store.words store.entries) scrubs.findings) in
         done_form c x y did.acts both nothing free did.went
-        (tells_two t b.tape P P (λ d. ScrubsAs depth d store.words store.entries did.acts) (λ d is again. is.0) did.told did.told) (reported report, did.text)
+        (tells_two t b.tape P P (λ d. ScrubsAs depth d store.words store.entries did.acts) (λ d is again. is.0) did.told did.told)
+        (reported report, did.text)
 
-    scrub_cut : (c : T) (x y : K) (failing : Failing) → failing ≢ SourceFails → TakesBoth k → ((z : K) → k.took z [] z) → is_protected b.drive.deck ≡ false →
-        ScrubCut t k depth store.words store.entries (around b.tape x) (around c y) failing → EndsBlind t k command a c x y (fault_of failing)
+    scrub_cut : (c : T) (x y : K) (failing : Failing) → failing ≢ SourceFails → TakesBoth k → ((z : K) → k.took z [] z) →
+        is_protected b.drive.deck ≡ false →
+        ScrubCut t k depth store.words store.entries (around b.tape x) (around c y) failing →
+        EndsBlind t k command a c x y (fault_of failing)
     scrub_cut c x y failing other both nothing free cut =
         cut_form c x y failing cut.acts cut.front.0 other both nothing free cut.told cut.cut (cut.counts, cut.front.1)
 
-    pub scrub_failed : (c : T) (x y : K) (f : StoreFault) → TakesBoth k → ((z : K) → k.took z [] z) → IsUnlocked t a → (f ≡ fault.Protected) ↔ (is_protected b.drive.deck ≡ true) →
+    pub scrub_failed : (c : T) (x y : K) (f : StoreFault) → TakesBoth k → ((z : K) → k.took z [] z) → IsUnlocked t a →
+        (f ≡ fault.Protected) ↔ (is_protected b.drive.deck ≡ true) →
         MendEnds t k depth store (around b.tape x) (around c y) (Err f) → EndsBlind t k command a c x y (store_status f)
     scrub_failed c x y fault.Protected both nothing free mark same = held_form c x y nothing free (mark.0 refl) same
-    scrub_failed c x y fault.Sink both nothing free mark cut = scrub_cut c x y SinkFails (λ same. cc) both nothing (unlocked b fault.Sink mark (λ same. cc)) cut
-    scrub_failed c x y fault.Tape both nothing free mark cut = scrub_cut c x y TapeFails (λ same. cc) both nothing (unlocked b fault.Tape mark (λ same. cc)) cut
+    scrub_failed c x y fault.Sink both nothing free mark cut = scrub_cut c x y SinkFails (λ same. cc) both nothing
+        (unlocked b fault.Sink mark (λ same. cc)) cut
+    scrub_failed c x y fault.Tape both nothing free mark cut = scrub_cut c x y TapeFails (λ same. cc) both nothing
+        (unlocked b fault.Tape mark (λ same. cc)) cut
     scrub_failed c x y f both nothing free mark never = absurd never

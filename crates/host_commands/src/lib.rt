@@ -8,6 +8,7 @@ pub mod info;
 pub mod list;
 mod opening;
 pub mod restore;
+pub mod room;
 pub mod scrub;
 
 pub use opening::{open, open_writable};

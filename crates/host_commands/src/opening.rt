@@ -50,7 +50,7 @@ pub fn open_writable<T: Tape>(unit: &mut Unit<T>, room: Room) -> Result<Store, S
 }
 
 /// The answer that a cartridge makes that can't be opened.
-fn open_status(fault: OpenFault) -> Status
+pub(crate) fn open_status(fault: OpenFault) -> Status
     requires { (promised read : ℕ) → fault ≢ Refused (Short promised read) }
     ensures { result ≡ status_of_opening fault }
 {

@@ -1,10 +1,12 @@
 -- What a host remembers after a train is what the drive is in after it.
-use Rattle.std.proofs.Common.{◌≡◌, ◌≢◌, ℕ, ◌+◌, ◌-◌, ◌*◌, ◌<◌, ◌≤◌, Bool, true, false, List, [], ◌∷◌, if◌then◌else◌, ◌==◌, nat_lt, refl, sym, ap, ◌∙◌, arith, Some, None, Option}
+use Rattle.std.proofs.Common.{◌≡◌, ◌≢◌, ℕ, ◌+◌, ◌-◌, ◌*◌, ◌<◌, ◌≤◌, Bool, true, false, List, [], ◌∷◌, if◌then◌else◌, ◌==◌, nat_lt, refl}
+use Rattle.std.proofs.Common.{sym, ap, ◌∙◌, arith, Some, None, Option}
 use Rattle.std.proofs.lemmas.Bool.Decides.{nat_tests}
 use Rattle.qic117_commands.specs.Codes.{code_of}
 use Rattle.qic117_commands.specs.Commands.{number_of, command_at, commands}
 use Rattle.qic117_commands.specs.declared.command.Command.{Command}
-use Rattle.qic117_commands.specs.declared.command.Command.TheVariants.{ReportNextBit, ReportStatus, ReportError, ReportConfiguration, ReportRom, ReportVendor, ReportTapeStatus, ReportFormatSegments}
+use Rattle.qic117_commands.specs.declared.command.Command.TheVariants.{ReportNextBit, ReportStatus, ReportError, ReportConfiguration}
+use Rattle.qic117_commands.specs.declared.command.Command.TheVariants.{ReportRom, ReportVendor, ReportTapeStatus, ReportFormatSegments}
 use Rattle.qic117_commands.specs.declared.error_code.ErrorCode.{ErrorCode}
 use Rattle.qic117_commands.specs.declared.error_code.ErrorCode.TheVariants.{UndefinedCommand, IllegalInReport}
 use Rattle.qic117_commands.proofs.Numbers.{command_at-number_of}
@@ -42,7 +44,8 @@ unnumbered = refl
 
 pub some_number : (c : Command) → 1 ≤ number_of c
 some_number c =
-    let other : number_of c ≢ 0 = λ e. let found : command_at 0 ≡ Some c = ap command_at (sym e) ∙ command_at-number_of c in let none = unnumbered in cc in
+    let other : number_of c ≢ 0 = λ e. let found : command_at 0 ≡ Some c = ap command_at (sym e) ∙ command_at-number_of c in
+    let none = unnumbered in cc in
     omega arith
 
 -- a train of more than one pulse is heard
@@ -78,7 +81,8 @@ module _ (segments : ℕ) (b : Record) (pulses : ℕ) where
   by_refusal-remembered : (c : Command) (o : Option ErrorCode) → (by_refusal b c o).deck.error ≡ 0 →
       after_command (before None) (Some c) ≡ remembered segments (by_refusal b c o)
   by_refusal-remembered c None none =
-      ap (λ (a : Option Parameter). record { geometry = segments; deck = accepted c b.deck; awaited = a }) (sym (parameter_of-begun c b.deck))
+      ap (λ (a : Option Parameter). record { geometry = segments; deck = accepted c b.deck; awaited = a })
+      (sym (parameter_of-begun c b.deck))
   by_refusal-remembered c (Some code) none = absurd (latches b code (number_of c) (some_number c) none)
 
   by_command-remembered : (o : Option Command) → 1 < pulses → (by_command b pulses o).deck.error ≡ 0 →
@@ -98,7 +102,8 @@ module _ (segments : ℕ) (b : Record) (pulses : ℕ) where
 
   reported-remembered : (levels : List Bool) (next : Bool) → (pulses == number_of ReportNextBit) ≡ next → 1 < pulses →
       (if next then showing b levels else latched b IllegalInReport pulses).deck.error ≡ 0 →
-      after_command (before None) (command_at pulses) ≡ remembered segments (if next then showing b levels else latched b IllegalInReport pulses)
+      after_command (before None) (command_at pulses) ≡ remembered segments
+      (if next then showing b levels else latched b IllegalInReport pulses)
   reported-remembered levels true e more none =
       let two : pulses ≡ number_of ReportNextBit = grind (arith, nat_tests) in
       ap (after_command (before None)) (ap command_at two ∙ command_at-number_of ReportNextBit) ∙ showing-remembered levels
@@ -106,8 +111,10 @@ module _ (segments : ℕ) (b : Record) (pulses : ℕ) where
 
   taking-remembered : (a : Parameter) (value : Bool) → nat_lt (pulses - 2) (parameter_values a.command) ≡ value →
       (if value then given_more b (longer a (pulses - 2)) else latched b (parameter_code a.command) (number_of a.command)).deck.error ≡ 0 →
-      after_value (before (Some a)) (longer a (pulses - 2)) ≡ remembered segments (if value then given_more b (longer a (pulses - 2)) else latched b (parameter_code a.command) (number_of a.command))
-  taking-remembered a true e none = given_more-remembered a (longer a (pulses - 2)) ((longer a (pulses - 2)).taken == parameter_trains a.command) refl
+      after_value (before (Some a)) (longer a (pulses - 2)) ≡ remembered segments
+      (if value then given_more b (longer a (pulses - 2)) else latched b (parameter_code a.command) (number_of a.command))
+  taking-remembered a true e none = given_more-remembered a (longer a (pulses - 2))
+      ((longer a (pulses - 2)).taken == parameter_trains a.command) refl
   taking-remembered a false e none = absurd (latches b (parameter_code a.command) (number_of a.command) (some_number a.command) none)
 
   heard-remembered : (u : UnderWay) → 1 < pulses → (heard b pulses u).deck.error ≡ 0 →

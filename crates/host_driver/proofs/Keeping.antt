@@ -17,7 +17,8 @@ pub mode_kept : (test : Mode → Bool) (value : Bool) (a b : Deck) → KeepsMode
 mode_kept test value a b keeps was = ap test keeps.mode ∙ was
 
 -- and so is a test of the cartridge
-pub cartridge_kept : (test : TapeInfo → Bool) (value : Bool) (a b : Deck) → KeepsMode a b → option_map_or test a.cartridge false ≡ value → option_map_or test b.cartridge false ≡ value
+pub cartridge_kept : (test : TapeInfo → Bool) (value : Bool) (a b : Deck) → KeepsMode a b → option_map_or test a.cartridge false ≡ value →
+    option_map_or test b.cartridge false ≡ value
 cartridge_kept test value a b keeps was = ap (λ (cartridge : Option TapeInfo). option_map_or test cartridge false) keeps.cartridge ∙ was
 
 -- what could be written still can
@@ -28,14 +29,18 @@ may_write_kept a b keeps may = record {
 }
 
 -- where the tape is as it was, and what the drive knows of it
-pub agrees_tape : {T : Type 0} (m : Meaning T) (old new : UnitView T) → new.drive.deck.cartridge ≡ old.drive.deck.cartridge → new.tape ≡ old.tape →
+pub agrees_tape : {T : Type 0} (m : Meaning T) (old new : UnitView T) → new.drive.deck.cartridge ≡ old.drive.deck.cartridge →
+    new.tape ≡ old.tape →
     AgreesWithTape m old → AgreesWithTape m new
 agrees_tape {T} m old new same tape agrees =
-    let P : Option TapeInfo → T → Type 0 = λ cartridge t. IfSome cartridge (λ info. IfSome (m.told t) (λ there. IsSomeAnd there (λ c. c.info ≡ info))) in
-    subst (λ (cartridge : Option TapeInfo). P cartridge new.tape) (sym same) (subst (λ (t : T). P old.drive.deck.cartridge t) (sym tape) agrees)
+    let P : Option TapeInfo → T → Type 0 = λ cartridge t. IfSome cartridge
+    (λ info. IfSome (m.told t) (λ there. IsSomeAnd there (λ c. c.info ≡ info))) in
+    subst (λ (cartridge : Option TapeInfo). P cartridge new.tape) (sym same)
+    (subst (λ (t : T). P old.drive.deck.cartridge t) (sym tape) agrees)
 
 -- a call that leaves the tape as it is
-pub keeps_tape : {T : Type 0} {m : Meaning T} {host : Host} {old new : UnitView T} → IsReady m host new → KeepsMode old.drive.deck new.drive.deck →
+pub keeps_tape : {T : Type 0} {m : Meaning T} {host : Host} {old new : UnitView T} → IsReady m host new →
+    KeepsMode old.drive.deck new.drive.deck →
     new.tape ≡ old.tape → Keeps m host old new
 keeps_tape {T} {m} {host} {old} {new} ready same tape = record {
   ready = ready;

@@ -1,12 +1,15 @@
 -- What no train changes of a drive.
-use Rattle.std.proofs.Common.{◌≡◌, ℕ, ◌-◌, ◌<◌, ◌⊎◌, inl, inr, Bool, true, false, List, [], ◌∷◌, if◌then◌else◌, ◌==◌, ◌&&◌, nat_lt, refl, sym, ap, ◌∙◌, subst, Some, None, Option, arith}
+use Rattle.std.proofs.Common.{◌≡◌, ℕ, ◌-◌, ◌<◌, ◌⊎◌, inl, inr, Bool, true, false, List, [], ◌∷◌, if◌then◌else◌, ◌==◌, ◌&&◌, nat_lt, refl}
+use Rattle.std.proofs.Common.{sym, ap, ◌∙◌, subst, Some, None, Option, arith}
 use Rattle.std.proofs.lemmas.Bool.Decides.{nat_tests}
 use Rattle.std.specs.Option.{option_map, option_map_or}
 use Rattle.qic_base.specs.declared.tape.TapeInfo.{TapeInfo}
 use Rattle.qic117_commands.specs.Commands.{number_of, command_at}
 use Rattle.qic117_commands.specs.Views.{is_format}
 use Rattle.qic117_commands.specs.declared.command.Command.{Command}
-use Rattle.qic117_commands.specs.declared.command.Command.TheVariants.{ReportNextBit, ReportError, LogicalForward, SeekTrack, SeekLoadPoint, EnterFormat, WriteReference, EnterVerify, StopTape, SkipReverse, SkipForward, EnterPrimary, SetFormatSegments}
+use Rattle.qic117_commands.specs.declared.command.Command.TheVariants.{ReportNextBit, ReportError, LogicalForward, SeekTrack, SeekLoadPoint}
+use Rattle.qic117_commands.specs.declared.command.Command.TheVariants.{EnterFormat, WriteReference, EnterVerify, StopTape, SkipReverse}
+use Rattle.qic117_commands.specs.declared.command.Command.TheVariants.{SkipForward, EnterPrimary, SetFormatSegments}
 use Rattle.qic117_commands.specs.declared.error_code.ErrorCode.{ErrorCode}
 use Rattle.qic117_commands.specs.declared.error_code.ErrorCode.TheVariants.{IllegalInReport}
 use Rattle.drive_spec.specs.declared.deck.Deck.{Deck}
@@ -41,11 +44,13 @@ KeepsCartridge-same d = record { length = refl; protected = refl; known = λ e. 
 KeepsCartridge-error : (d : Deck) (error : ℕ) → KeepsCartridge d (record d { error = error })
 KeepsCartridge-error d error = record { length = refl; protected = refl; known = λ e. e; formats = λ e. inl e }
 
-length-referenced : (on : Bool) (c : Option TapeInfo) → option_map (λ (i : TapeInfo). i.segments_per_track) (referenced_as on c) ≡ option_map (λ i. i.segments_per_track) c
+length-referenced : (on : Bool) (c : Option TapeInfo) → option_map (λ (i : TapeInfo). i.segments_per_track)
+    (referenced_as on c) ≡ option_map (λ i. i.segments_per_track) c
 length-referenced on None = refl
 length-referenced on (Some info) = refl
 
-protected-referenced : (on : Bool) (c : Option TapeInfo) → option_map_or (λ (i : TapeInfo). i.protected) (referenced_as on c) false ≡ option_map_or (λ i. i.protected) c false
+protected-referenced : (on : Bool) (c : Option TapeInfo) → option_map_or (λ (i : TapeInfo). i.protected)
+    (referenced_as on c) false ≡ option_map_or (λ i. i.protected) c false
 protected-referenced on None = refl
 protected-referenced on (Some info) = refl
 
@@ -57,7 +62,8 @@ KeepsCartridge-unreferenced old d k = record {
   formats = k.formats;
 }
 
-KeepsCartridge-streaming : (d : Deck) (b : Bool) → KeepsCartridge d (if b then record d { motion = Streaming 0; at_load_point = false } else d)
+KeepsCartridge-streaming : (d : Deck) (b : Bool) →
+    KeepsCartridge d (if b then record d { motion = Streaming 0; at_load_point = false } else d)
 KeepsCartridge-streaming d true = record { length = refl; protected = refl; known = λ e. e; formats = λ e. inl e }
 KeepsCartridge-streaming d false = KeepsCartridge-same d
 
@@ -65,7 +71,8 @@ KeepsCartridge-accepted : (c : Command) (d : Deck) → refusal_of d c ≡ None �
 KeepsCartridge-accepted ReportError d taken = record { length = refl; protected = refl; known = λ e. refl; formats = λ e. inl e }
 KeepsCartridge-accepted LogicalForward d taken = KeepsCartridge-streaming d (is_stopped d.motion && nat_lt d.offset (limit d))
 KeepsCartridge-accepted SeekLoadPoint d taken = record { length = refl; protected = refl; known = λ e. e; formats = λ e. inl e }
-KeepsCartridge-accepted EnterFormat d taken = record { length = refl; protected = refl; known = λ e. e; formats = λ e. inr (format_writable (view_of d) taken) }
+KeepsCartridge-accepted EnterFormat d taken =
+    record { length = refl; protected = refl; known = λ e. e; formats = λ e. inr (format_writable (view_of d) taken) }
 KeepsCartridge-accepted WriteReference d taken = record {
   length = length-referenced true d.cartridge;
   protected = protected-referenced true d.cartridge;
@@ -108,7 +115,8 @@ module _ (b : Record) (pulses : ℕ) where
   reported-kept levels false = record { deck = KeepsCartridge-error b.deck _; train = refl }
 
   given_more-kept : (a : Parameter) (whole : Bool) →
-      KeptRecord b (if whole then record b { deck = given a.command a.value b.deck; under_way = Nothing } else record b { under_way = Awaited a })
+      KeptRecord b (if whole then record b { deck = given a.command a.value b.deck; under_way = Nothing } else record b
+      { under_way = Awaited a })
   given_more-kept a true = record { deck = KeepsCartridge-given a.command a.value b.deck; train = refl }
   given_more-kept a false = record { deck = KeepsCartridge-same b.deck; train = refl }
 
@@ -135,9 +143,15 @@ pulsed_row-kept r pulses other = by_count (pulses == 0) refl
         let zero : pulses ≡ 0 = grind (arith, nat_tests) in
         let k = idled-kept (record r { deck = ticked r.deck; train = 0 }) (is_streaming (ticked r.deck).motion) refl in
         subst (λ (x : Record). KeptRecord (record r { train = 0 }) x) (sym (ap (pulsed_row r) zero ∙ pulsed_row-idled r))
-        record { deck = record { length = k.deck.length; protected = k.deck.protected; known = k.deck.known; formats = k.deck.formats }; train = k.train }
+        record {
+          deck = record { length = k.deck.length; protected = k.deck.protected; known = k.deck.known; formats = k.deck.formats };
+          train = k.train;
+        }
     by_count false e =
         let more : 1 < pulses = grind (arith, nat_tests) in
         let k = heard-kept (counted r) pulses r.under_way in
         subst (λ (x : Record). KeptRecord (record r { train = 0 }) x) (sym (pulsed_row-heard r pulses more))
-        record { deck = record { length = k.deck.length; protected = k.deck.protected; known = k.deck.known; formats = k.deck.formats }; train = k.train }
+        record {
+          deck = record { length = k.deck.length; protected = k.deck.protected; known = k.deck.known; formats = k.deck.formats };
+          train = k.train;
+        }

@@ -19,14 +19,17 @@ ticked-moved_for gaps Stopped = refl
 ticked-moved_for gaps (Streaming next) = refl
 ticked-moved_for gaps (Seeking left) = by_test (nat_le left gaps) refl
   where
-    last : (b : Bool) → nat_le (left - gaps) 1 ≡ b → (nat_le left gaps ≡ false) → (if b then Stopped else Seeking (left - gaps - 1)) ≡ (if nat_le left (gaps + 1) then Stopped else Seeking (left - (gaps + 1)))
+    last : (b : Bool) → nat_le (left - gaps) 1 ≡ b → (nat_le left gaps ≡ false) →
+        (if b then Stopped else Seeking (left - gaps - 1)) ≡ (if nat_le left (gaps + 1) then Stopped else Seeking (left - (gaps + 1)))
     last true e more = let there : nat_le left (gaps + 1) ≡ true = grind (arith, nat_tests) in rw there refl
     last false e more =
         let there : nat_le left (gaps + 1) ≡ false = grind (arith, nat_tests) in
         let same : left - gaps - 1 ≡ left - (gaps + 1) = omega arith in
         rw there (ap Seeking same)
 
-    by_test : (b : Bool) → nat_le left gaps ≡ b → ticked_motion (if b then Stopped else Seeking (left - gaps)) ≡ (if nat_le left (gaps + 1) then Stopped else Seeking (left - (gaps + 1)))
+    by_test : (b : Bool) → nat_le left gaps ≡ b →
+        ticked_motion (if b then Stopped else Seeking (left - gaps)) ≡ (if nat_le left (gaps + 1) then Stopped else Seeking
+        (left - (gaps + 1)))
     by_test true e = let there : nat_le left (gaps + 1) ≡ true = grind (arith, nat_tests) in rw there refl
     by_test false e = last (nat_le (left - gaps) 1) refl e
 

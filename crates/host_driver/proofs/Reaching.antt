@@ -13,7 +13,8 @@ use Rattle.drive_states.specs.Sound.{IsSound}
 use Rattle.drive_states.proofs.Bounds.{before_limit, limit_within}
 use Rattle.drive_states.proofs.Places.{streams_to}
 
-pub length_is : (n : ℕ) (c : Option TapeInfo) → IsSomeAnd c (λ info. info.segments_per_track ≡ n) → option_map_or (λ (i : TapeInfo). i.segments_per_track) c 0 ≡ n
+pub length_is : (n : ℕ) (c : Option TapeInfo) → IsSomeAnd c (λ info. info.segments_per_track ≡ n) →
+    option_map_or (λ (i : TapeInfo). i.segments_per_track) c 0 ≡ n
 length_is n None h = absurd h
 length_is n (Some info) h = h
 
@@ -29,7 +30,8 @@ pub under_on_tape : (d : Deck) (segment index : ℕ) → IsSound d → IsUnder d
 under_on_tape d segment index s under =
     subst (λ (n : ℕ). n < 28 * segments_per_track d) (sym under.here) (segment_on_tape d s (streams_to d.motion index under.streams))
 
-pub reaches : (has_call : Mode → Bool) (d : Deck) (n segment index : ℕ) (addr : FloppyAddr) → IsSomeAnd d.cartridge (λ info. info.segments_per_track ≡ n) →
+pub reaches : (has_call : Mode → Bool) (d : Deck) (n segment index : ℕ) (addr : FloppyAddr) →
+    IsSomeAnd d.cartridge (λ info. info.segments_per_track ≡ n) →
     has_call d.mode ≡ true → IsUnder d segment index → HasAddress n segment index addr → Reaches has_call d addr segment index
 reaches has_call d n segment index addr long mode under address = record {
   mode = mode;

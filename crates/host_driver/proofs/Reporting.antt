@@ -1,5 +1,6 @@
 -- A report of the drive, level by level.
-use Rattle.std.proofs.Common.{◌≡◌, ◌≢◌, ℕ, ◌+◌, ◌<◌, ◌≤◌, ◌^◌, Bool, true, false, List, [], ◌∷◌, ◌++◌, length, take, drop, get_or, if◌then◌else◌, ◌==◌, refl, sym, ap, ◌∙◌, arith, subst, Some, None, Option, add-one, length-append}
+use Rattle.std.proofs.Common.{◌≡◌, ◌≢◌, ℕ, ◌+◌, ◌<◌, ◌≤◌, ◌^◌, Bool, true, false, List, [], ◌∷◌, ◌++◌, length, take, drop, get_or}
+use Rattle.std.proofs.Common.{if◌then◌else◌, ◌==◌, refl, sym, ap, ◌∙◌, arith, subst, Some, None, Option, add-one, length-append}
 use Rattle.std.proofs.Math.Seq.{drop-cons, drop-length}
 use Rattle.std.proofs.lemmas.List.{take_more, take_all, length-take}
 use Rattle.std.specs.Option.{option_map_or}
@@ -58,7 +59,13 @@ begun_levels width word = by_digits (digits width word)
 
 acknowledged : (kind : Kind) (r : Record) → r.under_way ≡ Nothing → refusal_of (ticked r.deck) (command_of kind) ≡ None →
     pulsed_row r (number_of (command_of kind))
-    ≡ record r { deck = accepted (command_of kind) (ticked r.deck); train = 0; line = true; under_way = Report (levels_of (width_of kind) (reported_word kind r)) }
+    ≡ record r {
+      deck = accepted (command_of kind) (ticked r.deck);
+      train = 0;
+      line = true;
+      under_way =
+          Report (levels_of (width_of kind) (reported_word kind r));
+    }
 unfolding pulsed_row command_at commands
 acknowledged Status r idle taken = rw (idle, taken) refl
 acknowledged Error r idle taken = rw (idle, taken) refl
@@ -69,13 +76,27 @@ acknowledged TapeStatus r idle taken = rw (idle, taken) refl
 acknowledged FormatSegments r idle taken = rw (idle, taken) refl
 
 -- a report that no row refuses is under way, and acknowledged
-pub reporting-none : (kind : Kind) (r : Record) → r.train ≡ 0 → r.under_way ≡ Nothing → refusal_of (ticked r.deck) (command_of kind) ≡ None →
+pub reporting-none : (kind : Kind) (r : Record) → r.train ≡ 0 → r.under_way ≡ Nothing →
+    refusal_of (ticked r.deck) (command_of kind) ≡ None →
     pulsed_row r (number_of (command_of kind)) ≡ reporting kind r 0
 reporting-none kind r no_pulse idle taken =
     acknowledged kind r idle taken
-    ∙ ap (λ (d : Deck). record r { deck = accepted (command_of kind) d; train = 0; line = true; under_way = Report (levels_of (width_of kind) (reported_word kind r)) }) (waited-one r.deck)
-    ∙ ap (λ (u : UnderWay). record r { deck = accepted (command_of kind) (waited 1 r.deck); train = 0; line = true; under_way = u }) (begun_levels (width_of kind) (reported_word kind r))
-    ∙ ap (λ (n : ℕ). record r { deck = accepted (command_of kind) (waited 1 r.deck); train = n; line = true; under_way = left (levels_of (width_of kind) (reported_word kind r)) }) (sym no_pulse)
+    ∙ ap (λ (d : Deck). record r {
+      deck = accepted (command_of kind) d;
+      train = 0;
+      line = true;
+      under_way =
+          Report (levels_of (width_of kind) (reported_word kind r));
+    }) (waited-one r.deck)
+    ∙ ap (λ (u : UnderWay). record r { deck = accepted (command_of kind) (waited 1 r.deck); train = 0; line = true; under_way = u })
+    (begun_levels (width_of kind) (reported_word kind r))
+    ∙ ap (λ (n : ℕ). record r {
+      deck = accepted (command_of kind) (waited 1 r.deck);
+      train = n;
+      line = true;
+      under_way =
+          left (levels_of (width_of kind) (reported_word kind r));
+    }) (sym no_pulse)
 
 -- a report under way shows its next level
 pulsed_row-next : (r : Record) (level : Bool) (more : List Bool) → r.under_way ≡ left (level ∷ more) →
@@ -85,7 +106,8 @@ pulsed_row-next r level [] under_way = rw under_way refl
 pulsed_row-next r level (next ∷ rest) under_way = rw under_way refl
 
 -- the wait goes on behind the command
-ticked-accepted : (kind : Kind) (gaps : ℕ) (d : Deck) → ticked (accepted (command_of kind) (waited gaps d)) ≡ accepted (command_of kind) (waited (gaps + 1) d)
+ticked-accepted : (kind : Kind) (gaps : ℕ) (d : Deck) → ticked (accepted (command_of kind) (waited gaps d)) ≡ accepted (command_of kind)
+    (waited (gaps + 1) d)
 ticked-accepted Status gaps d = ticked-waited gaps d
 ticked-accepted Error gaps d = ap (accepted (command_of Error)) (ticked-waited gaps d)
 ticked-accepted Configuration gaps d = ticked-waited gaps d
@@ -94,7 +116,8 @@ ticked-accepted Vendor gaps d = ticked-waited gaps d
 ticked-accepted TapeStatus gaps d = ticked-waited gaps d
 ticked-accepted FormatSegments gaps d = ticked-waited gaps d
 
-next_shown : (levels : List Bool) (shown : ℕ) → shown < length levels → drop shown levels ≡ get_or levels shown false ∷ drop (shown + 1) levels
+next_shown : (levels : List Bool) (shown : ℕ) → shown < length levels → drop shown levels ≡ get_or levels shown false ∷ drop
+    (shown + 1) levels
 next_shown levels shown more = rw add-one (drop-cons levels shown false more)
 
 -- a report of so many digits has one level more
@@ -111,8 +134,14 @@ reporting-next kind r shown no_pulse more =
     let levels : List Bool = levels_of (width_of kind) (reported_word kind r) in
     let some : shown < length levels = omega (arith, length-levels_of (width_of kind) (reported_word kind r)) in
     pulsed_row-next (reporting kind r shown) (get_or levels shown false) (drop (shown + 1) levels) (ap left (next_shown levels shown some))
-    ∙ ap (λ (d : Deck). record r { deck = d; train = 0; line = get_or levels shown false; under_way = left (drop (shown + 1) levels) }) (ticked-accepted kind (shown + 1) r.deck)
-    ∙ ap (λ (level : Bool). record r { deck = accepted (command_of kind) (waited (shown + 1 + 1) r.deck); train = 0; line = level; under_way = left (drop (shown + 1) levels) }) (sym (next-level (width_of kind) (reported_word kind r) shown))
+    ∙ ap (λ (d : Deck). record r { deck = d; train = 0; line = get_or levels shown false; under_way = left (drop (shown + 1) levels) })
+    (ticked-accepted kind (shown + 1) r.deck)
+    ∙ ap (λ (level : Bool). record r {
+      deck = accepted (command_of kind) (waited (shown + 1 + 1) r.deck);
+      train = 0;
+      line = level;
+      under_way = left (drop (shown + 1) levels);
+    }) (sym (next-level (width_of kind) (reported_word kind r) shown))
     ∙ ap (λ (n : ℕ). record (reporting kind r (shown + 1)) { train = n }) (sym no_pulse)
 
 get_or-last : (xs : List Bool) → get_or (xs ++ true ∷ []) (length xs) false ≡ true
@@ -135,7 +164,10 @@ pub reporting-all : (kind : Kind) (r : Record) (shown : ℕ) → r.under_way ≡
     reporting kind r shown ≡ after_report kind r
 reporting-all kind r shown idle all =
     ap (λ (n : ℕ). record (reporting kind r shown) { deck = accepted (command_of kind) (waited n r.deck) }) (gaps (width_of kind) all)
-    ∙ ap (λ (level : Bool). record (reporting kind r shown) { deck = accepted (command_of kind) (waited (width_of kind + 2) r.deck); line = level })
+    ∙ ap (λ (level : Bool). record (reporting kind r shown) {
+      deck = accepted (command_of kind) (waited (width_of kind + 2) r.deck);
+      line = level;
+    })
     (last-report_of (width_of kind) (reported_word kind r) shown all)
     ∙ ap (λ (u : UnderWay). record (after_report kind r) { under_way = u })
     (ap left (drop-levels_of (width_of kind) (reported_word kind r) shown all) ∙ sym idle)
@@ -171,14 +203,16 @@ not_reset Vendor e = cc
 not_reset TapeStatus e = cc
 not_reset FormatSegments e = cc
 
-takes : (before after : Record) (pulses : ℕ) → pulses ≢ 1 → pulsed_row before pulses ≡ after → after.deck.error ≡ 0 → GeneratesAll after.deck → TakesTrain before pulses
+takes : (before after : Record) (pulses : ℕ) → pulses ≢ 1 → pulsed_row before pulses ≡ after → after.deck.error ≡ 0 →
+    GeneratesAll after.deck → TakesTrain before pulses
 takes before after pulses other is no_error g = record {
   no_reset = other;
   no_error = ap (λ (r : Record). r.deck.error) is ∙ no_error;
   generates = subst (λ (r : Record). is_format r.deck.mode ≡ true → r.deck.format_segments ≡ segments_per_track r.deck) (sym is) g.segments;
 }
 
-pub takes-command : (kind : Kind) (r : Record) → r.train ≡ 0 → r.under_way ≡ Nothing → refusal_of (ticked r.deck) (command_of kind) ≡ None → r.deck.error ≡ 0 → GeneratesAll r.deck →
+pub takes-command : (kind : Kind) (r : Record) → r.train ≡ 0 → r.under_way ≡ Nothing → refusal_of (ticked r.deck) (command_of kind) ≡ None →
+    r.deck.error ≡ 0 → GeneratesAll r.deck →
     TakesTrain r (number_of (command_of kind))
 takes-command kind r no_pulse idle taken no_error g =
     takes r (reporting kind r 0) (number_of (command_of kind)) (not_reset kind) (reporting-none kind r no_pulse idle taken)
@@ -187,7 +221,8 @@ takes-command kind r no_pulse idle taken no_error g =
 pub takes-next : (kind : Kind) (r : Record) (shown : ℕ) → r.train ≡ 0 → shown < width_of kind + 1 → r.deck.error ≡ 0 → GeneratesAll r.deck →
     TakesTrain (reporting kind r shown) (number_of ReportNextBit)
 takes-next kind r shown no_pulse more no_error g =
-    takes (reporting kind r shown) (reporting kind r (shown + 1)) (number_of ReportNextBit) (λ e. cc) (reporting-next kind r shown no_pulse more)
+    takes (reporting kind r shown) (reporting kind r (shown + 1)) (number_of ReportNextBit) (λ e. cc)
+    (reporting-next kind r shown no_pulse more)
     (error-accepted kind (waited (shown + 1 + 1) r.deck) no_error) (generates-accepted kind (shown + 1 + 1) r.deck g)
 
 plain : (kind : Kind) → is_plain (command_of kind) ≡ true
@@ -229,7 +264,8 @@ told-small d s = by_test (is_format d.mode) (length-small d.cartridge s.long) s.
     length-small None long = omega arith
     length-small (Some info) long = let l = long.longest in omega arith
 
-    by_test : (b : Bool) → segments_per_track d < 4096 → d.format_segments < 4096 → (if b then d.format_segments else segments_per_track d) < 65536
+    by_test : (b : Bool) → segments_per_track d < 4096 → d.format_segments < 4096 →
+        (if b then d.format_segments else segments_per_track d) < 65536
     by_test true n g = omega arith
     by_test false n g = omega arith
 
@@ -283,10 +319,12 @@ after_report-still kind r still e f =
     ap (λ (d : Deck). record r { deck = accepted (command_of kind) d; line = true }) (waited-still (width_of kind + 2) r.deck still)
     ∙ ap (λ (d : Deck). record r { deck = d; line = true }) (accepted-known kind r.deck e f)
 
-pub reported_word-still : (kind : Kind) (r : Record) → is_seeking r.deck.motion ≡ false → reported_word kind r ≡ report_word (command_of kind) r.deck
+pub reported_word-still : (kind : Kind) (r : Record) → is_seeking r.deck.motion ≡ false →
+    reported_word kind r ≡ report_word (command_of kind) r.deck
 reported_word-still kind r still = ap (report_word (command_of kind)) (ticked-still r.deck still)
 
-pub refusal_of-still : (kind : Kind) (d : Deck) → is_seeking d.motion ≡ false → refusal_of d (command_of kind) ≡ None → refusal_of (ticked d) (command_of kind) ≡ None
+pub refusal_of-still : (kind : Kind) (d : Deck) → is_seeking d.motion ≡ false → refusal_of d (command_of kind) ≡ None →
+    refusal_of (ticked d) (command_of kind) ≡ None
 refusal_of-still kind d still taken = ap (λ (e : Deck). refusal_of e (command_of kind)) (ticked-still d still) ∙ taken
 
 pub ruleset resting = (after_report-still, reported_word-still, refusal_of-still)

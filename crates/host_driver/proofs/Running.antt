@@ -23,7 +23,8 @@ use Rattle.drive_spec.specs.Steps.{train_changes}
 not_early : (d : Deck) → GeneratesAll d → ends_early d ≡ false
 not_early d g = by_mode (is_format d.mode) refl
   where
-    by_mode : (b : Bool) → is_format d.mode ≡ b → (b && nat_lt (segments_per_track d) d.format_segments && nat_le (limit d) (d.offset + 1)) ≡ false
+    by_mode : (b : Bool) → is_format d.mode ≡ b →
+        (b && nat_lt (segments_per_track d) d.format_segments && nat_le (limit d) (d.offset + 1)) ≡ false
     by_mode false e = refl
     by_mode true e =
         let all = g.segments e in
@@ -60,7 +61,8 @@ idle_keeps d = by_motion (is_streaming d.motion)
     by_motion true = record { cartridge = refl; mode = refl }
     by_motion false = record { cartridge = refl; mode = refl }
 
-pub idle_still : (d : Deck) (streams : Bool) → is_streaming d.motion ≡ streams → is_seeking d.motion ≡ false → is_seeking (idled_deck d).motion ≡ false
+pub idle_still : (d : Deck) (streams : Bool) → is_streaming d.motion ≡ streams → is_seeking d.motion ≡ false →
+    is_seeking (idled_deck d).motion ≡ false
 idle_still d true e still = rw e (by_limit (nat_lt (d.offset + 1) (limit d)))
   where
     by_limit : (b : Bool) → is_seeking (if b then Streaming 0 else Stopped) ≡ false
@@ -75,7 +77,8 @@ runs_on_idle d g running = rw running (runs_on d g)
 abbrev after_idle : Record → Record
 after_idle r = record r { deck = idled_deck r.deck; train = 0 }
 
-idled-generates : (b : Record) (streams : Bool) → is_streaming b.deck.motion ≡ streams → GeneratesAll b.deck → idled b ≡ record b { deck = idled_deck b.deck }
+idled-generates : (b : Record) (streams : Bool) → is_streaming b.deck.motion ≡ streams → GeneratesAll b.deck →
+    idled b ≡ record b { deck = idled_deck b.deck }
 idled-generates b true e g = let no = not_early b.deck g in rw (e, no) refl
 idled-generates b false e g = rw e refl
 
@@ -83,7 +86,8 @@ error-idled : (d : Deck) (streams : Bool) → is_streaming d.motion ≡ streams 
 error-idled d true e g none = let no = not_early d g in rw (e, no) none
 error-idled d false e g none = rw e none
 
-generates-idled : (d : Deck) (streams : Bool) → is_streaming d.motion ≡ streams → GeneratesAll d → is_format (idled_deck d).mode ≡ true → (idled_deck d).format_segments ≡ segments_per_track (idled_deck d)
+generates-idled : (d : Deck) (streams : Bool) → is_streaming d.motion ≡ streams → GeneratesAll d → is_format (idled_deck d).mode ≡ true →
+    (idled_deck d).format_segments ≡ segments_per_track (idled_deck d)
 generates-idled d true e g = rw e g.segments
 generates-idled d false e g = rw e g.segments
 

@@ -1,5 +1,6 @@
 -- What a command or a value of its parameter does to a drive at rest.
-use Rattle.std.proofs.Common.{◌≡◌, ◌≢◌, ℕ, ◌+◌, ◌-◌, ◌<◌, Bool, true, false, unwrap_or, [], ◌∷◌, if◌then◌else◌, ◌==◌, ◌&&◌, nat_lt, refl, sym, ap, ◌∙◌, subst, Some, None, Option, IsSomeAnd, IfSome, arith}
+use Rattle.std.proofs.Common.{◌≡◌, ◌≢◌, ℕ, ◌+◌, ◌-◌, ◌<◌, Bool, true, false, unwrap_or, [], ◌∷◌, if◌then◌else◌, ◌==◌, ◌&&◌, nat_lt, refl}
+use Rattle.std.proofs.Common.{sym, ap, ◌∙◌, subst, Some, None, Option, IsSomeAnd, IfSome, arith}
 use Rattle.std.proofs.lemmas.Bool.{false≢true}
 use Rattle.std.proofs.lemmas.Bool.Decides.{nat_tests}
 use Rattle.std.specs.Option.{option_map_or}
@@ -8,7 +9,9 @@ use Rattle.qic_base.specs.declared.tape.TapeInfo.{TapeInfo}
 use Rattle.qic117_commands.specs.Commands.{number_of, command_at}
 use Rattle.qic117_commands.specs.Views.{is_format}
 use Rattle.qic117_commands.specs.declared.command.Command.{Command}
-use Rattle.qic117_commands.specs.declared.command.Command.TheVariants.{Reset, ReportError, LogicalForward, SeekTrack, EnterFormat, WriteReference, EnterVerify, SkipReverse, SkipForward, EnterPrimary, SetFormatSegments}
+use Rattle.qic117_commands.specs.declared.command.Command.TheVariants.{Reset, ReportError, LogicalForward, SeekTrack, EnterFormat}
+use Rattle.qic117_commands.specs.declared.command.Command.TheVariants.{WriteReference, EnterVerify, SkipReverse, SkipForward, EnterPrimary}
+use Rattle.qic117_commands.specs.declared.command.Command.TheVariants.{SetFormatSegments}
 use Rattle.qic117_commands.specs.declared.view.Mode.{Mode}
 use Rattle.qic117_commands.specs.declared.view.Mode.TheVariants.{Primary, Format, Verify}
 use Rattle.qic117_commands.proofs.Numbers.{command_at-number_of}
@@ -51,7 +54,8 @@ counted-still : (r : Record) → is_seeking r.deck.motion ≡ false → counted 
 counted-still r still = ap (λ (d : Deck). record r { deck = d; line = false; train = 0 }) (ticked-still r.deck still)
 
 -- a command that no row refuses
-commanded_by : (c : Command) (r : Record) → 1 < number_of c → is_seeking r.deck.motion ≡ false → r.under_way ≡ Nothing → refusal_of r.deck c ≡ None →
+commanded_by : (c : Command) (r : Record) → 1 < number_of c → is_seeking r.deck.motion ≡ false → r.under_way ≡ Nothing →
+    refusal_of r.deck c ≡ None →
     pulsed_row r (number_of c) ≡ obeying (record r { line = false; train = 0 }) c
 commanded_by c r more still idle taken =
     pulsed_row-heard r (number_of c) more
@@ -60,7 +64,8 @@ commanded_by c r more still idle taken =
     ∙ ap (λ (b : Record). by_refusal b c (refusal_of b.deck c)) (counted-still r still)
     ∙ ap (by_refusal (record r { line = false; train = 0 }) c) taken
 
-pub commanded : (c : Command) (r : Record) → is_plain c ≡ true → is_seeking r.deck.motion ≡ false → r.under_way ≡ Nothing → refusal_of r.deck c ≡ None →
+pub commanded : (c : Command) (r : Record) → is_plain c ≡ true → is_seeking r.deck.motion ≡ false → r.under_way ≡ Nothing →
+    refusal_of r.deck c ≡ None →
     pulsed_row r (number_of c) ≡ obeying (record r { line = false; train = 0 }) c
 commanded c r plain = commanded_by c r (plain_number c plain)
 
@@ -97,7 +102,8 @@ takes_as before after pulses other is no_error segments = record {
   generates = subst (λ (r : Record). is_format r.deck.mode ≡ true → r.deck.format_segments ≡ segments_per_track r.deck) (sym is) segments;
 }
 
-pub takes-plain : (c : Command) (r : Record) → is_plain c ≡ true → is_seeking r.deck.motion ≡ false → r.under_way ≡ Nothing → refusal_of r.deck c ≡ None →
+pub takes-plain : (c : Command) (r : Record) → is_plain c ≡ true → is_seeking r.deck.motion ≡ false → r.under_way ≡ Nothing →
+    refusal_of r.deck c ≡ None →
     r.deck.error ≡ 0 → GeneratesAll r.deck → TakesTrain r (number_of c)
 takes-plain c r plain still idle taken none g =
     let number = plain_number c plain in
@@ -105,15 +111,18 @@ takes-plain c r plain still idle taken none g =
     (commanded c r plain still idle taken) (accepted-error c r.deck none) (accepted-segments c r.deck plain g)
 
 -- a value of the parameter that is awaited
-given_value : (r : Record) (a : Parameter) (value : ℕ) → is_seeking r.deck.motion ≡ false → r.under_way ≡ Awaited a → value < parameter_values a.command →
+given_value : (r : Record) (a : Parameter) (value : ℕ) → is_seeking r.deck.motion ≡ false → r.under_way ≡ Awaited a →
+    value < parameter_values a.command →
     pulsed_row r (2 + value) ≡ given_more (record r { line = false; train = 0 }) (longer a value)
 given_value r a value still awaits small =
     let same : 2 + value - 2 ≡ value = omega arith in
     let takes : nat_lt value (parameter_values a.command) ≡ true = grind (arith, nat_tests) in
     pulsed_row-heard r (2 + value) (omega arith)
     ∙ ap (λ (u : UnderWay). heard (counted r) (2 + value) u) awaits
-    ∙ ap (λ (n : ℕ). if nat_lt n (parameter_values a.command) then given_more (counted r) (longer a n) else latched (counted r) (parameter_code a.command) (number_of a.command)) same
-    ∙ ap (λ (b : Bool). if b then given_more (counted r) (longer a value) else latched (counted r) (parameter_code a.command) (number_of a.command)) takes
+    ∙ ap (λ (n : ℕ). if nat_lt n (parameter_values a.command) then given_more (counted r) (longer a n) else latched (counted r)
+    (parameter_code a.command) (number_of a.command)) same
+    ∙ ap (λ (b : Bool). if b then given_more (counted r) (longer a value) else latched (counted r) (parameter_code a.command)
+    (number_of a.command)) takes
     ∙ ap (λ (b : Record). given_more b (longer a value)) (counted-still r still)
 
 given-error : (c : Command) (n : ℕ) (d : Deck) → (given c n d).error ≡ d.error
@@ -132,14 +141,18 @@ given-segments SkipForward n d moves g formats = g.segments formats
 given-segments c n d moves g formats = g.segments formats
 
 given_more-error : (r : Record) (a : Parameter) (whole : Bool) →
-    (if whole then record r { deck = given a.command a.value r.deck; under_way = Nothing } else record r { under_way = Awaited a }).deck.error ≡ r.deck.error
+    (if whole then record r { deck = given a.command a.value r.deck; under_way = Nothing } else record r
+    { under_way = Awaited a }).deck.error ≡ r.deck.error
 given_more-error r a true = given-error a.command a.value r.deck
 given_more-error r a false = refl
 
 given_more-segments : (r : Record) (a : Parameter) (whole : Bool) → a.command ≢ SetFormatSegments → GeneratesAll r.deck →
-    is_format (if whole then record r { deck = given a.command a.value r.deck; under_way = Nothing } else record r { under_way = Awaited a }).deck.mode ≡ true →
-    (if whole then record r { deck = given a.command a.value r.deck; under_way = Nothing } else record r { under_way = Awaited a }).deck.format_segments
-    ≡ segments_per_track (if whole then record r { deck = given a.command a.value r.deck; under_way = Nothing } else record r { under_way = Awaited a }).deck
+    is_format (if whole then record r { deck = given a.command a.value r.deck; under_way = Nothing } else record r
+    { under_way = Awaited a }).deck.mode ≡ true →
+    (if whole then record r { deck = given a.command a.value r.deck; under_way = Nothing } else record r
+    { under_way = Awaited a }).deck.format_segments
+    ≡ segments_per_track (if whole then record r { deck = given a.command a.value r.deck; under_way = Nothing } else record r
+    { under_way = Awaited a }).deck
 given_more-segments r a true moves g = given-segments a.command a.value r.deck moves g
 given_more-segments r a false moves g = g.segments
 
@@ -151,7 +164,8 @@ steps-awaited r a pulses awaits = rw awaits refl
 pub record Gives (r : Record) (value : ℕ) : Type 0 where
   pub takes : TakesTrain r (2 + value)
   pub steps : train_changes r (2 + value) ≡ []
-  pub given : IfSome (parameter_of r.under_way) (λ a. pulsed_row r (2 + value) ≡ given_more (record r { line = false; train = 0 }) (longer a value))
+  pub given : IfSome (parameter_of r.under_way)
+      (λ a. pulsed_row r (2 + value) ≡ given_more (record r { line = false; train = 0 }) (longer a value))
 
 pub gives : (r : Record) (value : ℕ) → is_seeking r.deck.motion ≡ false → r.deck.error ≡ 0 → GeneratesAll r.deck →
     IsSomeAnd (parameter_of r.under_way) (λ a. TakesValue a value) → Gives r value
@@ -164,10 +178,13 @@ gives r value still none g awaited = by_under_way r.under_way refl awaited
         let is = given_value r a value still e h.small in
         record {
           takes = takes_as r (given_more (record r { line = false; train = 0 }) (longer a value)) (2 + value) (λ p. omega arith) is
-              (given_more-error (record r { line = false; train = 0 }) (longer a value) ((longer a value).taken == parameter_trains a.command) ∙ none)
-              (given_more-segments (record r { line = false; train = 0 }) (longer a value) ((longer a value).taken == parameter_trains a.command) h.moves g);
+              (given_more-error (record r { line = false; train = 0 }) (longer a value)
+              ((longer a value).taken == parameter_trains a.command) ∙ none)
+              (given_more-segments (record r { line = false; train = 0 }) (longer a value)
+              ((longer a value).taken == parameter_trains a.command) h.moves g);
           steps = steps-awaited r a (2 + value) e;
-          given = subst (λ (u : UnderWay). IfSome (parameter_of u) (λ b. pulsed_row r (2 + value) ≡ given_more (record r { line = false; train = 0 }) (longer b value))) (sym e) is;
+          given = subst (λ (u : UnderWay). IfSome (parameter_of u)
+              (λ b. pulsed_row r (2 + value) ≡ given_more (record r { line = false; train = 0 }) (longer b value))) (sym e) is;
         }
 
 pub given_as : (r s : Record) (value : ℕ) → s ≡ pulsed_row r (2 + value) → (o : Option Parameter) →
@@ -176,7 +193,8 @@ pub given_as : (r s : Record) (value : ℕ) → s ≡ pulsed_row r (2 + value) �
 given_as r s value is None h = tt
 given_as r s value is (Some a) h = is ∙ h
 
-length-referenced : (on : Bool) (c : Option TapeInfo) → option_map_or (λ (i : TapeInfo). i.segments_per_track) (referenced_as on c) 0 ≡ option_map_or (λ i. i.segments_per_track) c 0
+length-referenced : (on : Bool) (c : Option TapeInfo) → option_map_or (λ (i : TapeInfo). i.segments_per_track)
+    (referenced_as on c) 0 ≡ option_map_or (λ i. i.segments_per_track) c 0
 length-referenced on None = refl
 length-referenced on (Some info) = refl
 
@@ -186,14 +204,17 @@ pub record References (r : Record) : Type 0 where
   pub steps : train_changes r (number_of WriteReference) ≡ SetReferenced ∷ []
   pub after : pulsed_row r (number_of WriteReference) ≡ obeying (record r { line = false; train = 0 }) WriteReference
 
-steps-reference : (r : Record) → is_seeking r.deck.motion ≡ false → r.under_way ≡ Nothing → refusal_of r.deck WriteReference ≡ None → train_changes r (number_of WriteReference) ≡ SetReferenced ∷ []
+steps-reference : (r : Record) → is_seeking r.deck.motion ≡ false → r.under_way ≡ Nothing → refusal_of r.deck WriteReference ≡ None →
+    train_changes r (number_of WriteReference) ≡ SetReferenced ∷ []
 unfolding train_changes
 steps-reference r still idle taken =
-    let ticks : refusal_of (ticked r.deck) WriteReference ≡ None = ap (λ (d : Deck). refusal_of d WriteReference) (ticked-still r.deck still) ∙ taken in
+    let ticks : refusal_of (ticked r.deck) WriteReference ≡ None = ap (λ (d : Deck). refusal_of d WriteReference)
+    (ticked-still r.deck still) ∙ taken in
     let named = command_at-number_of WriteReference in
     rw (idle, named, ticks) refl
 
-pub references : (r : Record) → is_seeking r.deck.motion ≡ false → r.under_way ≡ Nothing → refusal_of r.deck WriteReference ≡ None → r.deck.error ≡ 0 → GeneratesAll r.deck → References r
+pub references : (r : Record) → is_seeking r.deck.motion ≡ false → r.under_way ≡ Nothing → refusal_of r.deck WriteReference ≡ None →
+    r.deck.error ≡ 0 → GeneratesAll r.deck → References r
 references r still idle taken none g =
     let is = commanded_by WriteReference r (omega arith) still idle taken in
     record {

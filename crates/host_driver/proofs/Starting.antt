@@ -73,7 +73,8 @@ no_cartridge (Some info) e = cc
 fits_info : {T : Type 0} {m : Meaning T} {u : UnitView T} (info : TapeInfo) → u.drive ≡ started_drive (Some info) → IsSoundUnit m u →
     Fits m (started_host info.segments_per_track info.protected info.referenced) u
 fits_info {m = m} {u = u} info is sound =
-    subst (λ (r : Record). IsSoundUnit m (record u { drive = r }) → Fits m (started_host info.segments_per_track info.protected info.referenced) (record u { drive = r })) (sym is)
+    subst (λ (r : Record). IsSoundUnit m (record u { drive = r }) →
+    Fits m (started_host info.segments_per_track info.protected info.referenced) (record u { drive = r })) (sym is)
     (λ s. record {
       cartridge = refl;
       known = refl;
@@ -87,7 +88,8 @@ fits_info {m = m} {u = u} info is sound =
 
 pub fits_started : {T : Type 0} {m : Meaning T} {u : UnitView T} (c : Option TapeInfo) (segments : ℕ) (protected referenced : Bool) →
     u.drive ≡ started_drive c → is_some c ≡ true → segments ≡ option_map_or (λ (i : TapeInfo). i.segments_per_track) c 0 →
-    protected ≡ (is_some c && is_protected (power_on_deck c)) → referenced ≡ (is_some c && is_referenced (power_on_deck c)) → IsSoundUnit m u →
+    protected ≡ (is_some c && is_protected (power_on_deck c)) → referenced ≡ (is_some c && is_referenced (power_on_deck c)) →
+    IsSoundUnit m u →
     Fits m (started_host segments protected referenced) u
 fits_started None segments protected referenced is there s p r sound = cc
 fits_started {m = m} {u = u} (Some info) segments protected referenced is there s p r sound =
@@ -97,6 +99,7 @@ fits_started {m = m} {u = u} (Some info) segments protected referenced is there 
     ∙ ap (λ (b : Bool). started_host segments protected b) (sym r))
     (fits_info {m = m} {u = u} info is sound)
 
-pub length_of_there : (c : Option TapeInfo) → HasLength c → is_some c ≡ true → IsLength (option_map_or (λ (i : TapeInfo). i.segments_per_track) c 0)
+pub length_of_there : (c : Option TapeInfo) → HasLength c → is_some c ≡ true →
+    IsLength (option_map_or (λ (i : TapeInfo). i.segments_per_track) c 0)
 length_of_there None long e = cc
 length_of_there (Some info) long e = long

@@ -36,12 +36,15 @@ status_word-stopped d =
 
 pub status_word-present : (d : Deck) → (bit_and (status_word d) 0x04 == 0x04) ≡ is_some d.cartridge
 status_word-present d =
-    ap (λ (n : ℕ). n == 0x04) (status_of-present (view_of d) (not (d.error == 0)) (is_at_bot d) (is_at_eot d)) ∙ told_04 (is_some d.cartridge)
+    ap (λ (n : ℕ). n == 0x04) (status_of-present (view_of d) (not (d.error == 0)) (is_at_bot d) (is_at_eot d))
+    ∙ told_04 (is_some d.cartridge)
 
 pub status_word-protected : (d : Deck) → (bit_and (status_word d) 0x08 == 0x08) ≡ (is_some d.cartridge && is_protected d)
 status_word-protected d =
-    ap (λ (n : ℕ). n == 0x08) (status_of-protected (view_of d) (not (d.error == 0)) (is_at_bot d) (is_at_eot d)) ∙ told_08 (is_some d.cartridge && is_protected d)
+    ap (λ (n : ℕ). n == 0x08) (status_of-protected (view_of d) (not (d.error == 0)) (is_at_bot d) (is_at_eot d))
+    ∙ told_08 (is_some d.cartridge && is_protected d)
 
 pub status_word-referenced : (d : Deck) → (bit_and (status_word d) 0x20 == 0x20) ≡ (is_some d.cartridge && is_referenced d)
 status_word-referenced d =
-    ap (λ (n : ℕ). n == 0x20) (status_of-referenced (view_of d) (not (d.error == 0)) (is_at_bot d) (is_at_eot d)) ∙ told_20 (is_some d.cartridge && is_referenced d)
+    ap (λ (n : ℕ). n == 0x20) (status_of-referenced (view_of d) (not (d.error == 0)) (is_at_bot d) (is_at_eot d))
+    ∙ told_20 (is_some d.cartridge && is_referenced d)

@@ -14,6 +14,7 @@ same_tape {T = T} old new d drive tape =
     ap (λ (r : Record). record new { drive = r }) drive ∙ ap (λ (t : T). record new { drive = d; tape = t }) tape
 
 -- a gap that does nothing to the cartridge doesn't fail
-pub IsOk-reads : {E : Type 0} (r : Result (Unit {0}) E) (steps : List Step) (s : Step) (P : Type 0) → steps ≡ [] → OnErr r ((steps ≡ s ∷ []) × P) → IsOk r
+pub IsOk-reads : {E : Type 0} (r : Result (Unit {0}) E) (steps : List Step) (s : Step) (P : Type 0) → steps ≡ [] →
+    OnErr r ((steps ≡ s ∷ []) × P) → IsOk r
 IsOk-reads (Ok x) steps s P none h = refl
 IsOk-reads (Err e) steps s P none h = let some = h.0 in cc

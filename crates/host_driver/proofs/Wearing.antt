@@ -1,5 +1,6 @@
 -- A sector of a cartridge that the host knows is worn.
-use Rattle.std.proofs.Common.{◌≡◌, ℕ, ◌*◌, ◌<◌, ◌≤◌, ◌⊎◌, inl, inr, [], ◌∷◌, ap, sym, subst, arith, Some, None, Option, IfSome, IsSomeAnd, Result, Ok, Err}
+use Rattle.std.proofs.Common.{◌≡◌, ℕ, ◌*◌, ◌<◌, ◌≤◌, ◌⊎◌, inl, inr, [], ◌∷◌, ap, sym, subst, arith, Some, None, Option, IfSome, IsSomeAnd}
+use Rattle.std.proofs.Common.{Result, Ok, Err}
 use Rattle.qic_base.specs.Cartridge.{IsPlace}
 use Rattle.std.proofs.lemmas.Bool.{cases_lt}
 use Rattle.qic_base.specs.Step.{Wear}
@@ -13,17 +14,21 @@ use Rattle.drive_states.specs.Unit.{UnitView}
 use Rattle.host_driver.specs.Fits.{AgreesWithTape}
 use Rattle.host_driver.proofs.Marks.{wear_keeps, done_agrees, broke_agrees}
 
-wears_agrees : {T : Type 0} (m : Meaning T) (u v : UnitView T) (segment sector : ℕ) (r : Result (Unit {0}) HandFault) → v.drive ≡ u.drive → Wears m u v segment sector r → AgreesWithTape m u → AgreesWithTape m v
-wears_agrees m u v segment sector (Ok done) same w = done_agrees m u v (Wear segment sector ∷ []) (wear_keeps segment sector) (ap (λ (r : Record). r.deck.cartridge) same) w
+wears_agrees : {T : Type 0} (m : Meaning T) (u v : UnitView T) (segment sector : ℕ) (r : Result (Unit {0}) HandFault) → v.drive ≡ u.drive →
+    Wears m u v segment sector r → AgreesWithTape m u → AgreesWithTape m v
+wears_agrees m u v segment sector (Ok done) same w = done_agrees m u v (Wear segment sector ∷ []) (wear_keeps segment sector)
+    (ap (λ (r : Record). r.deck.cartridge) same) w
 wears_agrees m u v segment sector (Err NoCartridge) same w = absurd w
 wears_agrees m u v segment sector (Err BadPlace) same w = absurd w
-wears_agrees m u v segment sector (Err Tape) same w = broke_agrees m u v (Wear segment sector ∷ []) (wear_keeps segment sector) (ap (λ (r : Record). r.deck.cartridge) same) w
+wears_agrees m u v segment sector (Err Tape) same w = broke_agrees m u v (Wear segment sector ∷ []) (wear_keeps segment sector)
+    (ap (λ (r : Record). r.deck.cartridge) same) w
 wears_agrees m u v segment sector (Err NotBlank) same w = absurd w
 
 placed_or_not : (n segment sector : ℕ) → IsPlace n segment sector ⊎ (¬ (IsPlace n segment sector))
 placed_or_not n segment sector = by_segment (cases_lt segment (28 * n)) (cases_lt sector 32)
   where
-    by_segment : (segment < 28 * n) ⊎ (28 * n ≤ segment) → (sector < 32) ⊎ (32 ≤ sector) → IsPlace n segment sector ⊎ (¬ (IsPlace n segment sector))
+    by_segment : (segment < 28 * n) ⊎ (28 * n ≤ segment) → (sector < 32) ⊎ (32 ≤ sector) → IsPlace n segment sector
+        ⊎ (¬ (IsPlace n segment sector))
     by_segment (inl on) (inl within) = inl record { on_tape = on; in_segment = within }
     by_segment (inl on) (inr over) = inr (λ p. let w = p.in_segment in omega arith)
     by_segment (inr off) t = inr (λ p. let w = p.on_tape in omega arith)
@@ -36,7 +41,8 @@ pub wears_of : {T : Type 0} (m : Meaning T) (u v : UnitView T) (n segment sector
 wears_of m u v n segment sector r there same placed misplaced untouched agrees = by_cartridge u.drive.deck.cartridge there placed misplaced
   where
     by_place : (info : TapeInfo) → IsPlace info.segments_per_track segment sector ⊎ (¬ (IsPlace info.segments_per_track segment sector)) →
-        (IsPlace info.segments_per_track segment sector → Wears m u v segment sector r) → (¬ (IsPlace info.segments_per_track segment sector) → r ≡ Err BadPlace) → AgreesWithTape m v
+        (IsPlace info.segments_per_track segment sector → Wears m u v segment sector r) →
+        (¬ (IsPlace info.segments_per_track segment sector) → r ≡ Err BadPlace) → AgreesWithTape m v
     by_place info (inl place) p q = wears_agrees m u v segment sector r same (p place) agrees
     by_place info (inr none) p q = subst (λ (w : UnitView _). AgreesWithTape m w) (sym (untouched (inr (q none)))) agrees
 

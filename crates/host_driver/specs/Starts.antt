@@ -19,7 +19,8 @@ started_drive cartridge = record (power_on cartridge) { deck = record (power_on_
 abbrev pub started_host : (segments : ℕ) (protected referenced : Bool) → Host
 started_host segments protected referenced = record {
   geometry = segments;
-  deck = record (power_on_deck (Some record { segments_per_track = segments; protected = protected; referenced = referenced })) { fresh = false };
+  deck = record (power_on_deck (Some record { segments_per_track = segments; protected = protected; referenced = referenced }))
+      { fresh = false };
   awaited = None;
 }
 

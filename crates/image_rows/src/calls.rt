@@ -1,4 +1,4 @@
-//! What each call of a tape writes to the disk under it. Sector 1 of segment 2 has the number 65: its gate is byte 64 +
+//! What each call of a tape writes to the disk under an image of version 1. Sector 1 of segment 2 has the number 65: its gate is byte 64 +
 //! 65 = 129, and its bytes begin at 64 + 3 * 2,688 + 1,024 * 65 = 74,688. The gates of segment 2 begin at 128, its
 //! formed bytes at 64 + 2,688 + 64 = 2,816, and its sectors at 73,664.
 
@@ -6,7 +6,7 @@ ghost use Rattle.std.specs.Prelude.{IfOk};
 ghost use Rattle.qic_base.specs.Disk.{IsSettled};
 ghost use Rattle.qic_mem.specs.Disk.{disk_means};
 
-use crate::files::{CLOSED, LENGTH, NEW, OPEN, sees_three, write_image};
+use crate::files::{CLOSED, LENGTH, NEW, OPEN, sees_three, write_cells, write_image};
 use cart_image::ImageTape;
 use qic_base::Tape;
 use qic_mem::{DiskChange, DiskEntry, MemDisk};
@@ -15,7 +15,7 @@ use std::test::Fail;
 
 /// A call of a tape, of a sector of segment 2 or of that segment.
 #[derive(Clone, Copy)]
-enum Call {
+pub enum Call {
     Info,
     Read(u8),
     Write(u8),
@@ -27,10 +27,17 @@ enum Call {
     Renew,
 }
 
+/// Which version the image has that the calls are made on.
+#[derive(Clone, Copy)]
+pub enum Version {
+    One,
+    Two,
+}
+
 /// An entry of a disk's record: bytes that were written from a place on, so many of one value or of several; a length
 /// that was set; a sync that was done; or any other.
 #[derive(Clone, Copy, PartialEq, Eq)]
-enum Row {
+pub enum Row {
     Fill(u64, usize, u8),
     Write(u64, usize),
     SetLen(u64),
@@ -76,14 +83,24 @@ fn make_all(tape: &mut ImageTape<MemDisk>, calls: &[Call]) -> Result<(), Fail> {
 fn empty(alloc: Global) -> Result<MemDisk, Fail>
     ensures { IfOk result (IsSettled disk_means) }
 {
-    Ok(MemDisk::recorded(alloc, LENGTH, 99, 199_999, Vec::new(alloc))?)
+    Ok(MemDisk::recorded(alloc, LENGTH, 299, 199_999, Vec::new(alloc))?)
 }
 
-/// The disk of an image whose sectors 64 to 66 hold bytes, after these calls.
-fn after(alloc: Global, calls: &[Call]) -> Result<MemDisk, Fail> {
+/// The disk of an image whose sectors 64 to 66 hold bytes.
+fn image_of(alloc: Global, version: Version) -> Result<MemDisk, Fail>
+    ensures { IfOk result (IsSettled disk_means) }
+{
     let mut disk = empty(alloc)?;
-    write_image(&mut disk)?;
-    let mut tape = ImageTape::open(disk);
+    match version {
+        Version::One => write_image(&mut disk)?,
+        Version::Two => write_cells(&mut disk)?,
+    }
+    Ok(disk)
+}
+
+/// The disk of such an image after these calls.
+fn after(alloc: Global, version: Version, calls: &[Call]) -> Result<MemDisk, Fail> {
+    let mut tape = ImageTape::open(image_of(alloc, version)?);
     make_all(&mut tape, calls)?;
     Ok(tape.into_disk())
 }
@@ -120,23 +137,27 @@ fn has_behind(disk: &MemDisk, count: usize, rows: &[Row]) -> bool {
 }
 
 /// How many entries the record of an image's disk has after these calls.
-fn entries_after(alloc: Global, calls: &[Call]) -> Result<usize, Fail> {
-    let disk = after(alloc, calls)?;
+fn entries_after(alloc: Global, version: Version, calls: &[Call]) -> Result<usize, Fail> {
+    let disk = after(alloc, version, calls)?;
     let (entries, _) = disk.history();
     Ok(entries.len())
 }
 
 /// Whether the last of these calls does this to the disk of an image whose sectors 64 to 66 hold bytes, and nothing
 /// else.
-fn does(alloc: Global, calls: &[Call], rows: &[Row]) -> Result<bool, Fail> {
-    let before = entries_after(alloc, &calls[..calls.len().saturating_sub(1)])?;
-    Ok(has_behind(&after(alloc, calls)?, before, rows))
+pub fn does(alloc: Global, version: Version, calls: &[Call], rows: &[Row]) -> Result<bool, Fail> {
+    let before = entries_after(alloc, version, &calls[..calls.len().saturating_sub(1)])?;
+    Ok(has_behind(&after(alloc, version, calls)?, before, rows))
 }
 
 /// Which of these runs of calls is the first whose last call does not do the rows beside it; None where there is none.
-fn first_other(alloc: Global, table: &[(&[Call], &[Row])]) -> Result<Option<usize>, Fail> {
+pub fn first_other(
+    alloc: Global,
+    version: Version,
+    table: &[(&[Call], &[Row])],
+) -> Result<Option<usize>, Fail> {
     for (i, (calls, rows)) in table.iter().enumerate() {
-        if !does(alloc, calls, rows)? {
+        if !does(alloc, version, calls, rows)? {
             return Ok(Some(i));
         }
     }
@@ -163,7 +184,7 @@ fn a_sector_is_written_in_three_steps_or_two_or_none(rt: HostRuntime) -> Result<
         (&[Call::Write(3)], &[]),
         (&[Call::Spoil(3), Call::Write(3)], &[]),
     ];
-    assert_eq!(rt; first_other(rt.alloc(), &table)?, None);
+    assert_eq!(rt; first_other(rt.alloc(), Version::One, &table)?, None);
     Ok(())
 }
 
@@ -212,7 +233,7 @@ fn a_segment_is_formatted_in_four_steps_and_again_in_three(rt: HostRuntime) -> R
         (&[Call::Wear(1), Call::Format], &in_runs),
         (&[Call::Format, Call::Format], &again),
     ];
-    assert_eq!(rt; first_other(rt.alloc(), &table)?, None);
+    assert_eq!(rt; first_other(rt.alloc(), Version::One, &table)?, None);
     Ok(())
 }
 
@@ -231,7 +252,14 @@ fn a_defect_is_left_out_of_formatting(rt: HostRuntime) -> Result<(), Fail> {
         Row::Fill(132, 28, OPEN),
         Row::Sync,
     ];
-    assert!(rt; does(rt.alloc(), &[Call::Spoil(3), Call::Format], &rows)?);
+    assert!(rt;
+        does(
+            rt.alloc(),
+            Version::One,
+            &[Call::Spoil(3), Call::Format],
+            &rows
+        )?
+    );
     Ok(())
 }
 
@@ -257,7 +285,7 @@ fn a_state_byte_or_a_mark_is_one_write_or_none(rt: HostRuntime) -> Result<(), Fa
         (&[Call::Info], &[]),
         (&[Call::Read(1)], &[]),
     ];
-    assert_eq!(rt; first_other(rt.alloc(), &table)?, None);
+    assert_eq!(rt; first_other(rt.alloc(), Version::One, &table)?, None);
     Ok(())
 }
 
@@ -275,6 +303,9 @@ fn a_new_cartridge_is_five_steps_or_four(rt: HostRuntime) -> Result<(), Fail> {
         Row::Fill(0, 1, 0x51),
         Row::Sync,
     ];
-    assert!(rt; does(rt.alloc(), &[Call::Renew], &rows)? && first_does(rt.alloc(), &rows[2..])?);
+    assert!(rt;
+        does(rt.alloc(), Version::One, &[Call::Renew], &rows)?
+            && first_does(rt.alloc(), &rows[2..])?
+    );
     Ok(())
 }

@@ -2,7 +2,7 @@
 //! chooses, counted from 0 over all calls of that disk. Segment 2 of an image of three segments per track has the
 //! sectors with the numbers 64 to 95.
 
-ghost use Rattle.std.specs.Prelude.{◌≡◌, IfOk, OnOk, Some};
+ghost use Rattle.std.specs.Prelude.{◌≡◌, ◌+◌, ◌^◌, ◌<◌, ◌≤◌, IfOk, OnOk, Some};
 ghost use Rattle.qic_base.specs.Disk.{IsSettled};
 ghost use Rattle.qic_mem.specs.Disk.{disk_means};
 ghost use Rattle.cart_image.specs.ImageTape.{image_means};
@@ -66,7 +66,30 @@ pub fn write_image(file: &mut MemDisk) -> Result<(), DiskFailed>
     file.sync()
 }
 
-/// Such an image.
+/// A sector that holds bytes, its four parts side by side from this place on.
+fn write_cell(file: &mut MemDisk, place: u64) -> Result<(), DiskFailed>
+    requires small { place < 2 ^ 32 }
+    requires within { place + 1027 ≤ disk_means.seen_len file.old }
+    ensures { disk_means.seen_len file.new ≡ disk_means.seen_len file.old }
+{
+    file.write_at(place, &[OPEN, 0xF0, 0])?;
+    file.write_at(place + 3, &[OLD; 1024])
+}
+
+/// Makes a file the image of that cartridge in version 2: the cell of a sector with the number q begins at 64 +
+/// 1,027 * q, so those of the sectors 64 to 66 at 65,792, 66,819 and 67,846. Nine calls of the disk make it.
+pub fn write_cells(file: &mut MemDisk) -> Result<(), DiskFailed>
+    ensures { OnOk result (IsSettled disk_means file.new) }
+{
+    file.set_len(LENGTH)?;
+    file.write_at(0, b"QIC80IMG\x02\0\x03\0\0\0\x5A\0\x40")?;
+    write_cell(file, 65_792)?;
+    write_cell(file, 66_819)?;
+    write_cell(file, 67_846)?;
+    file.sync()
+}
+
+/// Such an image of version 1.
 pub fn image(alloc: Global, fails: Vec<u64>) -> Result<MemDisk, Fail>
     ensures { IfOk result (IsSettled disk_means) }
 {

@@ -7,6 +7,8 @@ mod ahead;
 #[cfg(test)]
 mod calls;
 #[cfg(test)]
+mod cells;
+#[cfg(test)]
 mod damaged;
 #[cfg(test)]
 mod files;

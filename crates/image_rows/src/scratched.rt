@@ -16,6 +16,8 @@ pub struct Scratched {
     count: u64,
     seen: u64,
     faults: u64,
+    /// How many of the faults were writes and new lengths.
+    failed_changes: u64,
 }
 
 impl Model for Scratched {
@@ -24,13 +26,25 @@ impl Model for Scratched {
 
     ghost Value = { FileState ℕ };
 
-    ghost view = { λ d. record { file = d.bad; resized = false; seen = d.seen; faults = d.faults } };
+    ghost view = { λ d. record {
+      file = d.bad;
+      resized = false;
+      seen = d.seen;
+      faults = d.faults;
+      failed_changes = d.failed_changes;
+    } };
 }
 
 impl Scratched {
     /// The disk, of which `count` bytes from place `bad` on cannot be read.
     pub fn new(disk: MemDisk, bad: u64, count: u64) -> Scratched
-        ensures { result ≡ record { file = bad; resized = false; seen = 0; faults = 0 } }
+        ensures { result ≡ record {
+          file = bad;
+          resized = false;
+          seen = 0;
+          faults = 0;
+          failed_changes = 0;
+        } }
     {
         Scratched {
             disk,
@@ -38,6 +52,7 @@ impl Scratched {
             count,
             seen: 0,
             faults: 0,
+            failed_changes: 0,
         }
     }
 
@@ -45,9 +60,21 @@ impl Scratched {
     fn count_fault(&mut self)
         ensures failed { Rose self.old.faults self.new.faults }
         ensures later { self.old.faults ≤ self.new.faults }
+        ensures changes { self.new.failed_changes ≡ self.old.failed_changes }
         ensures seen { self.new.seen ≡ self.old.seen }
     {
         self.faults = self.faults.saturating_add(1);
+    }
+
+    /// Counts a failure of a write or of a new length, among these, too.
+    fn count_failed_change(&mut self)
+        ensures failed { Rose self.old.faults self.new.faults }
+        ensures later { self.old.faults ≤ self.new.faults }
+        ensures changes { Rose self.old.failed_changes self.new.failed_changes }
+        ensures seen { self.new.seen ≡ self.old.seen }
+    {
+        self.failed_changes = self.failed_changes.saturating_add(1);
+        self.count_fault();
     }
 }
 
@@ -92,12 +119,12 @@ impl Disk for Scratched {
     }
 
     fn write_at(&mut self, _place: u64, _from: &[u8]) -> Result<(), DiskFailed> {
-        self.count_fault();
+        self.count_failed_change();
         Err(DiskFailed)
     }
 
     fn set_len(&mut self, _length: u64) -> Result<(), DiskFailed> {
-        self.count_fault();
+        self.count_failed_change();
         self.seen = 0;
         Err(DiskFailed)
     }

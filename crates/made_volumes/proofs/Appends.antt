@@ -1,6 +1,7 @@
 -- How the append of a made volume ended, as a step of a run.
 use Rattle.cartridge_spec.specs.Appending.{room}
-use Rattle.std.proofs.Common.{◌≡◌, ◌↔◌, inl, inr, ℕ, Bool, true, false, cond, List, [], ◌∷◌, ◌++◌, length, take, Option, Some, Result, Ok, Err, refl, sym, ap, ◌∙◌, subst, arith, nat_lt}
+use Rattle.std.proofs.Common.{◌≡◌, ◌↔◌, inl, inr, ℕ, Bool, true, false, cond, List, [], ◌∷◌, ◌++◌, length, take, Option, Some, Result, Ok}
+use Rattle.std.proofs.Common.{Err, refl, sym, ap, ◌∙◌, subst, arith, nat_lt}
 use Rattle.std.proofs.lemmas.Bool.{le-ltb}
 use Rattle.std.proofs.lemmas.List.{take_all}
 use Rattle.qic_base.specs.Cartridge.{Cartridge}
@@ -54,11 +55,13 @@ abbrev by_promise : ℕ → ℕ → Bool → Status
 by_promise have n room = cond room status.Done (status.Full n have)
 
 -- where there are as many as promised
-answer_fits : (have n : ℕ) (bytes some : List ℕ) (room : Bool) → by_room have n bytes room ≡ Fits some → by_promise have n room ≡ status.Done
+answer_fits : (have n : ℕ) (bytes some : List ℕ) (room : Bool) → by_room have n bytes room ≡ Fits some →
+    by_promise have n room ≡ status.Done
 answer_fits have n bytes some true is = refl
 answer_fits have n bytes some false is = absurd (cc)
 
-answer_long : (have n : ℕ) (bytes : List ℕ) (need there : ℕ) (room : Bool) → length bytes ≡ n → by_room have n bytes room ≡ TooLong need there →
+answer_long : (have n : ℕ) (bytes : List ℕ) (need there : ℕ) (room : Bool) → length bytes ≡ n →
+    by_room have n bytes room ≡ TooLong need there →
     by_promise have n room ≡ status.Full need there
 answer_long have n bytes need there true long is = absurd (by_length (nat_lt (length bytes) n) is)
   where
@@ -67,7 +70,8 @@ answer_long have n bytes need there true long is = absurd (by_length (nat_lt (le
     by_length false is = cc
 answer_long have n bytes need there false long is = let same : TooLong n have ≡ TooLong need there = is in cc
 
-never_short : (have n : ℕ) (bytes : List ℕ) (asked read : ℕ) (room : Bool) → length bytes ≡ n → by_room have n bytes room ≡ TooShort asked read → ⊥
+never_short : (have n : ℕ) (bytes : List ℕ) (asked read : ℕ) (room : Bool) → length bytes ≡ n →
+    by_room have n bytes room ≡ TooShort asked read → ⊥
 never_short have n bytes asked read true long is =
     let all : nat_lt (length bytes) n ≡ false = ltb_same (length bytes) n long in
     let same : Fits (take n bytes) ≡ TooShort asked read =
@@ -89,7 +93,8 @@ fits_all have n bytes some true long is = by_length (nat_lt (length bytes) n) is
         sym same ∙ take_all n bytes (omega arith)
 fits_all have n bytes some false long is = absurd (cc)
 
-module _ {T : Type 0} (t : tapes.Meaning T) (seed volume : ℕ) (before : StoreView) (u : UnitView T) (fits : StoreFits t before u) (b : T) (rest : List ℕ) (after : StoreView) where
+module _ {T : Type 0} (t : tapes.Meaning T) (seed volume : ℕ) (before : StoreView) (u : UnitView T) (fits : StoreFits t before u) (b : T)
+    (rest : List ℕ) (after : StoreView) where
   abbrev words : List ℕ
   words = before.words
 
@@ -128,13 +133,16 @@ module _ {T : Type 0} (t : tapes.Meaning T) (seed volume : ℕ) (before : StoreV
   went_so acts answer went may told = record {
     acts = acts;
     went = around_went acts went;
-    told = Tells-map t a (λ c. StepDoes seed c words entries (AppendMade volume) acts answer) (λ c. Runs seed c words entries (AppendMade volume ∷ []) acts answer)
+    told = Tells-map t a (λ c. StepDoes seed c words entries (AppendMade volume) acts answer)
+        (λ c. Runs seed c words entries (AppendMade volume ∷ []) acts answer)
         (λ c does. run_of seed c words entries (AppendMade volume) acts answer does) told;
-    may = may_of seed words entries (AppendMade volume) (text_of acts) answer (may_append seed words entries volume (text_of acts) answer went.wrote.took may);
+    may = may_of seed words entries (AppendMade volume) (text_of acts) answer
+        (may_append seed words entries volume (text_of acts) answer went.wrote.took may);
   }
 
   -- the acts of an append that ran are the plain machine's
-  same_acts : (c : Cartridge) (table : List (List ℕ)) (settling : List Step) (input : List ℕ) → settling ≡ settling_steps table c → input ≡ bytes →
+  same_acts : (c : Cartridge) (table : List (List ℕ)) (settling : List Step) (input : List ℕ) → settling ≡ settling_steps table c →
+      input ≡ bytes →
       append_acts (kept_by before table settling) (made_name volume) 0 promise silently input ≡ made_acts seed c words entries table volume
   same_acts c table settling input settles is =
       ap (λ (steps : List Step). append_acts (kept_by before table steps) (made_name volume) 0 promise silently input) settles
@@ -174,7 +182,8 @@ module _ {T : Type 0} (t : tapes.Meaning T) (seed volume : ℕ) (before : StoreV
       (λ c. StepDoes seed c words entries (AppendMade volume) refused.acts answer)
       (λ c mark known. inr (mark, inr (means c refused.acts known.0 known.2))) (told_mark t before u fits false free) refused.told)
 
-  around_cut : (acts : List Act) → Cut t made_means no_sink (reading a bytes) (reading b rest) acts TapeFails → Cut t no_source no_sink (around a tt) (around b tt) acts TapeFails
+  around_cut : (acts : List Act) → Cut t made_means no_sink (reading a bytes) (reading b rest) acts TapeFails →
+      Cut t no_source no_sink (around a tt) (around b tt) acts TapeFails
   around_cut acts cut = record {
     front = cut.front;
     rest = cut.rest;
@@ -189,32 +198,38 @@ module _ {T : Type 0} (t : tapes.Meaning T) (seed volume : ℕ) (before : StoreV
   abbrev CutReading : (input : List ℕ) → Cartridge → Type 0
   CutReading input c =
       (table : List (List ℕ)) → TableIs c table → (reply : Entry → List ℕ) →
-      Cut t made_means no_sink (reading a bytes) (reading b rest) (append_acts (kept_by before table (settling_steps table c)) (made_name volume) 0 promise reply input) TapeFails
+      Cut t made_means no_sink (reading a bytes) (reading b rest)
+      (append_acts (kept_by before table (settling_steps table c)) (made_name volume) 0 promise reply input) TapeFails
 
   abbrev CutBefore : Cartridge → Type 0
   CutBefore c = ((table : List (List ℕ)) → TableIs c table → ⊥) → Cut t made_means no_sink (reading a bytes) (reading b rest) [] TapeFails
 
-  cut_so : is_protected u.drive.deck ≡ false → AppendCut t made_means (reading a bytes) (reading b rest) before (made_name volume) 0 promise TapeFails →
+  cut_so : is_protected u.drive.deck ≡ false → AppendCut t made_means (reading a bytes) (reading b rest) before
+      (made_name volume) 0 promise TapeFails →
       CutUnread t made_means (reading a bytes) (reading b rest) TapeFails →
       RunCut t no_sink seed words entries (AppendMade volume ∷ []) (around a tt) (around b tt) TapeFails
   cut_so free cut unread = record {
     told = tells_two t a (λ c. (c.info.protected ≡ false) × CutReading cut.input c) CutBefore
         (λ c. (acts : List Act) (answer : Status) → Runs seed c words entries (AppendMade volume ∷ []) acts answer →
         Cut t no_source no_sink (around a tt) (around b tt) acts TapeFails)
-        (λ c known none acts answer runs. by_does c known none acts answer (done_of seed c words entries (AppendMade volume) acts answer runs))
-        (tells_two t a (λ c. c.info.protected ≡ false) (CutReading cut.input) (λ c. (c.info.protected ≡ false) × CutReading cut.input c) (λ c mark known. (mark, known))
+        (λ c known none acts answer runs. by_does c known none acts answer
+        (done_of seed c words entries (AppendMade volume) acts answer runs))
+        (tells_two t a (λ c. c.info.protected ≡ false) (CutReading cut.input) (λ c. (c.info.protected ≡ false) × CutReading cut.input c)
+        (λ c mark known. (mark, known))
         (told_mark t before u fits false free) cut.told) unread;
     acts = cut.acts;
     cut = around_cut cut.acts cut.cut;
   }
     where
-      by_does : (c : Cartridge) → (c.info.protected ≡ false) × CutReading cut.input c → CutBefore c → (acts : List Act) (answer : Status) → StepDoes seed c words entries (AppendMade volume) acts answer →
+      by_does : (c : Cartridge) → (c.info.protected ≡ false) × CutReading cut.input c → CutBefore c → (acts : List Act) (answer : Status) →
+          StepDoes seed c words entries (AppendMade volume) acts answer →
           Cut t no_source no_sink (around a tt) (around b tt) acts TapeFails
       by_does c (mark, known) none acts answer (inl refused) = absurd (let same : true ≡ false = sym refused.0 ∙ mark in cc)
       by_does c (mark, known) none acts answer (inr (free', inl appended)) =
           subst (λ (zs : List Act). Cut t no_source no_sink (around a tt) (around b tt) zs TapeFails)
           (same_acts c appended.table (settling_steps appended.table c) cut.input refl cut.is_told ∙ sym appended.does)
-          (around_cut (append_acts (kept_by before appended.table (settling_steps appended.table c)) (made_name volume) 0 promise silently cut.input) (known appended.table appended.reads silently))
+          (around_cut (append_acts (kept_by before appended.table (settling_steps appended.table c))
+          (made_name volume) 0 promise silently cut.input) (known appended.table appended.reads silently))
       by_does c (mark, known) none acts answer (inr (free', inr lost)) =
           subst (λ (zs : List Act). Cut t no_source no_sink (around a tt) (around b tt) zs TapeFails) (sym lost.2)
           (around_cut [] (none (λ table reads. not_lost c table lost.0 reads lost.1)))
@@ -228,38 +243,45 @@ module _ {T : Type 0} (t : tapes.Meaning T) (seed volume : ℕ) (before : StoreV
       ran_so (Fits ends.bytes) status.Done free ends.ran is is
 
   locked_so : is_protected u.drive.deck ≡ true → Ends (Err store.Protected) → Result' (Err fault.Protected)
-  locked_so locked ends = subst (λ (end : T). RunEnds t no_sink seed words entries (AppendMade volume ∷ []) (around a tt) (around end tt) (Err fault.Protected)) (sym ends.0) (record {
-    acts = [];
-    went = record { did = Done-nothing t a; wrote = record { took = refl; later = omega arith }; source_later = omega arith };
-    told = Tells-map t a (λ c. c.info.protected ≡ true) (λ c. Runs seed c words entries (AppendMade volume ∷ []) [] status.Protected)
-        (λ c mark. run_of seed c words entries (AppendMade volume) [] status.Protected (inl (mark, refl, refl)))
-        (told_mark t before u fits true locked);
-    may = may_of seed words entries (AppendMade volume) [] status.Protected refl;
-  })
+  locked_so locked ends = subst (λ (end : T). RunEnds t no_sink seed words entries (AppendMade volume ∷ []) (around a tt) (around end tt)
+      (Err fault.Protected)) (sym ends.0) (record {
+        acts = [];
+        went = record { did = Done-nothing t a; wrote = record { took = refl; later = omega arith }; source_later = omega arith };
+        told = Tells-map t a (λ c. c.info.protected ≡ true) (λ c. Runs seed c words entries (AppendMade volume ∷ []) [] status.Protected)
+            (λ c mark. run_of seed c words entries (AppendMade volume) [] status.Protected (inl (mark, refl, refl)))
+            (told_mark t before u fits true locked);
+        may = may_of seed words entries (AppendMade volume) [] status.Protected refl;
+      })
 
   -- the answers of a call that a run makes
   pub append_so : (f : StoreFault) → (f ≡ store.Protected) ↔ (is_protected u.drive.deck ≡ true) → Ends (Err f) →
       FaultsUnread t made_means (reading a bytes) (reading b rest) (Err f) → (is_of_step f ≡ true) × Result' (Err (fault_of f))
   append_so store.Protected mark ends unread = (refl, locked_so (mark.0 refl) ends)
   append_so (store.Lost segment lost) mark ends unread =
-      let free : is_protected u.drive.deck ≡ false = not_marked (store.Lost segment lost ≡ store.Protected) (is_protected u.drive.deck) mark.1 (λ is. cc) in (
+      let free : is_protected u.drive.deck ≡ false = not_marked (store.Lost segment lost ≡ store.Protected)
+      (is_protected u.drive.deck) mark.1 (λ is. cc) in (
         refl,
         refused_so (λ c. TableSays (table_cells c) (ByCode (LostSectors lost))) (status.Lost segment lost) free ends.2 (ends.0, ends.1)
             (λ c acts none says. (lost, says, none, ap (λ (s : ℕ). status.Lost s lost) ends.0)),
       )
   append_so store.TableMismatch mark ends unread =
-      let free : is_protected u.drive.deck ≡ false = not_marked (store.TableMismatch ≡ store.Protected) (is_protected u.drive.deck) mark.1 (λ is. cc) in
+      let free : is_protected u.drive.deck ≡ false = not_marked (store.TableMismatch ≡ store.Protected) (is_protected u.drive.deck) mark.1
+      (λ is. cc) in
       (refl, refused_so (λ c. ⊥) status.TableMismatch free ends tt (λ c acts none never. absurd never))
   append_so (store.Full need there) mark ends unread =
-      let free : is_protected u.drive.deck ≡ false = not_marked (store.Full need there ≡ store.Protected) (is_protected u.drive.deck) mark.1 (λ is. cc) in
+      let free : is_protected u.drive.deck ≡ false = not_marked (store.Full need there ≡ store.Protected) (is_protected u.drive.deck) mark.1
+      (λ is. cc) in
       let is : made_answer seed words entries volume ≡ status.Full need there =
-      answer_long have (made_length seed volume) bytes need there (has_promised_room have promise) (length-made_bytes seed volume) (became_is (TooLong need there) ends) in
+      answer_long have (made_length seed volume) bytes need there (has_promised_room have promise) (length-made_bytes seed volume)
+      (became_is (TooLong need there) ends) in
       (refl, ran_so (TooLong need there) (status.Full need there) free ends is is)
   append_so (store.Short asked read) mark ends unread =
-      absurd (never_short have (made_length seed volume) bytes asked read (has_promised_room have promise) (length-made_bytes seed volume) (became_is (TooShort asked read) ends))
+      absurd (never_short have (made_length seed volume) bytes asked read (has_promised_room have promise) (length-made_bytes seed volume)
+      (became_is (TooShort asked read) ends))
   append_so store.Source mark ends unread = absurd (let rose = ends.cut.cause in omega arith)
   append_so store.Tape mark ends unread =
-      let free : is_protected u.drive.deck ≡ false = not_marked (store.Tape ≡ store.Protected) (is_protected u.drive.deck) mark.1 (λ is. cc) in
+      let free : is_protected u.drive.deck ≡ false = not_marked (store.Tape ≡ store.Protected) (is_protected u.drive.deck) mark.1
+      (λ is. cc) in
       (refl, cut_so free ends unread)
   append_so f mark ends unread = absurd ends
 
@@ -269,8 +291,10 @@ module _ {T : Type 0} (t : tapes.Meaning T) (seed volume : ℕ) (before : StoreV
   -- .. and the entry that was added is the made volume's
   pub appended_entry : (appended : Appended) → Ends (Ok appended) → after.entries ≡ entries ++ made_entry seed words entries volume ∷ []
   appended_entry appended ends =
-      let is : by_room have (made_length seed volume) bytes (has_promised_room have promise) ≡ Fits ends.bytes = became_is (Fits ends.bytes) ends.ran in
-      let all : ends.bytes ≡ bytes = fits_all have (made_length seed volume) bytes ends.bytes (has_promised_room have promise) (length-made_bytes seed volume) is in
+      let is : by_room have (made_length seed volume) bytes (has_promised_room have promise) ≡ Fits ends.bytes =
+      became_is (Fits ends.bytes) ends.ran in
+      let all : ends.bytes ≡ bytes = fits_all have (made_length seed volume) bytes ends.bytes (has_promised_room have promise)
+      (length-made_bytes seed volume) is in
       ends.added ∙ ap (λ (e : Entry). entries ++ e ∷ []) (ends.is_entry
       ∙ ap (λ (xs : List ℕ). entry_for (kept_by before ends.ran.table ends.ran.settling) (made_name volume) 0 xs) all)
 
@@ -282,6 +306,8 @@ module _ {T : Type 0} (t : tapes.Meaning T) (seed volume : ℕ) (before : StoreV
   append_so_at name source promised named from long f mark ends unread =
       append_so f mark
       (subst (λ (n : ℕ). AppendEnds t made_means (reading a bytes) (reading b rest) before after (made_name volume) 0 (Some n) (Err f)) long
-      (subst (λ (xs : List ℕ). AppendEnds t made_means (reading a xs) (reading b rest) before after (made_name volume) 0 (Some promised) (Err f)) from
-      (subst (λ (xs : List ℕ). AppendEnds t made_means (reading a source) (reading b rest) before after xs 0 (Some promised) (Err f)) named ends)))
+      (subst (λ (xs : List ℕ). AppendEnds t made_means (reading a xs) (reading b rest) before after (made_name volume) 0 (Some promised)
+      (Err f)) from
+      (subst (λ (xs : List ℕ). AppendEnds t made_means (reading a source) (reading b rest) before after xs 0 (Some promised) (Err f)) named
+      ends)))
       (subst (λ (xs : List ℕ). FaultsUnread t made_means (reading a xs) (reading b rest) (Err f)) from unread)

@@ -32,7 +32,8 @@ module _ {T K : Type 0} (t : tapes.Meaning T) (k : sinks.Meaning K) (seed : ℕ)
   }
 
   pub run_both : TakesBoth k → (es : List Entry) (xs ys : List MakeStep) (a b c : Outside T (Unit {0}) K) (y : Status) →
-      HasRun t k seed words es xs a b status.Done → HasRun t k seed words (after_items seed words es xs) ys b c y → HasRun t k seed words es (xs ++ ys) a c y
+      HasRun t k seed words es xs a b status.Done → HasRun t k seed words (after_items seed words es xs) ys b c y →
+      HasRun t k seed words es (xs ++ ys) a c y
   run_both both es xs ys a b c y first next =
       let after : List Entry = after_items seed words es xs in
       record {
@@ -95,14 +96,18 @@ module _ {T K : Type 0} (t : tapes.Meaning T) (k : sinks.Meaning K) (seed : ℕ)
   -- ---- by the answer
 
   -- steps behind others that were carried out
-  pub ends_behind : TakesBoth k → (es : List Entry) (xs ys : List MakeStep) (a b c : Outside T (Unit {0}) K) (r : Result (Unit {0}) MakeFault) →
-      HasRun t k seed words es xs a b status.Done → RunEnds t k seed words (after_items seed words es xs) ys b c r → RunEnds t k seed words es (xs ++ ys) a c r
+  pub ends_behind : TakesBoth k → (es : List Entry) (xs ys : List MakeStep) (a b c : Outside T (Unit {0}) K)
+      (r : Result (Unit {0}) MakeFault) →
+      HasRun t k seed words es xs a b status.Done → RunEnds t k seed words (after_items seed words es xs) ys b c r →
+      RunEnds t k seed words es (xs ++ ys) a c r
   ends_behind both es xs ys a b c (Ok done) first next = run_both both es xs ys a b c status.Done first next
   ends_behind both es xs ys a b c (Err fault.Protected) first next = run_both both es xs ys a b c status.Protected first next
   ends_behind both es xs ys a b c (Err fault.TableMismatch) first next = run_both both es xs ys a b c status.TableMismatch first next
   ends_behind both es xs ys a b c (Err (fault.Full need have)) first next = run_both both es xs ys a b c (status.Full need have) first next
-  ends_behind both es xs ys a b c (Err (fault.Lost segment lost)) first next = run_both both es xs ys a b c (status.Lost segment lost) first next
-  ends_behind both es xs ys a b c (Err (fault.Mismatch segment)) first next = run_both both es xs ys a b c (status.Mismatch segment) first next
+  ends_behind both es xs ys a b c (Err (fault.Lost segment lost)) first next = run_both both es xs ys a b c
+      (status.Lost segment lost) first next
+  ends_behind both es xs ys a b c (Err (fault.Mismatch segment)) first next = run_both both es xs ys a b c
+      (status.Mismatch segment) first next
   ends_behind both es xs ys a b c (Err fault.Sink) first next = cut_behind both es xs ys a b c SinkFails first next
   ends_behind both es xs ys a b c (Err fault.Tape) first next = cut_behind both es xs ys a b c TapeFails first next
 
@@ -126,7 +131,8 @@ module _ {T K : Type 0} (t : tapes.Meaning T) (k : sinks.Meaning K) (a b : T) (x
     later = omega arith;
   }
 
-  went_quietly : (acts : List Act) → Went t no_source no_sink (around a tt) (around b tt) acts → Went t no_source k (around a x) (around b x) acts
+  went_quietly : (acts : List Act) → Went t no_source no_sink (around a tt) (around b tt) acts →
+      Went t no_source k (around a x) (around b x) acts
   went_quietly acts went = record {
     did = went.did;
     wrote = quiet_wrote (text_of acts) went.wrote;
@@ -155,13 +161,17 @@ module _ {T K : Type 0} (t : tapes.Meaning T) (k : sinks.Meaning K) (a b : T) (x
   }
   cut_quietly acts SinkFails cut = absurd (let rose = cut.broke.cause in omega arith)
 
-module _ {T K : Type 0} (t : tapes.Meaning T) (k : sinks.Meaning K) (seed : ℕ) (words : List ℕ) (es : List Entry) (items : List MakeStep) (a b : T) (x : K) (none : k.took x [] x) where
-  run_quietly : (y : Status) → HasRun t no_sink seed words es items (around a tt) (around b tt) y → HasRun t k seed words es items (around a x) (around b x) y
+module _ {T K : Type 0} (t : tapes.Meaning T) (k : sinks.Meaning K) (seed : ℕ) (words : List ℕ) (es : List Entry) (items : List MakeStep)
+    (a b : T) (x : K) (none : k.took x [] x) where
+  run_quietly : (y : Status) → HasRun t no_sink seed words es items (around a tt) (around b tt) y →
+      HasRun t k seed words es items (around a x) (around b x) y
   run_quietly y run = record { acts = run.acts; went = went_quietly t k a b x none run.acts run.went; told = run.told; may = run.may }
 
-  broke_quietly : (failing : Failing) → RunCut t no_sink seed words es items (around a tt) (around b tt) failing → RunCut t k seed words es items (around a x) (around b x) failing
+  broke_quietly : (failing : Failing) → RunCut t no_sink seed words es items (around a tt) (around b tt) failing →
+      RunCut t k seed words es items (around a x) (around b x) failing
   broke_quietly failing cut = record {
-    told = Tells-map t a (CutOver t no_sink seed words es items (around a tt) (around b tt) failing) (CutOver t k seed words es items (around a x) (around b x) failing)
+    told = Tells-map t a (CutOver t no_sink seed words es items (around a tt) (around b tt) failing)
+        (CutOver t k seed words es items (around a x) (around b x) failing)
         (λ d here acts answer runs. cut_quietly t k a b x none acts failing (here acts answer runs)) cut.told;
     acts = cut.acts;
     cut = cut_quietly t k a b x none cut.acts failing cut.cut;

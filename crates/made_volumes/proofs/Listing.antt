@@ -20,7 +20,8 @@ never_mismatched need have segment true is = cc
 never_mismatched need have segment false is = cc
 
 -- an append was refused behind so many
-module _ {T : Type 0} (t : tapes.Meaning T) (seed count n : ℕ) (few : n < count) (before : StoreView) (es : List Entry) (after : StoreView) (is : es ≡ made_list seed n before.words before.entries) (a b : Outside T (Unit {0}) (Unit {0})) where
+module _ {T : Type 0} (t : tapes.Meaning T) (seed count n : ℕ) (few : n < count) (before : StoreView) (es : List Entry) (after : StoreView)
+    (is : es ≡ made_list seed n before.words before.entries) (a b : Outside T (Unit {0}) (Unit {0})) where
   some_held : after.entries ≡ es → HoldsSome seed count before after
   some_held kept = record { appended = n; within = omega arith; list = kept ∙ is }
 
@@ -41,14 +42,18 @@ module _ {T : Type 0} (t : tapes.Meaning T) (seed count n : ℕ) (few : n < coun
       (some_held kept, λ other. absurd (other may.1.0))
   listed_refused (fault.Mismatch segment) e run kept =
       let may = may_done seed before.words es (AppendMade (1 + n)) (text_of run.acts) (status.Mismatch segment) run.may in
-      absurd (never_mismatched (made_length seed (1 + n)) (room before.words es) segment (has_promised_room (room before.words es) (Some (made_length seed (1 + n)))) may.1)
+      absurd (never_mismatched (made_length seed (1 + n)) (room before.words es) segment
+      (has_promised_room (room before.words es) (Some (made_length seed (1 + n)))) may.1)
   listed_refused fault.Sink e cut kept = absurd (let rose = cut.cut.broke.cause in omega arith)
   listed_refused fault.Tape e cut kept = tt
 
 -- the append of the present volume of a loop was refused
-pub listed_loop : {T : Type 0} (t : tapes.Meaning T) (seed count v : ℕ) → 1 ≤ v → v ≤ count → (before : StoreView) (words : List ℕ) (es : List Entry) (after : StoreView) →
-    words ≡ before.words → es ≡ made_list seed (v - 1) before.words before.entries → (a b : Outside T (Unit {0}) (Unit {0})) → (f : MakeFault) (e : Entry) →
-    RunEnds t no_sink seed words es (AppendMade v ∷ []) a b (Err f) → IsListed (Err f) es after.entries e → AreListed (Err f) seed count before after
+pub listed_loop : {T : Type 0} (t : tapes.Meaning T) (seed count v : ℕ) → 1 ≤ v → v ≤ count → (before : StoreView) (words : List ℕ)
+    (es : List Entry) (after : StoreView) →
+    words ≡ before.words → es ≡ made_list seed (v - 1) before.words before.entries → (a b : Outside T (Unit {0}) (Unit {0})) →
+    (f : MakeFault) (e : Entry) →
+    RunEnds t no_sink seed words es (AppendMade v ∷ []) a b (Err f) → IsListed (Err f) es after.entries e →
+    AreListed (Err f) seed count before after
 listed_loop t seed count v some few before words es after same is a b f e ends kept =
     let number : v ≡ 1 + (v - 1) = omega arith in
     listed_refused t seed count (v - 1) (omega arith) before es after is a b f e

@@ -1,5 +1,6 @@
 -- The steps of a run, part by part.
-use Rattle.std.proofs.Common.{◌≡◌, ℕ, zero, suc, ◌+◌, List, ◌∷◌, ◌++◌, ap, ◌∙◌, arith, [], sym, ◌-◌, ◌≤◌, refl, Result, subst, ◌<◌, length, take, ◌%◌, ◌==◌, cond, append_assoc, drop, slice_get, Some, append-nil}
+use Rattle.std.proofs.Common.{◌≡◌, ℕ, zero, suc, ◌+◌, List, ◌∷◌, ◌++◌, ap, ◌∙◌, arith, [], sym, ◌-◌, ◌≤◌, refl, Result, subst, ◌<◌, length}
+use Rattle.std.proofs.Common.{take, ◌%◌, ◌==◌, cond, append_assoc, drop, slice_get, Some, append-nil}
 use Rattle.std.proofs.lemmas.List.{take_more, take-append-drop}
 use Rattle.std.proofs.lemmas.Option.{slice_get_within, get_or_from_slice_get}
 use Rattle.cartridge_spec.specs.Table.{Entry}
@@ -52,10 +53,12 @@ after_summing seed words es number (suc count) = after_summing seed words es (nu
 
 -- behind these, steps go on with the same list
 module _ {T K : Type 0} (t : tapes.Meaning T) (k : sinks.Meaning K) (seed : ℕ) (words : List ℕ) (es : List Entry) where
-  pub ends_after : TakesBoth k → (xs ys : List MakeStep) (a b c : Outside T (Unit {0}) K) (r : Result (Unit {0}) MakeFault) → after_items seed words es xs ≡ es →
+  pub ends_after : TakesBoth k → (xs ys : List MakeStep) (a b c : Outside T (Unit {0}) K) (r : Result (Unit {0}) MakeFault) →
+      after_items seed words es xs ≡ es →
       HasRun t k seed words es xs a b status.Done → RunEnds t k seed words es ys b c r → RunEnds t k seed words es (xs ++ ys) a c r
   ends_after both xs ys a b c r kept first next =
-      ends_behind t k seed words both es xs ys a b c r first (subst (λ (now : List Entry). RunEnds t k seed words now ys b c r) (sym kept) next)
+      ends_behind t k seed words both es xs ys a b c r first
+      (subst (λ (now : List Entry). RunEnds t k seed words now ys b c r) (sym kept) next)
 
 -- ---- worn sectors
 
@@ -74,7 +77,8 @@ two_full (y ∷ z ∷ xs) ys full = refl
 abbrev pub two_below : (mask sector : ℕ) → List ℕ
 two_below mask sector = take 2 (lost_places mask sector)
 
-pub two_next : (mask sector : ℕ) → IsLost mask sector → length (two_below mask sector) < 2 → two_below mask (sector + 1) ≡ two_below mask sector ++ sector ∷ []
+pub two_next : (mask sector : ℕ) → IsLost mask sector → length (two_below mask sector) < 2 →
+    two_below mask (sector + 1) ≡ two_below mask sector ++ sector ∷ []
 two_next mask sector usable few = ap (take 2) (lost_places-lost mask sector usable) ∙ two_more (lost_places mask sector) sector few
 
 pub two_passed : (mask sector : ℕ) → ¬ (IsLost mask sector) → two_below mask (sector + 1) ≡ two_below mask sector
@@ -95,7 +99,8 @@ wearing_in_part words (x ∷ xs) ys =
     ap (λ (items : List MakeStep). here ++ items) (wearing_in_part words xs ys)
     ∙ sym (append_assoc here (wearing_in words xs) (wearing_in words ys))
 
-wearing_volumes_part : (words : List ℕ) (xs ys : List Entry) → wearing_volumes words (xs ++ ys) ≡ wearing_volumes words xs ++ wearing_volumes words ys
+wearing_volumes_part : (words : List ℕ) (xs ys : List Entry) →
+    wearing_volumes words (xs ++ ys) ≡ wearing_volumes words xs ++ wearing_volumes words ys
 wearing_volumes_part words [] ys = refl
 wearing_volumes_part words (x ∷ xs) ys =
     let here : List MakeStep = wearing_in words (carrying_segments words x) in
@@ -112,16 +117,20 @@ slice_get_behind (suc n) i (x ∷ xs) =
 
 -- one volume more
 pub volumes_next : (words : List ℕ) (first n : ℕ) (xs : List Entry) (e : Entry) → slice_get xs (first + n) ≡ Some e →
-    wearing_volumes words (take n (drop first xs)) ++ wearing_in words (carrying_segments words e) ≡ wearing_volumes words (take (n + 1) (drop first xs))
+    wearing_volumes words (take n (drop first xs)) ++ wearing_in words (carrying_segments words e) ≡ wearing_volumes words
+    (take (n + 1) (drop first xs))
 volumes_next words first n xs e at =
     let rest : List Entry = drop first xs in
     let there : slice_get rest n ≡ Some e = slice_get_behind first n xs ∙ at in
     let next : take (n + 1) rest ≡ take n rest ++ e ∷ [] =
-    take_more rest n e (slice_get_within rest n e there) ∙ ap (λ (x : Entry). take n rest ++ x ∷ []) (get_or_from_slice_get rest n e e there) in
+    take_more rest n e (slice_get_within rest n e there) ∙ ap (λ (x : Entry). take n rest ++ x ∷ [])
+    (get_or_from_slice_get rest n e e there) in
     sym (ap (wearing_volumes words) next ∙ wearing_volumes_part words (take n rest) (e ∷ [])
-    ∙ ap (λ (items : List MakeStep). wearing_volumes words (take n rest) ++ items) (append-nil (wearing_in words (carrying_segments words e))))
+    ∙ ap (λ (items : List MakeStep). wearing_volumes words (take n rest) ++ items)
+    (append-nil (wearing_in words (carrying_segments words e))))
 
-pub volumes_whole : (words : List ℕ) (n : ℕ) (xs : List Entry) → wearing_volumes words (take n xs) ++ wearing_volumes words (drop n xs) ≡ wearing_volumes words xs
+pub volumes_whole : (words : List ℕ) (n : ℕ) (xs : List Entry) → wearing_volumes words (take n xs) ++ wearing_volumes words
+    (drop n xs) ≡ wearing_volumes words xs
 volumes_whole words n xs = sym (wearing_volumes_part words (take n xs) (drop n xs)) ∙ ap (wearing_volumes words) (take-append-drop n xs)
 
 -- ---- sums

@@ -73,7 +73,8 @@ module _ {T : Type 0} (t : tapes.Meaning T) (seed : ℕ) (words : List ℕ) (ent
 
 -- ---- a scrub
 
-module _ {T K : Type 0} (t : tapes.Meaning T) (k : sinks.Meaning K) (seed : ℕ) (before : StoreView) (u : UnitView T) (fits : StoreFits t before u) (b : T) (x y : K) where
+module _ {T K : Type 0} (t : tapes.Meaning T) (k : sinks.Meaning K) (seed : ℕ) (before : StoreView) (u : UnitView T)
+    (fits : StoreFits t before u) (b : T) (x y : K) where
   abbrev words : List ℕ
   words = before.words
 
@@ -93,14 +94,16 @@ module _ {T K : Type 0} (t : tapes.Meaning T) (k : sinks.Meaning K) (seed : ℕ)
         acts = ends.acts;
         went = ends.went;
         told = tells_two t a (λ c. c.info.protected ≡ false)
-            (λ c. (scrubs : ScrubsAs Shallow c words entries ends.acts) × (reported report ≡ counts_for c (looked_at words entries) scrubs.findings))
+            (λ c. (scrubs : ScrubsAs Shallow c words entries ends.acts)
+            × (reported report ≡ counts_for c (looked_at words entries) scrubs.findings))
             (λ c. Runs seed c words entries (ScrubAll ∷ []) ends.acts status.Done)
             (λ c unlocked known. run_of seed c words entries ScrubAll ends.acts status.Done (inr (unlocked, (known.0, refl))))
             (told_mark t before u fits false free) ends.told;
         may = may_of seed words entries ScrubAll (text_of ends.acts) status.Done (reported report, ends.text);
       }
 
-  scrub_cut : (failing : Failing) → is_protected u.drive.deck ≡ false → ScrubCut t k Shallow words entries (around a x) (around b y) failing →
+  scrub_cut : (failing : Failing) → is_protected u.drive.deck ≡ false → ScrubCut t k Shallow words entries (around a x)
+      (around b y) failing →
       tape_calls.Tells t a (λ c. (acts : List Act) (answer : Status) → Runs seed c words entries (ScrubAll ∷ []) acts answer →
       Cut t no_source k (around a x) (around b y) acts failing)
   scrub_cut failing free cut =
@@ -120,7 +123,8 @@ module _ {T K : Type 0} (t : tapes.Meaning T) (k : sinks.Meaning K) (seed : ℕ)
       untouched : b ≡ a → y ≡ x → RunEnds t k seed words entries (ScrubAll ∷ []) (around a x) (around b y) (Err fault.Protected)
       untouched tape sink =
           subst (λ (end : T). RunEnds t k seed words entries (ScrubAll ∷ []) (around a x) (around end y) (Err fault.Protected)) (sym tape)
-          (subst (λ (z : K). RunEnds t k seed words entries (ScrubAll ∷ []) (around a x) (around a z) (Err fault.Protected)) (sym sink) (record {
+          (subst (λ (z : K). RunEnds t k seed words entries (ScrubAll ∷ []) (around a x) (around a z) (Err fault.Protected)) (sym sink)
+          (record {
             acts = [];
             went = record { did = Done-nothing t a; wrote = record { took = none x; later = omega arith }; source_later = omega arith };
             told = Tells-map t a (λ c. c.info.protected ≡ true) (λ c. Runs seed c words entries (ScrubAll ∷ []) [] status.Protected)
@@ -129,10 +133,12 @@ module _ {T K : Type 0} (t : tapes.Meaning T) (k : sinks.Meaning K) (seed : ℕ)
             may = may_of seed words entries ScrubAll [] status.Protected refl;
           }))
   scrub_so none store.Sink mark ends =
-      let free : is_protected u.drive.deck ≡ false = not_marked (store.Sink ≡ store.Protected) (is_protected u.drive.deck) mark.1 (λ is. cc) in
+      let free : is_protected u.drive.deck ≡ false = not_marked (store.Sink ≡ store.Protected) (is_protected u.drive.deck) mark.1
+      (λ is. cc) in
       (refl, record { told = scrub_cut SinkFails free ends; acts = ends.acts; cut = ends.cut })
   scrub_so none store.Tape mark ends =
-      let free : is_protected u.drive.deck ≡ false = not_marked (store.Tape ≡ store.Protected) (is_protected u.drive.deck) mark.1 (λ is. cc) in
+      let free : is_protected u.drive.deck ≡ false = not_marked (store.Tape ≡ store.Protected) (is_protected u.drive.deck) mark.1
+      (λ is. cc) in
       (refl, record { told = scrub_cut TapeFails free ends; acts = ends.acts; cut = ends.cut })
   scrub_so none f mark ends = absurd ends
 

@@ -1,5 +1,6 @@
 -- How the restoring and summing of a volume ended, as a step of a run.
-use Rattle.std.proofs.Common.{◌≡◌, ℕ, zero, suc, ◌+◌, ◌%◌, ◌^◌, ◌<◌, ◌≤◌, true, false, List, [], ◌∷◌, ◌++◌, length, sum, Some, None, slice_get, Result, Ok, Err, refl, sym, ap, ◌∙◌, subst, arith, append-nil}
+use Rattle.std.proofs.Common.{◌≡◌, ℕ, zero, suc, ◌+◌, ◌%◌, ◌^◌, ◌<◌, ◌≤◌, true, false, List, [], ◌∷◌, ◌++◌, length, sum, Some, None}
+use Rattle.std.proofs.Common.{slice_get, Result, Ok, Err, refl, sym, ap, ◌∙◌, subst, arith, append-nil}
 use Rattle.qic_base.specs.Cartridge.{Cartridge}
 use Rattle.qic_base.specs.Step.{Step, effects, Torn}
 use Rattle.qic_base.specs.declared.sink.SinkFailed.{SinkFailed}
@@ -50,7 +51,8 @@ rear_empty (x ∷ xs) ys is = absurd (cc)
 of_no_step : (needed : List Piece) (acts : List Act) → AreOf needed acts → steps_of acts ≡ []
 of_no_step needed [] are = refl
 of_no_step [] (act ∷ acts) are = absurd are
-of_no_step (piece ∷ needed) (act ∷ acts) (none, long, are) = ap (λ (steps : List Step). steps ++ steps_of acts) none ∙ of_no_step needed acts are
+of_no_step (piece ∷ needed) (act ∷ acts) (none, long, are) = ap (λ (steps : List Step). steps ++ steps_of acts) none
+    ∙ of_no_step needed acts are
 
 -- the acts of a line take no step
 sum_next : (number bytes : ℕ) (given : List ℕ) (ending : GivingEnd) → next_steps (sum_acts number bytes given ending) ≡ []
@@ -69,7 +71,8 @@ there_is : (entries : List Entry) (number : ℕ) → 1 ≤ number → number ≤
 there_is entries zero some within none = absurd (omega arith)
 there_is entries (suc n) some within none = never_past entries n (omega arith) none
 
-module _ {T K : Type 0} (t : tapes.Meaning T) (k : sinks.Meaning K) (seed : ℕ) (before : StoreView) (number : ℕ) (a b : T) (x : K) (none : (z : K) → k.took z [] z) (total : ℕ) where
+module _ {T K : Type 0} (t : tapes.Meaning T) (k : sinks.Meaning K) (seed : ℕ) (before : StoreView) (number : ℕ) (a b : T) (x : K)
+    (none : (z : K) → k.took z [] z) (total : ℕ) where
   abbrev words : List ℕ
   words = before.words
 
@@ -93,7 +96,8 @@ module _ {T K : Type 0} (t : tapes.Meaning T) (k : sinks.Meaning K) (seed : ℕ)
 
   summed_so : (e : Entry) (ending : GivingEnd) (gave : Gave e ending) (c : Cartridge) → volume_at entries number ≡ Some e →
       Restores c words (pieces words e) gave.acts ending →
-      StepDoes seed c words entries (SumVolume number) (sum_acts number (volume_length words e) (text_of gave.acts) ending) (ending_status ending)
+      StepDoes seed c words entries (SumVolume number) (sum_acts number (volume_length words e) (text_of gave.acts) ending)
+      (ending_status ending)
   summed_so e ending gave c numbered restores = record {
     entry = e;
     numbered = numbered;
@@ -111,17 +115,22 @@ module _ {T K : Type 0} (t : tapes.Meaning T) (k : sinks.Meaning K) (seed : ℕ)
   abbrev line_act : Entry → Act
   line_act e = record { steps = []; text = line_of e }
 
-  acts_are : (e : Entry) (gave : Gave e Restored) → total < 2 ^ 32 → sum_acts number (volume_length words e) (text_of gave.acts) Restored ≡ line_act e ∷ []
-  acts_are e gave small = ap (λ (n : ℕ). record { steps = []; text = sum_line number (volume_length words e) n } ∷ []) (total_is e Restored gave small)
+  acts_are : (e : Entry) (gave : Gave e Restored) → total < 2 ^ 32 → sum_acts number (volume_length words e)
+      (text_of gave.acts) Restored ≡ line_act e ∷ []
+  acts_are e gave small = ap (λ (n : ℕ). record { steps = []; text = sum_line number (volume_length words e) n } ∷ [])
+      (total_is e Restored gave small)
 
   line_told : (e : Entry) (gave : Gave e Restored) → total < 2 ^ 32 → volume_at entries number ≡ Some e →
       tape_calls.Tells t a (λ c. StepDoes seed c words entries (SumVolume number) (line_act e ∷ []) status.Done)
   line_told e gave small numbered =
-      Tells-map t a (λ c. Restores c words (pieces words e) gave.acts Restored) (λ c. StepDoes seed c words entries (SumVolume number) (line_act e ∷ []) status.Done)
-      (λ c restores. subst (λ (acts : List Act). StepDoes seed c words entries (SumVolume number) acts status.Done) (acts_are e gave small) (summed_so e Restored gave c numbered restores))
+      Tells-map t a (λ c. Restores c words (pieces words e) gave.acts Restored)
+      (λ c. StepDoes seed c words entries (SumVolume number) (line_act e ∷ []) status.Done)
+      (λ c restores. subst (λ (acts : List Act). StepDoes seed c words entries (SumVolume number) acts status.Done) (acts_are e gave small)
+      (summed_so e Restored gave c numbered restores))
       gave.told
 
-  line_written : (y : K) (e : Entry) → Gave e Restored → total < 2 ^ 32 → volume_at entries number ≡ Some e → sinks.Wrote k x y (line_of e) →
+  line_written : (y : K) (e : Entry) → Gave e Restored → total < 2 ^ 32 → volume_at entries number ≡ Some e →
+      sinks.Wrote k x y (line_of e) →
       RunEnds t k seed words entries (SumVolume number ∷ []) (around a x) (around b y) (Ok tt)
   line_written y e gave small numbered wrote = record {
     acts = line_act e ∷ [];
@@ -136,10 +145,13 @@ module _ {T K : Type 0} (t : tapes.Meaning T) (k : sinks.Meaning K) (seed : ℕ)
     may = may_of seed words entries (SumVolume number) (line_of e ++ []) status.Done (e, numbered, (total, small, append-nil (line_of e)));
   }
 
-  line_cut : (y : K) (e : Entry) → Gave e Restored → sink_calls.BrokeOff k x y (line_of e) → Cut t no_source k (around a x) (around b y) (line_act e ∷ []) SinkFails
-  line_cut y e gave broke = sink_cut_one t no_source k (around a x) (around b y) (line_act e) (did_nothing e Restored gave) broke (omega arith)
+  line_cut : (y : K) (e : Entry) → Gave e Restored → sink_calls.BrokeOff k x y (line_of e) → Cut t no_source k (around a x) (around b y)
+      (line_act e ∷ []) SinkFails
+  line_cut y e gave broke = sink_cut_one t no_source k (around a x) (around b y) (line_act e) (did_nothing e Restored gave) broke
+      (omega arith)
 
-  line_broke : (y : K) (e : Entry) → Gave e Restored → total < 2 ^ 32 → volume_at entries number ≡ Some e → sink_calls.BrokeOff k x y (line_of e) →
+  line_broke : (y : K) (e : Entry) → Gave e Restored → total < 2 ^ 32 → volume_at entries number ≡ Some e →
+      sink_calls.BrokeOff k x y (line_of e) →
       RunEnds t k seed words entries (SumVolume number ∷ []) (around a x) (around b y) (Err fault.Sink)
   line_broke y e gave small numbered broke = record {
     told = Tells-map t a (λ c. StepDoes seed c words entries (SumVolume number) (line_act e ∷ []) status.Done)
@@ -147,15 +159,18 @@ module _ {T K : Type 0} (t : tapes.Meaning T) (k : sinks.Meaning K) (seed : ℕ)
         Cut t no_source k (around a x) (around b y) acts SinkFails)
         (λ c does acts answer runs.
         let same : line_act e ∷ [] ≡ acts =
-        (does_one seed c words entries (SumVolume number) (line_act e ∷ []) acts status.Done answer does (done_of seed c words entries (SumVolume number) acts answer runs)).0 in
-        subst (λ (zs : List Act). Cut t no_source k (around a x) (around b y) zs SinkFails) same (line_cut y e gave broke)) (line_told e gave small numbered);
+        (does_one seed c words entries (SumVolume number) (line_act e ∷ []) acts status.Done answer does
+        (done_of seed c words entries (SumVolume number) acts answer runs)).0 in
+        subst (λ (zs : List Act). Cut t no_source k (around a x) (around b y) zs SinkFails) same (line_cut y e gave broke))
+        (line_told e gave small numbered);
     acts = line_act e ∷ [];
     cut = line_cut y e gave broke;
   }
 
   -- the bytes were given whole, and the line was written, or not
   pub sum_printed : (y : K) (bytes : ℕ) (r : Result (Unit {0}) SinkFailed) → total < 2 ^ 32 →
-      RestoreEnds t sum_means before number false (around a 0) (around b total) (Ok bytes) → sink_calls.Writes k x y (sum_line number bytes total) r →
+      RestoreEnds t sum_means before number false (around a 0) (around b total) (Ok bytes) →
+      sink_calls.Writes k x y (sum_line number bytes total) r →
       RunEnds t k seed words entries (SumVolume number ∷ []) (around a x) (around b y) (printed r)
   sum_printed y bytes (Ok done) small ends wrote =
       line_written y ends.0 ends.2.1 small ends.1 (subst (λ (n : ℕ). sinks.Wrote k x y (sum_line number n total)) ends.2.0 wrote)
@@ -174,7 +189,8 @@ module _ {T K : Type 0} (t : tapes.Meaning T) (k : sinks.Meaning K) (seed : ℕ)
     told = Tells-map t a (λ c. Restores c words (pieces words e) gave.acts ending)
         (λ c. Runs seed c words entries (SumVolume number ∷ []) [] (ending_status ending))
         (λ c restores. run_of seed c words entries (SumVolume number) [] (ending_status ending)
-        (subst (λ (acts : List Act). StepDoes seed c words entries (SumVolume number) acts (ending_status ending)) silent (summed_so e ending gave c numbered restores))) gave.told;
+        (subst (λ (acts : List Act). StepDoes seed c words entries (SumVolume number) acts (ending_status ending)) silent
+        (summed_so e ending gave c numbered restores))) gave.told;
     may = may_of seed words entries (SumVolume number) [] (ending_status ending) (e, numbered, may);
   }
 
@@ -184,7 +200,8 @@ module _ {T K : Type 0} (t : tapes.Meaning T) (k : sinks.Meaning K) (seed : ℕ)
   CutIn e failing = VolumeCut t sum_means words (pieces words e) false (around a 0) (around b total) failing
 
   -- what a fault of the tape cuts off takes no step, whatever would have been printed
-  no_step_cut : (given acts : List Act) → steps_of given ≡ [] → next_steps acts ≡ [] → Cut t no_source sum_means (around a 0) (around b total) given TapeFails →
+  no_step_cut : (given acts : List Act) → steps_of given ≡ [] → next_steps acts ≡ [] → Cut t no_source sum_means (around a 0)
+      (around b total) given TapeFails →
       Cut t no_source k (around a x) (around b x) acts TapeFails
   no_step_cut given acts still next cut =
       let all : steps_of cut.front ++ steps_of cut.rest ≡ [] = sym (steps_of-append cut.front cut.rest) ∙ ap steps_of cut.parts ∙ still in
@@ -212,14 +229,16 @@ module _ {T K : Type 0} (t : tapes.Meaning T) (k : sinks.Meaning K) (seed : ℕ)
         Cut t no_source sum_means (around a 0) (around b total) given TapeFails)
         (λ c. (acts : List Act) (answer : Status) → Runs seed c words entries (SumVolume number ∷ []) acts answer →
         Cut t no_source k (around a x) (around b x) acts TapeFails)
-        (λ c known acts answer runs. by_does c known acts answer (done_of seed c words entries (SumVolume number) acts answer runs)) cut.told;
+        (λ c known acts answer runs. by_does c known acts answer (done_of seed c words entries (SumVolume number) acts answer runs))
+        cut.told;
     acts = [];
     cut = no_step_cut cut.acts [] (of_no_step (pieces words e) cut.acts cut.are) refl cut.cut;
   }
     where
       by_does : (c : Cartridge) → ((given : List Act) (ending : GivingEnd) → Restores c words (pieces words e) given ending →
           Cut t no_source sum_means (around a 0) (around b total) given TapeFails) →
-          (acts : List Act) (answer : Status) → IsSummed c words entries number acts answer → Cut t no_source k (around a x) (around b x) acts TapeFails
+          (acts : List Act) (answer : Status) → IsSummed c words entries number acts answer →
+          Cut t no_source k (around a x) (around b x) acts TapeFails
       by_does c known acts answer summed =
           let there : Some summed.entry ≡ Some e = sym summed.numbered ∙ numbered in
           let entry : summed.entry ≡ e = cc in
@@ -230,7 +249,8 @@ module _ {T K : Type 0} (t : tapes.Meaning T) (k : sinks.Meaning K) (seed : ℕ)
           (known summed.acts summed.ending restores)
 
   -- the refusals and the fault of the call that restores
-  pub restore_so : 1 ≤ number → number ≤ length entries → (f : StoreFault) → RestoreEnds t sum_means before number false (around a 0) (around b total) (Err f) →
+  pub restore_so : 1 ≤ number → number ≤ length entries → (f : StoreFault) → RestoreEnds t sum_means before number false (around a 0)
+      (around b total) (Err f) →
       (is_of_step f ≡ true) × RunEnds t k seed words entries (SumVolume number ∷ []) (around a x) (around b x) (Err (fault_of f))
   restore_so some within (store.NoVolume asked count) ends = absurd (there_is entries number some within ends.none)
   restore_so some within (store.Lost segment lost) ends =
@@ -241,7 +261,8 @@ module _ {T K : Type 0} (t : tapes.Meaning T) (k : sinks.Meaning K) (seed : ℕ)
   restore_so some within store.Tape ends = (refl, tape_cut ends.0 ends.1 ends.2)
   restore_so some within f ends = absurd ends
 
-  pub restore_never_full : (f : StoreFault) → RestoreEnds t sum_means before number false (around a 0) (around b total) (Err f) → NeverFull (Err (fault_of f))
+  pub restore_never_full : (f : StoreFault) → RestoreEnds t sum_means before number false (around a 0) (around b total) (Err f) →
+      NeverFull (Err (fault_of f))
   restore_never_full (store.Full need have) ends = absurd ends
   restore_never_full store.NotFormatted ends = tt
   restore_never_full (store.Foreign field value) ends = tt
@@ -258,7 +279,8 @@ module _ {T K : Type 0} (t : tapes.Meaning T) (k : sinks.Meaning K) (seed : ℕ)
   -- the same of a call with a sink that has summed nothing
   pub restore_so_at : (start : ℕ) → start ≡ 0 → 1 ≤ number → number ≤ length entries → (f : StoreFault) →
       RestoreEnds t sum_means before number false (around a start) (around b total) (Err f) →
-      (is_of_step f ≡ true) × RunEnds t k seed words entries (SumVolume number ∷ []) (around a x) (around b x) (Err (fault_of f)) × NeverFull (Err (fault_of f))
+      (is_of_step f ≡ true) × RunEnds t k seed words entries (SumVolume number ∷ []) (around a x) (around b x) (Err (fault_of f))
+      × NeverFull (Err (fault_of f))
   restore_so_at start none_yet some within f ends =
       let here : RestoreEnds t sum_means before number false (around a 0) (around b total) (Err f) =
       subst (λ (n : ℕ). RestoreEnds t sum_means before number false (around a n) (around b total) (Err f)) none_yet ends in

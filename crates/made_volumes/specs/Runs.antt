@@ -14,7 +14,8 @@ use Rattle.command_spec.specs.declared.status.Status.{Status}
 use Rattle.command_spec.specs.declared.status.Status.TheVariants as status
 
 -- All acts of some steps went, up to this answer: over a cartridge that is told those of the plain machine.
-pub record HasRun {T K : Type 0} (t : tapes.Meaning T) (k : sinks.Meaning K) (seed : ℕ) (words : List ℕ) (entries : List Entry) (items : List MakeStep) (old new : Outside T (Unit {0}) K) (answer : Status) : Type 0 where
+pub record HasRun {T K : Type 0} (t : tapes.Meaning T) (k : sinks.Meaning K) (seed : ℕ) (words : List ℕ) (entries : List Entry)
+    (items : List MakeStep) (old new : Outside T (Unit {0}) K) (answer : Status) : Type 0 where
   pub acts : List Act
   pub went : Went t no_source k old new acts
   pub told : tape_calls.Tells t old.tape (λ c. Runs seed c words entries items acts answer)
@@ -22,7 +23,8 @@ pub record HasRun {T K : Type 0} (t : tapes.Meaning T) (k : sinks.Meaning K) (se
   pub may : MayRun seed words entries items (text_of acts) answer
 
 -- A fault of the tape or of the sink cut them off: over a cartridge that is told in the acts of the plain machine.
-pub record RunCut {T K : Type 0} (t : tapes.Meaning T) (k : sinks.Meaning K) (seed : ℕ) (words : List ℕ) (entries : List Entry) (items : List MakeStep) (old new : Outside T (Unit {0}) K) (failing : Failing) : Type 0 where
+pub record RunCut {T K : Type 0} (t : tapes.Meaning T) (k : sinks.Meaning K) (seed : ℕ) (words : List ℕ) (entries : List Entry)
+    (items : List MakeStep) (old new : Outside T (Unit {0}) K) (failing : Failing) : Type 0 where
   pub told : tape_calls.Tells t old.tape (λ c. (acts : List Act) (answer : Status) → Runs seed c words entries items acts answer →
       Cut t no_source k old new acts failing)
   -- and over any tape
@@ -30,18 +32,23 @@ pub record RunCut {T K : Type 0} (t : tapes.Meaning T) (k : sinks.Meaning K) (se
   pub cut : Cut t no_source k old new acts failing
 
 -- how some steps ended
-abbrev pub RunEnds : {T K : Type 0} (t : tapes.Meaning T) (k : sinks.Meaning K) (seed : ℕ) (words : List ℕ) (entries : List Entry) (items : List MakeStep) (old new : Outside T (Unit {0}) K) → Result (Unit {0}) MakeFault → Type 0
+abbrev pub RunEnds : {T K : Type 0} (t : tapes.Meaning T) (k : sinks.Meaning K) (seed : ℕ) (words : List ℕ) (entries : List Entry)
+    (items : List MakeStep) (old new : Outside T (Unit {0}) K) → Result (Unit {0}) MakeFault → Type 0
 RunEnds t k seed words entries items old new (Ok done) = HasRun t k seed words entries items old new status.Done
 RunEnds t k seed words entries items old new (Err fault.Protected) = HasRun t k seed words entries items old new status.Protected
 RunEnds t k seed words entries items old new (Err fault.TableMismatch) = HasRun t k seed words entries items old new status.TableMismatch
-RunEnds t k seed words entries items old new (Err (fault.Full need have)) = HasRun t k seed words entries items old new (status.Full need have)
-RunEnds t k seed words entries items old new (Err (fault.Lost segment lost)) = HasRun t k seed words entries items old new (status.Lost segment lost)
-RunEnds t k seed words entries items old new (Err (fault.Mismatch segment)) = HasRun t k seed words entries items old new (status.Mismatch segment)
+RunEnds t k seed words entries items old new (Err (fault.Full need have)) = HasRun t k seed words entries items old new
+    (status.Full need have)
+RunEnds t k seed words entries items old new (Err (fault.Lost segment lost)) = HasRun t k seed words entries items old new
+    (status.Lost segment lost)
+RunEnds t k seed words entries items old new (Err (fault.Mismatch segment)) = HasRun t k seed words entries items old new
+    (status.Mismatch segment)
 RunEnds t k seed words entries items old new (Err fault.Sink) = RunCut t k seed words entries items old new SinkFails
 RunEnds t k seed words entries items old new (Err fault.Tape) = RunCut t k seed words entries items old new TapeFails
 
 -- how a run of `make` on the cartridge of a store ended
-abbrev pub MakeEnds : {T K : Type 0} (t : tapes.Meaning T) (k : sinks.Meaning K) (store : StoreView) (seed count : ℕ) (old new : Outside T (Unit {0}) K) → Result (Unit {0}) MakeFault → Type 0
+abbrev pub MakeEnds : {T K : Type 0} (t : tapes.Meaning T) (k : sinks.Meaning K) (store : StoreView) (seed count : ℕ)
+    (old new : Outside T (Unit {0}) K) → Result (Unit {0}) MakeFault → Type 0
 MakeEnds t k store seed count old new result =
     RunEnds t k seed store.words store.entries (making seed count store.words store.entries) old new result
 

@@ -9,6 +9,8 @@ mod files;
 #[cfg(test)]
 mod filling;
 #[cfg(test)]
+mod openings;
+#[cfg(test)]
 mod streams;
 #[cfg(test)]
 mod tapes;

@@ -1,5 +1,6 @@
 -- What the matches of the commands say of the words.
-use Rattle.std.proofs.Common.{◌≡◌, ◌⊎◌, ◌≢◌, ◌<◌, ◌∙◌, ap, ap₂, ℕ, zero, suc, true, false, List, [], ◌∷◌, length, Option, Some, None, All, Result, refl, sym, subst, codes, arith, inl, inr, slice_index, is_some}
+use Rattle.std.proofs.Common.{◌≡◌, ◌⊎◌, ◌≢◌, ◌<◌, ◌∙◌, ap, ap₂, ℕ, zero, suc, true, false, List, [], ◌∷◌, length, Option, Some, None, All}
+use Rattle.std.proofs.Common.{Result, refl, sym, subst, codes, arith, inl, inr, slice_index, is_some}
 use Rattle.std.specs.List.{slice_index_or}
 use Rattle.std.specs.Option.{option_map}
 use Rattle.std.specs.Borrow.{Bor}
@@ -34,12 +35,15 @@ use Rattle.program_words.proofs.Optional.{second_of_three, length_read}
 
 pub export_is : (c : Command) → IsExportCommand c → app_of c ≡ export_app
 export_is c is =
-    is.adds_image.shape is.is_image.local ∙ ap₂ with_rule (is.adds_option.shape is.is_option.local ∙ ap₂ with_rule is.empty.app is.is_option.rule) is.is_image.rule
+    is.adds_image.shape is.is_image.local
+    ∙ ap₂ with_rule (is.adds_option.shape is.is_option.local ∙ ap₂ with_rule is.empty.app is.is_option.rule) is.is_image.rule
 
 pub import_is : (c : Command) → IsImportCommand c → app_of c ≡ import_app
 import_is c is =
     is.adds_image.shape is.is_image.local
-    ∙ ap₂ with_rule (is.adds_segments.shape is.is_segments.local ∙ ap₂ with_rule (is.adds_option.shape is.is_option.local ∙ ap₂ with_rule is.empty.app is.is_option.rule) is.is_segments.rule) is.is_image.rule
+    ∙ ap₂ with_rule (is.adds_segments.shape is.is_segments.local
+    ∙ ap₂ with_rule (is.adds_option.shape is.is_option.local ∙ ap₂ with_rule is.empty.app is.is_option.rule) is.is_segments.rule)
+    is.is_image.rule
 
 -- what is asked of both to know their matches and their faults
 pub record IsPlainApp (app : App) : Type 0 where
@@ -67,13 +71,15 @@ first_letter a letter e low high = (
 )
 
 -- ids are distinct where their first letters are
-distinct_ids : (xs : List Arg) (letters : List ℕ) → ((j : ℕ) (d : Arg) → j < length xs → slice_index (slice_index_or xs j d).id.now 0 ≡ slice_index letters j)
+distinct_ids : (xs : List Arg) (letters : List ℕ) →
+    ((j : ℕ) (d : Arg) → j < length xs → slice_index (slice_index_or xs j d).id.now 0 ≡ slice_index letters j)
     → ((j k : ℕ) → j < length xs → k < length xs → slice_index letters j ≡ slice_index letters k → j ≡ k) → HasDistinctIds xs
 distinct_ids xs letters at differ j k d e lj lk same =
     let one : (slice_index_or xs j e).id.now ≡ (slice_index_or xs k d).id.now = (bytes_eq-Decides _ _).0 same in
     differ j k lj lk (sym (at j e lj) ∙ ap (λ (t : List ℕ). slice_index t 0) one ∙ at k d lk)
 
-two_letters : (a b : Arg) → slice_index a.id.now 0 ≡ 109 → slice_index b.id.now 0 ≡ 105 → (j : ℕ) (d : Arg) → j < length (a ∷ b ∷ []) → slice_index (slice_index_or (a ∷ b ∷ []) j d).id.now 0 ≡ slice_index (109 ∷ 105 ∷ []) j
+two_letters : (a b : Arg) → slice_index a.id.now 0 ≡ 109 → slice_index b.id.now 0 ≡ 105 → (j : ℕ) (d : Arg) → j < length (a ∷ b ∷ []) →
+    slice_index (slice_index_or (a ∷ b ∷ []) j d).id.now 0 ≡ slice_index (109 ∷ 105 ∷ []) j
 two_letters a b m i zero d less = m
 two_letters a b m i (suc zero) d less = i
 two_letters a b m i (suc (suc j)) d less = absurd (omega arith)
@@ -87,7 +93,8 @@ two_differ (suc (suc j)) k lj lk same = absurd (omega arith)
 two_differ zero (suc (suc k)) lj lk same = absurd (omega arith)
 two_differ (suc zero) (suc (suc k)) lj lk same = absurd (omega arith)
 
-three_letters : (a b c : Arg) → slice_index a.id.now 0 ≡ 109 → slice_index b.id.now 0 ≡ 115 → slice_index c.id.now 0 ≡ 105 → (j : ℕ) (d : Arg) → j < length (a ∷ b ∷ c ∷ [])
+three_letters : (a b c : Arg) → slice_index a.id.now 0 ≡ 109 → slice_index b.id.now 0 ≡ 115 → slice_index c.id.now 0 ≡ 105 →
+    (j : ℕ) (d : Arg) → j < length (a ∷ b ∷ c ∷ [])
     → slice_index (slice_index_or (a ∷ b ∷ c ∷ []) j d).id.now 0 ≡ slice_index (109 ∷ 115 ∷ 105 ∷ []) j
 three_letters a b c m s i zero d less = m
 three_letters a b c m s i (suc zero) d less = s
@@ -118,33 +125,47 @@ letter_of : (a : Arg) (id : List ℕ) → a.id.now ≡ id → slice_index a.id.n
 letter_of a id is = ap (λ (t : List ℕ). slice_index t 0) is
 
 -- an argument of a chain, by the first letter of its id
-fits_chain : (a : Arg) (letter : ℕ) → slice_index a.id.now 0 ≡ letter → 104 < letter → letter < 118 → IsPlainArg a → a.global ≡ false → FitsChain a
+fits_chain : (a : Arg) (letter : ℕ) → slice_index a.id.now 0 ≡ letter → 104 < letter → letter < 118 → IsPlainArg a → a.global ≡ false →
+    FitsChain a
 fits_chain a letter is low high plain local = let fits = first_letter a letter is low high in (plain, local, fits.0, fits.1)
 
-pub exported_image : (c : Command) (m : ArgMatches) → IsExportCommand c → IsParsedFrom c m → is_some (first_value (found_of m) (codes "image")) ≡ true
+pub exported_image : (c : Command) (m : ArgMatches) → IsExportCommand c → IsParsedFrom c m →
+    is_some (first_value (found_of m) (codes "image")) ≡ true
 exported_image c m is parsed =
     let image_id : is.image.id.now ≡ codes "image" = ap (λ (r : Rule). r.id) is.is_image.rule in
     let first = letter_of is.option (codes "map") (ap (λ (r : Rule). r.id) is.is_option.rule) in
     let last = letter_of is.image (codes "image") image_id in
     let fits : All FitsChain (is.option ∷ is.image ∷ []) =
-    All-cons FitsChain is.option (is.image ∷ []) (fits_chain is.option 109 first (omega arith) (omega arith) is.is_option.plain is.is_option.local)
-    (All-cons FitsChain is.image [] (fits_chain is.image 105 last (omega arith) (omega arith) is.is_image.plain is.is_image.local) (All-nil FitsChain)) in
+    All-cons FitsChain is.option (is.image ∷ [])
+    (fits_chain is.option 109 first (omega arith) (omega arith) is.is_option.plain is.is_option.local)
+    (All-cons FitsChain is.image [] (fits_chain is.image 105 last (omega arith) (omega arith) is.is_image.plain is.is_image.local)
+    (All-nil FitsChain)) in
     let has = required_in_chain is.start c (is.option ∷ is.image ∷ []) 1 is.image m (is.between, is.adds_option, (c, is.adds_image, refl))
-    is.empty.args is.empty.groups is.empty.local is.empty.negates fits (distinct_ids (is.option ∷ is.image ∷ []) (109 ∷ 105 ∷ []) (two_letters is.option is.image first last) two_differ) (omega arith) (takes_image is.image is.is_image) parsed in
+    is.empty.args is.empty.groups is.empty.local is.empty.negates fits
+    (distinct_ids (is.option ∷ is.image ∷ []) (109 ∷ 105 ∷ []) (two_letters is.option is.image first last) two_differ) (omega arith)
+    (takes_image is.image is.is_image) parsed in
     subst (λ (t : List ℕ). is_some (first_value (found_of m) t) ≡ true) image_id has
 
-pub imported_image : (c : Command) (m : ArgMatches) → IsImportCommand c → IsParsedFrom c m → is_some (first_value (found_of m) (codes "image")) ≡ true
+pub imported_image : (c : Command) (m : ArgMatches) → IsImportCommand c → IsParsedFrom c m →
+    is_some (first_value (found_of m) (codes "image")) ≡ true
 imported_image c m is parsed =
     let image_id : is.image.id.now ≡ codes "image" = ap (λ (r : Rule). r.id) is.is_image.rule in
     let first = letter_of is.option (codes "map") (ap (λ (r : Rule). r.id) is.is_option.rule) in
     let second = letter_of is.segments (codes "segments") (ap (λ (r : Rule). r.id) is.is_segments.rule) in
     let last = letter_of is.image (codes "image") image_id in
     let fits : All FitsChain (is.option ∷ is.segments ∷ is.image ∷ []) =
-    All-cons FitsChain is.option (is.segments ∷ is.image ∷ []) (fits_chain is.option 109 first (omega arith) (omega arith) is.is_option.plain is.is_option.local)
-    (All-cons FitsChain is.segments (is.image ∷ []) (fits_chain is.segments 115 second (omega arith) (omega arith) is.is_segments.plain is.is_segments.local)
-    (All-cons FitsChain is.image [] (fits_chain is.image 105 last (omega arith) (omega arith) is.is_image.plain is.is_image.local) (All-nil FitsChain))) in
-    let has = required_in_chain is.start c (is.option ∷ is.segments ∷ is.image ∷ []) 2 is.image m (is.with_map, is.adds_option, (is.with_segments, is.adds_segments, (c, is.adds_image, refl)))
-    is.empty.args is.empty.groups is.empty.local is.empty.negates fits (distinct_ids (is.option ∷ is.segments ∷ is.image ∷ []) (109 ∷ 115 ∷ 105 ∷ []) (three_letters is.option is.segments is.image first second last) three_differ) (omega arith) (takes_image is.image is.is_image) parsed in
+    All-cons FitsChain is.option (is.segments ∷ is.image ∷ [])
+    (fits_chain is.option 109 first (omega arith) (omega arith) is.is_option.plain is.is_option.local)
+    (All-cons FitsChain is.segments (is.image ∷ [])
+    (fits_chain is.segments 115 second (omega arith) (omega arith) is.is_segments.plain is.is_segments.local)
+    (All-cons FitsChain is.image [] (fits_chain is.image 105 last (omega arith) (omega arith) is.is_image.plain is.is_image.local)
+    (All-nil FitsChain))) in
+    let has = required_in_chain is.start c (is.option ∷ is.segments ∷ is.image ∷ []) 2 is.image m
+    (is.with_map, is.adds_option, (is.with_segments, is.adds_segments, (c, is.adds_image, refl)))
+    is.empty.args is.empty.groups is.empty.local is.empty.negates fits
+    (distinct_ids (is.option ∷ is.segments ∷ is.image ∷ []) (109 ∷ 115 ∷ 105 ∷ [])
+    (three_letters is.option is.segments is.image first second last) three_differ) (omega arith)
+    (takes_image is.image is.is_image) parsed in
     subst (λ (t : List ℕ). is_some (first_value (found_of m) t) ≡ true) image_id has
 
 pub none_is_not : {X : Type 0} (o : Option X) → o ≡ None → is_some o ≡ true → ⊥
@@ -153,8 +174,10 @@ none_is_not o none some = let e : true ≡ false = sym some ∙ ap is_some none 
 -- ---- the number of segments
 
 -- the option's text is the number that is read of it, or both lack
-pub imported_length : (E : Type 0) (G : List ℕ → Result ℕ E → Type 0) → ((u : List ℕ) (x : Result ℕ E) → G u x → ParsesUnsigned 16 10 u x) → (c : Command) (m : ArgMatches) → IsImportCommand c → IsParsedFrom c m →
-    (r : Option ℕ) → (one_text (found_of m) (codes "segments") ≡ None → r ≡ None) → ((t : List ℕ) → one_text (found_of m) (codes "segments") ≡ Some t → ReadsOne G t r) →
+pub imported_length : (E : Type 0) (G : List ℕ → Result ℕ E → Type 0) → ((u : List ℕ) (x : Result ℕ E) → G u x → ParsesUnsigned 16 10 u x) →
+    (c : Command) (m : ArgMatches) → IsImportCommand c → IsParsedFrom c m →
+    (r : Option ℕ) → (one_text (found_of m) (codes "segments") ≡ None → r ≡ None) →
+    ((t : List ℕ) → one_text (found_of m) (codes "segments") ≡ Some t → ReadsOne G t r) →
     IsLengthOf (one_text (found_of m) (codes "segments")) r
 imported_length E G only c m is p r none reads =
     let first = letter_of is.option (codes "map") (ap (λ (r : Rule). r.id) is.is_option.rule) in
@@ -162,12 +185,17 @@ imported_length E G only c m is p r none reads =
     let second = letter_of is.segments (codes "segments") id in
     let last = letter_of is.image (codes "image") (ap (λ (r : Rule). r.id) is.is_image.rule) in
     let fits = first_letter is.segments 115 second (omega arith) (omega arith) in
-    let read = second_of_three is.start is.with_map is.with_segments c is.option is.segments is.image m is.adds_option is.adds_segments is.adds_image
-    is.empty.args is.empty.groups is.empty.local is.is_option.plain is.is_segments.plain is.is_image.plain is.is_option.local is.is_segments.local is.is_image.local
-    (distinct_ids (is.option ∷ is.segments ∷ is.image ∷ []) (109 ∷ 115 ∷ 105 ∷ []) (three_letters is.option is.segments is.image first second last) three_differ) fits.0 fits.1
+    let read = second_of_three is.start is.with_map is.with_segments c is.option is.segments is.image m is.adds_option is.adds_segments
+    is.adds_image
+    is.empty.args is.empty.groups is.empty.local is.is_option.plain is.is_segments.plain is.is_image.plain is.is_option.local
+    is.is_segments.local is.is_image.local
+    (distinct_ids (is.option ∷ is.segments ∷ is.image ∷ []) (109 ∷ 115 ∷ 105 ∷ [])
+    (three_letters is.option is.segments is.image first second last) three_differ) fits.0 fits.1
     (Signed (pos 3) (pos 246)) (ap (λ (r : Rule). r.parser) is.is_segments.rule) p in
     length_read E G only m (codes "segments") is.segments.ignore_case r none reads
-    (subst (λ (w : List ℕ). (one_text (found_of m) w ≡ None) ⊎ ((t : List ℕ) × (one_text (found_of m) w ≡ Some (read_as (reading_of (Signed (pos 3) (pos 246))) t)) × Accepts is.segments.ignore_case (Signed (pos 3) (pos 246)) t)) id read)
+    (subst (λ (w : List ℕ). (one_text (found_of m) w ≡ None)
+    ⊎ ((t : List ℕ) × (one_text (found_of m) w ≡ Some (read_as (reading_of (Signed (pos 3) (pos 246))) t))
+    × Accepts is.segments.ignore_case (Signed (pos 3) (pos 246)) t)) id read)
 
 -- ---- words that are taken
 
@@ -185,11 +213,13 @@ words_taken app plain c m given words is same matches kinds =
       rows = (matches (ap is_simple is ∙ plain.simple)).0 ∙ ap₂ matches_of is same;
     }
 
-first_row : (app : App) (words : List Text) (m : ArgMatches) (id : Text) → Taken app words m → first_value (found_of m) id ≡ first_of id (matches_of app words)
+first_row : (app : App) (words : List Text) (m : ArgMatches) (id : Text) → Taken app words m → first_value (found_of m) id ≡ first_of id
+    (matches_of app words)
 first_row app words m id t = first_value-rows (found_of m) id ∙ ap (first_of id) t.rows
 
 pub ask_export : (words : List Text) (m : ArgMatches) (asked : ExportWords) → Taken export_app words m →
-    first_value (found_of m) (codes "image") ≡ Some asked.image.now → option_map (λ (s : Bor (List ℕ)). s.now) asked.map ≡ first_value (found_of m) (codes "map") → AskExport words asked
+    first_value (found_of m) (codes "image") ≡ Some asked.image.now → option_map (λ (s : Bor (List ℕ)). s.now) asked.map ≡ first_value
+    (found_of m) (codes "map") → AskExport words asked
 ask_export words m asked t image file = record {
   taken = t.taken;
   image = sym (first_row export_app words m (codes "image") t) ∙ image;
@@ -197,13 +227,15 @@ ask_export words m asked t image file = record {
 }
 
 pub ask_import : (words : List Text) (m : ArgMatches) (asked : ImportWords) → Taken import_app words m →
-    first_value (found_of m) (codes "image") ≡ Some asked.image.now → option_map (λ (s : Bor (List ℕ)). s.now) asked.map ≡ first_value (found_of m) (codes "map") →
+    first_value (found_of m) (codes "image") ≡ Some asked.image.now → option_map (λ (s : Bor (List ℕ)). s.now) asked.map ≡ first_value
+    (found_of m) (codes "map") →
     IsLengthOf (one_text (found_of m) (codes "segments")) asked.segments_per_track → AskImport words asked
 ask_import words m asked t image file size = record {
   taken = t.taken;
   image = sym (first_row import_app words m (codes "image") t) ∙ image;
   file = sym (first_row import_app words m (codes "map") t) ∙ sym file;
-  size = subst (λ (o : Option Text). IsLengthOf o asked.segments_per_track) (one_text-rows (found_of m) (codes "segments") ∙ ap (one_of (codes "segments")) t.rows) size;
+  size = subst (λ (o : Option Text). IsLengthOf o asked.segments_per_track)
+      (one_text-rows (found_of m) (codes "segments") ∙ ap (one_of (codes "segments")) t.rows) size;
 }
 
 -- ---- words that are refused
@@ -213,7 +245,8 @@ none_among k [] among e = among
 none_among k (x ∷ xs) among e = cc
 
 pub is_refused : (app : App) → IsPlainApp app → (c : Command) (e : Error) (given words : List Text) → app_of c ≡ app → given ≡ words →
-    (is_simple_and_free (app_of c) ≡ true → HasKind (fault_of (app_of c) given) e) → (takes (app_of c) given ≡ true → kind_of e ≡ OutOfMemory) → IsRefusedBy app words e
+    (is_simple_and_free (app_of c) ≡ true → HasKind (fault_of (app_of c) given) e) →
+    (takes (app_of c) given ≡ true → kind_of e ≡ OutOfMemory) → IsRefusedBy app words e
 is_refused app plain c e given words is same kinds passes other =
     let kind = kinds (ap is_simple_and_free is ∙ plain.free) in
     let among : IsAmong (kind_of e) (fault_of (app_of c) given) = elim kind [ inl memory ↦ absurd (other memory) | inr among ↦ among ] in

@@ -1,5 +1,6 @@
 -- What a caller reads of an argument with a default, of a command that excludes nothing: a text that passed its parser.
-use Rattle.std.proofs.Common.{◌++◌, ◌||◌, ◌≡◌, ◌∙◌, ◌<◌, ◌≤◌, ap, ℕ, zero, suc, Bool, true, false, List, [], ◌∷◌, length, is_some, Option, Some, None, refl, sym, subst, inl, inr, arith}
+use Rattle.std.proofs.Common.{◌++◌, ◌||◌, ◌≡◌, ◌∙◌, ◌<◌, ◌≤◌, ap, ℕ, zero, suc, Bool, true, false, List, [], ◌∷◌, length, is_some, Option}
+use Rattle.std.proofs.Common.{Some, None, refl, sym, subst, inl, inr, arith}
 use Rattle.std.specs.List.{All, slice_index_or}
 use Rattle.std.specs.Str.{bytes_eq}
 use Rattle.std.specs.Prelude.{find, option_map, slice_get}
@@ -7,7 +8,8 @@ use Rattle.std.specs.Borrow.{Bor}
 use Rattle.std.proofs.lemmas.Slice.Eq.{bytes_eq-Decides}
 use Rattle.std.proofs.lemmas.List.Elements.{All-get_or, All-nil}
 use Rattle.clap.specs.Texts.{items_of}
-use Rattle.clap.specs.Facts.{args_of, groups_of, IsParsed, Entry, EntryPasses, ValuesPass, PassesArg, HasIn, HasReading, WantsDefault, least_values, parser_of, parser_of_value}
+use Rattle.clap.specs.Facts.{args_of, groups_of, IsParsed, Entry, EntryPasses, ValuesPass, PassesArg, HasIn, HasReading, WantsDefault}
+use Rattle.clap.specs.Facts.{least_values, parser_of, parser_of_value}
 use Rattle.clap.specs.Built.{IsPlain, IsPlainArg, IsParsedFrom, IsAuto, AddsArg, SameRules}
 use Rattle.clap.specs.Matches.{matched_of, first_value, one_text, found_of, has_subcommand}
 use Rattle.clap.specs.declared.parser.matches.Found.{Found}
@@ -87,12 +89,14 @@ read_of c f id Q how x e no_groups named reads read found first same_x key_id pa
     ] in
     finish (head_passes (λ v. PassesArg c id v.now) how x.vals.items all first) (ap (λ (y : MatchedArg). y.reading) (sym same_x) ∙ is)
   where
-    finish : ((v : Bor (List ℕ)) × (option_map (λ s. read_as how s.now) (slice_get x.vals.items 0) ≡ Some (read_as how v.now)) × PassesArg c id v.now)
+    finish : ((v : Bor (List ℕ)) × (option_map (λ s. read_as how s.now) (slice_get x.vals.items 0) ≡ Some (read_as how v.now))
+        × PassesArg c id v.now)
         → x.reading ≡ how → (t : List ℕ) × (one_text f id ≡ Some (read_as how t)) × Q t
     finish hd is = (hd.0.now, one_text_at_entry f id x how (read_as how hd.0.now) found is hd.1, read hd.0 hd.2)
 
 -- what the entry of an id gives, where it is an argument's with a first value
-entry_read : (c : Command) (f : Found) (id : List ℕ) (Q : List ℕ → Type 0) (how : Reading) → ValuesPass c f → groups_of c ≡ [] → (id ≡ [] → ⊥)
+entry_read : (c : Command) (f : Found) (id : List ℕ) (Q : List ℕ → Type 0) (how : Reading) → ValuesPass c f → groups_of c ≡ [] →
+    (id ≡ [] → ⊥)
     → is_some (first_value f id) ≡ true → ((r : Reading) → HasReading c id r → r ≡ how)
     → ((v : Bor (List ℕ)) → PassesArg c id v.now → Q v.now)
     → (t : List ℕ) × (one_text f id ≡ Some (read_as how t)) × Q t
@@ -104,7 +108,8 @@ entry_read c f id Q how values no_groups named has reads read = go (matched_of f
     step x found first got =
         read_of c f id Q how x got.0 no_groups named reads read found first got.1 ((bytes_eq-Decides got.0.0.now id).0 got.2) got.3
 
-    go : (o : Option MatchedArg) → matched_of f id ≡ o → is_some (first_value f id) ≡ true → (t : List ℕ) × (one_text f id ≡ Some (read_as how t)) × Q t
+    go : (o : Option MatchedArg) → matched_of f id ≡ o → is_some (first_value f id) ≡ true → (t : List ℕ)
+        × (one_text f id ≡ Some (read_as how t)) × Q t
     go None e h =
         let bad : false ≡ true = rw e at h in
         cc
@@ -114,7 +119,8 @@ entry_read c f id Q how values no_groups named has reads read = go (matched_of f
 has_entry : (xs : List Entry) (id : List ℕ) → HasIn xs id → is_some (option_map (λ e. e.1) (find (λ e. bytes_eq e.0.now id) xs)) ≡ true
 has_entry [] id h = absurd (let l = h.1 in omega arith)
 has_entry (x ∷ xs) id h = go (bytes_eq x.0.now id) refl h.0 h.1 h.2 (λ k. has_entry xs id k) where
-  go : (t : Bool) → bytes_eq x.0.now id ≡ t → (i : ℕ) → i < length (x ∷ xs) → ((d : Entry) → bytes_eq (slice_index_or (x ∷ xs) i d).0.now id ≡ true) →
+  go : (t : Bool) → bytes_eq x.0.now id ≡ t → (i : ℕ) → i < length (x ∷ xs) →
+      ((d : Entry) → bytes_eq (slice_index_or (x ∷ xs) i d).0.now id ≡ true) →
       (HasIn xs id → is_some (option_map (λ e. e.1) (find (λ e. bytes_eq e.0.now id) xs)) ≡ true) →
       is_some (option_map (λ e. e.1) (find (λ e. bytes_eq e.0.now id) (x ∷ xs))) ≡ true
   go true t i lt same rest = rw t refl
@@ -142,12 +148,14 @@ default_has_value old m p plain globals k d lt wants set delim least unique name
     let parsed = p.parsed (p.from.globals ∙ globals) in
     go (matched_of f id) refl (has_entry f.entries.items id (default_present old m p globals k d lt wants)) parsed
   where
-    go : (o : Option MatchedArg) → matched_of (found_of m) (slice_index_or (args_of old) k d).id.now ≡ o → is_some (matched_of (found_of m) (slice_index_or (args_of old) k d).id.now) ≡ true
+    go : (o : Option MatchedArg) → matched_of (found_of m) (slice_index_or (args_of old) k d).id.now ≡ o →
+        is_some (matched_of (found_of m) (slice_index_or (args_of old) k d).id.now) ≡ true
         → IsParsed p.built (found_of m) (has_subcommand m)
         → is_some (first_value (found_of m) (slice_index_or (args_of old) k d).id.now) ≡ true
     go None e some parsed = cc
     go (Some x) e some parsed =
-        let got = entry_by_id (EntryPasses p.built) (found_of m).entries.items (slice_index_or (args_of old) k d).id.now x parsed.values e in
+        let got = entry_by_id (EntryPasses p.built) (found_of m).entries.items (slice_index_or (args_of old) k d).id.now x parsed.values e
+        in
         let same_x : got.0.1 ≡ x = got.1 in
         let key : bytes_eq got.0.0.now (slice_index_or (args_of old) k d).id.now ≡ true = got.2 in
         let key_id : got.0.0.now ≡ (slice_index_or (args_of old) k d).id.now = (bytes_eq-Decides _ _).0 key in
@@ -216,15 +224,20 @@ one_default_read start cmd a m added args groups globals plain global ifs defaul
     let same-defaults : items_of added.arg.default_vals ≡ items_of a.default_vals = added.rules.defaults defaults in
     let wanted : WantsDefault added.arg = (added.rules.ifs ∙ ifs, rw same-defaults defaults) in
     let wants : WantsDefault (slice_index_or (args_of cmd) 0 a) = subst WantsDefault (sym elem) wanted in
-    let no-globals : (out-Command cmd).has_globals ≡ false = added.globals ∙ (ap (λ b. b || a.global) globals ∙ ap (λ b. false || b) global) in
+    let no-globals : (out-Command cmd).has_globals ≡ false = added.globals
+    ∙ (ap (λ b. b || a.global) globals ∙ ap (λ b. false || b) global) in
     let same-id : (slice_index_or (args_of cmd) 0 a).id ≡ a.id = ap (λ x. x.id) elem ∙ added.rules.id in
     let same-now : (slice_index_or (args_of cmd) 0 a).id.now ≡ a.id.now = ap (λ x. x.now) same-id in
     let is-set : (slice_index_or (args_of cmd) 0 a).action ≡ Some Set = ap (λ x. x.action) elem ∙ added.rules.action Set set in
     let no-delim : (slice_index_or (args_of cmd) 0 a).val_delim ≡ None = ap (λ x. x.val_delim) elem ∙ (added.rules.val_delim ∙ delim) in
-    let some-value : 1 ≤ least_values (slice_index_or (args_of cmd) 0 a) = subst (λ x. 1 ≤ least_values x) (sym elem) (added.rules.least set least) in
-    let same-parser : (slice_index_or (args_of cmd) 0 a).value_parser ≡ Some q = ap (λ x. x.value_parser) elem ∙ added.rules.parser q parser in
-    let same-case : (slice_index_or (args_of cmd) 0 a).ignore_case ≡ a.ignore_case = ap (λ x. x.ignore_case) elem ∙ added.rules.ignore_case in
-    let only : (j : ℕ) (e : Arg) → j < length (args_of cmd) → bytes_eq (slice_index_or (args_of cmd) j e).id.now (slice_index_or (args_of cmd) 0 a).id.now ≡ true → j ≡ 0 =
+    let some-value : 1 ≤ least_values (slice_index_or (args_of cmd) 0 a) = subst (λ x. 1 ≤ least_values x) (sym elem)
+    (added.rules.least set least) in
+    let same-parser : (slice_index_or (args_of cmd) 0 a).value_parser ≡ Some q = ap (λ x. x.value_parser) elem
+    ∙ added.rules.parser q parser in
+    let same-case : (slice_index_or (args_of cmd) 0 a).ignore_case ≡ a.ignore_case = ap (λ x. x.ignore_case) elem
+    ∙ added.rules.ignore_case in
+    let only : (j : ℕ) (e : Arg) → j < length (args_of cmd) → bytes_eq (slice_index_or (args_of cmd) j e).id.now
+    (slice_index_or (args_of cmd) 0 a).id.now ≡ true → j ≡ 0 =
     λ j e low same. let one : j < 1 = subst (λ l. j < length l) list low in omega arith in
     let got = default_reads cmd m p plain2 no-globals 0 a lt wants is-set no-delim some-value only
     (λ empty. named (sym same-now ∙ empty))

@@ -1,5 +1,6 @@
 -- What the matches of the command say of the words.
-use Rattle.std.proofs.Common.{◌≡◌, ◌≤◌, ◌∙◌, ap, ap₂, ℕ, true, List, [], Option, Some, Result, Ok, refl, sym, subst, codes, arith, inl, inr, slice_index}
+use Rattle.std.proofs.Common.{◌≡◌, ◌≤◌, ◌∙◌, ap, ap₂, ℕ, true, List, [], Option, Some, Result, Ok, refl, sym, subst, codes, arith, inl, inr}
+use Rattle.std.proofs.Common.{slice_index}
 use Rattle.std.specs.Prelude.{pos}
 use Rattle.std.specs.Str.Parse.{ParsesUnsigned, digits_value, without_leading_plus}
 use Rattle.clap.specs.Lexer.{without_minus}
@@ -45,7 +46,8 @@ passed c m is p =
     let id : a.id.now ≡ codes "gap" = ap (λ (r : Rule). r.id) is.gap.rule in
     let least : least_values a ≡ 1 = ap (λ (r : Rule). (unwrap_or_range r.range).start_inclusive) is.gap.rule in
     let first : (t : List ℕ) → a.id.now ≡ t → slice_index t 0 ≡ 103 = λ t e. rw (← e, id) refl in
-    let got = one_default_read is.start c a m is.adds is.empty.args is.empty.groups is.empty.local is.gap.plain is.gap.local is.gap.always is.gap.some_default
+    let got = one_default_read is.start c a m is.adds is.empty.args is.empty.groups is.empty.local is.gap.plain is.gap.local is.gap.always
+    is.gap.some_default
     (ap (λ (r : Rule). r.action) is.gap.rule) is.gap.whole (omega arith)
     (λ e. let bad : 0 ≡ 103 = first [] e in omega arith)
     (λ auto. elim auto [
@@ -84,7 +86,8 @@ number_read E G only c m is p r reads =
     }
 
 -- words that are taken
-pub has_gap : (c : Command) (m : ArgMatches) (given words : List Text) (gap : ℕ) (r : Option ℕ) → IsTraceCommand c → given ≡ words → Number m r → r ≡ Some gap →
+pub has_gap : (c : Command) (m : ArgMatches) (given words : List Text) (gap : ℕ) (r : Option ℕ) → IsTraceCommand c → given ≡ words →
+    Number m r → r ≡ Some gap →
     HasMatchesOf (app_of c) given m → (is_simple_and_free (app_of c) ≡ true → fault_of (app_of c) given ≡ []) → HasGap words gap
 has_gap c m given words gap r is same number some matches kinds =
     let app = app_is c is in
@@ -101,7 +104,8 @@ has_gap c m given words gap r is same number some matches kinds =
     }
 
 pub is_refused : (c : Command) (e : Error) (given words : List Text) → IsTraceCommand c → given ≡ words → (kind_of e ≡ OutOfMemory → ⊥) →
-    (is_simple_and_free (app_of c) ≡ true → HasKind (fault_of (app_of c) given) e) → (takes (app_of c) given ≡ true → kind_of e ≡ OutOfMemory) → IsRefused words
+    (is_simple_and_free (app_of c) ≡ true → HasKind (fault_of (app_of c) given) e) →
+    (takes (app_of c) given ≡ true → kind_of e ≡ OutOfMemory) → IsRefused words
 is_refused c e given words is same other kinds passes =
     let app = app_is c is in
     let kind = kinds (ap is_simple_and_free app ∙ free) in

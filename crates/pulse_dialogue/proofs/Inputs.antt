@@ -1,5 +1,6 @@
 -- Inputs that begin with lines: each has lines and an ending, and only those.
-use Rattle.std.proofs.Common.{◌≡◌, inl, inr, ℕ, zero, suc, ◌+◌, ◌≤◌, ◌<◌, List, [], ◌∷◌, ◌++◌, length, Option, Some, None, IfSome, refl, sym, ap, ◌∙◌, subst, arith, append_assoc, append-nil}
+use Rattle.std.proofs.Common.{◌≡◌, inl, inr, ℕ, zero, suc, ◌+◌, ◌≤◌, ◌<◌, List, [], ◌∷◌, ◌++◌, length, Option, Some, None, IfSome, refl}
+use Rattle.std.proofs.Common.{sym, ap, ◌∙◌, subst, arith, append_assoc, append-nil}
 use Rattle.std.specs.Option.{option_map}
 use Rattle.std.proofs.lemmas.List.{length-append}
 use Rattle.command_laws.proofs.TextDeciding.{both, at_most, same_bytes}
@@ -8,7 +9,8 @@ use Rattle.command_laws.proofs.TextLined.{one_before}
 use Rattle.command_laws.proofs.TextReadings.{Cut, cut, no_line_without}
 use Rattle.tape_script.proofs.Rests.{Rest}
 use Rattle.pulse_dialogue.specs.declared.line.Line.{Line}
-use Rattle.pulse_dialogue.specs.Lines.{time_of, line_text, line_bytes, greatest_time, most_lines, IsLine, Ending, AtEnd, AtFault, Follows, HasLine, IsFault, LinesEnd, HasLines}
+use Rattle.pulse_dialogue.specs.Lines.{time_of, line_text, line_bytes, greatest_time, most_lines, IsLine, Ending, AtEnd, AtFault, Follows}
+use Rattle.pulse_dialogue.specs.Lines.{HasLine, IsFault, LinesEnd, HasLines}
 use Rattle.pulse_dialogue.specs.Laws.{EachRecording, OneRecording}
 use Rattle.pulse_dialogue.proofs.Lines.{line_no_newline, lined, guess, guess_is, same_line, bytes_some}
 
@@ -68,7 +70,9 @@ read_from (suc n) last line place (b ∷ input) few =
           let rest = h.1.1.0 in
           let e : b ∷ input ≡ line_bytes x ++ rest = h.1.1.1.0 in
           let follows = h.1.1.1.1 in
-          let shorter : length rest ≤ n = (let some = (bytes_some x follows.nine).0 in let l = ap length e in let m = length-append (line_bytes x) rest in omega arith) in
+          let shorter : length rest ≤ n =
+          (let some = (bytes_some x follows.nine).0 in let l = ap length e in let m = length-append (line_bytes x) rest in omega arith)
+          in
           let next = read_from n (time_of x) (line + 1) (place + length (line_bytes x)) rest shorter in
           record { lines = x ∷ next.lines; ending = next.ending; has = (h.0, follows, (rest, (e, next.has))) }
       | inr none ↦ record {
@@ -86,14 +90,16 @@ each_recording input = let l = lined_from 0 1 0 input in (l.lines, (l.ending, l.
 
 -- ---- and only those
 
-one_ending : (last line place : ℕ) (input : List ℕ) (a b : Ending) → LinesEnd last line place input a → LinesEnd last line place input b → a ≡ b
+one_ending : (last line place : ℕ) (input : List ℕ) (a b : Ending) → LinesEnd last line place input a → LinesEnd last line place input b →
+    a ≡ b
 one_ending last line place input AtEnd AtEnd p q = refl
 one_ending last line place input AtEnd (AtFault n m) p q = absurd (q.0.some p)
 one_ending last line place input (AtFault n m) AtEnd p q = absurd (p.0.some q)
 one_ending last line place input (AtFault n m) (AtFault k l) p q = rw (p.1, p.2, q.1, q.2) refl
 
 -- where a line begins the input, it doesn't end there
-no_ending : (last line place : ℕ) (input rest : List ℕ) (x : Line) (a : Ending) → line ≤ most_lines → Follows last x → input ≡ line_bytes x ++ rest →
+no_ending : (last line place : ℕ) (input rest : List ℕ) (x : Line) (a : Ending) → line ≤ most_lines → Follows last x →
+    input ≡ line_bytes x ++ rest →
     LinesEnd last line place input a → ⊥
 no_ending last line place input rest x AtEnd within follows e p =
     let some = (bytes_some x follows.nine).0 in
@@ -110,7 +116,8 @@ one_from last line place input (x ∷ xs) (y ∷ ys) a b p q =
     let one = same_line x y p.2.0 q.2.0 p.1.nine q.1.nine (sym p.2.1.0 ∙ q.2.1.0) in
     let P : Line → Type 0 = λ z. HasLines (time_of z) (line + 1) (place + length (line_bytes z)) q.2.0 ys b in
     let Q : List ℕ → Type 0 = λ z. HasLines (time_of x) (line + 1) (place + length (line_bytes x)) z ys b in
-    let next : HasLines (time_of x) (line + 1) (place + length (line_bytes x)) p.2.0 ys b = subst Q (sym one.rests) (subst P (sym one.lines) q.2.1.1) in
+    let next : HasLines (time_of x) (line + 1) (place + length (line_bytes x)) p.2.0 ys b = subst Q (sym one.rests)
+    (subst P (sym one.lines) q.2.1.1) in
     let rest = one_from (time_of x) (line + 1) (place + length (line_bytes x)) p.2.0 xs ys a b p.2.1.1 next in
     (ap (λ (z : Line). z ∷ xs) one.lines ∙ ap (λ (zs : List Line). y ∷ zs) rest.0, rest.1)
 
@@ -145,7 +152,8 @@ last_time-push last (y ∷ xs) x = last_time-push (time_of y) xs x
 
 pub lines_bytes-push : (xs : List Line) (x : Line) → lines_bytes xs ++ line_bytes x ≡ lines_bytes (push xs x)
 lines_bytes-push [] x = sym (append-nil (line_bytes x))
-lines_bytes-push (y ∷ xs) x = append_assoc (line_bytes y) (lines_bytes xs) (line_bytes x) ∙ ap (λ t. line_bytes y ++ t) (lines_bytes-push xs x)
+lines_bytes-push (y ∷ xs) x = append_assoc (line_bytes y) (lines_bytes xs) (line_bytes x)
+    ∙ ap (λ t. line_bytes y ++ t) (lines_bytes-push xs x)
 
 -- a reading, from equal numbers
 read_at : (last line place end here at : ℕ) (input : List ℕ) (lines : List Line) (ending : Ending) → end ≡ last → here ≡ line → at ≡ place →
@@ -157,7 +165,8 @@ read_at last line place end here at input lines ending times same equal read =
     subst R equal (subst Q same (subst P times read))
 
 -- what is read behind lines is read behind them
-pub read_behind : (xs ys : List Line) (rest : List ℕ) (last line place here at : ℕ) (ending : Ending) → AreLines last xs → line + length xs ≤ most_lines + 1 →
+pub read_behind : (xs ys : List Line) (rest : List ℕ) (last line place here at : ℕ) (ending : Ending) → AreLines last xs →
+    line + length xs ≤ most_lines + 1 →
     here ≡ line + length xs → at ≡ place + length (lines_bytes xs) →
     HasLines (last_time last xs) here at rest ys ending → HasLines last line place (lines_bytes xs ++ rest) (xs ++ ys) ending
 read_behind [] ys rest last line place here at ending are few same equal read =
@@ -170,7 +179,8 @@ read_behind (x ∷ xs) ys rest last line place here at ending are few same equal
         lines_bytes xs ++ rest,
         (
           append_assoc (line_bytes x) (lines_bytes xs) rest,
-          read_behind xs ys rest (time_of x) (line + 1) (place + length (line_bytes x)) here at ending are.1 (omega arith) (omega arith) (omega arith) read,
+          read_behind xs ys rest (time_of x) (line + 1) (place + length (line_bytes x)) here at ending are.1 (omega arith) (omega arith)
+              (omega arith) read,
         ),
       ),
     )
@@ -188,8 +198,10 @@ no_line last line = record {
 }
 
 -- bytes were given, and no line that may stand there began them
-pub fault_rest : (o p : Option (List ℕ)) (last line n : ℕ) (bytes : List ℕ) → 0 < n → length bytes ≡ n → o ≡ option_map (λ rest. bytes ++ rest) p →
-    (line ≤ most_lines → (x : Line) → Follows last x → IfSome o (λ all. (text rest : List ℕ) → all ≡ text ++ rest → ¬ (text ≡ line_bytes x))) →
+pub fault_rest : (o p : Option (List ℕ)) (last line n : ℕ) (bytes : List ℕ) → 0 < n → length bytes ≡ n →
+    o ≡ option_map (λ rest. bytes ++ rest) p →
+    (line ≤ most_lines → (x : Line) → Follows last x →
+    IfSome o (λ all. (text rest : List ℕ) → all ≡ text ++ rest → ¬ (text ≡ line_bytes x))) →
     Rest o (IsFault last line)
 fault_rest None p last line n bytes some long gave none = record { rest = 0 ∷ []; told = tt; has = no_line last line }
 fault_rest (Some all) p last line n bytes some long gave none = record {

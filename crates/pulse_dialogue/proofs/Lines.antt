@@ -1,5 +1,7 @@
 -- The texts of lines: how they are read, and that each is that of one line.
-use Rattle.std.proofs.Common.{◌≡◌, ◌≢◌, ℕ, ◌+◌, ◌-◌, ◌<◌, ◌≤◌, ◌==◌, Bool, true, false, List, [], ◌∷◌, ◌++◌, length, take, drop, get_or, Option, Some, None, IfSome, decimal, if◌then◌else◌, refl, sym, ap, ◌∙◌, subst, arith, append_assoc, drop_of_length-le}
+use Rattle.std.proofs.Common.{◌≡◌, ◌≢◌, ℕ, ◌+◌, ◌-◌, ◌<◌, ◌≤◌, ◌==◌, Bool, true, false, List, [], ◌∷◌, ◌++◌, length, take, drop, get_or}
+use Rattle.std.proofs.Common.{Option, Some, None, IfSome, decimal, if◌then◌else◌, refl, sym, ap, ◌∙◌, subst, arith, append_assoc}
+use Rattle.std.proofs.Common.{drop_of_length-le}
 use Rattle.std.specs.Option.{option_map}
 use Rattle.std.proofs.Math.Seq.{take-append_seam}
 use Rattle.std.proofs.lemmas.Bool.Decides.{nat_tests}
@@ -58,13 +60,15 @@ parts text two space =
 
 -- ---- what a text is read as
 
-pub no_line_plain : (text : List ℕ) → ((n : ℕ) → IsNumber text n → ⊥) → (2 ≤ length text → get_or text (length text - 2) 0 ≡ 0x20 → ⊥) → IsNoLine text
+pub no_line_plain : (text : List ℕ) → ((n : ℕ) → IsNumber text n → ⊥) → (2 ≤ length text → get_or text (length text - 2) 0 ≡ 0x20 → ⊥) →
+    IsNoLine text
 no_line_plain text none other (Pulse time) is = none time (record { digits = is.spelled; nine = is.nine })
 no_line_plain text none other (Sample time level) is =
     let e = ends_so text (decimal time) (level_digit level) is.spelled in other e.two e.space
 
 pub no_line_sampled : (text : List ℕ) → 2 ≤ length text → get_or text (length text - 2) 0 ≡ 0x20 →
-    ((time : ℕ) (level : Bool) → IsNumber (take (length text - 2) text) time → get_or text (length text - 1) 0 ≡ level_digit level → ⊥) → IsNoLine text
+    ((time : ℕ) (level : Bool) → IsNumber (take (length text - 2) text) time → get_or text (length text - 1) 0 ≡ level_digit level → ⊥) →
+    IsNoLine text
 no_line_sampled text two space none (Pulse time) is =
     let d = all_digits text time (length text - 2) (record { digits = is.spelled; nine = is.nine }) (omega arith) in omega arith
 no_line_sampled text two space none (Sample time level) is =
@@ -131,7 +135,8 @@ lined text line is = record {
 
 pub guess : List ℕ → Line
 guess text =
-    if get_or text (length text - 2) 0 == 0x20 then Sample (number_value (take (length text - 2) text)) (get_or text (length text - 1) 0 == 49)
+    if get_or text (length text - 2) 0 == 0x20 then Sample (number_value (take (length text - 2) text))
+    (get_or text (length text - 1) 0 == 49)
     else Pulse (number_value text)
 
 level_of : (level : Bool) (d : ℕ) → d ≡ level_digit level → (d == 49) ≡ level
@@ -150,7 +155,8 @@ guess_is text (Sample time level) is =
     let e = ends_so text (decimal time) (level_digit level) is.spelled in
     let space = e.space in
     let here : (get_or text (length text - 2) 0 == 0x20) ≡ true = grind (arith, nat_tests) in
-    let value : number_value (take (length text - 2) text) ≡ time = IsNumber-value (take (length text - 2) text) time (record { digits = e.front; nine = is.nine }) in
+    let value : number_value (take (length text - 2) text) ≡ time = IsNumber-value (take (length text - 2) text) time
+    (record { digits = e.front; nine = is.nine }) in
     let digit : (get_or text (length text - 1) 0 == 49) ≡ level = level_of level (get_or text (length text - 1) 0) e.digit in
     rw (here, value, digit) refl
 
@@ -162,7 +168,8 @@ pub record SameLine (x y : Line) (r q : List ℕ) : Type 0 where
   pub lines : x ≡ y
   pub rests : r ≡ q
 
-pub same_line : (x y : Line) (r q : List ℕ) → time_of x ≤ greatest_time → time_of y ≤ greatest_time → line_bytes x ++ r ≡ line_bytes y ++ q → SameLine x y r q
+pub same_line : (x y : Line) (r q : List ℕ) → time_of x ≤ greatest_time → time_of y ≤ greatest_time →
+    line_bytes x ++ r ≡ line_bytes y ++ q → SameLine x y r q
 unfolding line_bytes
 same_line x y r q few less e =
     let texts : line_text x ≡ line_text y =
@@ -175,10 +182,12 @@ same_line x y r q few less e =
     }
 
 -- a line that may not stand there: none that may begins what it begins
-pub another_line : {S : Type 0} (m : Meaning S) (a b : S) (last : ℕ) (x : Line) → time_of x ≤ greatest_time → Gave m a b (line_bytes x) → time_of x < last →
+pub another_line : {S : Type 0} (m : Meaning S) (a b : S) (last : ℕ) (x : Line) → time_of x ≤ greatest_time → Gave m a b (line_bytes x) →
+    time_of x < last →
     (y : Line) → Follows last y → BeginsWithNo m a (λ text. text ≡ line_bytes y)
 another_line m a b last x few gave early y follows = go (m.left a) (m.left b) gave where
-  go : (o p : Option (List ℕ)) → o ≡ option_map (λ rest. line_bytes x ++ rest) p → IfSome o (λ bytes. (text rest : List ℕ) → bytes ≡ text ++ rest → ¬ (text ≡ line_bytes y))
+  go : (o p : Option (List ℕ)) → o ≡ option_map (λ rest. line_bytes x ++ rest) p →
+      IfSome o (λ bytes. (text rest : List ℕ) → bytes ≡ text ++ rest → ¬ (text ≡ line_bytes y))
   go None p e = tt
   go (Some bytes) None e = absurd (cc)
   go (Some bytes) (Some left) e = λ text rest split is.
@@ -188,7 +197,8 @@ another_line m a b last x few gave early y follows = go (m.left a) (m.left b) ga
       let later = follows.later in omega arith
 
 -- what a source gave that is a line and a newline
-pub line_given : {S : Type 0} (m : Meaning S) (a b : S) (before : List ℕ) (line : Line) (n : ℕ) → IsLine before line → Gave m a b (before ++ 0x0A ∷ []) →
+pub line_given : {S : Type 0} (m : Meaning S) (a b : S) (before : List ℕ) (line : Line) (n : ℕ) → IsLine before line →
+    Gave m a b (before ++ 0x0A ∷ []) →
     length before ≡ n → n ≤ 127 →
     (time_of line ≤ greatest_time) × (length (line_bytes line) ≡ n + 1) × (n + 1 ≤ 128) × Gave m a b (line_bytes line)
 unfolding line_bytes
@@ -201,7 +211,8 @@ line_given m a b before line n is gave long short =
     )
 
 -- a line's bytes are some, and no more than 128
-pub gave_on : {S : Type 0} (m : Meaning S) (a b : S) (line : Line) (n : ℕ) → length (line_bytes line) ≡ n → time_of line ≤ greatest_time → n ≤ 128 →
+pub gave_on : {S : Type 0} (m : Meaning S) (a b : S) (line : Line) (n : ℕ) → length (line_bytes line) ≡ n → time_of line ≤ greatest_time →
+    n ≤ 128 →
     Gave m a b (line_bytes line) → GaveBytes m a b
 gave_on m a b line n long few short gave =
     (n, (let s = (bytes_some line few).0 in omega arith), short, (line_bytes line, long, gave))

@@ -1,5 +1,6 @@
 -- What is told at once and what is told later make up the dialogue.
-use Rattle.std.proofs.Common.{◌≡◌, ◌≢◌, ℕ, ◌+◌, Bool, true, false, List, [], ◌∷◌, ◌++◌, Option, Some, None, if◌then◌else◌, nat_le, refl, sym, ap, ◌∙◌, arith, append_assoc, append-nil}
+use Rattle.std.proofs.Common.{◌≡◌, ◌≢◌, ℕ, ◌+◌, Bool, true, false, List, [], ◌∷◌, ◌++◌, Option, Some, None, if◌then◌else◌, nat_le, refl}
+use Rattle.std.proofs.Common.{sym, ap, ◌∙◌, arith, append_assoc, append-nil}
 use Rattle.pulse_dialogue.specs.declared.context.Context.{Context}
 use Rattle.pulse_dialogue.specs.declared.line.Line.{Line}
 use Rattle.pulse_dialogue.specs.declared.line.Line.TheVariants.{Pulse, Sample}
@@ -30,15 +31,18 @@ to_tell t ending lines = told_from t.context (ended_by ending (joined t.gap t.op
 
 -- ---- pulses
 
-one_more : (first count more : ℕ) (events : List Event) → Train first (count + (more + 1)) ∷ events ≡ Train first (count + 1 + more) ∷ events
+one_more : (first count more : ℕ) (events : List Event) → Train first (count + (more + 1)) ∷ events ≡ Train first
+    (count + 1 + more) ∷ events
 one_more first count more events = ap (λ (n : ℕ). Train first n ∷ events) (let e : count + (more + 1) ≡ count + 1 + more = omega arith in e)
 
 goes_on : (gap : ℕ) (o : OpenTrain) (time : ℕ) (events : List Event) → nat_le time (o.last + gap) ≡ true →
-    joined gap (Some o) (with_pulse gap time events) ≡ joined gap (Some (record { first = o.first; last = time; count = o.count + 1 })) events
+    joined gap (Some o) (with_pulse gap time events) ≡ joined gap (Some (record { first = o.first; last = time; count = o.count + 1 }))
+    events
 goes_on gap o time [] near = rw near refl
 goes_on gap o time (Train first count ∷ events) near = go (nat_le first (time + gap)) refl where
   go : (b : Bool) → nat_le first (time + gap) ≡ b →
-      joined gap (Some o) (with_pulse gap time (Train first count ∷ events)) ≡ joined gap (Some (record { first = o.first; last = time; count = o.count + 1 })) (Train first count ∷ events)
+      joined gap (Some o) (with_pulse gap time (Train first count ∷ events)) ≡ joined gap
+      (Some (record { first = o.first; last = time; count = o.count + 1 })) (Train first count ∷ events)
   go true e = rw (e, near) (one_more o.first o.count count events)
   go false e = rw (e, near) refl
 goes_on gap o time (Sampled at level ∷ events) near = rw near refl
@@ -46,7 +50,8 @@ goes_on gap o time (Sampled at level ∷ events) near = rw near refl
 begins : (gap : ℕ) (time : ℕ) (events : List Event) → with_pulse gap time events ≡ joined gap (Some (begun time)) events
 begins gap time [] = refl
 begins gap time (Train first count ∷ events) = go (nat_le first (time + gap)) refl where
-  go : (b : Bool) → nat_le first (time + gap) ≡ b → with_pulse gap time (Train first count ∷ events) ≡ joined gap (Some (begun time)) (Train first count ∷ events)
+  go : (b : Bool) → nat_le first (time + gap) ≡ b → with_pulse gap time (Train first count ∷ events) ≡ joined gap (Some (begun time))
+      (Train first count ∷ events)
   go true e = rw e (ap (λ (n : ℕ). Train time n ∷ events) (let s : count + 1 ≡ 1 + count = omega arith in s))
   go false e = rw e refl
 begins gap time (Sampled at level ∷ events) = refl
@@ -57,7 +62,8 @@ ends : (gap : ℕ) (o : OpenTrain) (time : ℕ) (events : List Event) → nat_le
 ends gap o time [] far = rw far refl
 ends gap o time (Train first count ∷ events) far = go (nat_le first (time + gap)) refl where
   go : (b : Bool) → nat_le first (time + gap) ≡ b →
-      joined gap (Some o) (with_pulse gap time (Train first count ∷ events)) ≡ Train o.first o.count ∷ with_pulse gap time (Train first count ∷ events)
+      joined gap (Some o) (with_pulse gap time (Train first count ∷ events)) ≡ Train o.first o.count ∷ with_pulse gap time
+      (Train first count ∷ events)
   go true e = rw (e, far) refl
   go false e = rw (e, far) refl
 ends gap o time (Sampled at level ∷ events) far = rw far refl
@@ -74,7 +80,8 @@ some_event gap o (Sampled at level ∷ events) e = cc
 
 -- the open train, and what is behind it
 closed_tells : (context : Context) (o : Option OpenTrain) (ending : Ending) (events : List Event) → events ≢ [] →
-    told_from context (ended_by ending (closed o events)) ≡ ended_text context o ++ told_from (ended_context context o) (ended_by ending events)
+    told_from context (ended_by ending (closed o events)) ≡ ended_text context o ++ told_from (ended_context context o)
+    (ended_by ending events)
 closed_tells context None ending events some = refl
 closed_tells context (Some o) ending [] some = absurd (some refl)
 closed_tells context (Some o) AtEnd (event ∷ events) some = refl
@@ -94,7 +101,8 @@ sample_closes gap (Some o) time level events = refl
 pulse_closes : (gap : ℕ) (o : Option OpenTrain) (time : ℕ) (events : List Event) → continues gap o time ≡ false →
     joined gap o (with_pulse gap time events) ≡ closed o (joined gap (Some (begun time)) events)
 pulse_closes gap None time events far = begins gap time events
-pulse_closes gap (Some o) time events far = ends gap o time events far ∙ ap (λ (es : List Event). Train o.first o.count ∷ es) (begins gap time events)
+pulse_closes gap (Some o) time events far = ends gap o time events far ∙ ap (λ (es : List Event). Train o.first o.count ∷ es)
+    (begins gap time events)
 
 pulse_goes_on : (gap : ℕ) (o : Option OpenTrain) (time : ℕ) (events : List Event) → continues gap o time ≡ true →
     joined gap o (with_pulse gap time events) ≡ joined gap (continued o time) events
@@ -108,11 +116,13 @@ one_line_more t ending (Pulse time) rest = go (continues t.gap t.open_train time
   go : (b : Bool) → continues t.gap t.open_train time ≡ b →
       to_tell t ending (Pulse time ∷ rest) ≡ told_at t (Pulse time) ++ to_tell (after_line t (Pulse time)) ending rest
   go true near =
-      rw near (ap (λ (es : List Event). told_from t.context (ended_by ending es)) (pulse_goes_on t.gap t.open_train time (events_of t.gap rest) near))
+      rw near (ap (λ (es : List Event). told_from t.context (ended_by ending es))
+      (pulse_goes_on t.gap t.open_train time (events_of t.gap rest) near))
   go false far =
       rw far
       (ap (λ (es : List Event). told_from t.context (ended_by ending es)) (pulse_closes t.gap t.open_train time (events_of t.gap rest) far)
-      ∙ closed_tells t.context t.open_train ending (joined t.gap (Some (begun time)) (events_of t.gap rest)) (some_event t.gap (begun time) (events_of t.gap rest)))
+      ∙ closed_tells t.context t.open_train ending (joined t.gap (Some (begun time)) (events_of t.gap rest))
+      (some_event t.gap (begun time) (events_of t.gap rest)))
 one_line_more t ending (Sample time level) rest =
     let context : Context = ended_context t.context t.open_train in
     let events : List Event = events_of t.gap rest in

@@ -23,7 +23,8 @@ Leaves s old new input AtEnd = s.left new ≡ option_map (drop (length input)) (
 Leaves s old new input (AtFault line place) = LeftFromLine s old new place
 
 -- the input was read so far that its ending is known, and its dialogue was written
-pub record Ended {S K : Type 0} (s : sources.Meaning S) (k : sinks.Meaning K) (gap : ℕ) (old new : Streams S K) (ending : Ending) : Type 0 where
+pub record Ended {S K : Type 0} (s : sources.Meaning S) (k : sinks.Meaning K) (gap : ℕ) (old new : Streams S K)
+    (ending : Ending) : Type 0 where
   pub input : List ℕ
   pub whole : IsInput (s.left old.source) input
   pub lines : List Line
@@ -53,7 +54,8 @@ pub record Unwritten {S K : Type 0} (s : sources.Meaning S) (k : sinks.Meaning K
   pub broke : sink_calls.BrokeOff k old.sink new.sink (dialogue gap lines ending)
 
 -- how a telling ended
-abbrev pub Tells : {S K : Type 0} (s : sources.Meaning S) (k : sinks.Meaning K) (gap : ℕ) (old new : Streams S K) → Result (Unit {0}) TraceFault → Type 0
+abbrev pub Tells : {S K : Type 0} (s : sources.Meaning S) (k : sinks.Meaning K) (gap : ℕ) (old new : Streams S K) →
+    Result (Unit {0}) TraceFault → Type 0
 Tells s k gap old new (Ok done) = Ended s k gap old new AtEnd
 Tells s k gap old new (Err (fault.Line line place)) = Ended s k gap old new (AtFault line place)
 Tells s k gap old new (Err fault.Source) = Unread s k gap old new

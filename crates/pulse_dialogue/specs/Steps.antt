@@ -57,7 +57,8 @@ pub record EndBroke {S K : Type 0} (s : sources.Meaning S) (k : sinks.Meaning K)
   pub broke : sink_calls.BrokeOff k old.sink new.sink (ended_text old.teller.context old.teller.open_train)
 
 -- What a reading did where a line may stand, with this number and so many bytes before it.
-abbrev pub Hears : {S K : Type 0} (s : sources.Meaning S) (k : sinks.Meaning K) (old new : Scene S K) (line place : ℕ) → Result (Option ℕ) TraceFault → Type 0
+abbrev pub Hears : {S K : Type 0} (s : sources.Meaning S) (k : sinks.Meaning K) (old new : Scene S K) (line place : ℕ) →
+    Result (Option ℕ) TraceFault → Type 0
 Hears s k old new line place (Ok (Some n)) = Told s k old new n
 Hears s k old new line place (Ok None) = ToldEnd s k old new
 Hears s k old new line place (Err (fault.Line number before)) =
@@ -67,7 +68,8 @@ Hears s k old new line place (Err fault.Source) = new.sink ≡ old.sink
 Hears s k old new line place (Err fault.Sink) = LineBroke s k old new ⊎ EndBroke s k old new
 
 -- What it did behind the last line that may stand.
-abbrev pub HearsEnd : {S K : Type 0} (s : sources.Meaning S) (k : sinks.Meaning K) (old new : Scene S K) (line place : ℕ) → Result (Unit {0}) TraceFault → Type 0
+abbrev pub HearsEnd : {S K : Type 0} (s : sources.Meaning S) (k : sinks.Meaning K) (old new : Scene S K) (line place : ℕ) →
+    Result (Unit {0}) TraceFault → Type 0
 HearsEnd s k old new line place (Ok done) = ToldEnd s k old new
 HearsEnd s k old new line place (Err (fault.Line number before)) =
     (number ≡ line) × (before ≡ place) × (new.sink ≡ old.sink) × GaveBytes s old.source new.source

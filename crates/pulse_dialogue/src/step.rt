@@ -1,6 +1,6 @@
 //! A line that is read and told.
 
-ghost use Rattle.std.specs.Prelude.{◌≡◌, ◌≤◌, Err};
+ghost use Rattle.std.specs.Prelude.{◌≡◌, ◌≢◌, ◌≤◌, Err};
 ghost use Rattle.qic_base.specs.Tape.{Rose};
 ghost use Rattle.pulse_dialogue.specs.Dialogue.{IsSound};
 ghost use Rattle.pulse_dialogue.specs.Steps.{Hears, HearsEnd};
@@ -28,6 +28,8 @@ pub fn tell_line<S: Source, K: Sink>(
         record { teller = teller.new; source = source.new; sink = sink.new } line place result }
     ensures kept { S.means.keeps source.old source.new }
     ensures later { S.means.faults source.old ≤ S.means.faults source.new }
+    ensures stood { result ≢ Err TraceFault.Source →
+        S.means.faults source.new ≡ S.means.faults source.old }
     ensures cause { result ≡ Err TraceFault.Source →
         Rose (S.means.faults source.old) (S.means.faults source.new) }
 {
@@ -65,6 +67,8 @@ pub fn tell_end<S: Source, K: Sink>(
         record { teller = teller.new; source = source.new; sink = sink.new } line place result }
     ensures kept { S.means.keeps source.old source.new }
     ensures later { S.means.faults source.old ≤ S.means.faults source.new }
+    ensures stood { result ≢ Err TraceFault.Source →
+        S.means.faults source.new ≡ S.means.faults source.old }
     ensures cause { result ≡ Err TraceFault.Source →
         Rose (S.means.faults source.old) (S.means.faults source.new) }
 {

@@ -11,14 +11,16 @@ use Rattle.program_words.specs.declared.gap.BadGap.TheVariants as bad
 use Rattle.pulse_trace.specs.declared.status.TraceStatus.TheVariants.{SourceFault, SinkFault}
 use Rattle.pulse_trace.specs.Runs.{Runs, status_told, status_refused}
 
-pub Runs-told : {S K : Type 0} (s : sources.Meaning S) (k : sinks.Meaning K) (words : List (List ℕ)) (old new : Streams S K) (gap : ℕ) (answer : Result (Unit {0}) Fault) →
+pub Runs-told : {S K : Type 0} (s : sources.Meaning S) (k : sinks.Meaning K) (words : List (List ℕ)) (old new : Streams S K) (gap : ℕ)
+    (answer : Result (Unit {0}) Fault) →
     HasGap words gap → Tells s k gap old new answer → Runs s k words old new (status_told answer)
 Runs-told s k words old new gap (Ok done) has told = (gap, has, told)
 Runs-told s k words old new gap (Err (fault.Line line place)) has told = (gap, has, told)
 Runs-told s k words old new gap (Err fault.Source) has told = (gap, has, told)
 Runs-told s k words old new gap (Err fault.Sink) has told = (gap, has, told)
 
-pub Runs-refused : {S K : Type 0} (s : sources.Meaning S) (k : sinks.Meaning K) (words : List (List ℕ)) (streams : Streams S K) (why : BadGap) →
+pub Runs-refused : {S K : Type 0} (s : sources.Meaning S) (k : sinks.Meaning K) (words : List (List ℕ)) (streams : Streams S K)
+    (why : BadGap) →
     IsRefusedBy words why → Runs s k words streams streams (status_refused why)
 Runs-refused s k words streams bad.Refused refused = (refused, refl)
 Runs-refused s k words streams bad.NoMemory refused = refl

@@ -39,7 +39,8 @@ WithGap words P = (gap : ℕ) × HasGap words gap × P gap
 
 -- How a run ended: the words were refused, or there was no memory for them, and nothing was done; or the recording was
 -- told with their gap, to its end, to a line at fault, or so far as a fault of the outside let it.
-abbrev pub Runs : {S K : Type 0} (s : sources.Meaning S) (k : sinks.Meaning K) → List (List ℕ) → (old new : Streams S K) → TraceStatus → Type 0
+abbrev pub Runs : {S K : Type 0} (s : sources.Meaning S) (k : sinks.Meaning K) → List (List ℕ) → (old new : Streams S K) → TraceStatus →
+    Type 0
 Runs s k words old new Done = WithGap words (λ gap. Ended s k gap old new AtEnd)
 Runs s k words old new (TraceFault line place) = WithGap words (λ gap. Ended s k gap old new (AtFault line place))
 Runs s k words old new SourceFault = WithGap words (λ gap. Unread s k gap old new)

@@ -1,5 +1,6 @@
 -- Binary digits and the number that has them.
-use Rattle.std.proofs.Common.{◌≡◌, ℕ, zero, suc, ◌+◌, ◌*◌, ◌/◌, ◌%◌, ◌^◌, ◌<◌, ◌==◌, Bool, true, false, cond, List, [], ◌∷◌, ◌++◌, length, refl, ap, ◌∙◌, arith}
+use Rattle.std.proofs.Common.{◌≡◌, ℕ, zero, suc, ◌+◌, ◌*◌, ◌/◌, ◌%◌, ◌^◌, ◌<◌, ◌==◌, Bool, true, false, cond, List, [], ◌∷◌, ◌++◌, length}
+use Rattle.std.proofs.Common.{refl, ap, ◌∙◌, arith}
 use Rattle.std.proofs.Math.Nat.{pow-suc}
 use Rattle.std.proofs.lemmas.Bool.Decides.{nat_tests}
 use Rattle.qic117_commands.specs.Digits.{digits, value}
@@ -52,7 +53,8 @@ unfolding digits
 one-level true number h = rw h refl
 one-level false number h = rw h refl
 
-pub digits-push : (width number : ℕ) (level : Bool) → number < 2 ^ width → digits (suc width) (number + cond level (2 ^ width) 0) ≡ digits width number ++ level ∷ []
+pub digits-push : (width number : ℕ) (level : Bool) → number < 2 ^ width →
+    digits (suc width) (number + cond level (2 ^ width) 0) ≡ digits width number ++ level ∷ []
 unfolding digits
 digits-push zero number level h = one-level level number (omega (arith, h))
 digits-push (suc width) number level h =

@@ -2,7 +2,15 @@
 use Rattle.std.proofs.Common.{◌≡◌, ◌↔◌, ℕ, ◌<◌, Bool, true, false, not, cond, List, [], ◌∷◌, Option, Some, ◌==◌, is_some, find, refl}
 use Rattle.std.proofs.lemmas.Bool.{eqb-true, agree_below_at}
 use Rattle.qic117_commands.specs.declared.command.Command.{Command}
-use Rattle.qic117_commands.specs.declared.command.Command.TheVariants.{Reset, ReportNextBit, Pause, MicroStepPause, AlternateTimeout, ReportStatus, ReportError, ReportConfiguration, ReportRom, LogicalForward, PhysicalReverse, PhysicalForward, SeekTrack, SeekLoadPoint, EnterFormat, WriteReference, EnterVerify, StopTape, MicroStepUp, MicroStepDown, SoftSelect, SoftDeselect, SkipReverse, SkipForward, SelectRate, Diagnostic1, Diagnostic2, EnterPrimary, VendorUnique, ReportVendor, ReportTapeStatus, ExtendedSkipReverse, ExtendedSkipForward, CalibrateLength, ReportFormatSegments, SetFormatSegments, PhantomSelect, PhantomDeselect}
+use Rattle.qic117_commands.specs.declared.command.Command.TheVariants.{Reset, ReportNextBit, Pause, MicroStepPause, AlternateTimeout}
+use Rattle.qic117_commands.specs.declared.command.Command.TheVariants.{ReportStatus, ReportError, ReportConfiguration, ReportRom}
+use Rattle.qic117_commands.specs.declared.command.Command.TheVariants.{LogicalForward, PhysicalReverse, PhysicalForward, SeekTrack}
+use Rattle.qic117_commands.specs.declared.command.Command.TheVariants.{SeekLoadPoint, EnterFormat, WriteReference, EnterVerify, StopTape}
+use Rattle.qic117_commands.specs.declared.command.Command.TheVariants.{MicroStepUp, MicroStepDown, SoftSelect, SoftDeselect, SkipReverse}
+use Rattle.qic117_commands.specs.declared.command.Command.TheVariants.{SkipForward, SelectRate, Diagnostic1, Diagnostic2, EnterPrimary}
+use Rattle.qic117_commands.specs.declared.command.Command.TheVariants.{VendorUnique, ReportVendor, ReportTapeStatus, ExtendedSkipReverse}
+use Rattle.qic117_commands.specs.declared.command.Command.TheVariants.{ExtendedSkipForward, CalibrateLength, ReportFormatSegments}
+use Rattle.qic117_commands.specs.declared.command.Command.TheVariants.{SetFormatSegments, PhantomSelect, PhantomDeselect}
 use Rattle.qic117_commands.specs.Commands.{number_of, command_at, commands}
 use Rattle.qic117_commands.specs.RefusalTerms.{is_undefined}
 
@@ -48,7 +56,8 @@ command_at-number_of SetFormatSegments = refl
 command_at-number_of PhantomSelect = refl
 command_at-number_of PhantomDeselect = refl
 
-find_step : {X : Type 0} (p : X → Bool) (y x : X) (b : Bool) (rest : Option X) → p y ≡ b → (rest ≡ Some x → p x ≡ true) → cond b (Some y) rest ≡ Some x → p x ≡ true
+find_step : {X : Type 0} (p : X → Bool) (y x : X) (b : Bool) (rest : Option X) → p y ≡ b → (rest ≡ Some x → p x ≡ true) →
+    cond b (Some y) rest ≡ Some x → p x ≡ true
 find_step p y x true rest passes later found = cc
 find_step p y x false rest passes later found = later found
 

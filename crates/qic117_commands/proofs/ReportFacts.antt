@@ -1,5 +1,6 @@
 -- The levels of a report, as a shifter shows them and a collector takes them.
-use Rattle.std.proofs.Common.{◌≡◌, ℕ, zero, suc, ◌+◌, ◌-◌, ◌*◌, ◌/◌, ◌%◌, ◌^◌, ◌<◌, ◌≤◌, ◌==◌, Bool, true, false, cond, List, [], ◌∷◌, ◌++◌, length, take, drop, Some, None, refl, sym, ap, ◌∙◌, inl, inr, arith}
+use Rattle.std.proofs.Common.{◌≡◌, ℕ, zero, suc, ◌+◌, ◌-◌, ◌*◌, ◌/◌, ◌%◌, ◌^◌, ◌<◌, ◌≤◌, ◌==◌, Bool, true, false, cond, List, [], ◌∷◌, ◌++◌}
+use Rattle.std.proofs.Common.{length, take, drop, Some, None, refl, sym, ap, ◌∙◌, inl, inr, arith}
 use Rattle.std.proofs.Math.Nat.{pow-suc, pow-le-pow_right, mod-eq_of_lt}
 use Rattle.std.proofs.Math.Numerals.{add-one, sub-one}
 use Rattle.std.proofs.Math.Seq.{take-append_seam, drop-append_seam}
@@ -19,7 +20,8 @@ unfolding levels_left digits
 levels_left-one number = refl
 
 -- with a digit left, the lowest one is next
-pub levels_left-more : (left number : ℕ) → 2 ≤ left → (levels_left left number ≡ (number % 2 == 1) ∷ levels_left (left - 1) (number / 2)) × (0 < length (levels_left (left - 1) (number / 2)))
+pub levels_left-more : (left number : ℕ) → 2 ≤ left → (levels_left left number ≡ (number % 2 == 1) ∷ levels_left (left - 1) (number / 2))
+    × (0 < length (levels_left (left - 1) (number / 2)))
 unfolding levels_left digits
 levels_left-more zero number h = absurd (omega (arith, h))
 levels_left-more (suc zero) number h = absurd (omega (arith, h))
@@ -66,15 +68,18 @@ levels_of-word_of width word levels h =
     let parts = word_before-Some (take width levels) (drop width levels) word h in
     let long = enough width levels parts.0 in
     let front : take width levels ≡ digits width word =
-    sym (digits-value (take width levels)) ∙ ap (λ n. digits n (value (take width levels))) (length-take-le width levels long) ∙ ap (digits width) parts.1 in
+    sym (digits-value (take width levels)) ∙ ap (λ n. digits n (value (take width levels))) (length-take-le width levels long)
+    ∙ ap (digits width) parts.1 in
     sym (take-append-drop width levels) ∙ ap (λ ds. ds ++ drop width levels) front ∙ ap (λ rest. digits width word ++ rest) parts.0
 
 -- one digit more is one level more
-pub push-room : (count number more : ℕ) (level : Bool) → number < 2 ^ count → more ≡ number + cond level (2 ^ count) 0 → digits (count + 1) more ≡ digits count number ++ level ∷ []
+pub push-room : (count number more : ℕ) (level : Bool) → number < 2 ^ count → more ≡ number + cond level (2 ^ count) 0 →
+    digits (count + 1) more ≡ digits count number ++ level ∷ []
 push-room count number more level small e = rw (e, add-one count) (digits-push count number level small)
 
 -- the last level of a collector that is full
-full-levels : (width count number low : ℕ) (level : Bool) → count ≡ width + 1 → low < 2 ^ width → number ≡ low + cond level (2 ^ width) 0 → digits count number ≡ digits width low ++ level ∷ []
+full-levels : (width count number low : ℕ) (level : Bool) → count ≡ width + 1 → low < 2 ^ width → number ≡ low + cond level (2 ^ width) 0 →
+    digits count number ≡ digits width low ++ level ∷ []
 full-levels width count number low level e small n = rw (e, n, add-one) (digits-push width low level small)
 
 pub final-bit : (width : ℕ) → IsWidth width → 1 * 2 ^ width % 4294967296 ≡ 2 ^ width
@@ -84,7 +89,11 @@ final-bit width (inr e) = rw e refl
 -- a collector whose levels reach the final bit as a number is full
 full : (width count number : ℕ) → count ≤ width + 1 → number < 2 ^ count → 2 ^ width ≤ number → count ≡ width + 1
 full width count number most small final =
-    elim (cases_lt width count) [ inl more ↦ omega arith | inr less ↦ let p : 2 ^ count ≤ 2 ^ width = pow-le-pow_right (omega arith) less in absurd (omega arith) ]
+    elim (cases_lt width count) [
+      | inl more ↦ omega arith
+      | inr less ↦ let p : 2 ^ count ≤ 2 ^ width = pow-le-pow_right (omega arith) less in
+          absurd (omega arith)
+    ]
 
 pub word-fits : (width count number : ℕ) → count ≤ width + 1 → number < 2 ^ count → 2 ^ width ≤ number → number - 2 ^ width < 2 ^ width
 word-fits width count number most small final =
@@ -93,28 +102,40 @@ word-fits width count number most small final =
     let q : 2 ^ count ≡ 2 ^ suc width = ap (λ n. 2 ^ n) (e ∙ add-one width) in
     omega (arith, p, q)
 
-pub word-full : (width count number : ℕ) → count ≤ width + 1 → number < 2 ^ count → 2 ^ width ≤ number → (word_of width (digits count number) ≡ Some (number - 2 ^ width)) × (drop width (digits count number) ≡ true ∷ [])
+pub word-full : (width count number : ℕ) → count ≤ width + 1 → number < 2 ^ count → 2 ^ width ≤ number →
+    (word_of width (digits count number) ≡ Some (number - 2 ^ width)) × (drop width (digits count number) ≡ true ∷ [])
 word-full width count number most small final =
     let e = full width count number most small final in
     let low = word-fits width count number most small final in
     let levels = full-levels width count number (number - 2 ^ width) true e low (omega arith) in
     rw levels (word_of-levels_of width (number - 2 ^ width) low, drop-digits width (number - 2 ^ width) (true ∷ []))
 
-word-short : (width count number : ℕ) → count ≤ width → (word_of width (digits count number) ≡ None) × (drop width (digits count number) ≡ true ∷ [] → ⊥)
+word-short : (width count number : ℕ) → count ≤ width → (word_of width (digits count number) ≡ None)
+    × (drop width (digits count number) ≡ true ∷ [] → ⊥)
 unfolding word_of
 word-short width count number short =
     let none = drop_all width (digits count number) (omega (arith, length-digits count number)) in
     rw none (refl, λ e. cc)
 
-word-broken : (width count number : ℕ) → count ≡ width + 1 → number < 2 ^ width → (word_of width (digits count number) ≡ None) × (drop width (digits count number) ≡ true ∷ [] → ⊥)
+word-broken : (width count number : ℕ) → count ≡ width + 1 → number < 2 ^ width → (word_of width (digits count number) ≡ None)
+    × (drop width (digits count number) ≡ true ∷ [] → ⊥)
 word-broken width count number e low =
     let levels = full-levels width count number number false e low (omega arith) in
-    rw levels (word_of-digits width number (false ∷ []), λ e. let last : false ∷ [] ≡ true ∷ [] = sym (drop-digits width number (false ∷ [])) ∙ e in cc)
+    rw levels (
+      word_of-digits width number (false ∷ []),
+      λ e. let last : false ∷ [] ≡ true ∷ [] =
+          sym (drop-digits width number (false ∷ [])) ∙ e in cc,
+    )
 
 -- without the final bit there is no word
-pub word-none : (width count number : ℕ) → count ≤ width + 1 → number < 2 ^ width → (word_of width (digits count number) ≡ None) × (drop width (digits count number) ≡ true ∷ [] → ⊥)
+pub word-none : (width count number : ℕ) → count ≤ width + 1 → number < 2 ^ width → (word_of width (digits count number) ≡ None)
+    × (drop width (digits count number) ≡ true ∷ [] → ⊥)
 word-none width count number most low =
-    elim (cases_lt width count) [ inl more ↦ word-broken width count number (omega arith) low | inr less ↦ word-short width count number less ]
+    elim (cases_lt width count) [
+      | inl more ↦ word-broken width count number (omega arith) low
+      | inr less ↦ word-short width count number
+          less
+    ]
 
 pub width-bound : (width : ℕ) → IsWidth width → 2 ^ width ≤ 65536
 width-bound width (inl e) = rw e (omega arith)

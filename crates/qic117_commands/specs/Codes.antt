@@ -1,7 +1,11 @@
 -- The error codes of the drive (QIC-117, the table of error codes).
 use Rattle.std.specs.Prelude.{ℕ}
 use Rattle.qic117_commands.specs.declared.error_code.ErrorCode.{ErrorCode}
-use Rattle.qic117_commands.specs.declared.error_code.ErrorCode.TheVariants.{NoError, NotReady, NoCartridge, WriteProtected, UndefinedCommand, IllegalTrack, IllegalInReport, IllegalDiagnostic, NewCartridge, IllegalInPrimary, IllegalInFormat, IllegalInVerify, NotAtLogicalBot, LogicalEot, NotReferenced, SoftwareReset}
+use Rattle.qic117_commands.specs.declared.error_code.ErrorCode.TheVariants.{NoError, NotReady, NoCartridge, WriteProtected}
+use Rattle.qic117_commands.specs.declared.error_code.ErrorCode.TheVariants.{UndefinedCommand, IllegalTrack, IllegalInReport}
+use Rattle.qic117_commands.specs.declared.error_code.ErrorCode.TheVariants.{IllegalDiagnostic, NewCartridge, IllegalInPrimary}
+use Rattle.qic117_commands.specs.declared.error_code.ErrorCode.TheVariants.{IllegalInFormat, IllegalInVerify, NotAtLogicalBot, LogicalEot}
+use Rattle.qic117_commands.specs.declared.error_code.ErrorCode.TheVariants.{NotReferenced, SoftwareReset}
 
 -- the number of a code (QIC-117)
 abbrev pub code_of : ErrorCode → ℕ

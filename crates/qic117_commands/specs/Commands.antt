@@ -1,7 +1,15 @@
 -- The commands of the drive and their numbers. Standard: QIC-117, the table of commands.
 use Rattle.std.specs.Prelude.{ℕ, ◌==◌, List, [], ◌∷◌, Option, find}
 use Rattle.qic117_commands.specs.declared.command.Command.{Command}
-use Rattle.qic117_commands.specs.declared.command.Command.TheVariants.{Reset, ReportNextBit, Pause, MicroStepPause, AlternateTimeout, ReportStatus, ReportError, ReportConfiguration, ReportRom, LogicalForward, PhysicalReverse, PhysicalForward, SeekTrack, SeekLoadPoint, EnterFormat, WriteReference, EnterVerify, StopTape, MicroStepUp, MicroStepDown, SoftSelect, SoftDeselect, SkipReverse, SkipForward, SelectRate, Diagnostic1, Diagnostic2, EnterPrimary, VendorUnique, ReportVendor, ReportTapeStatus, ExtendedSkipReverse, ExtendedSkipForward, CalibrateLength, ReportFormatSegments, SetFormatSegments, PhantomSelect, PhantomDeselect}
+use Rattle.qic117_commands.specs.declared.command.Command.TheVariants.{Reset, ReportNextBit, Pause, MicroStepPause, AlternateTimeout}
+use Rattle.qic117_commands.specs.declared.command.Command.TheVariants.{ReportStatus, ReportError, ReportConfiguration, ReportRom}
+use Rattle.qic117_commands.specs.declared.command.Command.TheVariants.{LogicalForward, PhysicalReverse, PhysicalForward, SeekTrack}
+use Rattle.qic117_commands.specs.declared.command.Command.TheVariants.{SeekLoadPoint, EnterFormat, WriteReference, EnterVerify, StopTape}
+use Rattle.qic117_commands.specs.declared.command.Command.TheVariants.{MicroStepUp, MicroStepDown, SoftSelect, SoftDeselect, SkipReverse}
+use Rattle.qic117_commands.specs.declared.command.Command.TheVariants.{SkipForward, SelectRate, Diagnostic1, Diagnostic2, EnterPrimary}
+use Rattle.qic117_commands.specs.declared.command.Command.TheVariants.{VendorUnique, ReportVendor, ReportTapeStatus, ExtendedSkipReverse}
+use Rattle.qic117_commands.specs.declared.command.Command.TheVariants.{ExtendedSkipForward, CalibrateLength, ReportFormatSegments}
+use Rattle.qic117_commands.specs.declared.command.Command.TheVariants.{SetFormatSegments, PhantomSelect, PhantomDeselect}
 
 -- how many step pulses call for a command (QIC-117)
 abbrev pub number_of : Command → ℕ

@@ -2,9 +2,20 @@
 use Rattle.std.specs.Prelude.{Bool, true, ◌&&◌, not, ◌==◌, List, [], ◌∷◌, Option, find, option_map}
 use Rattle.std.specs.List.{list_any}
 use Rattle.qic117_commands.specs.declared.command.Command.{Command}
-use Rattle.qic117_commands.specs.declared.command.Command.TheVariants.{Reset, ReportNextBit, Pause, MicroStepPause, AlternateTimeout, ReportStatus, ReportError, LogicalForward, PhysicalReverse, PhysicalForward, SeekTrack, SeekLoadPoint, EnterFormat, WriteReference, EnterVerify, StopTape, MicroStepUp, MicroStepDown, SoftSelect, SoftDeselect, SkipReverse, SkipForward, SelectRate, Diagnostic1, Diagnostic2, EnterPrimary, VendorUnique, ReportTapeStatus, ExtendedSkipReverse, ExtendedSkipForward, CalibrateLength, ReportFormatSegments, SetFormatSegments, PhantomSelect, PhantomDeselect}
+use Rattle.qic117_commands.specs.declared.command.Command.TheVariants.{Reset, ReportNextBit, Pause, MicroStepPause, AlternateTimeout}
+use Rattle.qic117_commands.specs.declared.command.Command.TheVariants.{ReportStatus, ReportError, LogicalForward, PhysicalReverse}
+use Rattle.qic117_commands.specs.declared.command.Command.TheVariants.{PhysicalForward, SeekTrack, SeekLoadPoint, EnterFormat}
+use Rattle.qic117_commands.specs.declared.command.Command.TheVariants.{WriteReference, EnterVerify, StopTape, MicroStepUp, MicroStepDown}
+use Rattle.qic117_commands.specs.declared.command.Command.TheVariants.{SoftSelect, SoftDeselect, SkipReverse, SkipForward, SelectRate}
+use Rattle.qic117_commands.specs.declared.command.Command.TheVariants.{Diagnostic1, Diagnostic2, EnterPrimary, VendorUnique}
+use Rattle.qic117_commands.specs.declared.command.Command.TheVariants.{ReportTapeStatus, ExtendedSkipReverse, ExtendedSkipForward}
+use Rattle.qic117_commands.specs.declared.command.Command.TheVariants.{CalibrateLength, ReportFormatSegments, SetFormatSegments}
+use Rattle.qic117_commands.specs.declared.command.Command.TheVariants.{PhantomSelect, PhantomDeselect}
 use Rattle.qic117_commands.specs.declared.error_code.ErrorCode.{ErrorCode}
-use Rattle.qic117_commands.specs.declared.error_code.ErrorCode.TheVariants.{NotReady, NoCartridge, WriteProtected, UndefinedCommand, IllegalDiagnostic, NewCartridge, IllegalInPrimary, IllegalInFormat, IllegalInVerify, NotAtLogicalBot, NotReferenced}
+use Rattle.qic117_commands.specs.declared.error_code.ErrorCode.TheVariants.{NotReady, NoCartridge, WriteProtected, UndefinedCommand}
+use Rattle.qic117_commands.specs.declared.error_code.ErrorCode.TheVariants.{IllegalDiagnostic, NewCartridge, IllegalInPrimary}
+use Rattle.qic117_commands.specs.declared.error_code.ErrorCode.TheVariants.{IllegalInFormat, IllegalInVerify, NotAtLogicalBot}
+use Rattle.qic117_commands.specs.declared.error_code.ErrorCode.TheVariants.{NotReferenced}
 use Rattle.qic117_commands.specs.declared.view.DriveView.{DriveView}
 use Rattle.qic117_commands.specs.Commands.{number_of}
 use Rattle.qic117_commands.specs.Views.{is_stopped, is_streaming, is_seeking, is_primary, is_format, is_verify}

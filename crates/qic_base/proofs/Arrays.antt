@@ -1,5 +1,6 @@
 -- Laws of lists and of rows of bytes that several crates cite.
-use Rattle.std.proofs.Common.{◌≡◌, ℕ, zero, suc, refl, List, [], ◌∷◌, set, slice_get, ◌≢◌, ap, get_or, replicate, ◌<◌, length, ◌++◌, take, drop, ◌+◌, arith, ◌-◌, ◌≤◌, ◌∙◌}
+use Rattle.std.proofs.Common.{◌≡◌, ℕ, zero, suc, refl, List, [], ◌∷◌, set, slice_get, ◌≢◌, ap, get_or, replicate, ◌<◌, length, ◌++◌, take}
+use Rattle.std.proofs.Common.{drop, ◌+◌, arith, ◌-◌, ◌≤◌, ◌∙◌}
 use Rattle.std.proofs.lemmas.List.Elements.{All-from_get_or, All-replicate}
 use Rattle.qic_base.specs.Cartridge.{IsSector, zero_sector}
 use Rattle.std.proofs.lemmas.List.{take_at, take-take, drop-take, take-append-drop, length-take, length-drop, length-replicate, append-nil}
@@ -42,7 +43,8 @@ front_more text at n within =
     rw (take-take n (length text - at) (drop at text) (omega (arith, length-take (length text - at) (drop at text)))) (take-more text at n)
 
 -- .. and it ends within the text
-pub front_within : (text : List ℕ) (at n : ℕ) → at ≤ length text → n ≤ length (take (length text - at) (drop at text)) → at + n ≤ length text
+pub front_within : (text : List ℕ) (at n : ℕ) → at ≤ length text → n ≤ length (take (length text - at) (drop at text)) →
+    at + n ≤ length text
 front_within text at n here within = omega (arith, length-take (length text - at) (drop at text))
 
 -- what is left behind a place within is some

@@ -21,7 +21,8 @@ written_date_is_read_back year month day hour minute second d =
     let bounds = d in
     let short : seconds ≤ 0x01EA6DFF = omega arith in
     let low : date_word year month day hour minute second % 2 ^ 25 ≡ seconds = mod-mul-add (year - 1970) (2 ^ 25) seconds (omega arith) in
-    let high : date_word year month day hour minute second / 2 ^ 25 ≡ year - 1970 = div-mul-add (year - 1970) (2 ^ 25) seconds (omega arith) in
+    let high : date_word year month day hour minute second / 2 ^ 25 ≡ year - 1970 = div-mul-add (year - 1970) (2 ^ 25) seconds
+    (omega arith) in
     let m : seconds / 60 ≡ minutes = above second 60 minutes (omega arith) in
     let h : minutes / 60 ≡ hours = above minute 60 hours (omega arith) in
     let ds : hours / 24 ≡ days = above hour 24 days (omega arith) in

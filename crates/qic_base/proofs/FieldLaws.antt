@@ -1,7 +1,9 @@
 -- Laws of the fields of a format: what was written is read back, and every other field stays.
-use Rattle.std.proofs.Common.{◌≡◌, ℕ, zero, suc, ◌+◌, ◌-◌, ◌*◌, ◌/◌, ◌%◌, ◌^◌, ◌<◌, ◌≤◌, List, [], ◌∷◌, ◌++◌, length, get_or, take, drop, refl, sym, ap, ◌∙◌, arith}
+use Rattle.std.proofs.Common.{◌≡◌, ℕ, zero, suc, ◌+◌, ◌-◌, ◌*◌, ◌/◌, ◌%◌, ◌^◌, ◌<◌, ◌≤◌, List, [], ◌∷◌, ◌++◌, length, get_or, take, drop}
+use Rattle.std.proofs.Common.{refl, sym, ap, ◌∙◌, arith}
 use Rattle.std.proofs.Math.Nat.{pow-suc, div-div-eq-div-mul, div-one}
-use Rattle.std.proofs.lemmas.List.{places, same_lists, length-take-le, length-append, append-nil, append_assoc, drop-drop, drop_all, drop_at, take_at}
+use Rattle.std.proofs.lemmas.List.{places, same_lists, length-take-le, length-append, append-nil, append_assoc, drop-drop, drop_all}
+use Rattle.std.proofs.lemmas.List.{drop_at, take_at}
 use Rattle.std.proofs.lemmas.List.Edits.{length-between, get_or-between}
 use Rattle.std.specs.List.{slice_range}
 use Rattle.std.specs.Int.{byte_at, bytes_low_first}
@@ -17,7 +19,8 @@ little_from-length (byte ∷ bytes) =
     ap (λ (n : ℕ). byte + 256 * n) (little_from-cons 0 (length bytes) byte bytes ∙ little_from-length bytes)
 
 -- so the number in a field is that of its bytes
-pub little_from-field : (bytes : List ℕ) (at width : ℕ) → at + width ≤ length bytes → little_from 0 width (slice_range bytes at (at + width)) ≡ number_at bytes at width
+pub little_from-field : (bytes : List ℕ) (at width : ℕ) → at + width ≤ length bytes →
+    little_from 0 width (slice_range bytes at (at + width)) ≡ number_at bytes at width
 unfolding number_at
 little_from-field bytes at width h =
     let n : length (slice_range bytes at (at + width)) ≡ width = omega (arith, length-between bytes at (at + width) h) in
@@ -53,19 +56,23 @@ little_endian-bytes (suc width) value h =
     let rest : value / 256 < 256 ^ width = omega (arith, pow-suc 256 width) in
     rw (little_endian-bytes width (value / 256) rest) (omega arith)
 
-pub length-overwritten : (bytes part : List ℕ) (at : ℕ) → at + length part ≤ length bytes → length (overwritten bytes at part) ≡ length bytes
+pub length-overwritten : (bytes part : List ℕ) (at : ℕ) → at + length part ≤ length bytes →
+    length (overwritten bytes at part) ≡ length bytes
 unfolding overwritten
 length-overwritten bytes part at h = grind (arith, places)
 
-pub get_or-overwritten_below : (bytes part : List ℕ) (at k d : ℕ) → at ≤ length bytes → k < at → get_or (overwritten bytes at part) k d ≡ get_or bytes k d
+pub get_or-overwritten_below : (bytes part : List ℕ) (at k d : ℕ) → at ≤ length bytes → k < at →
+    get_or (overwritten bytes at part) k d ≡ get_or bytes k d
 unfolding overwritten
 get_or-overwritten_below bytes part at k d h l = grind (arith, places)
 
-pub get_or-overwritten_above : (bytes part : List ℕ) (at k d : ℕ) → at ≤ length bytes → at + length part ≤ k → get_or (overwritten bytes at part) k d ≡ get_or bytes k d
+pub get_or-overwritten_above : (bytes part : List ℕ) (at k d : ℕ) → at ≤ length bytes → at + length part ≤ k →
+    get_or (overwritten bytes at part) k d ≡ get_or bytes k d
 unfolding overwritten
 get_or-overwritten_above bytes part at k d h l = grind (arith, places)
 
-pub get_or-overwritten : (bytes part : List ℕ) (at k d : ℕ) → at ≤ length bytes → k < length part → get_or (overwritten bytes at part) (at + k) d ≡ get_or part k d
+pub get_or-overwritten : (bytes part : List ℕ) (at k d : ℕ) → at ≤ length bytes → k < length part →
+    get_or (overwritten bytes at part) (at + k) d ≡ get_or part k d
 unfolding overwritten
 get_or-overwritten bytes part at k d h l = grind (arith, places)
 
@@ -74,7 +81,8 @@ unfolding overwritten
 at_le-length-overwritten bytes part at h = grind (arith, places)
 
 -- a field that lies before the part, or behind it, keeps its bytes
-pub slice_range-overwritten_below : (bytes part : List ℕ) (at i j : ℕ) → at ≤ length bytes → i ≤ j → j ≤ at → slice_range (overwritten bytes at part) i j ≡ slice_range bytes i j
+pub slice_range-overwritten_below : (bytes part : List ℕ) (at i j : ℕ) → at ≤ length bytes → i ≤ j → j ≤ at →
+    slice_range (overwritten bytes at part) i j ≡ slice_range bytes i j
 slice_range-overwritten_below bytes part at i j h o l =
     let all : at ≤ length (overwritten bytes at part) = at_le-length-overwritten bytes part at h in
     let new = length-between (overwritten bytes at part) i j (omega arith) in
@@ -85,12 +93,14 @@ slice_range-overwritten_below bytes part at i j h o l =
     ∙ get_or-overwritten_below bytes part at (i + k) d h (omega arith)
     ∙ sym (get_or-between bytes i j k d (omega arith)))
 
-pub number_at-overwritten_below : (bytes part : List ℕ) (at from width : ℕ) → at ≤ length bytes → from + width ≤ at → number_at (overwritten bytes at part) from width ≡ number_at bytes from width
+pub number_at-overwritten_below : (bytes part : List ℕ) (at from width : ℕ) → at ≤ length bytes → from + width ≤ at →
+    number_at (overwritten bytes at part) from width ≡ number_at bytes from width
 unfolding number_at
 number_at-overwritten_below bytes part at from width h l =
     ap little_endian (slice_range-overwritten_below bytes part at from (from + width) h (omega arith) l)
 
-pub slice_range-overwritten_above : (bytes part : List ℕ) (at i j : ℕ) → at + length part ≤ length bytes → at + length part ≤ i → i ≤ j → slice_range (overwritten bytes at part) i j ≡ slice_range bytes i j
+pub slice_range-overwritten_above : (bytes part : List ℕ) (at i j : ℕ) → at + length part ≤ length bytes → at + length part ≤ i → i ≤ j →
+    slice_range (overwritten bytes at part) i j ≡ slice_range bytes i j
 unfolding overwritten
 slice_range-overwritten_above bytes part at i j h l o =
     let n : ℕ = at + length part in
@@ -103,12 +113,14 @@ slice_range-overwritten_above bytes part at i j h l o =
     ∙ ap (take (j - i)) (drop-drop (i - n) n bytes)
     ∙ ap (λ (m : ℕ). take (j - i) (drop m bytes)) (sym far)
 
-pub number_at-overwritten_above : (bytes part : List ℕ) (at from width : ℕ) → at + length part ≤ length bytes → at + length part ≤ from → number_at (overwritten bytes at part) from width ≡ number_at bytes from width
+pub number_at-overwritten_above : (bytes part : List ℕ) (at from width : ℕ) → at + length part ≤ length bytes → at + length part ≤ from →
+    number_at (overwritten bytes at part) from width ≡ number_at bytes from width
 unfolding number_at
 number_at-overwritten_above bytes part at from width h l =
     ap little_endian (slice_range-overwritten_above bytes part at from (from + width) h l (omega arith))
 
-pub slice_range-overwritten : (bytes part : List ℕ) (at j : ℕ) → at ≤ length bytes → j ≡ at + length part → slice_range (overwritten bytes at part) at j ≡ part
+pub slice_range-overwritten : (bytes part : List ℕ) (at j : ℕ) → at ≤ length bytes → j ≡ at + length part →
+    slice_range (overwritten bytes at part) at j ≡ part
 unfolding overwritten
 slice_range-overwritten bytes part at j h e =
     let n : length part ≡ j - at = omega arith in
@@ -117,14 +129,18 @@ slice_range-overwritten bytes part at j h e =
     ∙ take_at part (drop (at + length part) bytes) (j - at) n
 
 -- what was written is read
-pub number_at-overwritten : (bytes : List ℕ) (at width value : ℕ) → at ≤ length bytes → value < 256 ^ width → number_at (overwritten bytes at (little_endian_bytes width value)) at width ≡ value
+pub number_at-overwritten : (bytes : List ℕ) (at width value : ℕ) → at ≤ length bytes → value < 256 ^ width →
+    number_at (overwritten bytes at (little_endian_bytes width value)) at width ≡ value
 unfolding number_at
 number_at-overwritten bytes at width value h f =
     let n : at + width ≡ at + length (little_endian_bytes width value) = omega (arith, length-little_endian_bytes width value) in
-    ap little_endian (slice_range-overwritten bytes (little_endian_bytes width value) at (at + width) h n) ∙ little_endian-bytes width value f
+    ap little_endian (slice_range-overwritten bytes (little_endian_bytes width value) at (at + width) h n)
+    ∙ little_endian-bytes width value f
 
 -- a write by `byteorder` to a part of a slice
-pub put_mid-field : (bytes buf mid : List ℕ) (at width value : ℕ) → at + width ≤ length bytes → length mid ≡ width → buf ≡ bytes_low_first 0 width value ++ drop width mid → put_mid at (at + width - at) bytes buf ≡ overwritten bytes at (little_endian_bytes width value)
+pub put_mid-field : (bytes buf mid : List ℕ) (at width value : ℕ) → at + width ≤ length bytes → length mid ≡ width →
+    buf ≡ bytes_low_first 0 width value ++ drop width mid → put_mid at (at + width - at) bytes buf ≡ overwritten bytes at
+    (little_endian_bytes width value)
 unfolding overwritten
 put_mid-field bytes buf mid at width value h n e =
     let part : List ℕ = little_endian_bytes width value in

@@ -1,5 +1,6 @@
 -- What a source gave, call after call.
-use Rattle.std.proofs.Common.{◌≡◌, ℕ, ◌+◌, List, [], ◌++◌, Option, Some, None, refl, sym, ◌∙◌, ap, append_assoc, append-nil, IfSome, take, drop, ◌≤◌, length, arith}
+use Rattle.std.proofs.Common.{◌≡◌, ℕ, ◌+◌, List, [], ◌++◌, Option, Some, None, refl, sym, ◌∙◌, ap, append_assoc, append-nil, IfSome, take}
+use Rattle.std.proofs.Common.{drop, ◌≤◌, length, arith}
 use Rattle.std.specs.Option.{option_map}
 use Rattle.std.proofs.lemmas.List.{take-append-drop, length-take-le}
 use Rattle.qic_base.specs.Source.{Meaning}
@@ -48,7 +49,8 @@ Gave-read m a b into n gives left = read_option (m.left a) (m.left b) into n giv
 
 -- some bytes, and a read's
 pub GaveSome-read : {S : Type 0} (m : Meaning S) (a b c : S) (into : List ℕ) (k n s : ℕ) → GaveSome m a b k →
-    IfSome (m.left b) (λ bytes. Gives bytes into n) → m.left c ≡ option_map (drop n) (m.left b) → n ≤ length into → s ≡ k + n → GaveSome m a c s
+    IfSome (m.left b) (λ bytes. Gives bytes into n) → m.left c ≡ option_map (drop n) (m.left b) → n ≤ length into → s ≡ k + n →
+    GaveSome m a c s
 GaveSome-read m a b c into k n s some gives left within sum = (
   some.0 ++ take n into,
   (let l = lists.length-append some.0 (take n into) in omega (arith, length-take-le n into within, some.1)),

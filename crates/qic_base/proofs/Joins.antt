@@ -3,7 +3,8 @@ use Rattle.std.proofs.Common.{◌≡◌, List, [], ◌∷◌, ◌++◌, refl, sy
 use Rattle.std.specs.Option.{option_map}
 use Rattle.qic_base.proofs.Steps.{effects-append, Rose-after, Torn-nothing, Done-nothing, Done-Done, Done-Broke, Broke-front}
 use Rattle.qic_base.proofs.Writing.{TakesBoth, Wrote-Wrote}
-use Rattle.qic_base.specs.Acts.{Act, steps_of, text_of, Parted, WroteAndBroke, next_steps, Outside, TapeFails, SourceFails, SinkFails, Went, TapeCut, SinkCut, SourceCut, Cut}
+use Rattle.qic_base.specs.Acts.{Act, steps_of, text_of, Parted, WroteAndBroke, next_steps, Outside, TapeFails, SourceFails, SinkFails, Went}
+use Rattle.qic_base.specs.Acts.{TapeCut, SinkCut, SourceCut, Cut}
 use Rattle.qic_base.specs.Cartridge.{Cartridge}
 use Rattle.qic_base.specs.JoinLaws.{NothingWent, WentBoth, WentThenCut, CutIsLonger}
 use Rattle.qic_base.specs.Step.{Step, effects, Torn}
@@ -58,7 +59,8 @@ parted_before xs ys at = record {
 -- ---- texts that broke off
 
 -- before the text that broke off nothing was written, ..
-pub broke_first : {K : Type 0} {k : sinks.Meaning K} {a b : K} {next : List ℕ} → sink_calls.BrokeOff k a b next → WroteAndBroke k a b [] next
+pub broke_first : {K : Type 0} {k : sinks.Meaning K} {a b : K} {next : List ℕ} → sink_calls.BrokeOff k a b next →
+    WroteAndBroke k a b [] next
 broke_first broke = record {
   part = broke.front;
   rest = broke.rest;
@@ -70,7 +72,8 @@ broke_first broke = record {
 }
 
 -- .. or a text that is empty
-pub broke_behind : {K : Type 0} {k : sinks.Meaning K} {a b : K} {next : List ℕ} (text : List ℕ) → text ≡ [] → sink_calls.BrokeOff k a b next →
+pub broke_behind : {K : Type 0} {k : sinks.Meaning K} {a b : K} {next : List ℕ} (text : List ℕ) → text ≡ [] →
+    sink_calls.BrokeOff k a b next →
     WroteAndBroke k a b text next
 broke_behind {k = k} {a = a} {b = b} {next = next} text none broke =
     subst (λ (written : List ℕ). WroteAndBroke k a b written next) (sym none) (broke_first broke)
@@ -92,19 +95,22 @@ module _ {T S K : Type 0} (t : tapes.Meaning T) (s : sources.Meaning S) (k : sin
     source_later = let e = first.source_later in let f = next.source_later in omega arith;
   }
 
-  then_broke : TakesBoth k → (a b c : K) (xs ys next : List ℕ) → sinks.Wrote k a b xs → WroteAndBroke k b c ys next → WroteAndBroke k a c (xs ++ ys) next
+  then_broke : TakesBoth k → (a b c : K) (xs ys next : List ℕ) → sinks.Wrote k a b xs → WroteAndBroke k b c ys next →
+      WroteAndBroke k a c (xs ++ ys) next
   then_broke both a b c xs ys next first broke = record {
     part = broke.part;
     rest = broke.rest;
     parts = broke.parts;
     some = broke.some;
-    took = subst (λ (text : List ℕ). k.took a text c) (sym (append_assoc xs ys broke.part)) (both a b c xs (ys ++ broke.part) first.took broke.took);
+    took = subst (λ (text : List ℕ). k.took a text c) (sym (append_assoc xs ys broke.part))
+        (both a b c xs (ys ++ broke.part) first.took broke.took);
     cause = Rose-after (k.faults a) (k.faults b) (k.faults c) first.later broke.cause;
     later = let e = first.later in let f = broke.later in omega arith;
   }
 
   -- what stands behind the front of later acts, told from the start
-  here_behind : (a b c : Outside T S K) (xs ys : List Act) → Went t s k a b xs → (cut : TapeCut t s k b c ys) → (held left : Option Cartridge) →
+  here_behind : (a b c : Outside T S K) (xs ys : List Act) → Went t s k a b xs → (cut : TapeCut t s k b c ys) →
+      (held left : Option Cartridge) →
       t.told a.tape ≡ Some held → t.told c.tape ≡ Some left → Torn (next_steps cut.rest) (effects (steps_of (xs ++ cut.front)) held) left
   here_behind a b c xs ys first cut held left told now =
       let between : t.told b.tape ≡ Some (effects (steps_of xs) held) =
@@ -112,7 +118,8 @@ module _ {T S K : Type 0} (t : tapes.Meaning T) (s : sources.Meaning S) (k : sin
       subst (λ (h : Option Cartridge). Torn (next_steps cut.rest) h left) (effects_behind xs cut.front held)
       (cut.here (effects (steps_of xs) held) left between now)
 
-  tape_cut : TakesBoth k → (a b c : Outside T S K) (xs ys : List Act) → Went t s k a b xs → TapeCut t s k b c ys → TapeCut t s k a c (xs ++ ys)
+  tape_cut : TakesBoth k → (a b c : Outside T S K) (xs ys : List Act) → Went t s k a b xs → TapeCut t s k b c ys →
+      TapeCut t s k a c (xs ++ ys)
   tape_cut both a b c xs ys first cut = record {
     front = xs ++ cut.front;
     rest = cut.rest;
@@ -130,11 +137,13 @@ module _ {T S K : Type 0} (t : tapes.Meaning T) (s : sources.Meaning S) (k : sin
       subst (tapes.Broke t x y) (ap (λ (ss : List Step). ss ++ next_steps ys) (append-nil steps)) (Broke-front (next_steps ys) broke)
   broke_longer x y steps (act ∷ rest) ys broke = broke
 
-  torn_longer : (rest ys : List Act) (held left : Option Cartridge) → Torn (next_steps rest) held left → Torn (next_steps (rest ++ ys)) held left
+  torn_longer : (rest ys : List Act) (held left : Option Cartridge) → Torn (next_steps rest) held left →
+      Torn (next_steps (rest ++ ys)) held left
   torn_longer [] ys held left is = subst (Torn (next_steps ys) held) (sym is) (Torn-nothing (next_steps ys) held)
   torn_longer (act ∷ rest) ys held left torn = torn
 
-  sink_cut : TakesBoth k → (a b c : Outside T S K) (xs ys : List Act) → Went t s k a b xs → SinkCut t s k b c ys → SinkCut t s k a c (xs ++ ys)
+  sink_cut : TakesBoth k → (a b c : Outside T S K) (xs ys : List Act) → Went t s k a b xs → SinkCut t s k b c ys →
+      SinkCut t s k a c (xs ++ ys)
   sink_cut both a b c xs ys first cut = record {
     at = parted_behind xs ys cut.at;
     did = subst (tapes.Done t a.tape c.tape) (steps_behind xs cut.at.front cut.at.act.steps) (Done-Done first.did cut.did);
@@ -143,7 +152,8 @@ module _ {T S K : Type 0} (t : tapes.Meaning T) (s : sources.Meaning S) (k : sin
     source_later = let e = first.source_later in let f = cut.source_later in omega arith;
   }
 
-  source_cut : TakesBoth k → (a b c : Outside T S K) (xs ys : List Act) → Went t s k a b xs → SourceCut t s k b c ys → SourceCut t s k a c (xs ++ ys)
+  source_cut : TakesBoth k → (a b c : Outside T S K) (xs ys : List Act) → Went t s k a b xs → SourceCut t s k b c ys →
+      SourceCut t s k a c (xs ++ ys)
   source_cut both a b c xs ys first cut = record {
     front = xs ++ cut.front;
     rest = cut.rest;
@@ -155,8 +165,9 @@ module _ {T S K : Type 0} (t : tapes.Meaning T) (s : sources.Meaning S) (k : sin
   }
 
   -- the text of one act alone broke off
-  pub sink_cut_one : (a b : Outside T S K) (act : Act) → tapes.Done t a.tape b.tape act.steps → sink_calls.BrokeOff k a.sink b.sink act.text →
-      s.faults a.source ≤ s.faults b.source → Cut t s k a b (act ∷ []) SinkFails
+  pub sink_cut_one : (a b : Outside T S K) (act : Act) → tapes.Done t a.tape b.tape act.steps →
+      sink_calls.BrokeOff k a.sink b.sink act.text →
+      s.faults b.source ≡ s.faults a.source → Cut t s k a b (act ∷ []) SinkFails
   sink_cut_one a b act did broke later = record {
     at = record { front = []; act = act; rest = []; parts = refl };
     did = did;

@@ -1,5 +1,6 @@
 -- Laws of the places that a mask names.
-use Rattle.std.proofs.Common.{◌≡◌, ℕ, zero, suc, ◌+◌, ◌*◌, ◌/◌, ◌%◌, ◌^◌, ◌<◌, ◌≤◌, [], ◌∷◌, ◌++◌, length, ◌==◌, if◌then◌else◌, add_comm, add-one, add-zero, refl, sym, ap, ◌∙◌, arith, List}
+use Rattle.std.proofs.Common.{◌≡◌, ℕ, zero, suc, ◌+◌, ◌*◌, ◌/◌, ◌%◌, ◌^◌, ◌<◌, ◌≤◌, [], ◌∷◌, ◌++◌, length, ◌==◌, if◌then◌else◌, add_comm}
+use Rattle.std.proofs.Common.{add-one, add-zero, refl, sym, ap, ◌∙◌, arith, List}
 use Rattle.std.proofs.lemmas.Nat.{ones_cat, mod-pow-add, pow_pos}
 use Rattle.std.proofs.lemmas.List.{length-append, append-nil, length_push}
 use Rattle.std.proofs.Math.Nat.{mod-lt, mod-one, pow-le-pow_right, div-eq_of_lt}

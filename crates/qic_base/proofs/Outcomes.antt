@@ -1,12 +1,13 @@
 -- What follows of acts that were cut off: for the tape, for its stops, for the text and for the counts.
-use Rattle.std.proofs.Common.{◌≡◌, List, ◌∷◌, ◌++◌, sym, ap, ◌∙◌, append_assoc, [], refl, ℕ, Option, Some, None, IsSomeAnd, subst}
+use Rattle.std.proofs.Common.{◌≡◌, ◌≤◌, arith, List, ◌∷◌, ◌++◌, sym, ap, ◌∙◌, append_assoc, [], refl, ℕ, Option, Some, None, IsSomeAnd}
+use Rattle.std.proofs.Common.{subst}
 use Rattle.std.specs.Option.{option_map}
 use Rattle.std.specs.Prelude.{is_some}
 use Rattle.qic_base.proofs.Joins.{steps_of-append, text_of-append}
 use Rattle.qic_base.proofs.Steps.{Torn-all, Torn-front, Stops-front}
 use Rattle.qic_base.specs.Acts.{Act, steps_of, Parted, next_steps, text_of, TapeFails, SourceFails, SinkFails}
 use Rattle.qic_base.specs.Cartridge.{Cartridge}
-use Rattle.qic_base.specs.JoinLaws.{CutIsTorn, CutStops, CutTookFront, CutFellNone, CutRose}
+use Rattle.qic_base.specs.JoinLaws.{CutIsTorn, CutStops, CutTookFront, CutFellNone, CutOthersStood, CutRose}
 use Rattle.qic_base.specs.Step.{Step, effects, Torn}
 use Rattle.qic_base.specs.Sink as sinks
 use Rattle.qic_base.specs.Source as sources
@@ -44,21 +45,26 @@ text_fronted : (acts front rest : List Act) → front ++ rest ≡ acts → text_
 text_fronted acts front rest parts = sym (text_of-append front rest) ∙ ap (λ (xs : List Act). text_of xs) parts
 
 module _ {T S K : Type 0} (t : tapes.Meaning T) (s : sources.Meaning S) (k : sinks.Meaning K) where
-  done_torn : (x y : T) (steps more all : List Step) (held : Option Cartridge) → steps ++ more ≡ all → tapes.Done t x y steps → t.told x ≡ Some held →
+  done_torn : (x y : T) (steps more all : List Step) (held : Option Cartridge) → steps ++ more ≡ all → tapes.Done t x y steps →
+      t.told x ≡ Some held →
       IsSomeAnd (t.told y) (λ left. Torn all held left)
   done_torn x y steps more all held parts did told =
-      let now : t.told y ≡ Some (effects steps held) = did.told ∙ ap (λ (o : Option (Option Cartridge)). option_map (effects steps) o) told in
+      let now : t.told y ≡ Some (effects steps held) = did.told
+      ∙ ap (λ (o : Option (Option Cartridge)). option_map (effects steps) o) told in
       let torn : Torn all held (effects steps held) =
-      subst (λ (ss : List Step). Torn ss held (effects steps held)) parts (Torn-front steps more held (effects steps held) (Torn-all steps held)) in
+      subst (λ (ss : List Step). Torn ss held (effects steps held)) parts
+      (Torn-front steps more held (effects steps held) (Torn-all steps held)) in
       subst (λ (o : Option (Option Cartridge)). IsSomeAnd o (λ left. Torn all held left)) (sym now) torn
 
-  some_torn : (o : Option (Option Cartridge)) (steps more all : List Step) (held : Option Cartridge) → steps ++ more ≡ all → is_some o ≡ is_some (Some held) →
+  some_torn : (o : Option (Option Cartridge)) (steps more all : List Step) (held : Option Cartridge) → steps ++ more ≡ all →
+      is_some o ≡ is_some (Some held) →
       ((left : Option Cartridge) → o ≡ Some left → Torn steps held left) → IsSomeAnd o (λ left. Torn all held left)
   some_torn None steps more all held parts tells torn = absurd (cc)
   some_torn (Some left) steps more all held parts tells torn =
       subst (λ (ss : List Step). Torn ss held left) parts (Torn-front steps more held left (torn left refl))
 
-  broke_torn : (x y : T) (steps more all : List Step) (held : Option Cartridge) → steps ++ more ≡ all → tapes.Broke t x y steps → t.told x ≡ Some held →
+  broke_torn : (x y : T) (steps more all : List Step) (held : Option Cartridge) → steps ++ more ≡ all → tapes.Broke t x y steps →
+      t.told x ≡ Some held →
       IsSomeAnd (t.told y) (λ left. Torn all held left)
   broke_torn x y steps more all held parts broke told =
       some_torn (t.told y) steps more all held parts
@@ -78,7 +84,8 @@ module _ {T S K : Type 0} (t : tapes.Meaning T) (s : sources.Meaning S) (k : sin
 
   pub cut_stops : CutStops t s k
   cut_stops a b acts TapeFails cut =
-      subst (tapes.Stops t a.tape b.tape) (steps_cut acts cut.front cut.rest cut.parts) (Stops-front (steps_of (behind_next cut.rest)) cut.broke.stops)
+      subst (tapes.Stops t a.tape b.tape) (steps_cut acts cut.front cut.rest cut.parts)
+      (Stops-front (steps_of (behind_next cut.rest)) cut.broke.stops)
   cut_stops a b acts SourceFails cut =
       subst (tapes.Stops t a.tape b.tape) (steps_fronted acts cut.front cut.rest cut.parts) (Stops-front (steps_of cut.rest) cut.did.stops)
   cut_stops a b acts SinkFails cut =
@@ -112,9 +119,17 @@ module _ {T S K : Type 0} (t : tapes.Meaning T) (s : sources.Meaning S) (k : sin
       }
 
   pub cut_fell_none : CutFellNone t s k
-  cut_fell_none a b acts TapeFails cut = record { tape = cut.broke.later; source = cut.source_later; sink = cut.wrote.later }
-  cut_fell_none a b acts SourceFails cut = record { tape = cut.did.later; source = cut.source_later; sink = cut.wrote.later }
-  cut_fell_none a b acts SinkFails cut = record { tape = cut.did.later; source = cut.source_later; sink = cut.broke.later }
+  cut_fell_none a b acts TapeFails cut =
+      record { tape = cut.broke.later; source = let e = cut.source_later in omega arith; sink = let e = cut.wrote.later in omega arith }
+  cut_fell_none a b acts SourceFails cut =
+      record { tape = let e = cut.did.later in omega arith; source = cut.source_later; sink = let e = cut.wrote.later in omega arith }
+  cut_fell_none a b acts SinkFails cut =
+      record { tape = let e = cut.did.later in omega arith; source = let e = cut.source_later in omega arith; sink = cut.broke.later }
+
+  pub cut_others_stood : CutOthersStood t s k
+  cut_others_stood a b acts TapeFails cut = (cut.source_later, cut.wrote.later)
+  cut_others_stood a b acts SourceFails cut = (cut.did.later, cut.wrote.later)
+  cut_others_stood a b acts SinkFails cut = (cut.did.later, cut.source_later)
 
   pub cut_rose : CutRose t s k
   cut_rose a b acts TapeFails cut = cut.broke.cause

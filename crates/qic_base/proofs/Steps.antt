@@ -1,18 +1,25 @@
 -- How what several calls did to a tape joins: calls one after the other are one list of steps.
-use Rattle.std.proofs.Common.{◌≡◌, ℕ, ◌≤◌, ◌⊎◌, inl, inr, true, List, [], ◌∷◌, ◌++◌, refl, sym, ◌∙◌, ap, arith, Option, Some, None, is_some, IfSome, subst, Result, Ok, Err}
+use Rattle.std.proofs.Common.{◌≡◌, ℕ, ◌≤◌, ◌⊎◌, inl, inr, true, List, [], ◌∷◌, ◌++◌, refl, sym, ◌∙◌, ap, arith, Option, Some, None, is_some}
+use Rattle.std.proofs.Common.{IfSome, subst, Result, Ok, Err}
+use Rattle.std.proofs.lemmas.Bool.{lt-ltb}
 use Rattle.std.proofs.lemmas.List.{append-nil}
+use Rattle.std.specs.Prelude.{nat_lt}
 use Rattle.std.specs.Option.{option_map}
 use Rattle.qic_base.specs.Tape.{Rose, Meaning, Stops, Done, Broke}
 use Rattle.qic_base.specs.Cartridge.{Cartridge}
 use Rattle.qic_base.specs.Step.{Step, effect, effects, Torn}
 use Rattle.qic_base.specs.TapeCalls.{Tells, IsLeftNow, Does}
 
--- a rise in a part of a call is a rise in the call
-pub Rose-after : (a b c : ℕ) → a ≤ b → Rose b c → Rose a c
-Rose-after a b c earlier rose = omega arith
+-- a rise in a part of a call, of which the rest left the count as it was, is a rise in the call
+pub Rose-after : (a b c : ℕ) → b ≡ a → Rose b c → Rose a c
+Rose-after a b c stood rose = omega arith
 
-pub Rose-before : (a b c : ℕ) → Rose a b → b ≤ c → Rose a c
-Rose-before a b c rose later = omega arith
+pub Rose-before : (a b c : ℕ) → Rose a b → c ≡ b → Rose a c
+Rose-before a b c rose stood = omega arith
+
+-- a count that rose is not 0
+pub Rose-some : (before after : ℕ) → Rose before after → nat_lt 0 after ≡ true
+Rose-some before after rose = lt-ltb 0 after (omega arith)
 
 -- two lists of steps, one after the other, are one
 pub effects-append : (xs ys : List Step) (held : Option Cartridge) → effects (xs ++ ys) held ≡ effects ys (effects xs held)
@@ -55,7 +62,8 @@ Torn-behind [] ys held left torn = torn
 Torn-behind (x ∷ xs) ys held left torn = inr (inr (Torn-behind xs ys (effect x held) left torn))
 
 -- a stop in two lists of steps, one after the other, is a stop in the first or in the second
-pub Torn-append : (xs ys : List Step) (held left : Option Cartridge) → Torn (xs ++ ys) held left → Torn xs held left ⊎ Torn ys (effects xs held) left
+pub Torn-append : (xs ys : List Step) (held left : Option Cartridge) → Torn (xs ++ ys) held left → Torn xs held left
+    ⊎ Torn ys (effects xs held) left
 Torn-append [] ys held left torn = inr torn
 Torn-append (x ∷ xs) ys held left (inl before) = inl (inl before)
 Torn-append (x ∷ xs) ys held left (inr (inl inside)) = inl (inr (inl inside))
@@ -76,7 +84,8 @@ Stops-nothing m s = record {
 }
 
 -- stops in one call and then in the next
-pub Stops-Stops : {S : Type 0} {m : Meaning S} {a b c : S} {xs ys : List Step} → m.told b ≡ option_map (effects xs) (m.told a) → Stops m a b xs → Stops m b c ys → Stops m a c (xs ++ ys)
+pub Stops-Stops : {S : Type 0} {m : Meaning S} {a b c : S} {xs ys : List Step} → m.told b ≡ option_map (effects xs) (m.told a) →
+    Stops m a b xs → Stops m b c ys → Stops m a c (xs ++ ys)
 Stops-Stops {m = m} {a = a} {b = b} {c = c} {xs = xs} {ys = ys} done first next = record {
   telling = next.telling ∙ first.telling;
   clock = let e = first.clock in let f = next.clock in omega arith;
@@ -113,7 +122,8 @@ Stops-front {xs = xs} ys stops = record {
 }
 
 -- what a stop since the first call's start might have left, where the tape tells its stops
-pub Stops-left : {S : Type 0} {m : Meaning S} {a b : S} {xs : List Step} (held left : Option Cartridge) → IsLeftNow m a → m.tells_stops a ≡ true → m.told a ≡ Some held → Stops m a b xs → m.left_since b (m.moment a) left → Torn xs held left
+pub Stops-left : {S : Type 0} {m : Meaning S} {a b : S} {xs : List Step} (held left : Option Cartridge) → IsLeftNow m a →
+    m.tells_stops a ≡ true → m.told a ≡ Some held → Stops m a b xs → m.left_since b (m.moment a) left → Torn xs held left
 Stops-left {m = m} {a = a} {b = b} {xs = xs} held left now telling told stops is =
     elim (stops.since (m.moment a) held left told (omega arith) is) [
       | inl was ↦
@@ -135,7 +145,8 @@ Done-told {m = m} {a = a} d = d.told ∙ option_map-effects-none (m.told a)
 pub Broke-told : {S : Type 0} {m : Meaning S} {a b : S} → Broke m a b [] → m.told b ≡ m.told a
 Broke-told {m = m} {a = a} {b = b} broke = by_told (m.told a) (m.told b) refl refl broke.tells
   where
-    by_told : (old new : Option (Option Cartridge)) → m.told a ≡ old → m.told b ≡ new → is_some (m.told b) ≡ is_some (m.told a) → m.told b ≡ m.told a
+    by_told : (old new : Option (Option Cartridge)) → m.told a ≡ old → m.told b ≡ new → is_some (m.told b) ≡ is_some (m.told a) →
+        m.told b ≡ m.told a
     by_told None None p q tells = q ∙ sym p
     by_told None (Some left) p q tells = cc
     by_told (Some held) None p q tells = cc
@@ -154,6 +165,7 @@ pub Done-Broke : {S : Type 0} {m : Meaning S} {a b c : S} {xs ys : List Step} �
 Done-Broke {m = m} {a = a} {b = b} {c = c} {xs = xs} {ys = ys} first next = record {
   cause = Rose-after (m.faults a) (m.faults b) (m.faults c) first.later next.cause;
   later = let e = first.later in let f = next.later in omega arith;
+  last = next.last;
   tells = next.tells ∙ ap is_some first.told ∙ is_some-option_map (effects xs) (m.told a);
   torn = λ held left before after.
       Torn-behind xs ys held left (next.torn (effects xs held) left (first.told ∙ ap (option_map (effects xs)) before) after);
@@ -165,6 +177,7 @@ pub Broke-front : {S : Type 0} {m : Meaning S} {a b : S} {xs : List Step} (ys : 
 Broke-front {xs = xs} ys broke = record {
   cause = broke.cause;
   later = broke.later;
+  last = broke.last;
   tells = broke.tells;
   torn = λ held left before after. Torn-front xs ys held left (broke.torn held left before after);
   stops = Stops-front ys broke.stops;
@@ -206,15 +219,18 @@ Tells-read {m = m} P read told =
     subst telling (Done-told read) told
 
 -- what a call did after what was done
-pub Done-Does : {S T E : Type 0} (m : Meaning S) (a b c : S) (xs ys : List Step) (r : Result T E) → Done m a b xs → Does m b c ys r → Does m a c (xs ++ ys) r
+pub Done-Does : {S T E : Type 0} (m : Meaning S) (a b c : S) (xs ys : List Step) (r : Result T E) → Done m a b xs → Does m b c ys r →
+    Does m a c (xs ++ ys) r
 Done-Does m a b c xs ys (Ok x) before more = Done-Done {xs = xs} {ys = ys} before more
 Done-Does m a b c xs ys (Err e) before more = Done-Broke {xs = xs} {ys = ys} before more
 
 -- two facts that are told of a cartridge
-pub tells_two : {T : Type 0} (m : Meaning T) (s : T) (P Q R : Cartridge → Type 0) → ((c : Cartridge) → P c → Q c → R c) → Tells m s P → Tells m s Q → Tells m s R
+pub tells_two : {T : Type 0} (m : Meaning T) (s : T) (P Q R : Cartridge → Type 0) → ((c : Cartridge) → P c → Q c → R c) → Tells m s P →
+    Tells m s Q → Tells m s R
 tells_two m s P Q R follows first second = by_cases (m.told s) first second
   where
-    by_cases : (held : Option (Option Cartridge)) → IfSome held (λ h. IfSome h P) → IfSome held (λ h. IfSome h Q) → IfSome held (λ h. IfSome h R)
+    by_cases : (held : Option (Option Cartridge)) → IfSome held (λ h. IfSome h P) → IfSome held (λ h. IfSome h Q) →
+        IfSome held (λ h. IfSome h R)
     by_cases None one two = tt
     by_cases (Some None) one two = tt
     by_cases (Some (Some c)) one two = follows c one two

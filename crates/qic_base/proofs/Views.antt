@@ -1,5 +1,6 @@
 -- The views of a cartridge of which those of one segment were changed.
-use Rattle.std.proofs.Common.{◌≡◌, ℕ, ◌+◌, ◌*◌, List, ◌++◌, take, drop, map, ◌≤◌, length, arith, length-append, length-take, length-drop, get_or, ◌<◌, ◌∙◌, ◌-◌, ap}
+use Rattle.std.proofs.Common.{◌≡◌, ℕ, ◌+◌, ◌*◌, List, ◌++◌, take, drop, map, ◌≤◌, length, arith, length-append, length-take, length-drop}
+use Rattle.std.proofs.Common.{get_or, ◌<◌, ◌∙◌, ◌-◌, ap}
 use Rattle.std.proofs.lemmas.List.{length-map, get_or-take, get_or_append_left, get_or-drop, get_or-append_right, get_or-map}
 use Rattle.qic_base.specs.declared.tape.SectorView.{SectorView}
 use Rattle.qic_base.specs.CartridgeTerms.{changed_views}

@@ -1,6 +1,7 @@
 -- A disk: its bytes, the length that it was seen to have, how often it failed, and what a crash may have left; and what
 -- a call did to it (this project's profile).
-use Rattle.std.specs.Prelude.{◌≡◌, ℕ, ◌+◌, ◌-◌, ◌<◌, ◌≤◌, ◌++◌, ◌⊎◌, Bool, true, false, List, length, take, replicate, All, Option, Some, is_some, IsSome, Result, Ok, Err, slice_get}
+use Rattle.std.specs.Prelude.{◌≡◌, ℕ, ◌+◌, ◌-◌, ◌<◌, ◌≤◌, ◌++◌, ◌⊎◌, Bool, true, false, List, length, take, replicate, All, Option, Some}
+use Rattle.std.specs.Prelude.{is_some, IsSome, Result, Ok, Err, slice_get}
 use Rattle.std.specs.Option.{option_map}
 use Rattle.qic_base.specs.Tape.{Rose}
 use Rattle.qic_base.specs.Field.{overwritten}
@@ -53,6 +54,8 @@ pub record Meaning (D : Type 0) : Type 1 where
   -- The length that the last `len` or `set_len` that succeeded told; 0 after a `set_len` that failed, and at first.
   pub seen_len : D → ℕ
   pub faults : D → ℕ
+  -- those of them that were no looks: writes, new lengths and syncs that failed
+  pub failed_changes : D → ℕ
   -- whether the disk tells what a crash leaves
   pub tells_stops : D → Bool
   -- a crash now may leave these bytes; nothing is meant where the disk doesn't tell its bytes
@@ -77,7 +80,8 @@ pub record Crashes {D : Type 0} (m : Meaning D) (old new : D) (step : DiskStep) 
   pub clock : m.moment old ≤ m.moment new
   pub kept : (t : ℕ) (left : List ℕ) → t ≤ m.moment old → m.left_since old t left → m.left_since new t left
   -- a crash since t was one before this, or is one since any later moment that came before this
-  pub parted : (t u : ℕ) (left : List ℕ) → t ≤ u → u ≤ m.moment old → m.left_since new t left → m.left_since old t left ⊎ m.left_since new u left
+  pub parted : (t u : ℕ) (left : List ℕ) → t ≤ u → u ≤ m.moment old → m.left_since new t left → m.left_since old t left
+      ⊎ m.left_since new u left
   pub since : (t : ℕ) (left : List ℕ) → t ≤ m.moment old → m.left_since new t left → m.left_since old t left ⊎ Inside m old step left
 
 -- what a crash may leave after a step that succeeded: after a sync just what a read gives
@@ -87,19 +91,26 @@ Leaves m old new (WriteAt place part) = (left : List ℕ) → m.may_leave new le
 Leaves m old new (SetLen n) = (left : List ℕ) → m.may_leave new left → Inside m old (SetLen n) left
 Leaves m old new Sync = IsSettled m new
 
--- From old on the step was done, and nothing else.
+-- From old on the step was done, and nothing else; no call failed.
 pub record Stored {D : Type 0} (m : Meaning D) (old new : D) (step : DiskStep) : Type 0 where
   pub told : m.told new ≡ option_map (stored step) (m.told old)
-  pub later : m.faults old ≤ m.faults new
+  pub later : m.faults new ≡ m.faults old
+  pub changes : m.failed_changes new ≡ m.failed_changes old
   pub leaves : Leaves m old new step
   pub crashes : Crashes m old new step
 
--- From old on a fault of the disk broke the step off: the disk is as after a crash inside the step. What a read gives
+-- whether a step that failed counts as a failed change: a look doesn't
+abbrev pub ChangesCounted : DiskStep → (before now : ℕ) → Type 0
+ChangesCounted Look before now = now ≡ before
+ChangesCounted step before now = Rose before now
+
+-- From old on one fault of the disk broke the step off: the disk is as after a crash inside the step. What a read gives
 -- then, and what a crash then leaves, is what one inside the step leaves; and nothing is pending. So a step that only
 -- looks leaves the bytes as they were where nothing was pending, and else what a crash then may leave.
 pub record Failed {D : Type 0} (m : Meaning D) (old new : D) (step : DiskStep) : Type 0 where
   pub cause : Rose (m.faults old) (m.faults new)
   pub later : m.faults old ≤ m.faults new
+  pub changes : ChangesCounted step (m.failed_changes old) (m.failed_changes new)
   pub tells : is_some (m.told new) ≡ is_some (m.told old)
   pub torn : (left : List ℕ) → m.told new ≡ Some left → Inside m old step left
   pub leaves : (left : List ℕ) → m.may_leave new left → Inside m old step left

@@ -1,5 +1,6 @@
 -- Fields of the medium: little-endian numbers, names, date words (this project's profile).
-use Rattle.std.specs.Prelude.{ℕ, zero, suc, ◌+◌, ◌*◌, ◌/◌, ◌%◌, List, [], ◌∷◌, ◌++◌, length, take, drop, slice_range, ◌≢◌, ◌-◌, ◌≤◌, replicate, All, slice_get, Some, ◌^◌}
+use Rattle.std.specs.Prelude.{ℕ, zero, suc, ◌+◌, ◌*◌, ◌/◌, ◌%◌, List, [], ◌∷◌, ◌++◌, length, take, drop, slice_range, ◌≢◌, ◌-◌, ◌≤◌}
+use Rattle.std.specs.Prelude.{replicate, All, slice_get, Some, ◌^◌}
 
 -- the number that the bytes spell, the low byte first
 abbrev pub little_endian : List ℕ → ℕ

@@ -1,6 +1,6 @@
 -- How runs over acts join, and what follows of them, as facts.
 use Rattle.std.specs.Prelude.{[], List, ◌++◌, ◌≡◌, Option, Some, IsSomeAnd}
-use Rattle.qic_base.specs.Acts.{Outside, Went, Act, Failing, Cut, steps_of, text_of, TookFront, NoneFell, FailingRose}
+use Rattle.qic_base.specs.Acts.{Outside, Went, Act, Failing, Cut, steps_of, text_of, TookFront, NoneFell, FailingRose, OthersStood}
 use Rattle.qic_base.specs.Cartridge.{Cartridge}
 use Rattle.qic_base.specs.Step.{Torn}
 use Rattle.qic_base.specs.Sink as sinks
@@ -47,10 +47,14 @@ abbrev pub CutTookFront : {T S K : Type 0} (t : tapes.Meaning T) (s : sources.Me
 CutTookFront {T} {S} {K} t s k =
     (a b : Outside T S K) (acts : List Act) (failing : Failing) → Cut t s k a b acts failing → TookFront k a.sink b.sink (text_of acts)
 
--- no count fell, and that of the object that failed rose
+-- no count fell; that of the object that failed rose, and the others stood
 abbrev pub CutFellNone : {T S K : Type 0} (t : tapes.Meaning T) (s : sources.Meaning S) (k : sinks.Meaning K) → Type 0
 CutFellNone {T} {S} {K} t s k =
     (a b : Outside T S K) (acts : List Act) (failing : Failing) → Cut t s k a b acts failing → NoneFell t s k a b
+
+abbrev pub CutOthersStood : {T S K : Type 0} (t : tapes.Meaning T) (s : sources.Meaning S) (k : sinks.Meaning K) → Type 0
+CutOthersStood {T} {S} {K} t s k =
+    (a b : Outside T S K) (acts : List Act) (failing : Failing) → Cut t s k a b acts failing → OthersStood t s k a b failing
 
 abbrev pub CutRose : {T S K : Type 0} (t : tapes.Meaning T) (s : sources.Meaning S) (k : sinks.Meaning K) → Type 0
 CutRose {T} {S} {K} t s k =

@@ -7,10 +7,9 @@ use Rattle.qic_base.specs.declared.tape.SectorView.TheVariants.{Blank, Defect}
 use Rattle.qic_base.specs.Cartridge.{Cartridge}
 use Rattle.qic_base.specs.Step.{Step, effects, Torn}
 
--- The count of faults rose, or stands at the greatest u64, where it can rise no more; a larger count is read as the
--- greatest (this project's profile).
+-- The count of faults rose by one, or stands at the greatest u64, where it can rise no more (this project's profile).
 abbrev pub Rose : ℕ → ℕ → Type 0
-Rose before now = min (before + 1) (2 ^ 64 - 1) ≤ now
+Rose before now = now ≡ min (before + 1) (2 ^ 64 - 1)
 
 -- All that a tape means to the code above it.
 pub record Meaning (S : Type 0) : Type 1 where
@@ -20,6 +19,8 @@ pub record Meaning (S : Type 0) : Type 1 where
   -- cartridge or a `renew` that failed, where an `upgrade` failed since, and none at first
   pub size : S → Option ℕ
   pub faults : S → ℕ
+  -- whether the call that was made last failed; where it was carried out nothing is meant by this
+  pub failed_last : S → Bool
   -- whether the tape tells what a stop leaves
   pub tells_stops : S → Bool
   -- a clock, which never falls
@@ -38,17 +39,18 @@ pub record Stops {S : Type 0} (m : Meaning S) (old new : S) (steps : List Step) 
   pub since : (t : ℕ) (held left : Option Cartridge) → m.told old ≡ Some held → t ≤ m.moment old →
       m.left_since new t left → m.left_since old t left ⊎ Torn steps held left
 
--- From old on, the steps were done, all of them, and nothing else.
+-- From old on, the steps were done, all of them, and nothing else; no call failed.
 pub record Done {S : Type 0} (m : Meaning S) (old new : S) (steps : List Step) : Type 0 where
   pub told : m.told new ≡ option_map (effects steps) (m.told old)
-  pub later : m.faults old ≤ m.faults new
+  pub later : m.faults new ≡ m.faults old
   pub stops : Stops m old new steps
 
--- From old on, a fault of the tape broke the steps off: what stands then is what a stop before, inside or after one of
--- them leaves.
+-- From old on, one fault of the tape broke the steps off: what stands then is what a stop before, inside or after one
+-- of them leaves. No call was carried out behind that fault.
 pub record Broke {S : Type 0} (m : Meaning S) (old new : S) (steps : List Step) : Type 0 where
   pub cause : Rose (m.faults old) (m.faults new)
   pub later : m.faults old ≤ m.faults new
+  pub last : m.failed_last new ≡ true
   pub tells : is_some (m.told new) ≡ is_some (m.told old)
   pub torn : (held left : Option Cartridge) → m.told old ≡ Some held → m.told new ≡ Some left → Torn steps held left
   pub stops : Stops m old new steps

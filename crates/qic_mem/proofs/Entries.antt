@@ -1,5 +1,6 @@
 -- What one more entry of a disk's record does to its events.
-use Rattle.std.proofs.Common.{◌≡◌, ℕ, ◌+◌, ◌-◌, ◌*◌, ◌<◌, ◌≤◌, Bool, true, false, List, [], ◌∷◌, ◌++◌, take, drop, length, Some, refl, sym, ap, ◌∙◌, arith, length-append, length-drop, if◌then◌else◌}
+use Rattle.std.proofs.Common.{◌≡◌, ℕ, ◌+◌, ◌-◌, ◌*◌, ◌<◌, ◌≤◌, Bool, true, false, List, [], ◌∷◌, ◌++◌, take, drop, length, Some, refl, sym}
+use Rattle.std.proofs.Common.{ap, ◌∙◌, arith, length-append, length-drop, if◌then◌else◌}
 use Rattle.std.specs.Prelude.{◌==◌, ◌||◌, nat_lt}
 use Rattle.std.specs.Vec.{vec_capacity}
 use Rattle.std.proofs.lemmas.Bool.Decides.{nat_tests}
@@ -36,25 +37,31 @@ sizes-push : (entries : List DiskEntry) (e : DiskEntry) → sizes (entries ++ e 
 sizes-push [] e = omega arith
 sizes-push (x ∷ entries) e = let more = sizes-push entries e in omega arith
 
-events_from-push : (entries : List DiskEntry) (bytes : List ℕ) (events : List DiskEvent) (e : DiskEntry) (part : List ℕ) → sizes entries ≡ length bytes → entry_size e ≡ length part → events_from (entries ++ e ∷ []) (bytes ++ part) events ≡ event_of e part ∷ events_from entries bytes events
+events_from-push : (entries : List DiskEntry) (bytes : List ℕ) (events : List DiskEvent) (e : DiskEntry) (part : List ℕ) →
+    sizes entries ≡ length bytes → entry_size e ≡ length part →
+    events_from (entries ++ e ∷ []) (bytes ++ part) events ≡ event_of e part ∷ events_from entries bytes events
 events_from-push [] bytes events e part taken size =
     let none : bytes ≡ [] = nil_from_length bytes (sym taken) in
     let all : take (entry_size e) part ≡ part = take_all (entry_size e) part (omega arith) in
     rw (none, all) refl
 events_from-push (x ∷ entries) bytes events e part taken size =
     let front : take (entry_size x) (bytes ++ part) ≡ take (entry_size x) bytes = take-append-le (entry_size x) bytes part (omega arith) in
-    let rest : drop (entry_size x) (bytes ++ part) ≡ drop (entry_size x) bytes ++ part = drop-append-le (entry_size x) bytes part (omega arith) in
+    let rest : drop (entry_size x) (bytes ++ part) ≡ drop (entry_size x) bytes ++ part = drop-append-le (entry_size x) bytes part
+    (omega arith) in
     ap (λ (bs : List ℕ). events_from (entries ++ e ∷ []) bs (event_of x (take (entry_size x) (bytes ++ part)) ∷ events)) rest
     ∙ ap (λ (bs : List ℕ). events_from (entries ++ e ∷ []) (drop (entry_size x) bytes ++ part) (event_of x bs ∷ events)) front
-    ∙ events_from-push entries (drop (entry_size x) bytes) (event_of x (take (entry_size x) bytes) ∷ events) e part (omega (arith, length-drop (entry_size x) bytes)) size
+    ∙ events_from-push entries (drop (entry_size x) bytes) (event_of x (take (entry_size x) bytes) ∷ events) e part
+    (omega (arith, length-drop (entry_size x) bytes)) size
 
 -- ---- a call that is noted
 
 -- there is room for it
-pub room-left : (calls_left bytes_left count : ℕ) (none few : Bool) → none ≡ (calls_left == 0) → few ≡ nat_lt bytes_left count → none || few ≡ false → (0 < calls_left) × (count ≤ bytes_left)
+pub room-left : (calls_left bytes_left count : ℕ) (none few : Bool) → none ≡ (calls_left == 0) → few ≡ nat_lt bytes_left count →
+    none || few ≡ false → (0 < calls_left) × (count ≤ bytes_left)
 room-left calls_left bytes_left count true few none_is few_is room = cc
 room-left calls_left bytes_left count false true none_is few_is room = cc
-room-left calls_left bytes_left count false false none_is few_is room = (left calls_left (sym none_is), enough bytes_left count (sym few_is))
+room-left calls_left bytes_left count false false none_is few_is room =
+    (left calls_left (sym none_is), enough bytes_left count (sym few_is))
   where
     left : (n : ℕ) → (n == 0) ≡ false → 0 < n
     left n is = grind (arith, nat_tests)
@@ -83,7 +90,9 @@ events-noted l m e part noted =
     ∙ ap (λ (bs : List ℕ). events_from (l.entries.items ++ e ∷ []) bs []) noted.bytes
     ∙ events_from-push l.entries.items l.bytes.items [] e part noted.whole.taken noted.size
 
-pub whole-noted : (l m : Inside) (e : DiskEntry) (part : List ℕ) → IsNoted l m e part → 2 * m.calls_left + (if m.pending then 1 else 0) + 1 ≤ 2 * l.calls_left + (if l.pending then 1 else 0) → m.bytes_left + length part ≤ l.bytes_left → IsWhole m
+pub whole-noted : (l m : Inside) (e : DiskEntry) (part : List ℕ) → IsNoted l m e part →
+    2 * m.calls_left + (if m.pending then 1 else 0) + 1 ≤ 2 * l.calls_left + (if l.pending then 1 else 0) →
+    m.bytes_left + length part ≤ l.bytes_left → IsWhole m
 whole-noted l m e part noted calls bytes =
     let fit = noted.whole.entries_fit in
     let entries_room = noted.entries_room in
@@ -98,16 +107,19 @@ whole-noted l m e part noted calls bytes =
       entries_fit = omega arith;
       bytes_fit = omega arith;
       taken = omega arith;
-      pends = ap (λ (events : List DiskEvent). is_pending (point_of events)) (events-noted l m e part noted) ∙ pending-behind e part (point_of (log_of l).events) ∙ sym noted.pending;
+      pends = ap (λ (events : List DiskEvent). is_pending (point_of events)) (events-noted l m e part noted)
+          ∙ pending-behind e part (point_of (log_of l).events) ∙ sym noted.pending;
     }
 
-pub log-noted : (l m : Inside) (e : DiskEntry) (part : List ℕ) → IsNoted l m e part → m.calls_left ≡ l.calls_left - 1 → m.bytes_left ≡ l.bytes_left - length part → Some (log_of m) ≡ logged (Some (log_of l)) (event_of e part)
+pub log-noted : (l m : Inside) (e : DiskEntry) (part : List ℕ) → IsNoted l m e part → m.calls_left ≡ l.calls_left - 1 →
+    m.bytes_left ≡ l.bytes_left - length part → Some (log_of m) ≡ logged (Some (log_of l)) (event_of e part)
 log-noted l m e part noted calls bytes =
     let events : (log_of m).events ≡ event_of e part ∷ (log_of l).events = events-noted l m e part noted in
     let size : event_size (event_of e part) ≡ length part = size-of e part noted.size in
     rw (events, calls, bytes, size) refl
 
-pub log-settled : (l m : Inside) → IsNoted l m entry.Settled [] → l.pending ≡ true → m.calls_left ≡ l.calls_left → m.bytes_left ≡ l.bytes_left → Some (log_of m) ≡ settled (Some (log_of l))
+pub log-settled : (l m : Inside) → IsNoted l m entry.Settled [] → l.pending ≡ true → m.calls_left ≡ l.calls_left →
+    m.bytes_left ≡ l.bytes_left → Some (log_of m) ≡ settled (Some (log_of l))
 log-settled l m noted was calls bytes =
     let events : (log_of m).events ≡ Settled ∷ (log_of l).events = events-noted l m entry.Settled [] noted in
     let pends : is_pending (point_of (log_of l).events) ≡ true = noted.whole.pends ∙ was in

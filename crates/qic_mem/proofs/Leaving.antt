@@ -1,5 +1,6 @@
 -- What a failing call leaves is what a stop inside it may leave.
-use Rattle.std.proofs.Common.{◌≡◌, ℕ, ◌+◌, ◌*◌, ◌≤◌, inl, inr, List, [], ◌∷◌, length, Option, Some, None, refl, sym, ap, ◌∙◌, arith, IsSomeAnd, length-append, length-take, length-drop}
+use Rattle.std.proofs.Common.{◌≡◌, ℕ, ◌+◌, ◌*◌, ◌≤◌, inl, inr, List, [], ◌∷◌, length, Option, Some, None, refl, sym, ap, ◌∙◌, arith}
+use Rattle.std.proofs.Common.{IsSomeAnd, length-append, length-take, length-drop}
 use Rattle.std.specs.Option.{option_map}
 use Rattle.std.proofs.lemmas.List.{length-map}
 use Rattle.std.proofs.lemmas.Option.{unwrap_or-slice_get}
@@ -7,7 +8,8 @@ use Rattle.qic_base.specs.declared.tape.SectorView.{SectorView}
 use Rattle.qic_base.specs.declared.tape.SectorView.TheVariants.{Blank, Defect, Lost, Holds}
 use Rattle.qic_base.specs.Cartridge.{Cartridge, IsPlace, view_at}
 use Rattle.qic_base.specs.CartridgeTerms.{with_segment, HalfFormatted, changed_views}
-use Rattle.qic_base.specs.Step.{Step, WriteSector, FormatSegment, SetReferenced, SetProtected, Renew, Wear, Spoil, Upgrade, worn_view, Torn, ClosingView, SegmentBecame}
+use Rattle.qic_base.specs.Step.{Step, WriteSector, FormatSegment, SetReferenced, SetProtected, Renew, Wear, Spoil, Upgrade, worn_view, Torn}
+use Rattle.qic_base.specs.Step.{ClosingView, SegmentBecame}
 use Rattle.qic_base.specs.TapeCalls.{IsToldRight}
 use Rattle.qic_mem.specs.declared.tape.outcome.Outcome.{Outcome}
 use Rattle.qic_mem.specs.declared.tape.outcome.Outcome.TheVariants as outcome
@@ -25,11 +27,13 @@ closing-worn (Holds bytes) = inr refl
 
 -- ---- the views of a cartridge with 32 of them changed
 
-length-changed : (views : List SectorView) (segment : ℕ) (change : SectorView → SectorView) → 32 * (segment + 1) ≤ length views → length (changed_views views segment change) ≡ length views
+length-changed : (views : List SectorView) (segment : ℕ) (change : SectorView → SectorView) → 32 * (segment + 1) ≤ length views →
+    length (changed_views views segment change) ≡ length views
 length-changed views segment change within = simp (length-append, length-map, length-take, length-drop) (omega arith)
 
 -- a segment whose readable sectors were worn
-segment-worn : (c : Cartridge) (segment : ℕ) → 32 * (segment + 1) ≤ length c.views → SegmentBecame ClosingView segment c (with_segment c segment worn_view)
+segment-worn : (c : Cartridge) (segment : ℕ) → 32 * (segment + 1) ≤ length c.views → SegmentBecame ClosingView segment c
+    (with_segment c segment worn_view)
 segment-worn c segment within =
     let long : length (changed_views c.views segment worn_view) ≡ length c.views = length-changed c.views segment worn_view within in
     record {
@@ -42,11 +46,14 @@ segment-worn c segment within =
           ∙ get-within c.views segment sector worn_view within in_segment
           ∙ ap worn_view (sym (unwrap_or-slice_get c.views (32 * segment + sector) Blank)) in
           rw new (closing-worn (view_at c segment sector));
-      below = λ place under. slice_get-same (changed_views c.views segment worn_view) c.views place Blank long (get-below c.views segment place worn_view within under);
-      above = λ place over. slice_get-same (changed_views c.views segment worn_view) c.views place Blank long (get-above c.views segment place worn_view within over);
+      below = λ place under. slice_get-same (changed_views c.views segment worn_view) c.views place Blank long
+          (get-below c.views segment place worn_view within under);
+      above = λ place over. slice_get-same (changed_views c.views segment worn_view) c.views place Blank long
+          (get-above c.views segment place worn_view within over);
     }
 
-half-worn : (size : Option ℕ) (held : Option Cartridge) (segment : ℕ) → IsToldRight (Some held) size → IsSomeAnd size (λ n. IsPlace n segment 0) → HalfFormatted segment held (option_map (λ c. with_segment c segment worn_view) held)
+half-worn : (size : Option ℕ) (held : Option Cartridge) (segment : ℕ) → IsToldRight (Some held) size →
+    IsSomeAnd size (λ n. IsPlace n segment 0) → HalfFormatted segment held (option_map (λ c. with_segment c segment worn_view) held)
 half-worn None held segment right on = absurd on
 half-worn (Some n) None segment right on = cc
 half-worn (Some n) (Some c) segment (whole, same) on =
@@ -54,7 +61,8 @@ half-worn (Some n) (Some c) segment (whole, same) on =
 
 -- ---- each outcome
 
-torn-lost : (size : Option ℕ) (held : Option Cartridge) (s : Step) → IsToldRight (Some held) size → IsReached size s → Torn (s ∷ []) held (left_by outcome.Lost s held)
+torn-lost : (size : Option ℕ) (held : Option Cartridge) (s : Step) → IsToldRight (Some held) size → IsReached size s →
+    Torn (s ∷ []) held (left_by outcome.Lost s held)
 torn-lost size held (WriteSector segment sector bytes) right reached = inr (inl refl)
 torn-lost size held (FormatSegment segment) right reached = inr (inl (half-worn size held segment right reached))
 torn-lost size held SetReferenced right reached = inl refl
@@ -64,7 +72,8 @@ torn-lost size held (Wear segment sector) right reached = inl refl
 torn-lost size held (Spoil segment sector) right reached = inl refl
 torn-lost size held Upgrade right reached = inl refl
 
-pub torn-left : (size : Option ℕ) (held : Option Cartridge) (left : Outcome) (s : Step) → IsToldRight (Some held) size → IsReached size s → Torn (s ∷ []) held (left_by left s held)
+pub torn-left : (size : Option ℕ) (held : Option Cartridge) (left : Outcome) (s : Step) → IsToldRight (Some held) size → IsReached size s →
+    Torn (s ∷ []) held (left_by left s held)
 torn-left size held outcome.Old s right reached = inl refl
 torn-left size held outcome.Lost s right reached = torn-lost size held s right reached
 torn-left size held outcome.New s right reached = inr (inr refl)

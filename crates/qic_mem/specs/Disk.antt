@@ -1,12 +1,12 @@
--- What a disk in memory shows: its bytes, its seen length, its room in bytes, its chosen failures, and the calls that it
--- recorded (this project's profile).
+-- What a disk in memory shows: its bytes, its seen length, its room in bytes, its chosen failures, the count of its failed
+-- changes, and the calls that it recorded (this project's profile).
 use Rattle.std.specs.Prelude.{◌≡◌, ◌⊎◌, ℕ, Bool, false, ◌||◌, List, length, Option, Some, is_some, IsTrue, nat_lt, if◌then◌else◌}
 use Rattle.std.proofs.Common.{refl, ◌∙◌}
 use Rattle.qic_base.specs.Disk.{Meaning, DiskStep, SetLen, stored, IsToldRight, IsLeftNow}
 use Rattle.qic_mem.specs.declared.disk.MemDisk.{MemDisk}
 use Rattle.qic_mem.specs.DiskLog.{DiskLog, Made, Broke, broken, is_full, step_size, logged, settled, moment_of, may_leave_of, left_of}
 use Rattle.qic_mem.specs.DiskLogLaws.{leave-told, leave-untold, left-counts, left-only, left-earlier}
-use Rattle.qic_mem.specs.Plan.{Plan, IsChosen, plan_after}
+use Rattle.qic_mem.specs.Plan.{Plan, IsChosen, counted, plan_after}
 use Rattle.qic_mem.specs.DiskBytes.{bytes_state, disk_bytes-bytes, disk_bytes-seen}
 
 pub record DiskState : Type 0 where
@@ -14,6 +14,8 @@ pub record DiskState : Type 0 where
   pub seen : ℕ
   pub room : ℕ
   pub plan : Plan
+  -- how many of the faults were writes, new lengths and syncs
+  pub failed_changes : ℕ
   -- None: it keeps no record
   pub log : Option DiskLog
 
@@ -23,6 +25,7 @@ disk_state d = record {
   seen = (bytes_state d.bytes).seen;
   room = (bytes_state d.bytes).room;
   plan = d.plan;
+  failed_changes = d.failed_changes;
   log = d.log;
 }
 
@@ -32,6 +35,7 @@ disk_means = record {
   told = λ d. Some (disk_state d).bytes;
   seen_len = λ d. (disk_state d).seen;
   faults = λ d. (disk_state d).plan.faults;
+  failed_changes = λ d. (disk_state d).failed_changes;
   tells_stops = λ d. is_some (disk_state d).log;
   may_leave = λ d left. may_leave_of (disk_state d).log (disk_state d).bytes left;
   moment = λ d. moment_of (disk_state d).log;
@@ -62,6 +66,7 @@ after_call s step failed = record s {
   bytes = if failed then (if is_unrecorded s step then s.bytes else broken step s.bytes) else stored step s.bytes;
   seen = seen_after step failed s.seen;
   plan = plan_after s.plan failed;
+  failed_changes = counted s.failed_changes failed;
   log = if failed then (if is_unrecorded s step then settled s.log else logged s.log (Broke step)) else logged s.log (Made step);
 }
 
@@ -79,7 +84,8 @@ unfolding disk_state
 disk-told_right d = record {
   bytes = λ bytes told. let same : (bytes_state d.bytes).bytes ≡ bytes = cc in rw (← same) (disk_bytes-bytes d.bytes);
   seen = λ bytes told. let same : (bytes_state d.bytes).bytes ≡ bytes = cc in rw (← same) (disk_bytes-seen d.bytes);
-  may_leave = λ bytes told. let same : (bytes_state d.bytes).bytes ≡ bytes = cc in rw (← same) (leave-told d.log (bytes_state d.bytes).bytes d.recorded);
+  may_leave = λ bytes told. let same : (bytes_state d.bytes).bytes ≡ bytes = cc in
+      rw (← same) (leave-told d.log (bytes_state d.bytes).bytes d.recorded);
   untold = λ untold. record {
     only = λ bytes left told may. let same : (bytes_state d.bytes).bytes ≡ bytes = cc in
         leave-untold d.log (bytes_state d.bytes).bytes left untold may ∙ same;

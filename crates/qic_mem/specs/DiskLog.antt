@@ -1,6 +1,7 @@
 -- The calls that a disk in memory recorded, with their steps and how they ended, and what a crash leaves by them (this
 -- project's profile).
-use Rattle.std.specs.Prelude.{◌≡◌, ◌⊎◌, ℕ, ◌+◌, ◌-◌, ◌/◌, ◌≤◌, Bool, true, false, ◌||◌, List, [], ◌∷◌, length, take, Option, Some, None, ◌==◌, nat_lt, if◌then◌else◌}
+use Rattle.std.specs.Prelude.{◌≡◌, ◌⊎◌, ℕ, ◌+◌, ◌-◌, ◌/◌, ◌≤◌, Bool, true, false, ◌||◌, List, [], ◌∷◌, length, take, Option, Some, None}
+use Rattle.std.specs.Prelude.{◌==◌, nat_lt, if◌then◌else◌}
 use Rattle.qic_base.specs.Disk.{DiskStep, WriteAt, Sync, stored, Unsynced}
 
 -- what a chosen failing call leaves: of a write the first half of its bytes is written; any other leaves all as it was
@@ -97,7 +98,12 @@ is_full (Some l) count = (l.calls_left == 0) || nat_lt l.bytes_left count
 -- one more call, for which there is room
 abbrev pub logged : Option DiskLog → DiskEvent → Option DiskLog
 logged None event = None
-logged (Some l) event = Some (record { events = event ∷ l.events; calls_left = l.calls_left - 1; bytes_left = l.bytes_left - event_size event })
+logged (Some l) event = Some (record {
+  events = event ∷ l.events;
+  calls_left = l.calls_left - 1;
+  bytes_left =
+      l.bytes_left - event_size event;
+})
 
 abbrev pub has_steps : List DiskStep → Bool
 has_steps [] = false

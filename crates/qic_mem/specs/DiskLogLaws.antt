@@ -15,7 +15,8 @@ since-late (event ∷ events) t left (inl was) = let late = since-late events t 
 since-late (event ∷ events) t left (inr (inl (late, during))) = omega arith
 since-late (event ∷ events) t left (inr (inr (late, may))) = omega arith
 
-pub since-now : (events : List DiskEvent) (t : ℕ) (left : List ℕ) → t ≤ length events → MayLeave (point_of events) left → LeftSince events t left
+pub since-now : (events : List DiskEvent) (t : ℕ) (left : List ℕ) → t ≤ length events → MayLeave (point_of events) left →
+    LeftSince events t left
 since-now [] t left early may = (early, may)
 since-now (event ∷ events) t left early may = inr (inr (omega arith, may))
 
@@ -41,11 +42,13 @@ pub leave-untold : (log : Option DiskLog) (told left : List ℕ) → is_some log
 leave-untold None told left untold may = may
 leave-untold (Some l) told left untold may = cc
 
-pub left-counts : (log : Option DiskLog) (told : List ℕ) (t : ℕ) (left : List ℕ) → t ≤ moment_of log → may_leave_of log told left → left_of log t left
+pub left-counts : (log : Option DiskLog) (told : List ℕ) (t : ℕ) (left : List ℕ) → t ≤ moment_of log → may_leave_of log told left →
+    left_of log t left
 left-counts None told t left early may = tt
 left-counts (Some l) told t left early may = since-now l.events t left early may
 
-pub left-only : (log : Option DiskLog) (told left : List ℕ) → is_some log ≡ true → left_of log (moment_of log) left → may_leave_of log told left
+pub left-only : (log : Option DiskLog) (told left : List ℕ) → is_some log ≡ true → left_of log (moment_of log) left →
+    may_leave_of log told left
 left-only None told left telling was = cc
 left-only (Some l) told left telling was = now-since l.events left was
 

@@ -23,12 +23,14 @@ pub record FitsRoom (room : ℕ) (i : TapeInfo) : Type 0 where
   pub within : i.segments_per_track ≤ room
 
 -- what the size tells is a length
-pub size_told-fits : (told : Bool) (info : Option TapeInfo) (room : ℕ) → ForSome info (FitsRoom room) → IfSome (size_told told info) IsLength
+pub size_told-fits : (told : Bool) (info : Option TapeInfo) (room : ℕ) → ForSome info (FitsRoom room) →
+    IfSome (size_told told info) IsLength
 size_told-fits false info room fits = tt
 size_told-fits true None room fits = tt
 size_told-fits true (Some i) room fits = (fits i refl).long
 
-whole_cartridge : (i : TapeInfo) (room : ℕ) (views : List SectorView) → FitsRoom room i → length views ≡ 896 * room → All IsView views → IsCartridge (record { info = i; version = new_version; views = take (896 * i.segments_per_track) views })
+whole_cartridge : (i : TapeInfo) (room : ℕ) (views : List SectorView) → FitsRoom room i → length views ≡ 896 * room → All IsView views →
+    IsCartridge (record { info = i; version = new_version; views = take (896 * i.segments_per_track) views })
 whole_cartridge i room views fits long whole = record {
   long = fits.long;
   version = record { oldest = omega arith; newest = omega arith };
@@ -37,7 +39,8 @@ whole_cartridge i room views fits long whole = record {
 }
 
 -- what is held is a whole cartridge, of the size told
-pub held-right : (told : Bool) (info : Option TapeInfo) (room : ℕ) (views : List SectorView) → ForSome info (FitsRoom room) → length views ≡ 896 * room → All IsView views → IsToldRight (Some (held info views)) (size_told told info)
+pub held-right : (told : Bool) (info : Option TapeInfo) (room : ℕ) (views : List SectorView) → ForSome info (FitsRoom room) →
+    length views ≡ 896 * room → All IsView views → IsToldRight (Some (held info views)) (size_told told info)
 held-right false None room views fits long whole = refl
 held-right true None room views fits long whole = refl
 held-right false (Some i) room views fits long whole = (whole_cartridge i room views (fits i refl) long whole, tt)

@@ -15,10 +15,14 @@ new_plan fails = record { fails = fails; calls = 0; faults = 0 }
 abbrev pub raised : ℕ → ℕ
 raised n = min (n + 1) (2 ^ 64 - 1)
 
+-- a count of failures after one more call, which failed or not
+abbrev pub counted : ℕ → Bool → ℕ
+counted n failed = if failed then raised n else n
+
 -- the next call is one of those that are to fail
 abbrev pub IsChosen : Plan → Type 0
 IsChosen p = Contains p.fails p.calls
 
 -- after one more call, which failed or not
 abbrev pub plan_after : Plan → Bool → Plan
-plan_after p failed = record p { calls = raised p.calls; faults = if failed then raised p.faults else p.faults }
+plan_after p failed = record p { calls = raised p.calls; faults = counted p.faults failed }

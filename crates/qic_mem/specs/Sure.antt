@@ -16,6 +16,7 @@ sure_means = record {
   told = λ t. Some (sure_state t).cartridge;
   size = λ t. (sure_state t).size;
   faults = λ t. 0;
+  failed_last = λ t. false;
   tells_stops = λ t. false;
   moment = λ t. 0;
   left_since = λ t moment left. Unit {0};

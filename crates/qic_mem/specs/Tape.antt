@@ -1,6 +1,6 @@
 -- What a tape in memory shows: its cartridge, its size as told, its room in segments per track, its chosen failures, what
 -- they leave, and the calls that it recorded (this project's profile).
-use Rattle.std.specs.Prelude.{◌≡◌, ◌⊎◌, ℕ, Bool, ◌||◌, Option, Some, is_some, IfSome, IsTrue, if◌then◌else◌}
+use Rattle.std.specs.Prelude.{◌≡◌, ◌⊎◌, ℕ, Bool, ◌||◌, Option, Some, is_some, IfSome, IsTrue, nat_lt, if◌then◌else◌}
 use Rattle.std.specs.Option.{option_map}
 use Rattle.std.proofs.Common.{refl, sym, ap}
 use Rattle.qic_base.specs.Cartridge.{Cartridge, IsLength}
@@ -44,6 +44,7 @@ tape_means = record {
   told = λ t. Some (tape_state t).cartridge;
   size = λ t. (tape_state t).size;
   faults = λ t. (tape_state t).plan.faults;
+  failed_last = λ t. nat_lt 0 (tape_state t).plan.faults;
   tells_stops = λ t. is_some (tape_state t).log;
   moment = λ t. moment_of (tape_state t).log;
   left_since = λ t moment left. left_of (tape_state t).log moment left;
@@ -76,7 +77,10 @@ after_read s failed = record s { plan = plan_after s.plan failed }
 
 -- after a call that told what the cartridge is, or that failed and told nothing
 abbrev pub after_info : TapeState → Bool → TapeState
-after_info s failed = record s { size = if failed then s.size else option_map (λ c. c.info.segments_per_track) s.cartridge; plan = plan_after s.plan failed }
+after_info s failed = record s {
+  size = if failed then s.size else option_map (λ c. c.info.segments_per_track) s.cartridge;
+  plan = plan_after s.plan failed;
+}
 
 -- the laws of a tape
 pub tape-size_fits : (t : MemTape) → IfSome (tape_means.size t) IsLength

@@ -34,11 +34,13 @@ since-earlier (call ∷ calls) t u left order (inr (inr (late, is))) = inr (inr 
 
 -- ---- the same of a tape with a record or with none
 
-pub left-counts : (log : Option TapeLog) (held : Option Cartridge) (t : ℕ) (left : Option Cartridge) → Stands log held → t ≤ moment_of log → left ≡ held → left_of log t left
+pub left-counts : (log : Option TapeLog) (held : Option Cartridge) (t : ℕ) (left : Option Cartridge) → Stands log held → t ≤ moment_of log →
+    left ≡ held → left_of log t left
 left-counts None held t left stands early is = tt
 left-counts (Some l) held t left stands early is = since-now l.calls t left early (is ∙ sym (stands l refl))
 
-pub left-only : (log : Option TapeLog) (held left : Option Cartridge) → Stands log held → is_some log ≡ true → left_of log (moment_of log) left → left ≡ held
+pub left-only : (log : Option TapeLog) (held left : Option Cartridge) → Stands log held → is_some log ≡ true →
+    left_of log (moment_of log) left → left ≡ held
 left-only None held left stands telling was = cc
 left-only (Some l) held left stands telling was = now-since l.calls left was ∙ stands l refl
 

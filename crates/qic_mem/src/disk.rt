@@ -10,7 +10,7 @@ mod disk_bytes;
 mod entry;
 mod log;
 
-use crate::plan::CallPlan;
+use crate::plan::{CallPlan, count_failure};
 use disk_bytes::DiskBytes;
 pub use entry::{DiskChange, DiskEntry};
 use log::{DiskRecord, add_entry, is_full, settle};
@@ -22,6 +22,8 @@ use std::alloc::Global;
 pub struct MemDisk {
     bytes: DiskBytes,
     plan: CallPlan,
+    /// How many of the faults were writes, new lengths and syncs.
+    failed_changes: u64,
     log: Option<DiskRecord>,
     ghost recorded: { IsRecorded log bytes } by { IsRecorded-prop log bytes },
 }
@@ -40,12 +42,14 @@ impl MemDisk {
           seen = 0;
           room = room;
           plan = new_plan fails.items;
+          failed_changes = 0;
           log = None;
         }) }
     {
         Ok(MemDisk {
             bytes: DiskBytes::new(alloc, room)?,
             plan: CallPlan::new(fails),
+            failed_changes: 0,
             log: None,
         })
     }
@@ -64,12 +68,14 @@ impl MemDisk {
           seen = 0;
           room = room;
           plan = new_plan fails.items;
+          failed_changes = 0;
           log = Some (new_log calls bytes);
         }) }
     {
         Ok(MemDisk {
             bytes: DiskBytes::new(alloc, room)?,
             plan: CallPlan::new(fails),
+            failed_changes: 0,
             log: Some(DiskRecord::new(alloc, calls, bytes)?),
         })
     }
@@ -147,6 +153,7 @@ impl Disk for MemDisk {
         let full = is_full(&self.log, from.len());
         let failed = full || self.plan.is_next_chosen();
         self.plan.count(failed);
+        count_failure(&mut self.failed_changes, failed);
         if full {
             settle(&mut self.log);
             return Err(DiskFailed);
@@ -174,6 +181,7 @@ impl Disk for MemDisk {
         let full = is_full(&self.log, 0);
         let failed = full || self.bytes.room() < length || self.plan.is_next_chosen();
         self.plan.count(failed);
+        count_failure(&mut self.failed_changes, failed);
         if full {
             self.bytes.forget();
             settle(&mut self.log);
@@ -200,6 +208,7 @@ impl Disk for MemDisk {
         let full = is_full(&self.log, 0);
         let failed = full || self.plan.is_next_chosen();
         self.plan.count(failed);
+        count_failure(&mut self.failed_changes, failed);
         if full {
             settle(&mut self.log);
             return Err(DiskFailed);

@@ -1,7 +1,7 @@
 //! Calls that are chosen to fail, and the count of faults.
 
 ghost use Rattle.std.specs.Prelude.{◌≡◌, ◌↔◌, ◌≤◌, IsTrue};
-ghost use Rattle.qic_mem.specs.Plan.{new_plan, IsChosen, plan_after};
+ghost use Rattle.qic_mem.specs.Plan.{new_plan, IsChosen, counted, plan_after};
 
 use std::marker::Model;
 
@@ -57,8 +57,16 @@ impl CallPlan {
         ensures never_falls { self.old.faults ≤ self.new.faults }
     {
         self.calls = self.calls.saturating_add(1);
-        if failed {
-            self.faults = self.faults.saturating_add(1);
-        }
+        count_failure(&mut self.faults, failed);
+    }
+}
+
+/// Raises a count of failures where a call failed.
+pub(crate) fn count_failure(count: &mut u64, failed: bool)
+    ensures counted { count.new ≡ counted count.old failed }
+    ensures never_falls { count.old ≤ count.new }
+{
+    if failed {
+        *count = count.saturating_add(1);
     }
 }

@@ -1,5 +1,7 @@
 -- What is written of a mask reads back.
-use Rattle.std.proofs.Common.{◌≡◌, ◌≢◌, ◌⊎◌, inl, inr, ⊎_elim, ℕ, zero, suc, ◌+◌, ◌*◌, ◌/◌, ◌%◌, ◌^◌, ◌<◌, ◌≤◌, ◌==◌, Bool, true, false, List, [], ◌∷◌, ◌++◌, length, Some, None, if◌then◌else◌, ◌&&◌, nat_lt, nat_le, refl, sym, ap, ◌∙◌, subst, arith, append_assoc, append-nil, codes}
+use Rattle.std.proofs.Common.{◌≡◌, ◌≢◌, ◌⊎◌, inl, inr, ⊎_elim, ℕ, zero, suc, ◌+◌, ◌*◌, ◌/◌, ◌%◌, ◌^◌, ◌<◌, ◌≤◌, ◌==◌, Bool, true, false}
+use Rattle.std.proofs.Common.{List, [], ◌∷◌, ◌++◌, length, Some, None, if◌then◌else◌, ◌&&◌, nat_lt, nat_le, refl, sym, ap, ◌∙◌, subst}
+use Rattle.std.proofs.Common.{arith, append_assoc, append-nil, codes}
 use Rattle.std.proofs.lemmas.Bool.{ne_eqb, eq-eqb, lt-ltb, le-leb}
 use Rattle.std.proofs.lemmas.Bool.Decides.{nat_tests}
 use Rattle.rescue_map.specs.declared.spelling.Word.TheVariants.{Number, Mark}
@@ -33,12 +35,14 @@ digits_from-push : (base so_far value b : ℕ) (bs : List ℕ) → digits_from b
 digits_from-push base so_far value b [] e low =
     let same : so_far ≡ value = cc in
     digits_from-digit base so_far b [] low ∙ ap (λ (n : ℕ). Some (n * base + digit_value b)) same
-digits_from-push base so_far value b (c ∷ bs) e low = by_test (nat_lt (digit_value c) base) (λ so e. digits_from-push base so value b bs e low) e where
-  by_test : (t : Bool) → ((so : ℕ) → digits_from base so bs ≡ Some value → digits_from base so (bs ++ b ∷ []) ≡ Some (value * base + digit_value b)) →
-      (if t then digits_from base (so_far * base + digit_value c) bs else None) ≡ Some value →
-      (if t then digits_from base (so_far * base + digit_value c) (bs ++ b ∷ []) else None) ≡ Some (value * base + digit_value b)
-  by_test true next e = next (so_far * base + digit_value c) e
-  by_test false next e = absurd (cc)
+digits_from-push base so_far value b (c ∷ bs) e low = by_test (nat_lt (digit_value c) base)
+    (λ so e. digits_from-push base so value b bs e low) e where
+      by_test : (t : Bool) → ((so : ℕ) → digits_from base so bs ≡ Some value → digits_from base so (bs ++ b ∷ []) ≡ Some
+          (value * base + digit_value b)) →
+          (if t then digits_from base (so_far * base + digit_value c) bs else None) ≡ Some value →
+          (if t then digits_from base (so_far * base + digit_value c) (bs ++ b ∷ []) else None) ≡ Some (value * base + digit_value b)
+      by_test true next e = next (so_far * base + digit_value c) e
+      by_test false next e = absurd (cc)
 
 hex_value : (count n : ℕ) → n < 16 ^ count → digits_from 16 0 (hex_digits count n) ≡ Some n
 hex_value zero n few = ap (λ (k : ℕ). Some k) (let z : 0 ≡ n = omega arith in z)
@@ -119,12 +123,14 @@ length-hex_text : (n : ℕ) → length (hex_text n) ≡ 10
 unfolding hex_text
 length-hex_text n = refl
 
-block_words : (block : Block) → 36 ≤ block.mark → words_from [] (line_front block ++ block.mark ∷ []) ≡ hex_text block.start ∷ hex_text block.size ∷ (block.mark ∷ []) ∷ []
+block_words : (block : Block) → 36 ≤ block.mark →
+    words_from [] (line_front block ++ block.mark ∷ []) ≡ hex_text block.start ∷ hex_text block.size ∷ (block.mark ∷ []) ∷ []
 block_words block high =
     let s = length-hex_text block.start in
     let z = length-hex_text block.size in
     ap (words_from []) (append_assoc (hex_text block.start) (32 ∷ 32 ∷ (hex_text block.size ++ (32 ∷ 32 ∷ []))) (block.mark ∷ []))
-    ∙ words_from-word (hex_text block.start) ((hex_text block.size ++ (32 ∷ 32 ∷ [])) ++ block.mark ∷ []) (Plain-hex_text block.start) (omega arith)
+    ∙ words_from-word (hex_text block.start) ((hex_text block.size ++ (32 ∷ 32 ∷ [])) ++ block.mark ∷ []) (Plain-hex_text block.start)
+    (omega arith)
     ∙ ap (λ (ws : List (List ℕ)). hex_text block.start ∷ ws)
     (ap (words_from []) (append_assoc (hex_text block.size) (32 ∷ 32 ∷ []) (block.mark ∷ []))
     ∙ words_from-word (hex_text block.size) (block.mark ∷ []) (Plain-hex_text block.size) (omega arith)
@@ -166,7 +172,8 @@ words_said block awaits.First run fits =
 words_said block (awaits.Next end) run fits =
     let ends = run.fits in
     let here : (block.start == end) ≡ true = eq-eqb block.start end fits in
-    rw (hex_word block.start (omega arith), hex_word block.size (omega arith), mark_word block.mark run.mark, block_said block run, here) refl
+    rw (hex_word block.start (omega arith), hex_word block.size (omega arith), mark_word block.mark run.mark, block_said block run, here)
+    refl
 
 -- ---- the lines of the text
 
@@ -180,7 +187,8 @@ line_no_newline : (block : Block) → 36 ≤ block.mark → NoNewline (line_fron
 line_no_newline block high =
     not_newline (line_front block ++ block.mark ∷ [])
     (OtherBytes-append (line_front block) (block.mark ∷ [])
-    (OtherBytes-append (hex_text block.start) (32 ∷ 32 ∷ (hex_text block.size ++ (32 ∷ 32 ∷ []))) (OtherBytes-plain (hex_text block.start) (Plain-hex_text block.start)) (
+    (OtherBytes-append (hex_text block.start) (32 ∷ 32 ∷ (hex_text block.size ++ (32 ∷ 32 ∷ [])))
+    (OtherBytes-plain (hex_text block.start) (Plain-hex_text block.start)) (
       (λ e. omega arith),
       (
         (λ e. omega arith),
@@ -202,7 +210,8 @@ text_parts block rest = refl
 mark_high : (mark : ℕ) → (mark ≡ 43) ⊎ (mark ≡ 45) → 36 ≤ mark
 mark_high mark either = ⊎_elim (λ e. omega arith) (λ e. omega arith) either
 
-block_read : (block : Block) (rest : List ℕ) (blocks : List Block) (expected : Expected) (number : ℕ) → IsRun block → Fits block.start expected → number ≤ most_lines →
+block_read : (block : Block) (rest : List ℕ) (blocks : List Block) (expected : Expected) (number : ℕ) → IsRun block →
+    Fits block.start expected → number ≤ most_lines →
     behind_lines (Going blocks expected number) (lines_of (block_text block ++ rest))
     ≡ behind_lines (Going (blocks ++ block ∷ []) (awaits.Next (block.start + block.size)) (number + 1)) (lines_of rest)
 block_read block rest blocks expected number run fits few =
@@ -210,17 +219,20 @@ block_read block rest blocks expected number run fits few =
     let body : List ℕ = line_front block ++ block.mark ∷ [] in
     let line : Line = record { bytes = body; ended = true } in
     let content : content_of line ≡ body = without_return-push (line_front block) block.mark (λ e. omega arith) in
-    let words : words_of line ≡ hex_text block.start ∷ hex_text block.size ∷ (block.mark ∷ []) ∷ [] = ap (words_from []) content ∙ block_words block high in
+    let words : words_of line ≡ hex_text block.start ∷ hex_text block.size ∷ (block.mark ∷ []) ∷ [] = ap (words_from []) content
+    ∙ block_words block high in
     let says : line_says expected (words_of line) ≡ said.Block block = ap (line_says expected) words ∙ words_said block expected run fits in
     let long = length-line block in
     let a : nat_lt most_lines number ≡ false = grind (arith, nat_tests) in
     let b : nat_le endless (length line.bytes) ≡ false = rw long refl in
-    let there : behind_line (Going blocks expected number) line ≡ behind_said blocks expected number (line_says expected (words_of line)) = rw (a, b) refl in
+    let there : behind_line (Going blocks expected number) line ≡ behind_said blocks expected number (line_says expected (words_of line)) =
+    rw (a, b) refl in
     ap (λ (t : List ℕ). behind_lines (Going blocks expected number) (lines_of t)) (text_parts block rest)
     ∙ ap (behind_lines (Going blocks expected number)) (lines_of-ended body rest (line_no_newline block high))
     ∙ ap (λ (s : State). behind_lines s (lines_of rest)) (there ∙ ap (behind_said blocks expected number) says)
 
-blocks_read : (blocks before : List Block) (expected : Expected) (at number : ℕ) → Meet at blocks → Fits at expected → number + length blocks ≤ most_lines + 1 →
+blocks_read : (blocks before : List Block) (expected : Expected) (at number : ℕ) → Meet at blocks → Fits at expected →
+    number + length blocks ≤ most_lines + 1 →
     behind_all (behind_lines (Going before expected number) (lines_of (blocks_text blocks))) ≡ Blocks (before ++ blocks)
 blocks_read [] before awaits.Status at number meet fits few = absurd fits
 blocks_read [] before awaits.First at number meet fits few = ap (λ (bs : List Block). Blocks bs) (sym (append-nil before))
@@ -228,10 +240,12 @@ blocks_read [] before (awaits.Next end) at number meet fits few = ap (λ (bs : L
 blocks_read (block ∷ blocks) before expected at number meet fits few =
     let P : ℕ → Type 0 = λ n. Fits n expected in
     ap behind_all (block_read block (blocks_text blocks) before expected number meet.1 (subst P (sym meet.0) fits) (omega arith))
-    ∙ blocks_read blocks (before ++ block ∷ []) (awaits.Next (block.start + block.size)) (block.start + block.size) (number + 1) meet.2 refl (omega arith)
+    ∙ blocks_read blocks (before ++ block ∷ []) (awaits.Next (block.start + block.size)) (block.start + block.size) (number + 1) meet.2 refl
+    (omega arith)
     ∙ ap (λ (bs : List Block). Blocks bs) (append_assoc before (block ∷ []) blocks)
 
-head_read : (rest : List ℕ) → behind_lines (Going [] awaits.Status 1) (lines_of (head_text ++ rest)) ≡ behind_lines (Going [] awaits.First 5) (lines_of rest)
+head_read : (rest : List ℕ) → behind_lines (Going [] awaits.Status 1) (lines_of (head_text ++ rest)) ≡ behind_lines
+    (Going [] awaits.First 5) (lines_of rest)
 unfolding head_text
 head_read rest = refl
 

@@ -1,5 +1,6 @@
 -- The words of a line, cut from its bytes one after the other.
-use Rattle.std.proofs.Common.{◌≡◌, ℕ, ◌+◌, ◌-◌, ◌<◌, ◌≤◌, ◌==◌, Bool, true, false, List, [], ◌∷◌, ◌++◌, length, get_or, take, set, min, if◌then◌else◌, nat_lt, refl, sym, ap, ◌∙◌, subst, ⊎_elim, ◌&&◌, append_assoc, append-nil, arith}
+use Rattle.std.proofs.Common.{◌≡◌, ℕ, ◌+◌, ◌-◌, ◌<◌, ◌≤◌, ◌==◌, Bool, true, false, List, [], ◌∷◌, ◌++◌, length, get_or, take, set, min}
+use Rattle.std.proofs.Common.{if◌then◌else◌, nat_lt, refl, sym, ap, ◌∙◌, subst, ⊎_elim, ◌&&◌, append_assoc, append-nil, arith}
 use Rattle.std.proofs.lemmas.Bool.Decides.{nat_tests}
 use Rattle.std.proofs.lemmas.Bool.{cases_lt, cases_eq, eq-eqb, ne_eqb, false≢true}
 use Rattle.std.proofs.lemmas.List.{length_push, length-take-le, get_or_append_left, get_or_at, take_all, take_more_set, take-append-le}
@@ -35,7 +36,8 @@ word_at-past list x k past =
     let long : length (list ++ x ∷ []) ≡ length list + 1 = length_push list x in
     word_at-above (list ++ x ∷ []) k (omega arith) ∙ sym (word_at-above list k (omega arith))
 
-pub push_second : (old : LineWords) (word : Word) (list : List (List ℕ)) (x : List ℕ) → AreWords old list → old.count ≡ 1 → word ≡ word_is x →
+pub push_second : (old : LineWords) (word : Word) (list : List (List ℕ)) (x : List ℕ) → AreWords old list → old.count ≡ 1 →
+    word ≡ word_is x →
     AreWords record { first = old.first; second = word; third = old.third; count = 2 } (list ++ x ∷ [])
 push_second old word list x are count is =
     let c = are.count in
@@ -48,7 +50,8 @@ push_second old word list x are count is =
       count = omega arith;
     }
 
-pub push_third : (old : LineWords) (word : Word) (list : List (List ℕ)) (x : List ℕ) → AreWords old list → old.count ≡ 2 → word ≡ word_is x →
+pub push_third : (old : LineWords) (word : Word) (list : List (List ℕ)) (x : List ℕ) → AreWords old list → old.count ≡ 2 →
+    word ≡ word_is x →
     AreWords record { first = old.first; second = old.second; third = word; count = 3 } (list ++ x ∷ [])
 push_third old word list x are count is =
     let c = are.count in
@@ -90,7 +93,8 @@ word_is-take begun = ⊎_elim few many (cases_lt (length begun) 32) where
 
 -- the word that has begun is over
 pub close_some : (scan : Scan) (words : LineWords) (over : List (List ℕ)) (begun : List ℕ) →
-    ((list : List (List ℕ)) (bytes : List ℕ) → AreWords scan.words list → word_is (take scan.len scan.begun) ≡ word_is bytes → AreWords words (list ++ bytes ∷ [])) →
+    ((list : List (List ℕ)) (bytes : List ℕ) → AreWords scan.words list → word_is (take scan.len scan.begun) ≡ word_is bytes →
+    AreWords words (list ++ bytes ∷ [])) →
     0 < scan.len → AreWords scan.words over → IsBegun scan begun → AreWords words (over ++ begun_word begun)
 close_some scan words over begun push some are is =
     let long = is.long in
@@ -101,17 +105,20 @@ close_some scan words over begun push some are is =
     subst P (sym e) (push over begun are word)
 
 -- a byte more is kept
-pub keep_some : (begun : List ℕ) (len byte : ℕ) (buffer : List ℕ) → len < 32 → length buffer ≡ 32 → take len buffer ≡ take 32 begun → len ≡ min (length begun) 32 →
+pub keep_some : (begun : List ℕ) (len byte : ℕ) (buffer : List ℕ) → len < 32 → length buffer ≡ 32 → take len buffer ≡ take 32 begun →
+    len ≡ min (length begun) 32 →
     (take (len + 1) (set buffer len byte) ≡ take 32 (begun ++ byte ∷ [])) × (len + 1 ≡ min (length (begun ++ byte ∷ [])) 32)
 keep_some begun len byte buffer room full kept long =
     let l = length_push begun byte in
     let few : length begun ≤ 32 = omega arith in
     let more : length (begun ++ byte ∷ []) ≤ 32 = omega arith in (
-      take_more_set buffer len byte (omega arith) ∙ ap (λ xs. xs ++ byte ∷ []) (kept ∙ take_all 32 begun few) ∙ sym (take_all 32 (begun ++ byte ∷ []) more),
+      take_more_set buffer len byte (omega arith) ∙ ap (λ xs. xs ++ byte ∷ []) (kept ∙ take_all 32 begun few)
+          ∙ sym (take_all 32 (begun ++ byte ∷ []) more),
       omega arith,
     )
 
-pub keep_none : (begun : List ℕ) (len byte : ℕ) (buffer : List ℕ) → 32 ≤ len → take len buffer ≡ take 32 begun → len ≡ min (length begun) 32 →
+pub keep_none : (begun : List ℕ) (len byte : ℕ) (buffer : List ℕ) → 32 ≤ len → take len buffer ≡ take 32 begun →
+    len ≡ min (length begun) 32 →
     (take len buffer ≡ take 32 (begun ++ byte ∷ [])) × (len ≡ min (length (begun ++ byte ∷ [])) 32)
 keep_none begun len byte buffer full kept long =
     let l = length_push begun byte in
@@ -121,7 +128,8 @@ keep_none begun len byte buffer full kept long =
 -- ---- a byte of a line
 
 -- a record of the same parts is cut so, too
-pub Cut-same : (old new : Scan) (bytes : List ℕ) → new.words ≡ old.words → new.begun ≡ old.begun → new.len ≡ old.len → new.comment ≡ old.comment → Cut old bytes → Cut new bytes
+pub Cut-same : (old new : Scan) (bytes : List ℕ) → new.words ≡ old.words → new.begun ≡ old.begun → new.len ≡ old.len →
+    new.comment ≡ old.comment → Cut old bytes → Cut new bytes
 Cut-same old new bytes words begun len comment cut = record {
   over = cut.over;
   begun = cut.begun;
@@ -131,21 +139,26 @@ Cut-same old new bytes words begun len comment cut = record {
   quiet = λ c. len ∙ cut.quiet (sym comment ∙ c);
 }
 
-next_words : (bytes : List ℕ) (byte : ℕ) (rest : List ℕ) → words_from [] ((bytes ++ byte ∷ []) ++ rest) ≡ words_from [] (bytes ++ byte ∷ rest)
+next_words : (bytes : List ℕ) (byte : ℕ) (rest : List ℕ) → words_from [] ((bytes ++ byte ∷ []) ++ rest) ≡ words_from []
+    (bytes ++ byte ∷ rest)
 next_words bytes byte rest = ap (words_from []) (append_assoc bytes (byte ∷ []) rest)
 
 -- a blank
-pub push_blank : (old new : Scan) (bytes : List ℕ) (byte : ℕ) → is_blank byte ≡ true → old.comment ≡ false → new.comment ≡ old.comment → new.len ≡ 0 →
-    ((over : List (List ℕ)) (begun : List ℕ) → AreWords old.words over → IsBegun old begun → AreWords new.words (over ++ begun_word begun)) →
+pub push_blank : (old new : Scan) (bytes : List ℕ) (byte : ℕ) → is_blank byte ≡ true → old.comment ≡ false → new.comment ≡ old.comment →
+    new.len ≡ 0 →
+    ((over : List (List ℕ)) (begun : List ℕ) → AreWords old.words over → IsBegun old begun →
+    AreWords new.words (over ++ begun_word begun)) →
     Cut old bytes → Cut new (bytes ++ byte ∷ [])
 push_blank old new bytes byte blank none same len closed cut = record {
   over = cut.over ++ begun_word cut.begun;
   begun = [];
   words = λ rest.
-      let first : words_from [] (bytes ++ byte ∷ rest) ≡ cut.over ++ words_from cut.begun (byte ∷ rest) = cut.words (byte ∷ rest) ∙ rw none refl in
+      let first : words_from [] (bytes ++ byte ∷ rest) ≡ cut.over ++ words_from cut.begun (byte ∷ rest) = cut.words (byte ∷ rest)
+      ∙ rw none refl in
       let next : words_from cut.begun (byte ∷ rest) ≡ begun_word cut.begun ++ words_from [] rest = rw blank refl in
       let last : (if new.comment then [] else words_from [] rest) ≡ words_from [] rest = rw (same, none) refl in
-      next_words bytes byte rest ∙ first ∙ ap (λ ws. cut.over ++ ws) next ∙ sym (append_assoc cut.over (begun_word cut.begun) (words_from [] rest))
+      next_words bytes byte rest ∙ first ∙ ap (λ ws. cut.over ++ ws) next
+      ∙ sym (append_assoc cut.over (begun_word cut.begun) (words_from [] rest))
       ∙ ap (λ ws. (cut.over ++ begun_word cut.begun) ++ ws) (sym last);
   are = closed cut.over cut.begun cut.are cut.is_begun;
   is_begun = record { kept = rw len refl; long = len };
@@ -153,8 +166,10 @@ push_blank old new bytes byte blank none same len closed cut = record {
 }
 
 -- a byte of a word
-pub push_byte : (old new : Scan) (bytes : List ℕ) (byte : ℕ) → is_blank byte ≡ false → (byte ≡ 35 → old.len ≡ 0 → ⊥) → old.comment ≡ false → new.comment ≡ old.comment →
-    new.words ≡ old.words → ((begun : List ℕ) → IsBegun old begun → IsBegun new (begun ++ byte ∷ [])) → Cut old bytes → Cut new (bytes ++ byte ∷ [])
+pub push_byte : (old new : Scan) (bytes : List ℕ) (byte : ℕ) → is_blank byte ≡ false → (byte ≡ 35 → old.len ≡ 0 → ⊥) → old.comment ≡ false →
+    new.comment ≡ old.comment →
+    new.words ≡ old.words → ((begun : List ℕ) → IsBegun old begun → IsBegun new (begun ++ byte ∷ [])) → Cut old bytes →
+    Cut new (bytes ++ byte ∷ [])
 push_byte old new bytes byte blank hash none same words kept cut = record {
   over = cut.over;
   begun = cut.begun ++ byte ∷ [];
@@ -162,7 +177,8 @@ push_byte old new bytes byte blank hash none same words kept cut = record {
       let long = cut.is_begun.long in
       let no_hash : ((length cut.begun == 0) && (byte == 35)) ≡ false = not_both cut.begun byte old.len long hash in
       let next : words_from cut.begun (byte ∷ rest) ≡ words_from (cut.begun ++ byte ∷ []) rest = rw (blank, no_hash) refl in
-      let last : (if new.comment then [] else words_from (cut.begun ++ byte ∷ []) rest) ≡ words_from (cut.begun ++ byte ∷ []) rest = rw (same, none) refl in
+      let last : (if new.comment then [] else words_from (cut.begun ++ byte ∷ []) rest) ≡ words_from (cut.begun ++ byte ∷ []) rest =
+      rw (same, none) refl in
       next_words bytes byte rest ∙ cut.words (byte ∷ rest) ∙ rw (none, next) (ap (λ ws. cut.over ++ ws) (sym last));
   are = (let P : LineWords → Type 0 = λ w. AreWords w cut.over in subst P (sym words) cut.are);
   is_begun = kept cut.begun cut.is_begun;
@@ -172,9 +188,11 @@ push_byte old new bytes byte blank hash none same words kept cut = record {
   last_false true = refl
   last_false false = refl
 
-  not_both : (begun : List ℕ) (byte len : ℕ) → len ≡ min (length begun) 32 → (byte ≡ 35 → len ≡ 0 → ⊥) → ((length begun == 0) && (byte == 35)) ≡ false
+  not_both : (begun : List ℕ) (byte len : ℕ) → len ≡ min (length begun) 32 → (byte ≡ 35 → len ≡ 0 → ⊥) →
+      ((length begun == 0) && (byte == 35)) ≡ false
   not_both begun byte len long hash = ⊎_elim
-      (λ e. ⊎_elim (λ z. absurd (hash e z)) (λ z. let n : (length begun == 0) ≡ false = ne_eqb (length begun) 0 (λ l. z (omega arith)) in rw n refl) (cases_eq len 0))
+      (λ e. ⊎_elim (λ z. absurd (hash e z)) (λ z. let n : (length begun == 0) ≡ false = ne_eqb (length begun) 0 (λ l. z (omega arith)) in
+      rw n refl) (cases_eq len 0))
       (λ e. let n : (byte == 35) ≡ false = ne_eqb byte 35 e in rw n (last_false (length begun == 0)))
       (cases_eq byte 35)
 
@@ -197,7 +215,8 @@ pub without_return-push : (line : List ℕ) (byte : ℕ) → (byte ≡ 13 → �
 without_return-push line byte other =
     let l = length_push line byte in
     let at : length line ≡ length (line ++ byte ∷ []) - 1 = omega arith in
-    let last : get_or (line ++ byte ∷ []) (length (line ++ byte ∷ []) - 1) 0 ≡ byte = get_or_at line byte [] 0 (length (line ++ byte ∷ []) - 1) at in
+    let last : get_or (line ++ byte ∷ []) (length (line ++ byte ∷ []) - 1) 0 ≡ byte = get_or_at line byte [] 0
+    (length (line ++ byte ∷ []) - 1) at in
     let no : (get_or (line ++ byte ∷ []) (length (line ++ byte ∷ []) - 1) 0 == 13) ≡ false = ne_eqb _ 13 (λ e. other (sym last ∙ e)) in
     rw no refl
 
@@ -211,7 +230,8 @@ without_return-return line =
     rw yes (ap (λ (n : ℕ). take n (line ++ 13 ∷ [])) (sym at) ∙ take-append_seam line (13 ∷ []))
 
 -- a newline drops a carriage return before it
-pub ended_cut : (scan : Scan) (line : List ℕ) (ended : Bool) → ended ≡ true → Scanned scan line → Cut scan (content_of record { bytes = line; ended = ended })
+pub ended_cut : (scan : Scan) (line : List ℕ) (ended : Bool) → ended ≡ true → Scanned scan line →
+    Cut scan (content_of record { bytes = line; ended = ended })
 ended_cut scan line ended over scanned =
     let P : List ℕ → Type 0 = λ bytes. Cut scan bytes in
     let content : content_of record { bytes = line; ended = ended } ≡ without_return line = rw over refl in

@@ -1,5 +1,6 @@
 -- Numbers in digits.
-use Rattle.std.proofs.Common.{◌≡◌, ℕ, ◌+◌, ◌-◌, ◌*◌, ◌/◌, ◌%◌, ◌==◌, ◌^◌, length, drop, get_or, ◌<◌, ◌≤◌, Bool, true, false, List, [], ◌∷◌, Option, Some, None, IfSome, if◌then◌else◌, nat_lt, refl, sym, arith}
+use Rattle.std.proofs.Common.{◌≡◌, ℕ, ◌+◌, ◌-◌, ◌*◌, ◌/◌, ◌%◌, ◌==◌, ◌^◌, length, drop, get_or, ◌<◌, ◌≤◌, Bool, true, false, List, [], ◌∷◌}
+use Rattle.std.proofs.Common.{Option, Some, None, IfSome, if◌then◌else◌, nat_lt, refl, sym, arith}
 use Rattle.std.proofs.lemmas.Bool.Decides.{nat_tests}
 use Rattle.std.proofs.lemmas.List.{drop_more}
 use Rattle.std.proofs.Math.Nat.{mul-le-mul_left, mul_comm, div-add-mod, mod-lt}
@@ -31,7 +32,8 @@ grows base so_far (b ∷ bs) some = by_test (nat_lt (digit_value b) base) (grows
   by_test false h = tt
 
 -- a number that is too great stays so
-limited-great : (decimal : Bool) (base so_far : ℕ) (bs : List ℕ) → 1 ≤ base → 2 ^ 63 ≤ so_far → limited decimal (digits_from base so_far bs) ≡ Other
+limited-great : (decimal : Bool) (base so_far : ℕ) (bs : List ℕ) → 1 ≤ base → 2 ^ 63 ≤ so_far →
+    limited decimal (digits_from base so_far bs) ≡ Other
 limited-great decimal base so_far bs some great = by_option (digits_from base so_far bs) (grows base so_far bs some) where
   by_option : (o : Option ℕ) → IfSome o (λ n. so_far ≤ n) → limited decimal o ≡ Other
   by_option None h = refl

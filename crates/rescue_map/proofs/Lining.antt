@@ -1,5 +1,6 @@
 -- The lines of a text.
-use Rattle.std.proofs.Common.{◌≡◌, ◌≢◌, ℕ, ◌+◌, ◌<◌, ◌≤◌, ◌==◌, Bool, true, false, List, [], ◌∷◌, ◌++◌, length, Option, Some, None, if◌then◌else◌, refl, sym, ap, ◌∙◌, subst, arith, append_assoc, append-nil}
+use Rattle.std.proofs.Common.{◌≡◌, ◌≢◌, ℕ, ◌+◌, ◌<◌, ◌≤◌, ◌==◌, Bool, true, false, List, [], ◌∷◌, ◌++◌, length, Option, Some, None}
+use Rattle.std.proofs.Common.{if◌then◌else◌, refl, sym, ap, ◌∙◌, subst, arith, append_assoc, append-nil}
 use Rattle.std.proofs.lemmas.Bool.{ne_eqb, false≢true}
 use Rattle.std.proofs.lemmas.List.{length_push, nil_from_length}
 use Rattle.std.proofs.lemmas.List.Elements.{All-push}
@@ -24,7 +25,8 @@ pub record LineSoFar (old new : Option (List ℕ)) (scan : Scan) (count : ℕ) :
   pub scanned : Scanned scan line
   pub gave : WereGiven old new line
 
-pub next_byte : (old new now : Option (List ℕ)) (scan next : Scan) (count byte : ℕ) → (far : LineSoFar old new scan count) → byte ≢ 10 → WereGiven new now (byte ∷ []) →
+pub next_byte : (old new now : Option (List ℕ)) (scan next : Scan) (count byte : ℕ) → (far : LineSoFar old new scan count) → byte ≢ 10 →
+    WereGiven new now (byte ∷ []) →
     ((line : List ℕ) → Scanned scan line → Scanned next (line ++ byte ∷ [])) → LineSoFar old now next (count + 1)
 next_byte old new now scan next count byte far other gave taken = record {
   line = far.line ++ byte ∷ [];
@@ -42,10 +44,12 @@ lines_from-bytes begun [] rest none = ap (λ xs. lines_from xs rest) (sym (appen
 lines_from-bytes begun (b ∷ line) rest none =
     let other : (b == 10) ≡ false = ne_eqb b 10 (NoNewline-head b line none) in
     let next : lines_from begun (b ∷ (line ++ rest)) ≡ lines_from (begun ++ b ∷ []) (line ++ rest) = rw other refl in
-    next ∙ lines_from-bytes (begun ++ b ∷ []) line rest (NoNewline-tail b line none) ∙ ap (λ xs. lines_from xs rest) (append_assoc begun (b ∷ []) line)
+    next ∙ lines_from-bytes (begun ++ b ∷ []) line rest (NoNewline-tail b line none)
+    ∙ ap (λ xs. lines_from xs rest) (append_assoc begun (b ∷ []) line)
 
 -- a line that a newline ends
-pub lines_of-ended : (line rest : List ℕ) → NoNewline line → lines_of ((line ++ 10 ∷ []) ++ rest) ≡ record { bytes = line; ended = true } ∷ lines_of rest
+pub lines_of-ended : (line rest : List ℕ) → NoNewline line →
+    lines_of ((line ++ 10 ∷ []) ++ rest) ≡ record { bytes = line; ended = true } ∷ lines_of rest
 lines_of-ended line rest none = ap lines_of (append_assoc line (10 ∷ []) rest) ∙ lines_from-bytes [] line (10 ∷ rest) none
 
 -- the last line
@@ -65,11 +69,23 @@ lines_from-long : (begun rest : List ℕ) → 0 < length begun → LongLine (lin
 lines_from-long begun [] some =
     let there : (length begun == 0) ≡ false = ne_eqb (length begun) 0 (λ e. omega arith) in
     record { line = record { bytes = begun; ended = false }; lines_behind = []; are = rw there refl; long = omega arith }
-lines_from-long begun (b ∷ rest) some = by_test (b == 10) (lines_from-long (begun ++ b ∷ []) rest (let l = length_push begun b in omega arith)) where
-  by_test : (t : Bool) → LongLine (lines_from (begun ++ b ∷ []) rest) (length (begun ++ b ∷ [])) →
-      LongLine (if t then record { bytes = begun; ended = true } ∷ lines_from [] rest else lines_from (begun ++ b ∷ []) rest) (length begun)
-  by_test true next = record { line = record { bytes = begun; ended = true }; lines_behind = lines_from [] rest; are = refl; long = omega arith }
-  by_test false next = record { line = next.line; lines_behind = next.lines_behind; are = next.are; long = (let l = length_push begun b in let n = next.long in omega arith) }
+lines_from-long begun (b ∷ rest) some = by_test (b == 10)
+    (lines_from-long (begun ++ b ∷ []) rest (let l = length_push begun b in omega arith)) where
+      by_test : (t : Bool) → LongLine (lines_from (begun ++ b ∷ []) rest) (length (begun ++ b ∷ [])) →
+          LongLine (if t then record { bytes = begun; ended = true } ∷ lines_from [] rest else lines_from (begun ++ b ∷ []) rest)
+          (length begun)
+      by_test true next = record {
+        line = record { bytes = begun; ended = true };
+        lines_behind = lines_from [] rest;
+        are = refl;
+        long = omega arith;
+      }
+      by_test false next = record {
+        line = next.line;
+        lines_behind = next.lines_behind;
+        are = next.are;
+        long = (let l = length_push begun b in let n = next.long in omega arith);
+      }
 
 pub lines_of-long : (line rest : List ℕ) → NoNewline line → 0 < length line → LongLine (lines_of (line ++ rest)) (length line)
 lines_of-long line rest none some =
@@ -81,7 +97,12 @@ pub first_line : (byte : ℕ) (rest : List ℕ) → LongLine (lines_of (byte ∷
 first_line byte rest = by_test (byte == 10) (lines_from-long (byte ∷ []) rest (omega arith)) where
   by_test : (t : Bool) → LongLine (lines_from (byte ∷ []) rest) 1 →
       LongLine (if t then record { bytes = []; ended = true } ∷ lines_from [] rest else lines_from (byte ∷ []) rest) 0
-  by_test true next = record { line = record { bytes = []; ended = true }; lines_behind = lines_from [] rest; are = refl; long = omega arith }
+  by_test true next = record {
+    line = record { bytes = []; ended = true };
+    lines_behind = lines_from [] rest;
+    are = refl;
+    long = omega arith;
+  }
   by_test false next = record { line = next.line; lines_behind = next.lines_behind; are = next.are; long = omega arith }
 
 -- ---- what a line's reading gives
@@ -92,7 +113,8 @@ TookLine old now words ended =
     × AreWords words (words_of record { bytes = bytes; ended = ended })
     × WereGiven old now (bytes ++ newline_of ended) × (ended ≡ false → NoneLeft now)
 
-pub took_ended : (old new now : Option (List ℕ)) (scan : Scan) (count : ℕ) (words : LineWords) → (far : LineSoFar old new scan count) → count < endless → WereGiven new now (10 ∷ []) →
+pub took_ended : (old new now : Option (List ℕ)) (scan : Scan) (count : ℕ) (words : LineWords) → (far : LineSoFar old new scan count) →
+    count < endless → WereGiven new now (10 ∷ []) →
     ((line : List ℕ) → Scanned scan line → AreWords words (words_of record { bytes = line; ended = true })) → TookLine old now words true
 took_ended old new now scan count words far few gave finished =
     let long = far.long in (
@@ -105,7 +127,8 @@ took_ended old new now scan count words far few gave finished =
       (λ e. absurd (false≢true (sym e))),
     )
 
-pub took_last : (old new now : Option (List ℕ)) (scan : Scan) (count : ℕ) (words : LineWords) → (far : LineSoFar old new scan count) → count < endless → (count ≡ 0 → ⊥) →
+pub took_last : (old new now : Option (List ℕ)) (scan : Scan) (count : ℕ) (words : LineWords) → (far : LineSoFar old new scan count) →
+    count < endless → (count ≡ 0 → ⊥) →
     NoneLeft new → WereGiven new now [] →
     ((line : List ℕ) → Scanned scan line → AreWords words (words_of record { bytes = line; ended = false })) → TookLine old now words false
 took_last old new now scan count words far few some ended gave finished =
@@ -119,7 +142,8 @@ took_last old new now scan count words far few some ended gave finished =
       (λ e. NoneLeft-now new now ended gave),
     )
 
-pub took_none : (old new now : Option (List ℕ)) (scan : Scan) (count : ℕ) → (far : LineSoFar old new scan count) → count ≡ 0 → NoneLeft new → WereGiven new now [] →
+pub took_none : (old new now : Option (List ℕ)) (scan : Scan) (count : ℕ) → (far : LineSoFar old new scan count) → count ≡ 0 →
+    NoneLeft new → WereGiven new now [] →
     NoneLeft old × WereGiven old now []
 took_none old new now scan count far none ended gave =
     let empty : far.line ≡ [] = nil_from_length far.line (far.long ∙ none) in

@@ -1,5 +1,6 @@
 -- The text of a map, written piece by piece.
-use Rattle.std.proofs.Common.{◌≡◌, ℕ, suc, ◌+◌, ◌-◌, ◌*◌, ◌<◌, ◌==◌, Bool, true, false, not, List, [], ◌∷◌, ◌++◌, Result, Ok, Err, if◌then◌else◌, refl, sym, ap, ◌∙◌, arith, append_assoc, add_assoc}
+use Rattle.std.proofs.Common.{◌≡◌, ℕ, suc, ◌+◌, ◌-◌, ◌*◌, ◌<◌, ◌==◌, Bool, true, false, not, List, [], ◌∷◌, ◌++◌, Result, Ok, Err}
+use Rattle.std.proofs.Common.{if◌then◌else◌, refl, sym, ap, ◌∙◌, arith, append_assoc, add_assoc}
 use Rattle.std.proofs.lemmas.Bool.{eq-eqb}
 use mathlib.Core.Bool.{beq}
 use Rattle.qic_base.specs.Sink.{Meaning, Wrote}
@@ -16,7 +17,8 @@ pub record Written {K : Type 0} (m : Meaning K) (old new : K) (text rest : List 
 
 -- ---- bytes that are written
 
-pub write_next : {K : Type 0} {m : Meaning K} {old new now : K} {text rest : List ℕ} (piece more : List ℕ) → TakesBoth m → piece ++ more ≡ rest → Written m old new text rest → Wrote m new now piece →
+pub write_next : {K : Type 0} {m : Meaning K} {old new now : K} {text rest : List ℕ} (piece more : List ℕ) → TakesBoth m →
+    piece ++ more ≡ rest → Written m old new text rest → Wrote m new now piece →
     Written m old now text more
 write_next piece more both parts written wrote = record {
   front = written.front ++ piece;
@@ -24,14 +26,16 @@ write_next piece more both parts written wrote = record {
   wrote = Wrote-Wrote both written.wrote wrote;
 }
 
-pub write_broke : {K : Type 0} {m : Meaning K} {old new now : K} {text rest : List ℕ} (piece more : List ℕ) → TakesBoth m → piece ++ more ≡ rest → Written m old new text rest → BrokeOff m new now piece →
+pub write_broke : {K : Type 0} {m : Meaning K} {old new now : K} {text rest : List ℕ} (piece more : List ℕ) → TakesBoth m →
+    piece ++ more ≡ rest → Written m old new text rest → BrokeOff m new now piece →
     BrokeOff m old now text
 write_broke {text = text} piece more both parts written broke =
     BrokeOff-longer more text
     (append_assoc written.front piece more ∙ ap (λ t. written.front ++ t) parts ∙ written.parts)
     (Wrote-BrokeOff both written.wrote broke)
 
-pub writes_behind : {K T E : Type 0} (m : Meaning K) (old new now : K) (piece more : List ℕ) → TakesBoth m → Wrote m old new piece → (result : Result T E) →
+pub writes_behind : {K T E : Type 0} (m : Meaning K) (old new now : K) (piece more : List ℕ) → TakesBoth m → Wrote m old new piece →
+    (result : Result T E) →
     Writes m new now more result → Writes m old now (piece ++ more) result
 writes_behind m old new now piece more both wrote (Ok x) writes = Wrote-Wrote both wrote writes
 writes_behind m old new now piece more both wrote (Err e) writes = Wrote-BrokeOff both wrote writes
@@ -49,7 +53,8 @@ abbrev pub block_at : (start size mark : ℕ) → Block
 block_at start size mark = record { start = start; size = size; mark = mark }
 
 -- two blocks of one mark are one
-joined-joined : (s n t k m : ℕ) (rest : List Block) → joined (block_at s n m) (joined (block_at t k m) rest) ≡ joined (block_at s (n + k) m) rest
+joined-joined : (s n t k m : ℕ) (rest : List Block) → joined (block_at s n m) (joined (block_at t k m) rest) ≡ joined
+    (block_at s (n + k) m) rest
 joined-joined s n t k m [] = let same : (m == m) ≡ true = eq-eqb m m refl in rw same refl
 joined-joined s n t k m (next ∷ blocks) = by_test (m == next.mark) where
   same : (m == m) ≡ true
@@ -63,15 +68,21 @@ joined-joined s n t k m (next ∷ blocks) = by_test (m == next.mark) where
 
 -- a sector more of a run
 pub run-sector : (mask : List ℕ) (first end left : ℕ) → first < end → is_marked mask end ≡ is_marked mask first →
-    joined (run_block first end (is_marked mask first)) (runs_from mask end (suc left)) ≡ joined (run_block first (end + 1) (is_marked mask first)) (runs_from mask (end + 1) left)
+    joined (run_block first end (is_marked mask first)) (runs_from mask end (suc left)) ≡ joined
+    (run_block first (end + 1) (is_marked mask first)) (runs_from mask (end + 1) left)
 run-sector mask first end left some same =
-    ap (λ (b : Bool). joined (run_block first end (is_marked mask first)) (joined (sector_block end b) (runs_from mask (end + 1) left))) same
-    ∙ joined-joined (1024 * first) (1024 * (end - first)) (1024 * end) 1024 (if is_marked mask first then 43 else 45) (runs_from mask (end + 1) left)
-    ∙ ap (λ (size : ℕ). joined (block_at (1024 * first) size (if is_marked mask first then 43 else 45)) (runs_from mask (end + 1) left)) (omega arith)
+    ap (λ (b : Bool). joined (run_block first end (is_marked mask first)) (joined (sector_block end b) (runs_from mask (end + 1) left)))
+    same
+    ∙ joined-joined (1024 * first) (1024 * (end - first)) (1024 * end) 1024 (if is_marked mask first then 43 else 45)
+    (runs_from mask (end + 1) left)
+    ∙ ap (λ (size : ℕ). joined (block_at (1024 * first) size (if is_marked mask first then 43 else 45)) (runs_from mask (end + 1) left))
+    (omega arith)
 
 -- the line of a run, and the lines behind it
-pub run_parts : (mask line : List ℕ) (block : Block) (first end here there : ℕ) (marked : Bool) → line ≡ block_text block → block ≡ run_block first end marked → marked ≡ is_marked mask first →
+pub run_parts : (mask line : List ℕ) (block : Block) (first end here there : ℕ) (marked : Bool) → line ≡ block_text block →
+    block ≡ run_block first end marked → marked ≡ is_marked mask first →
     runs_from mask first here ≡ run_block first end (is_marked mask first) ∷ runs_from mask end there →
     line ++ blocks_text (runs_from mask end there) ≡ blocks_text (runs_from mask first here)
 run_parts mask line block first end here there marked text is mark run =
-    ap (λ (t : List ℕ). t ++ blocks_text (runs_from mask end there)) (text ∙ ap block_text (is ∙ ap (run_block first end) mark)) ∙ sym (ap blocks_text run)
+    ap (λ (t : List ℕ). t ++ blocks_text (runs_from mask end there)) (text ∙ ap block_text (is ∙ ap (run_block first end) mark))
+    ∙ sym (ap blocks_text run)

@@ -68,17 +68,21 @@ bare = refl
 long_word : reading_of (codes "0000000000000000000000000000001 ?\n0 00000000000000000000000000000001 +") ≡ Fault 2
 long_word = refl
 
-head : head_text ≡ codes "# Mapfile. Created by tape_export\n# current_pos  current_status  current_pass\n0x00000000     +               1\n#      pos        size  status\n"
+head : head_text ≡ codes
+    "# Mapfile. Created by tape_export\n# current_pos  current_status  current_pass\n0x00000000     +               1\n#      pos        size  status\n"
 unfolding head_text
 head = refl
 
-session : runs_of (4294967295 ∷ 4294967295 ∷ 4294967295 ∷ 4294967288 ∷ []) ≡ block 0 98304 43 ∷ block 98304 3072 45 ∷ block 101376 29696 43 ∷ []
+session : runs_of (4294967295 ∷ 4294967295 ∷ 4294967295 ∷ 4294967288 ∷ []) ≡ block 0 98304 43 ∷ block 98304 3072 45 ∷ block 101376 29696
+    43 ∷ []
 session = refl
 
 text_of : hex_text 2650112 ≡ codes "0x00287000"
 unfolding hex_text
 text_of = refl
 
-whole : map_text (0 ∷ []) ≡ codes "# Mapfile. Created by tape_export\n# current_pos  current_status  current_pass\n0x00000000     +               1\n#      pos        size  status\n0x00000000  0x00008000  -\n"
+whole : map_text
+    (0 ∷ []) ≡ codes
+    "# Mapfile. Created by tape_export\n# current_pos  current_status  current_pass\n0x00000000     +               1\n#      pos        size  status\n0x00000000  0x00008000  -\n"
 unfolding hex_text head_text
 whole = refl

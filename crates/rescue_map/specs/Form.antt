@@ -1,5 +1,6 @@
 -- The form of a map's lines: the status line, and blocks that meet (GNU ddrescue's mapfile).
-use Rattle.std.specs.Prelude.{ℕ, ◌+◌, ◌^◌, ◌==◌, Bool, true, false, List, Option, Some, None, length, if◌then◌else◌, ◌&&◌, ◌||◌, nat_lt, nat_le}
+use Rattle.std.specs.Prelude.{ℕ, ◌+◌, ◌^◌, ◌==◌, Bool, true, false, List, Option, Some, None, length, if◌then◌else◌, ◌&&◌, ◌||◌, nat_lt}
+use Rattle.std.specs.Prelude.{nat_le}
 use Rattle.rescue_map.specs.declared.spelling.Word.{Word}
 use Rattle.rescue_map.specs.declared.spelling.Word.TheVariants.{Missing, Number, Mark}
 use Rattle.rescue_map.specs.declared.form.Block.{Block}

@@ -1,5 +1,6 @@
 -- The lines of a text, and the words of a line (GNU ddrescue's mapfile).
-use Rattle.std.specs.Prelude.{ℕ, ◌-◌, ◌==◌, Bool, true, false, List, [], ◌∷◌, ◌++◌, length, take, slice_index, slice_index_or, if◌then◌else◌, ◌&&◌, ◌||◌, nat_lt}
+use Rattle.std.specs.Prelude.{ℕ, ◌-◌, ◌==◌, Bool, true, false, List, [], ◌∷◌, ◌++◌, length, take, slice_index, slice_index_or}
+use Rattle.std.specs.Prelude.{if◌then◌else◌, ◌&&◌, ◌||◌, nat_lt}
 use Rattle.rescue_map.specs.declared.spelling.Word.{Word}
 use Rattle.rescue_map.specs.declared.spelling.Word.TheVariants.{Missing}
 use Rattle.rescue_map.specs.Spelling.{word_is}

@@ -1,6 +1,7 @@
 -- What a word of a map is. The marks are those of GNU ddrescue's mapfile; numbers are integer constants of C without a
 -- suffix.
-use Rattle.std.specs.Prelude.{ℕ, ◌+◌, ◌-◌, ◌*◌, ◌^◌, ◌==◌, Bool, true, false, List, [], ◌∷◌, Option, Some, None, length, drop, slice_index, if◌then◌else◌, ◌&&◌, ◌||◌, nat_lt, nat_le}
+use Rattle.std.specs.Prelude.{ℕ, ◌+◌, ◌-◌, ◌*◌, ◌^◌, ◌==◌, Bool, true, false, List, [], ◌∷◌, Option, Some, None, length, drop, slice_index}
+use Rattle.std.specs.Prelude.{if◌then◌else◌, ◌&&◌, ◌||◌, nat_lt, nat_le}
 use Rattle.rescue_map.specs.declared.spelling.Word.{Word}
 use Rattle.rescue_map.specs.declared.spelling.Word.TheVariants.{Number, Mark, Other}
 

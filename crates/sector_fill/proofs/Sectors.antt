@@ -1,9 +1,11 @@
 -- Sectors filled as one slice of bytes.
-use Rattle.std.proofs.Common.{◌≡◌, ℕ, zero, suc, ◌+◌, ◌-◌, ◌*◌, ◌≤◌, ◌<◌, min, inl, inr, List, [], ◌∷◌, ◌++◌, length, take, drop, replicate, Option, Some, None, IfSome, refl, sym, append_assoc, ap, ◌∙◌, subst, arith}
+use Rattle.std.proofs.Common.{◌≡◌, ℕ, zero, suc, ◌+◌, ◌-◌, ◌*◌, ◌≤◌, ◌<◌, min, inl, inr, List, [], ◌∷◌, ◌++◌, length, take, drop, replicate}
+use Rattle.std.proofs.Common.{Option, Some, None, IfSome, refl, sym, append_assoc, ap, ◌∙◌, subst, arith}
 use Rattle.std.specs.Prelude.{Result, Ok, Err, IfOk}
 use Rattle.std.specs.Option.{option_map}
 use Rattle.std.proofs.lemmas.Bool.{cases_lt}
-use Rattle.std.proofs.lemmas.List.{take_all, drop_all, take_at, take-append-le, take-append-drop, length-take-le, length-drop, length-replicate, replicate-append-replicate}
+use Rattle.std.proofs.lemmas.List.{take_all, drop_all, take_at, take-append-le, take-append-drop, length-take-le, length-drop}
+use Rattle.std.proofs.lemmas.List.{length-replicate, replicate-append-replicate}
 use Rattle.std.specs.Simd.{first_chunks}
 use Rattle.std.proofs.lemmas.List as lists
 use Rattle.std.proofs.Math.Seq.{take-append-add}
@@ -86,7 +88,8 @@ are_filled m old new count most n into size filled = (
 )
 
 -- the first sectors, cut from the slice that was filled
-pub fills_sectors : {S E : Type 0} (m : Meaning S) (old new : S) (count most : ℕ) (into : List ℕ) (behind : List (List ℕ)) (result : Result ℕ E) →
+pub fills_sectors : {S E : Type 0} (m : Meaning S) (old new : S) (count most : ℕ) (into : List ℕ) (behind : List (List ℕ))
+    (result : Result ℕ E) →
     length into ≡ 1024 * count → FillsBytes m old new most into result →
     FillsSectors m old new count most (take count (first_chunks 1024 count into ++ behind)) result
 fills_sectors m old new count most into behind (Ok n) size filled =

@@ -1,5 +1,6 @@
 -- The writes of a segment whose parity is put behind its data once these were written.
-use Rattle.std.proofs.Common.{◌≡◌, ℕ, ◌+◌, ◌-◌, ◌/◌, ◌%◌, ◌^◌, ◌<◌, ◌≤◌, ◌++◌, sym, ◌∙◌, ap, arith, inl, inr, List, [], ◌∷◌, length, take, drop, get_or, Bool, false}
+use Rattle.std.proofs.Common.{◌≡◌, ℕ, ◌+◌, ◌-◌, ◌/◌, ◌%◌, ◌^◌, ◌<◌, ◌≤◌, ◌++◌, sym, ◌∙◌, ap, arith, inl, inr, List, [], ◌∷◌, length, take}
+use Rattle.std.proofs.Common.{drop, get_or, Bool, false}
 use Rattle.std.specs.Prelude.{if◌then◌else◌, ◌==◌}
 use Rattle.std.proofs.lemmas.Bool.{cases_eq, cases_lt, ne_eqb}
 use Rattle.std.proofs.lemmas.List.{append_assoc, get_or-take, length-append, length-take-le, take_at, drop_at}
@@ -89,7 +90,8 @@ next_is_written segment usable index count place old new parity is at same room 
       | inl before ↦ completed_sector count place new before room
       | inr past ↦ sym (ap (λ (ss : List (List ℕ)). sector_at ss place) (at.put (omega arith)))
     ] in
-    let bytes : sector_at (completed count old) place ≡ sector_at new place = sym (ap (λ (ss : List (List ℕ)). sector_at ss place) same) ∙ here in
+    let bytes : sector_at (completed count old) place ≡ sector_at new place = sym (ap (λ (ss : List (List ℕ)). sector_at ss place) same)
+    ∙ here in
     ap (λ (b : ℕ). if b == 1 then WriteSector segment index (sector_at (completed count old) place) ∷ [] else []) is
     ∙ ap (λ (held : List ℕ). WriteSector segment index held ∷ []) bytes
 

@@ -1,5 +1,6 @@
 -- Cells gathered one by one: the places of the unreadable ones, and the bytes of the others.
-use Rattle.std.proofs.Common.{◌≡◌, ◌≢◌, ℕ, zero, suc, ◌+◌, ◌*◌, ◌/◌, ◌%◌, ◌^◌, ◌<◌, ◌≤◌, ◌↔◌, refl, sym, ◌∙◌, ap, subst, arith, inl, inr, List, [], ◌∷◌, ◌++◌, length, map, set, slice_get, Some}
+use Rattle.std.proofs.Common.{◌≡◌, ◌≢◌, ℕ, zero, suc, ◌+◌, ◌*◌, ◌/◌, ◌%◌, ◌^◌, ◌<◌, ◌≤◌, ◌↔◌, refl, sym, ◌∙◌, ap, subst, arith, inl, inr}
+use Rattle.std.proofs.Common.{List, [], ◌∷◌, ◌++◌, length, map, set, slice_get, Some}
 use Rattle.std.specs.Int.{w32}
 use Rattle.std.specs.Int.RustNames.{bit_or}
 use Rattle.std.proofs.lemmas.Bool.{cases_lt, cases_eq, false≢true}
@@ -177,7 +178,8 @@ gathered_good cells (Holds bytes) lost place sectors old now count room reads g 
     (gathered_readable cells lost sectors bytes (omega arith) g))
 
 -- one that could not be read
-pub gathered_bad : (cells : List SectorView) (cell : SectorView) (lost place : ℕ) (sectors : List (List ℕ)) (old now : List ℕ) (answer : SectorRead) →
+pub gathered_bad : (cells : List SectorView) (cell : SectorView) (lost place : ℕ) (sectors : List (List ℕ)) (old now : List ℕ)
+    (answer : SectorRead) →
     length cells ≡ place → place < 32 → answer ≢ read.Good → Reads cell old now answer → Gathered cells lost sectors →
     Gathered (cells ++ cell ∷ []) (with_unread lost place) (set sectors place now)
 gathered_bad cells cell lost place sectors old now answer count few bad reads g =

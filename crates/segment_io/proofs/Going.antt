@@ -28,7 +28,8 @@ under_first segment d at = record {
 }
 
 -- the segments of the header copies and of the volume table have 32 usable sectors
-pub front_segment : {T : Type 0} {m : Meaning T} {h : Host} {u : UnitView T} (segment : ℕ) → Fits m h u → is_referenced u.drive.deck ≡ true → segment < 3 →
+pub front_segment : {T : Type 0} {m : Meaning T} {h : Host} {u : UnitView T} (segment : ℕ) → Fits m h u →
+    is_referenced u.drive.deck ≡ true → segment < 3 →
     HasSegment u.drive.deck segment 4294967295
 front_segment {h = h} {u = u} segment fits referenced front = record {
   referenced = referenced;
@@ -60,7 +61,8 @@ tells_always m s Q always = by_cases (m.told s)
 pub tells_then : {S : Type 0} (m : Meaning S) (s : S) (P Q : Cartridge → Type 0) → Tells m s (λ c. P c → Q c) → Tells m s P → Tells m s Q
 tells_then m s P Q follows told = by_cases (m.told s) follows told
   where
-    by_cases : (held : Option (Option Cartridge)) → IfSome held (λ h. IfSome h (λ c. P c → Q c)) → IfSome held (λ h. IfSome h P) → IfSome held (λ h. IfSome h Q)
+    by_cases : (held : Option (Option Cartridge)) → IfSome held (λ h. IfSome h (λ c. P c → Q c)) → IfSome held (λ h. IfSome h P) →
+        IfSome held (λ h. IfSome h Q)
     by_cases None f fact = tt
     by_cases (Some None) f fact = tt
     by_cases (Some (Some c)) f fact = f fact

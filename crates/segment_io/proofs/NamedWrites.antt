@@ -1,5 +1,6 @@
 -- The writes of the places of a set, place by place, and those of all places.
-use Rattle.std.proofs.Common.{◌≡◌, ℕ, ◌+◌, ◌-◌, ◌/◌, ◌%◌, ◌^◌, ◌<◌, ◌≤◌, refl, sym, ◌∙◌, ap, arith, inl, inr, List, [], ◌∷◌, ◌++◌, length, map, take, drop, get_or, Bool, false}
+use Rattle.std.proofs.Common.{◌≡◌, ℕ, ◌+◌, ◌-◌, ◌/◌, ◌%◌, ◌^◌, ◌<◌, ◌≤◌, refl, sym, ◌∙◌, ap, arith, inl, inr, List, [], ◌∷◌, ◌++◌, length}
+use Rattle.std.proofs.Common.{map, take, drop, get_or, Bool, false}
 use Rattle.std.specs.Prelude.{if◌then◌else◌, ◌==◌}
 use Rattle.std.specs.List.{range_with_len}
 use Rattle.std.proofs.lemmas.Bool.{cases_eq, ne_eqb}
@@ -115,7 +116,8 @@ writes_of_all segment usable sectors room =
     let bytes : map (λ (p : ℕ). sector_at sectors p) (range_with_len 0 n) ≡ take n sectors =
     sym (fill_by_all (λ (p : ℕ). sector_at sectors p) (take n sectors) n [] long
     (λ k h. get_or-take n sectors k [] h ∙ sym (unwrap_or-slice_get sectors k []))) in
-    ap (λ (ps : List ℕ). writes_of segment (map (λ (p : ℕ). get_or (usable_places usable) p 0) ps) (map (λ (p : ℕ). sector_at sectors p) ps)) places
+    ap (λ (ps : List ℕ). writes_of segment (map (λ (p : ℕ). get_or (usable_places usable) p 0) ps)
+    (map (λ (p : ℕ). sector_at sectors p) ps)) places
     ∙ ap (λ (ps : List ℕ). writes_of segment ps (map (λ (p : ℕ). sector_at sectors p) (range_with_len 0 n))) indexes
     ∙ ap (writes_of segment (usable_places usable)) bytes
 

@@ -1,6 +1,7 @@
 -- What gathered cells say: the lost places are as many as the unreadable cells, and the code blocks of the sectors that
 -- are not lost are those of the cells.
-use Rattle.std.proofs.Common.{◌≡◌, ℕ, zero, suc, ◌+◌, ◌-◌, ◌<◌, ◌≤◌, refl, sym, ◌∙◌, ap, subst, ◌↔◌, Result, Err, arith, Bool, true, false, List, [], ◌∷◌, length, take, slice_get, Some}
+use Rattle.std.proofs.Common.{◌≡◌, ℕ, zero, suc, ◌+◌, ◌-◌, ◌<◌, ◌≤◌, refl, sym, ◌∙◌, ap, subst, ◌↔◌, Result, Err, arith, Bool, true, false}
+use Rattle.std.proofs.Common.{List, [], ◌∷◌, length, take, slice_get, Some}
 use Rattle.std.proofs.lemmas.Bool.{ne_eqb, false≢true}
 use Rattle.std.proofs.lemmas.List.{length-take-le}
 use Rattle.std.proofs.lemmas.Option.{slice_get_within}

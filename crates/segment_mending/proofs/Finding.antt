@@ -1,14 +1,16 @@
 -- What is found of a segment, by the deep reading of its cells.
-use Rattle.std.proofs.Common.{◌≡◌, ◌≢◌, ◌↔◌, ℕ, ◌+◌, ◌<◌, ◌≤◌, refl, sym, ◌∙◌, ap, subst, arith, inl, inr, true, false, List, length, slice_get, get_or, slice_index, Option, Some, None, IsSomeAnd}
+use Rattle.std.proofs.Common.{◌≡◌, ◌≢◌, ◌↔◌, ℕ, ◌+◌, ◌<◌, ◌≤◌, refl, sym, ◌∙◌, ap, subst, arith, inl, inr, true, false, List, length}
+use Rattle.std.proofs.Common.{slice_get, get_or, slice_index, Option, Some, None, IsSomeAnd}
 use Rattle.std.proofs.lemmas.Bool.{cases_eq, cases_lt, false≢true}
 use Rattle.std.proofs.lemmas.Option.{slice_get_past}
 use Rattle.cartridge_laws.proofs.ChangeViews.{held_before, worn_reads_no_more}
 use Rattle.cartridge_laws.proofs.Places.{usable_small}
 use Rattle.cartridge_laws.proofs.Sayings.{says_is_function}
 use Rattle.cartridge_laws.proofs.Segments.{count_of_cells}
+use Rattle.cartridge_laws.proofs.WrongTableLost.{worn_unreadable}
 use Rattle.cartridge_laws.specs.Segment.{IsUnreadable, data_of}
 use Rattle.cartridge_spec.specs.Says.{Saying, Data, LostSectors, Mismatch, Says, unreadable_count}
-use Rattle.cartridge_spec.specs.Shape.{is_unreadable, usable_places, usable_count}
+use Rattle.cartridge_spec.specs.Shape.{usable_places, usable_count}
 use Rattle.cartridge_spec.specs.Volumes.{worn}
 use Rattle.command_laws.proofs.ScrubOneWrong.{IsPlace, wrong_place, cell_unworn, cell_worn, worn_count}
 use Rattle.command_laws.proofs.ScrubSeen.{worn_here, worn_elsewhere}
@@ -20,7 +22,7 @@ use Rattle.qic_base.specs.Cartridge.{Cartridge, view_at}
 use Rattle.qic_base.specs.CartridgeTerms.{IsLost}
 use Rattle.qic_base.specs.Step.{worn_view}
 use Rattle.qic_base.specs.declared.tape.SectorView.{SectorView}
-use Rattle.qic_base.specs.declared.tape.SectorView.TheVariants.{Blank, Defect, Lost, Holds}
+use Rattle.qic_base.specs.declared.tape.SectorView.TheVariants.{Holds}
 use Rattle.segment_io.specs.Gathered.{IsUnreadableAt, NamesUnreadable}
 use Rattle.silent_locate.proofs.Readings.{one_deep_reading}
 use Rattle.silent_locate.specs.Deep.{Deep, HasNoReading}
@@ -56,8 +58,10 @@ wrong_of_deep c l place block within deep can =
           agrees = record {
             size = deep.agrees.size ∙ size_of_worn c d l;
             each = λ i bytes at. elim (cases_eq i place) [
-              | inl same ↦ absurd (cell_worn c l place sector bytes here (subst (λ (p : ℕ). slice_get (cells_at d l) p ≡ Some (Holds bytes)) same at))
-              | inr apart ↦ deep.agrees.each i bytes apart (held_before c d l.segment l.mask i bytes (worn_reads_no_more c l.segment sector) at)
+              | inl same ↦ absurd (cell_worn c l place sector bytes here
+                  (subst (λ (p : ℕ). slice_get (cells_at d l) p ≡ Some (Holds bytes)) same at))
+              | inr apart ↦ deep.agrees.each i bytes apart
+                  (held_before c d l.segment l.mask i bytes (worn_reads_no_more c l.segment sector) at)
             ];
           };
           shown = refl;
@@ -99,9 +103,11 @@ plainly depth c l s says other =
 pub found_right : (depth : Depth) (c : Cartridge) (l : Looked) (block : List (List ℕ)) → Deep (cells_at c l) block None →
     HasFound depth c l (Data (data_of block)) None
 found_right depth c l block deep =
-    plainly depth c l (Data (data_of block)) (deep.few, record { block = block; code = deep.code; agrees = deep.agrees; shown = refl }) (λ same. cc)
+    plainly depth c l (Data (data_of block)) (deep.few, record { block = block; code = deep.code; agrees = deep.agrees; shown = refl })
+    (λ same. cc)
 
-pub found_many : (depth : Depth) (c : Cartridge) (l : Looked) (n : ℕ) → Says (cells_at c l) (LostSectors n) → HasFound depth c l (LostSectors n) None
+pub found_many : (depth : Depth) (c : Cartridge) (l : Looked) (n : ℕ) → Says (cells_at c l) (LostSectors n) →
+    HasFound depth c l (LostSectors n) None
 found_many depth c l n says = plainly depth c l (LostSectors n) says (λ same. cc)
 
 pub found_none : (depth : Depth) (c : Cartridge) (l : Looked) → unreadable_count (cells_at c l) ≤ 3 → HasNoReading (cells_at c l) →
@@ -124,18 +130,14 @@ found_unfit depth c l place block deep unfit =
       (omega arith, deep.none_agrees),
       λ searched sector ds wrong.
           let other = deep_of_wrong c l sector ds wrong in
-          let same : block ≡ other.block = (one_deep_reading (cells_at c l) block other.block (Some place) (Some wrong.place) deep other.deep).0 in
-          false≢true (sym unfit ∙ ap (λ (b : List (List ℕ)). reads l (Data (data_of b))) same ∙ ap (λ (xs : List (List ℕ)). reads l (Data xs)) (sym other.shown)
+          let same : block ≡ other.block =
+          (one_deep_reading (cells_at c l) block other.block (Some place) (Some wrong.place) deep other.deep).0 in
+          false≢true (sym unfit ∙ ap (λ (b : List (List ℕ)). reads l (Data (data_of b))) same
+          ∙ ap (λ (xs : List (List ℕ)). reads l (Data xs)) (sym other.shown)
           ∙ wrong.can_be_read),
     )
 
 -- ---- the places to be written
-
-worn_unread : (view : SectorView) → is_unreadable (worn_view view) ≡ true
-worn_unread Blank = refl
-worn_unread Defect = refl
-worn_unread Lost = refl
-worn_unread (Holds bytes) = refl
 
 -- the wrong sector counts as lost, ..
 wrong_unread : (c : Cartridge) (l : Looked) (place : ℕ) → place < usable_count l.mask →
@@ -145,7 +147,7 @@ wrong_unread c l place within =
     let d : Cartridge = worn l.segment sector c in
     let at : slice_get (cells_at d l) place ≡ Some (worn_view (view_at c l.segment sector)) =
     cell_at d l.segment l.mask place within ∙ ap (λ (view : SectorView). Some view) (worn_here c l.segment sector) in
-    subst (λ (o : Option SectorView). IsSomeAnd o IsUnreadable) (sym at) (worn_unread (view_at c l.segment sector))
+    subst (λ (o : Option SectorView). IsSomeAnd o IsUnreadable) (sym at) (worn_unreadable (view_at c l.segment sector))
 
 -- .. and the others are as they were
 other_cell : (c : Cartridge) (l : Looked) (place i : ℕ) → place < usable_count l.mask → i ≢ place →
@@ -165,7 +167,8 @@ other_cell c l place i within apart =
           ∙ sym (slice_get_past (cells_at c l) i (omega (arith, count_of_cells c l.segment l.mask)))
     ]
 
-pub names_with_wrong : (c : Cartridge) (l : Looked) (place lost places : ℕ) → place < usable_count l.mask → NamesUnreadable (cells_at c l) lost →
+pub names_with_wrong : (c : Cartridge) (l : Looked) (place lost places : ℕ) → place < usable_count l.mask →
+    NamesUnreadable (cells_at c l) lost →
     IsLost places place → ((other : ℕ) → other ≢ place → IsLost places other ↔ IsLost lost other) →
     NamesUnreadable (cells_at (worn l.segment (index_at l place) c) l) places
 names_with_wrong c l place lost places within names here others i =

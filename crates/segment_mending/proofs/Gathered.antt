@@ -1,5 +1,6 @@
 -- The cells of a segment whose sectors were gathered: they are read as those of the sectors, of which the lost ones can't be.
-use Rattle.std.proofs.Common.{◌≡◌, ℕ, ◌/◌, ◌%◌, ◌^◌, ◌<◌, ◌≤◌, ◌↔◌, refl, sym, ◌∙◌, ap, subst, arith, false, List, length, take, slice_get, get_or, Option, Some, None, IsSomeAnd, Result, Ok, Err}
+use Rattle.std.proofs.Common.{◌≡◌, ℕ, ◌/◌, ◌%◌, ◌^◌, ◌<◌, ◌≤◌, ◌↔◌, refl, sym, ◌∙◌, ap, subst, arith, false, List, length, take, slice_get}
+use Rattle.std.proofs.Common.{get_or, Option, Some, None, IsSomeAnd, Result, Ok, Err}
 use Rattle.std.proofs.lemmas.Bool.{ne_eqb, false≢true}
 use Rattle.std.proofs.lemmas.List.{length-take-le}
 use Rattle.std.proofs.lemmas.Option.{slice_get_within, slice_get-get_or}
@@ -32,7 +33,8 @@ kept_holds cells lost i sectors bytes g kept held h = by_cell (get_or cells i Bl
   where
     unread : (cell : SectorView) → slice_get cells i ≡ Some cell → IsUnreadable cell → ⊥
     unread cell is fact =
-        false≢true (sym kept ∙ is_lost_from lost i ((g.unreadable i).1 (subst (λ (o : Option SectorView). IsSomeAnd o IsUnreadable) (sym is) fact)))
+        false≢true (sym kept ∙ is_lost_from lost i
+        ((g.unreadable i).1 (subst (λ (o : Option SectorView). IsSomeAnd o IsUnreadable) (sym is) fact)))
 
     by_cell : (cell : SectorView) → slice_get cells i ≡ Some cell → slice_get cells i ≡ Some (Holds bytes)
     by_cell Blank is = absurd (unread Blank is refl)

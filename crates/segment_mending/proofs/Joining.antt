@@ -1,5 +1,6 @@
 -- How looking at some segments and then at others joins.
-use Rattle.std.proofs.Common.{◌≡◌, ℕ, ◌+◌, ◌≤◌, List, [], ◌++◌, length, refl, sym, ap, ◌∙◌, subst, arith, Option, Some, None, IfSome, Result, Ok, Err}
+use Rattle.std.proofs.Common.{◌≡◌, ℕ, ◌+◌, ◌≤◌, List, [], ◌++◌, length, refl, sym, ap, ◌∙◌, subst, arith, Option, Some, None, IfSome}
+use Rattle.std.proofs.Common.{Result, Ok, Err}
 use Rattle.std.proofs.lemmas.List.{length-append}
 use Rattle.qic_base.specs.Cartridge.{Cartridge}
 use Rattle.qic_base.specs.Step.{Step}
@@ -17,13 +18,15 @@ use Rattle.command_spec.specs.declared.depth.Depth.{Depth}
 use Rattle.segment_mending.specs.declared.fault.ScrubFault.{ScrubFault}
 use Rattle.segment_mending.specs.declared.fault.ScrubFault.TheVariants as fault
 use Rattle.segment_mending.specs.Looking.{AreActs, Counted, HasLooked, LookingCut, Looks, HasFew}
-use Rattle.segment_mending.proofs.Parts.{behind, turns_join, acts_join, TurnsOf, turns_part, as_many, may_join, lines_join, unread_join, unread_most, mismatches, mismatches_may, line_acts, text_of_lines}
+use Rattle.segment_mending.proofs.Parts.{behind, turns_join, acts_join, TurnsOf, turns_part, as_many, may_join, lines_join, unread_join}
+use Rattle.segment_mending.proofs.Parts.{unread_most, mismatches, mismatches_may, line_acts, text_of_lines}
 use Rattle.command_laws.proofs.ScrubOneWrong.{one_turn}
 use Rattle.command_laws.proofs.MadeTelling.{tells_before}
 
 -- ---- the acts
 
-module _ {T : Type 0} (t : tapes.Meaning T) (a b : T) (depth : Depth) (xs ys : List Looked) (fs gs : List Finding) (front next : List Act) where
+module _ {T : Type 0} (t : tapes.Meaning T) (a b : T) (depth : Depth) (xs ys : List Looked) (fs gs : List Finding)
+    (front next : List Act) where
   both_told : tapes.Done t a b (steps_of front) → AreActs t a depth xs fs front → AreActs t b depth ys gs next →
       tape_calls.Tells t a (λ c. FindInTurn depth c (xs ++ ys) (fs ++ gs) × (front ++ next ≡ finding_acts c (xs ++ ys) (fs ++ gs)))
   both_told did first later =
@@ -40,7 +43,8 @@ module _ {T : Type 0} (t : tapes.Meaning T) (a b : T) (depth : Depth) (xs ys : L
       ))
       first.told (tells_before t a b (steps_of front) (λ d. FindInTurn depth d ys gs × (next ≡ finding_acts d ys gs)) did later.told)
 
-  pub acts_both : tapes.Done t a b (steps_of front) → AreActs t a depth xs fs front → AreActs t b depth ys gs next → AreActs t a depth (xs ++ ys) (fs ++ gs) (front ++ next)
+  pub acts_both : tapes.Done t a b (steps_of front) → AreActs t a depth xs fs front → AreActs t b depth ys gs next →
+      AreActs t a depth (xs ++ ys) (fs ++ gs) (front ++ next)
   acts_both did first later = record {
     told = both_told did first later;
     may = may_join depth xs ys fs gs first.may later.may;
@@ -54,7 +58,8 @@ counted_both xs ys fs gs front next a b c each first later =
     let looked : length (xs ++ ys) ≡ length xs + length ys = length-append xs ys in
     let steps : length (steps_of (front ++ next)) ≡ length (steps_of front) + length (steps_of next) =
     ap (λ (steps : List Step). length steps) (steps_of-append front next) ∙ length-append (steps_of front) (steps_of next) in
-    let unread : unread_count (xs ++ ys) (sayings_of (fs ++ gs)) ≡ unread_count xs (sayings_of fs) + unread_count ys (sayings_of gs) = unread_join xs ys fs gs each in
+    let unread : unread_count (xs ++ ys) (sayings_of (fs ++ gs)) ≡ unread_count xs (sayings_of fs) + unread_count ys (sayings_of gs) =
+    unread_join xs ys fs gs each in
     record {
       segments = (let e = first.segments in let f = later.segments in omega arith);
       mended = (let e = first.mended in let f = later.mended in omega arith);
@@ -63,7 +68,8 @@ counted_both xs ys fs gs front next a b c each first later =
     }
 
 -- the counts stay few
-pub few_after : (looked : List Looked) (findings : List Finding) (acts : List Act) (most : ℕ) (a b : Counts) → Counted looked findings acts a b → HasFew most a →
+pub few_after : (looked : List Looked) (findings : List Finding) (acts : List Act) (most : ℕ) (a b : Counts) →
+    Counted looked findings acts a b → HasFew most a →
     HasFew (most + length looked) b
 few_after looked findings acts most a b counted few =
     let unread : unread_count looked (sayings_of findings) ≤ length looked = unread_most looked (sayings_of findings) in
@@ -93,7 +99,8 @@ module _ {T K : Type 0} {t : tapes.Meaning T} {k : sinks.Meaning K} (depth : Dep
     counted = record { segments = omega arith; mended = omega arith; unreadable = omega arith; few = omega arith };
   }
     where
-      none_told : (o : Option (Option Cartridge)) → IfSome o (λ held. IfSome held (λ c. FindInTurn depth c [] [] × ([] ≡ finding_acts c [] [])))
+      none_told : (o : Option (Option Cartridge)) →
+          IfSome o (λ held. IfSome held (λ c. FindInTurn depth c [] [] × ([] ≡ finding_acts c [] [])))
       none_told None = tt
       none_told (Some None) = tt
       none_told (Some (Some c)) = (tt, refl)
@@ -110,16 +117,19 @@ module _ {T K : Type 0} {t : tapes.Meaning T} {k : sinks.Meaning K} (depth : Dep
   }
 
   -- segments behind those
-  pub cut_longer : (xs ys : List Looked) (a b : Outside T (Unit {0}) K) (failing : Failing) → LookingCut t k depth xs a b failing → LookingCut t k depth (xs ++ ys) a b failing
+  pub cut_longer : (xs ys : List Looked) (a b : Outside T (Unit {0}) K) (failing : Failing) → LookingCut t k depth xs a b failing →
+      LookingCut t k depth (xs ++ ys) a b failing
   cut_longer xs ys a b failing cut =
       let more : List Finding = mismatches ys in
       record {
         told = Tells-map t a.tape
             (λ c. (findings : List Finding) → FindInTurn depth c xs findings → Cut t no_source k a b (finding_acts c xs findings) failing)
-            (λ c. (findings : List Finding) → FindInTurn depth c (xs ++ ys) findings → Cut t no_source k a b (finding_acts c (xs ++ ys) findings) failing)
+            (λ c. (findings : List Finding) → FindInTurn depth c (xs ++ ys) findings →
+            Cut t no_source k a b (finding_acts c (xs ++ ys) findings) failing)
             (λ c here hs found.
             let turns : TurnsOf depth c xs ys hs = turns_part depth xs ys c hs found in
-            let acts : finding_acts c xs turns.front ++ finding_acts (behind c xs turns.front) ys turns.rest ≡ finding_acts c (xs ++ ys) hs =
+            let acts : finding_acts c xs turns.front ++ finding_acts (behind c xs turns.front) ys turns.rest ≡ finding_acts c
+            (xs ++ ys) hs =
             sym (ap (finding_acts c (xs ++ ys)) turns.parts ∙ acts_join depth xs ys c turns.front turns.rest turns.first) in
             subst (λ (acts : List Act). Cut t no_source k a b acts failing) acts
             (cut_is_longer t no_source k a b (finding_acts c xs turns.front) (finding_acts (behind c xs turns.front) ys turns.rest) failing
@@ -129,7 +139,8 @@ module _ {T K : Type 0} {t : tapes.Meaning T} {k : sinks.Meaning K} (depth : Dep
         acts = cut.acts ++ line_acts ys more;
         may = may_join depth xs ys cut.findings more cut.may (mismatches_may depth ys);
         text = text_of-append cut.acts (line_acts ys more) ∙ ap (λ (text : List ℕ). text ++ text_of (line_acts ys more)) cut.text
-            ∙ ap (λ (text : List ℕ). lines_for xs cut.findings ++ text) (text_of_lines ys more) ∙ sym (lines_join xs ys cut.findings more (as_many depth xs cut.findings cut.may));
+            ∙ ap (λ (text : List ℕ). lines_for xs cut.findings ++ text) (text_of_lines ys more)
+            ∙ sym (lines_join xs ys cut.findings more (as_many depth xs cut.findings cut.may));
         cut = cut_is_longer t no_source k a b cut.acts (line_acts ys more) failing cut.cut;
       }
 
@@ -142,7 +153,8 @@ module _ {T K : Type 0} {t : tapes.Meaning T} {k : sinks.Meaning K} (depth : Dep
         told = tells_two t a.tape (λ d. FindInTurn depth d xs first.findings × (first.acts ≡ finding_acts d xs first.findings))
             (λ d. (findings : List Finding) → FindInTurn depth (changed_by steps d) ys findings →
             Cut t no_source k b c (finding_acts (changed_by steps d) ys findings) failing)
-            (λ d. (findings : List Finding) → FindInTurn depth d (xs ++ ys) findings → Cut t no_source k a c (finding_acts d (xs ++ ys) findings) failing)
+            (λ d. (findings : List Finding) → FindInTurn depth d (xs ++ ys) findings →
+            Cut t no_source k a c (finding_acts d (xs ++ ys) findings) failing)
             (λ d here there hs found.
             let turns : TurnsOf depth d xs ys hs = turns_part depth xs ys d hs found in
             let same : first.findings ≡ turns.front = one_turn depth xs d first.findings turns.front here.0 turns.first in
@@ -155,30 +167,36 @@ module _ {T K : Type 0} {t : tapes.Meaning T} {k : sinks.Meaning K} (depth : Dep
             ap (λ (acts : List Act). acts ++ finding_acts (behind d xs turns.front) ys turns.rest) is
             ∙ sym (ap (finding_acts d (xs ++ ys)) turns.parts ∙ acts_join depth xs ys d turns.front turns.rest turns.first) in
             subst (λ (acts : List Act). Cut t no_source k a c acts failing) acts
-            (went_then_cut t no_source k both a b c first.acts (finding_acts (behind d xs turns.front) ys turns.rest) failing first.went rest))
+            (went_then_cut t no_source k both a b c first.acts (finding_acts (behind d xs turns.front) ys turns.rest) failing first.went
+            rest))
             first.are.told
             (tells_before t a.tape b.tape steps
-            (λ e. (findings : List Finding) → FindInTurn depth e ys findings → Cut t no_source k b c (finding_acts e ys findings) failing) first.went.did cut.told);
+            (λ e. (findings : List Finding) → FindInTurn depth e ys findings → Cut t no_source k b c (finding_acts e ys findings) failing)
+            first.went.did cut.told);
         findings = first.findings ++ cut.findings;
         acts = first.acts ++ cut.acts;
         may = may_join depth xs ys first.findings cut.findings first.are.may cut.may;
         text = text_of-append first.acts cut.acts ∙ ap (λ (text : List ℕ). text ++ text_of cut.acts) first.are.text
-            ∙ ap (λ (text : List ℕ). lines_for xs first.findings ++ text) cut.text ∙ sym (lines_join xs ys first.findings cut.findings (as_many depth xs first.findings first.are.may));
+            ∙ ap (λ (text : List ℕ). lines_for xs first.findings ++ text) cut.text
+            ∙ sym (lines_join xs ys first.findings cut.findings (as_many depth xs first.findings first.are.may));
         cut = went_then_cut t no_source k both a b c first.acts cut.acts failing first.went cut.cut;
       }
 
 -- ---- by answers
 
 module _ {T K : Type 0} (t : tapes.Meaning T) (k : sinks.Meaning K) (depth : Depth) where
-  pub looks_then : TakesBoth k → (xs ys : List Looked) (a b c : Outside T (Unit {0}) K) (before between after : Counts) (result : Result (Unit {0}) ScrubFault) →
-      HasLooked t k depth xs a b before between → Looks t k depth ys b c between after result → Looks t k depth (xs ++ ys) a c before after result
+  pub looks_then : TakesBoth k → (xs ys : List Looked) (a b c : Outside T (Unit {0}) K) (before between after : Counts)
+      (result : Result (Unit {0}) ScrubFault) →
+      HasLooked t k depth xs a b before between → Looks t k depth ys b c between after result →
+      Looks t k depth (xs ++ ys) a c before after result
   looks_then both xs ys a b c before between after (Ok done) first next = looked_both depth both xs ys a b c before between after first next
   looks_then both xs ys a b c before between after (Err fault.Sink) first next =
       looked_then_cut depth both xs ys a b c before between SinkFails first next
   looks_then both xs ys a b c before between after (Err fault.Tape) first next =
       looked_then_cut depth both xs ys a b c before between TapeFails first next
 
-  pub looks_longer : (xs ys : List Looked) (a b : Outside T (Unit {0}) K) (before after other : Counts) (why : ScrubFault) → Looks t k depth xs a b before after (Err why) →
+  pub looks_longer : (xs ys : List Looked) (a b : Outside T (Unit {0}) K) (before after other : Counts) (why : ScrubFault) →
+      Looks t k depth xs a b before after (Err why) →
       Looks t k depth (xs ++ ys) a b before other (Err why)
   looks_longer xs ys a b before after other fault.Sink cut = cut_longer depth xs ys a b SinkFails cut
   looks_longer xs ys a b before after other fault.Tape cut = cut_longer depth xs ys a b TapeFails cut

@@ -1,5 +1,6 @@
 -- The segments that are looked at, up to one of them.
-use Rattle.std.proofs.Common.{◌≡◌, ℕ, zero, suc, ◌+◌, ◌-◌, ◌<◌, ◌≤◌, Bool, true, false, cond, List, [], ◌∷◌, ◌++◌, length, take, drop, filter, slice_get, Some, refl, sym, ap, ◌∙◌, subst, arith, append_assoc, append-nil}
+use Rattle.std.proofs.Common.{◌≡◌, ℕ, zero, suc, ◌+◌, ◌-◌, ◌<◌, ◌≤◌, Bool, true, false, cond, List, [], ◌∷◌, ◌++◌, length, take, drop}
+use Rattle.std.proofs.Common.{filter, slice_get, Some, refl, sym, ap, ◌∙◌, subst, arith, append_assoc, append-nil}
 use Rattle.std.specs.List.{range_with_len}
 use Rattle.std.proofs.lemmas.Bool.{le-leb, lt-leb}
 use Rattle.std.proofs.lemmas.List.{take_more, take-append-drop}
@@ -87,7 +88,8 @@ filter_most : (test : ℕ → Bool) (xs : List ℕ) → length (filter test xs) 
 filter_most test [] = omega arith
 filter_most test (x ∷ xs) = shorter (test x) x (length xs) (filter test xs) (filter_most test xs)
 
-pub length-below : (words : List ℕ) (start segment : ℕ) → length (looked_segments words (carrying_below words start segment)) ≤ segment - start
+pub length-below : (words : List ℕ) (start segment : ℕ) →
+    length (looked_segments words (carrying_below words start segment)) ≤ segment - start
 length-below words start segment =
     let range : List ℕ = range_with_len start (segment - start) in
     let most : length (filter (carries words) range) ≤ length range = filter_most (carries words) range in
@@ -115,7 +117,8 @@ volumes_more words xs i e at =
     ∙ ap (λ (ls : List Looked). looked_volumes words (take i xs) ++ ls) (append-nil (looked_segments words (carrying_segments words e)))
 
 -- the first volumes, and the others
-pub volumes_part : (words : List ℕ) (xs : List Entry) (i : ℕ) → looked_volumes words (take i xs) ++ looked_volumes words (drop i xs) ≡ looked_volumes words xs
+pub volumes_part : (words : List ℕ) (xs : List Entry) (i : ℕ) → looked_volumes words (take i xs) ++ looked_volumes words
+    (drop i xs) ≡ looked_volumes words xs
 volumes_part words xs i = sym (volumes_join words (take i xs) (drop i xs)) ∙ ap (looked_volumes words) (take-append-drop i xs)
 
 -- a volume of a list in order
@@ -124,7 +127,8 @@ pub record LiesOn (last : ℕ) (e : Entry) : Type 0 where
   pub forwards : e.start ≤ e.end
   pub within : e.end ≤ last
 
-lies_behind : (before last : ℕ) (xs : List Entry) (i : ℕ) (e : Entry) → 2 ≤ before → LieBehind before last xs → slice_get xs i ≡ Some e → LiesOn last e
+lies_behind : (before last : ℕ) (xs : List Entry) (i : ℕ) (e : Entry) → 2 ≤ before → LieBehind before last xs → slice_get xs i ≡ Some e →
+    LiesOn last e
 lies_behind before last [] i e least order at = absurd (cc)
 lies_behind before last (x ∷ xs) zero e least order at =
     let same : x ≡ e = cc in

@@ -1,11 +1,13 @@
 -- Looking at some segments and then at others: what is found of them, their acts, lines and counts.
-use Rattle.std.proofs.Common.{◌≡◌, ℕ, suc, ◌+◌, ◌≤◌, Bool, true, false, cond, List, [], ◌∷◌, ◌++◌, length, None, refl, sym, ap, ◌∙◌, subst, arith, append_assoc}
+use Rattle.std.proofs.Common.{◌≡◌, ℕ, suc, ◌+◌, ◌≤◌, Bool, true, false, cond, List, [], ◌∷◌, ◌++◌, length, None, refl, sym, ap, ◌∙◌, subst}
+use Rattle.std.proofs.Common.{arith, append_assoc}
 use Rattle.qic_base.specs.Cartridge.{Cartridge}
 use Rattle.qic_base.specs.Acts.{Act, steps_of, text_of}
 use Rattle.cartridge_spec.specs.Says.{Saying, Mismatch}
 use Rattle.cartridge_spec.specs.Settling.{changed_by}
 use Rattle.cartridge_laws.proofs.FormatWriting.{changed_by-append}
-use Rattle.command_spec.specs.Scrub.{Looked, reads, unread_count, Finding, FindInTurn, MayBeFound, finding_acts, steps_for, line_for, lines_for, sayings_of}
+use Rattle.command_spec.specs.Scrub.{Looked, reads, unread_count, Finding, FindInTurn, MayBeFound, finding_acts, steps_for, line_for}
+use Rattle.command_spec.specs.Scrub.{lines_for, sayings_of}
 use Rattle.command_laws.specs.ScrubTerms.{find_act}
 use Rattle.command_spec.specs.declared.depth.Depth.{Depth}
 
@@ -49,7 +51,8 @@ pub record TurnsOf (depth : Depth) (c : Cartridge) (xs ys : List Looked) (hs : L
   pub first : FindInTurn depth c xs front
   pub next : FindInTurn depth (behind c xs front) ys rest
 
-pub turns_part : (depth : Depth) (xs ys : List Looked) (c : Cartridge) (hs : List Finding) → FindInTurn depth c (xs ++ ys) hs → TurnsOf depth c xs ys hs
+pub turns_part : (depth : Depth) (xs ys : List Looked) (c : Cartridge) (hs : List Finding) → FindInTurn depth c (xs ++ ys) hs →
+    TurnsOf depth c xs ys hs
 turns_part depth [] ys c hs found = record { front = []; rest = hs; parts = refl; first = tt; next = found }
 turns_part depth (x ∷ xs) ys c [] found = absurd found
 turns_part depth (x ∷ xs) ys c (h ∷ hs) found =

@@ -1,5 +1,6 @@
 -- One segment looked at: it was read, and then mended, or its line was printed.
-use Rattle.std.proofs.Common.{◌≡◌, ℕ, ◌+◌, ◌≤◌, Bool, true, false, cond, List, [], ◌∷◌, ◌++◌, length, refl, sym, ap, ◌∙◌, subst, arith, Option, None, Result, Ok, Err, OnOk, append-nil, nat_lt}
+use Rattle.std.proofs.Common.{◌≡◌, ℕ, ◌+◌, ◌≤◌, Bool, true, false, cond, List, [], ◌∷◌, ◌++◌, length, refl, sym, ap, ◌∙◌, subst, arith}
+use Rattle.std.proofs.Common.{Option, None, Result, Ok, Err, OnOk, append-nil, nat_lt}
 use Rattle.std.specs.Prelude.{IsOkUnless}
 use Rattle.qic_base.specs.Cartridge.{Cartridge}
 use Rattle.qic_base.specs.Step.{Step}
@@ -13,7 +14,8 @@ use Rattle.cartridge_spec.specs.Shape.{usable_count}
 use Rattle.cartridge_laws.specs.Segment.{sectors_of}
 use Rattle.cartridge_laws.specs.Writes.{named_writes}
 use Rattle.cartridge_laws.proofs.Places.{count_below}
-use Rattle.command_spec.specs.Scrub.{Looked, Counts, reads, steps_in, fault_line, line_in, Finding, FindInTurn, finding_acts, line_for, steps_for, without, wrong_line}
+use Rattle.command_spec.specs.Scrub.{Looked, Counts, reads, steps_in, fault_line, line_in, Finding, FindInTurn, finding_acts, line_for}
+use Rattle.command_spec.specs.Scrub.{steps_for, without, wrong_line}
 use Rattle.command_spec.specs.declared.depth.Depth.{Depth}
 use Rattle.command_laws.proofs.ScrubNamed.{steps_by_places, count_of_named}
 use Rattle.command_laws.proofs.ScrubOneWrong.{finds_one}
@@ -53,8 +55,10 @@ line_of_wrong : (l : Looked) (s : Saying) (wrong : Option ℕ) → reads l s ≡
 line_of_wrong l s wrong can =
     sym (ap (λ (line : List ℕ). wrong_line l.segment wrong ++ line) (no_line l s can) ∙ append-nil (wrong_line l.segment wrong))
 
-pub are_mended : {T : Type 0} (t : tapes.Meaning T) (a : T) (depth : Depth) (l : Looked) (places : ℕ) (wrong : Option ℕ) (sectors : List (List ℕ)) →
-    tape_calls.Tells t a (λ c. IsFound depth c l (Reads places wrong) sectors) → MayMend depth l places wrong sectors → usable_count l.mask ≤ length sectors →
+pub are_mended : {T : Type 0} (t : tapes.Meaning T) (a : T) (depth : Depth) (l : Looked) (places : ℕ) (wrong : Option ℕ)
+    (sectors : List (List ℕ)) →
+    tape_calls.Tells t a (λ c. IsFound depth c l (Reads places wrong) sectors) → MayMend depth l places wrong sectors →
+    usable_count l.mask ≤ length sectors →
     AreActs t a depth (l ∷ []) (finding_of l (Reads places wrong) sectors ∷ []) (mending l places wrong sectors ∷ [])
 are_mended t a depth l places wrong sectors told may room =
     let f : Finding = finding_of l (Reads places wrong) sectors in
@@ -131,7 +135,8 @@ module _ {T K : Type 0} (t : tapes.Meaning T) (k : sinks.Meaning K) where
     wrote = subst (sinks.Wrote k s after) (sym (append-nil act.text)) wrote;
     source_later = omega arith;
   }
-  goes_on a b s after act (Err fault.Sink) did wrote sound = sink_cut_one t no_source k (around a s) (around b after) act did wrote (omega arith)
+  goes_on a b s after act (Err fault.Sink) did wrote sound = sink_cut_one t no_source k (around a s) (around b after) act did wrote
+      (omega arith)
   goes_on a b s after act (Err fault.Tape) did wrote sound = cc
 
   -- steps that broke off
@@ -147,10 +152,12 @@ module _ {T K : Type 0} (t : tapes.Meaning T) (k : sinks.Meaning K) where
     source_later = omega arith;
   }
 
-  pub goes_failed : ((x : K) → k.took x [] x) → (a b : T) (s : K) (act : Act) (result : Result (Unit {0}) ScrubFault) (why : ScrubFault) → result ≡ Err why →
+  pub goes_failed : ((x : K) → k.took x [] x) → (a b : T) (s : K) (act : Act) (result : Result (Unit {0}) ScrubFault) (why : ScrubFault) →
+      result ≡ Err why →
       IsOkUnless (fails why) fault.Tape → tapes.Broke t a b act.steps → GoesAs t k act (around a s) (around b s) result
   goes_failed nothing a b s act result fault.Tape is sound broke =
-      subst (λ (r : Result (Unit {0}) ScrubFault). GoesAs t k act (around a s) (around b s) r) (sym is) (goes_broken nothing a b s act broke)
+      subst (λ (r : Result (Unit {0}) ScrubFault). GoesAs t k act (around a s) (around b s) r) (sym is)
+      (goes_broken nothing a b s act broke)
   goes_failed nothing a b s act result fault.Sink is sound broke = cc
 
   -- behind a reading
@@ -184,7 +191,8 @@ module _ {T K : Type 0} (t : tapes.Meaning T) (k : sinks.Meaning K) where
         told = tells_always t a
             (λ c. (findings : List Finding) → FindInTurn depth c (l ∷ []) findings →
             Cut t no_source k (around a s) (around b s) (finding_acts c (l ∷ []) findings) TapeFails)
-            (λ c findings found. cut_is_longer t no_source k (around a s) (around b s) [] (finding_acts c (l ∷ []) findings) TapeFails none);
+            (λ c findings found. cut_is_longer t no_source k (around a s) (around b s) []
+            (finding_acts c (l ∷ []) findings) TapeFails none);
         findings = record { saying = Mismatch; wrong = None } ∷ [];
         acts = telling l Mismatch ∷ [];
         may = (tt, tt);
@@ -194,7 +202,8 @@ module _ {T K : Type 0} (t : tapes.Meaning T) (k : sinks.Meaning K) where
 
   -- an act that is that of the segment's finding is cut off whatever the segment is found to be
   act_cut : (depth : Depth) (l : Looked) (a b : Outside T (Unit {0}) K) (failing : Failing) (f : Finding) (act : Act) →
-      AreActs t a.tape depth (l ∷ []) (f ∷ []) (act ∷ []) → Cut t no_source k a b (act ∷ []) failing → LookingCut t k depth (l ∷ []) a b failing
+      AreActs t a.tape depth (l ∷ []) (f ∷ []) (act ∷ []) → Cut t no_source k a b (act ∷ []) failing →
+      LookingCut t k depth (l ∷ []) a b failing
   act_cut depth l a b failing f act are cut = record {
     told = Tells-map t a.tape (λ c. FindInTurn depth c (l ∷ []) (f ∷ []) × (act ∷ [] ≡ finding_acts c (l ∷ []) (f ∷ [])))
         (λ c. (others : List Finding) → FindInTurn depth c (l ∷ []) others → Cut t no_source k a b (finding_acts c (l ∷ []) others) failing)

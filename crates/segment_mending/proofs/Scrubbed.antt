@@ -7,7 +7,8 @@ use Rattle.qic_base.specs.Acts.{Act, steps_of, text_of, Outside, Failing, TapeFa
 use Rattle.qic_base.specs.Alone.{no_source, around}
 use Rattle.qic_base.proofs.Joins.{text_of-append, went_both, went_then_cut, cut_is_longer, sink_cut_one}
 use Rattle.cartridge_spec.specs.Table.{Entry}
-use Rattle.command_spec.specs.Scrub.{Looked, Counts, looked_at, unread_count, counts_line, Finding, FindInTurn, ScrubsAs, IsTextFor, finding_acts, sayings_of, whole_segment, looked_volumes}
+use Rattle.command_spec.specs.Scrub.{Looked, Counts, looked_at, unread_count, counts_line, Finding, FindInTurn, ScrubsAs, IsTextFor}
+use Rattle.command_spec.specs.Scrub.{finding_acts, sayings_of, whole_segment, looked_volumes}
 use Rattle.command_laws.specs.ScrubTerms.{last_act, counts_for}
 use Rattle.command_spec.specs.declared.depth.Depth.{Depth}
 use Rattle.command_laws.proofs.ScrubOneWrong.{form_is_function}
@@ -26,12 +27,15 @@ abbrev pub none_counted : Counts
 none_counted = record { segments = 0; mended = 0; unreadable = 0 }
 
 -- the segments in front were looked at, and then, in the form that this left, those of the volumes
-pub all_looked : {T K : Type 0} {t : tapes.Meaning T} {k : sinks.Meaning K} → TakesBoth k → (depth form : Depth) (words : List ℕ) (entries : List Entry)
+pub all_looked : {T K : Type 0} {t : tapes.Meaning T} {k : sinks.Meaning K} → TakesBoth k → (depth form : Depth) (words : List ℕ)
+    (entries : List Entry)
     (a b d : Outside T (Unit {0}) K) (between after : Counts) → form ≡ depth →
     HasLooked t k depth (whole_segment 0 ∷ whole_segment 1 ∷ whole_segment 2 ∷ []) a b none_counted between →
-    HasLooked t k form (looked_volumes words entries) b d between after → HasLooked t k depth (looked_at words entries) a d none_counted after
+    HasLooked t k form (looked_volumes words entries) b d between after →
+    HasLooked t k depth (looked_at words entries) a d none_counted after
 all_looked {t = t} {k = k} both depth form words entries a b d between after same front volumes =
-    looked_both depth both (whole_segment 0 ∷ whole_segment 1 ∷ whole_segment 2 ∷ []) (looked_volumes words entries) a b d none_counted between after front
+    looked_both depth both (whole_segment 0 ∷ whole_segment 1 ∷ whole_segment 2 ∷ [])
+    (looked_volumes words entries) a b d none_counted between after front
     (subst (λ (f : Depth). HasLooked t k f (looked_volumes words entries) b d between after) same volumes)
 
 counts_equal : (a b : Counts) → a.segments ≡ b.segments → a.mended ≡ b.mended → a.unreadable ≡ b.unreadable → a ≡ b
@@ -41,16 +45,21 @@ counts_equal a b segments mended unreadable =
     ∙ ap (λ (n : ℕ). record { segments = b.segments; mended = b.mended; unreadable = n }) unreadable
 
 -- what was counted from nothing on is what is counted of the acts
-counted_all : (c : Cartridge) (looked : List Looked) (findings : List Finding) (acts : List Act) (counts : Counts) → acts ≡ finding_acts c looked findings →
+counted_all : (c : Cartridge) (looked : List Looked) (findings : List Finding) (acts : List Act) (counts : Counts) →
+    acts ≡ finding_acts c looked findings →
     Counted looked findings acts none_counted counts → counts ≡ counts_for c looked findings
 counted_all c looked findings acts counts are counted =
     counts_equal counts (counts_for c looked findings) (let e = counted.segments in omega arith)
     (let e = counted.mended in
-    let f : length (steps_of acts) ≡ length (steps_of (finding_acts c looked findings)) = ap (λ (xs : List Act). length (steps_of xs)) are in omega arith)
+    let f : length (steps_of acts) ≡ length (steps_of (finding_acts c looked findings)) =
+    ap (λ (xs : List Act). length (steps_of xs)) are in omega arith)
     (let e = counted.unreadable in omega arith)
 
-module _ {T K : Type 0} (t : tapes.Meaning T) (k : sinks.Meaning K) (depth : Depth) (words : List ℕ) (entries : List Entry) (a : Outside T (Unit {0}) K) (b : Outside T (Unit {0}) K) (report : ScrubReport) (looked : HasLooked t k depth (looked_at words entries) a b none_counted (reported report)) where
-  scrubs : (c : Cartridge) → FindInTurn depth c (looked_at words entries) looked.findings → looked.acts ≡ finding_acts c (looked_at words entries) looked.findings →
+module _ {T K : Type 0} (t : tapes.Meaning T) (k : sinks.Meaning K) (depth : Depth) (words : List ℕ) (entries : List Entry)
+    (a : Outside T (Unit {0}) K) (b : Outside T (Unit {0}) K) (report : ScrubReport)
+    (looked : HasLooked t k depth (looked_at words entries) a b none_counted (reported report)) where
+  scrubs : (c : Cartridge) → FindInTurn depth c (looked_at words entries) looked.findings →
+      looked.acts ≡ finding_acts c (looked_at words entries) looked.findings →
       ScrubsAs depth c words entries (looked.acts ++ last_act (reported report) ∷ [])
   scrubs c found are = record {
     findings = looked.findings;
@@ -86,8 +95,10 @@ module _ {T K : Type 0} (t : tapes.Meaning T) (k : sinks.Meaning K) (depth : Dep
         acts = looked.acts ++ last ∷ [];
         went = went_both t no_source k both a b (around b.tape after) looked.acts (last ∷ []) looked.went went;
         told = Tells-map t a.tape
-            (λ c. FindInTurn depth c (looked_at words entries) looked.findings × (looked.acts ≡ finding_acts c (looked_at words entries) looked.findings))
-            (λ c. (scrubs : ScrubsAs depth c words entries (looked.acts ++ last ∷ [])) × (reported report ≡ counts_for c (looked_at words entries) scrubs.findings))
+            (λ c. FindInTurn depth c (looked_at words entries) looked.findings
+            × (looked.acts ≡ finding_acts c (looked_at words entries) looked.findings))
+            (λ c. (scrubs : ScrubsAs depth c words entries (looked.acts ++ last ∷ []))
+            × (reported report ≡ counts_for c (looked_at words entries) scrubs.findings))
             (λ c here. (
               scrubs c here.0 here.1,
               counted_all c (looked_at words entries) looked.findings looked.acts (reported report) here.1 looked.counted,
@@ -107,7 +118,8 @@ module _ {T K : Type 0} (t : tapes.Meaning T) (k : sinks.Meaning K) (depth : Dep
       went_then_cut t no_source k both a b (around b.tape after) looked.acts (last ∷ []) SinkFails looked.went cut in
       record {
         told = Tells-map t a.tape
-            (λ c. FindInTurn depth c (looked_at words entries) looked.findings × (looked.acts ≡ finding_acts c (looked_at words entries) looked.findings))
+            (λ c. FindInTurn depth c (looked_at words entries) looked.findings
+            × (looked.acts ≡ finding_acts c (looked_at words entries) looked.findings))
             (λ c. (acts : List Act) → ScrubsAs depth c words entries acts → Cut t no_source k a (around b.tape after) acts SinkFails)
             (λ c here acts others.
             subst (λ (xs : List Act). Cut t no_source k a (around b.tape after) xs SinkFails)
@@ -116,7 +128,11 @@ module _ {T K : Type 0} (t : tapes.Meaning T) (k : sinks.Meaning K) (depth : Dep
         acts = looked.acts ++ last ∷ [];
         counts = reported report;
         cut = whole;
-        front = ([], subst (IsTextFor depth (looked_at words entries) (reported report)) (sym (append-nil (text_of (looked.acts ++ last ∷ [])))) text);
+        front = (
+          [],
+          subst (IsTextFor depth (looked_at words entries) (reported report))
+              (sym (append-nil (text_of (looked.acts ++ last ∷ [])))) text,
+        );
       }
 
 module _ {T K : Type 0} (t : tapes.Meaning T) (k : sinks.Meaning K) (depth : Depth) where
@@ -135,14 +151,30 @@ module _ {T K : Type 0} (t : tapes.Meaning T) (k : sinks.Meaning K) (depth : Dep
         (here scrubs.findings scrubs.found)))
         cut.told;
     acts = cut.acts;
-    counts = record { segments = length (looked_at words entries); mended = 0; unreadable = unread_count (looked_at words entries) (sayings_of cut.findings) };
+    counts = record {
+      segments = length (looked_at words entries);
+      mended = 0;
+      unreadable = unread_count (looked_at words entries)
+          (sayings_of cut.findings);
+    };
     cut = cut.cut;
     front = (
-      counts_line (record { segments = length (looked_at words entries); mended = 0; unreadable = unread_count (looked_at words entries) (sayings_of cut.findings) }),
+      counts_line (record {
+        segments = length (looked_at words entries);
+        mended = 0;
+        unreadable = unread_count (looked_at words entries)
+            (sayings_of cut.findings);
+      }),
       record {
         findings = cut.findings;
         may = cut.may;
-        lines = ap (λ (xs : List ℕ). xs ++ counts_line (record { segments = length (looked_at words entries); mended = 0; unreadable = unread_count (looked_at words entries) (sayings_of cut.findings) })) cut.text;
+        lines = ap (λ (xs : List ℕ). xs ++ counts_line
+            (record {
+              segments = length (looked_at words entries);
+              mended = 0;
+              unreadable = unread_count (looked_at words entries)
+                  (sayings_of cut.findings);
+            })) cut.text;
         segments = refl;
         unreadable = refl;
       },

@@ -85,7 +85,8 @@ abbrev pub mending : Looked → (places : ℕ) → (wrong : Option ℕ) → (sec
 mending l places wrong sectors = record { steps = named_writes l.segment l.mask places sectors; text = wrong_line l.segment wrong }
 
 -- an act went, or a fault cut it off
-abbrev pub GoesAs : {T K : Type 0} (t : tapes.Meaning T) (k : sinks.Meaning K) (act : Act) (old new : Outside T (Unit {0}) K) → Result (Unit {0}) ScrubFault → Type 0
+abbrev pub GoesAs : {T K : Type 0} (t : tapes.Meaning T) (k : sinks.Meaning K) (act : Act) (old new : Outside T (Unit {0}) K) →
+    Result (Unit {0}) ScrubFault → Type 0
 GoesAs t k act old new (Ok done) = Went t no_source k old new (act ∷ [])
 GoesAs t k act old new (Err cuts.Sink) = Cut t no_source k old new (act ∷ []) SinkFails
 GoesAs t k act old new (Err cuts.Tape) = Cut t no_source k old new (act ∷ []) TapeFails

@@ -12,7 +12,8 @@ use Rattle.segment_mending.specs.declared.fault.ScrubFault.TheVariants as fault
 
 -- This is found of these segments, on the cartridge that the tape tells, and these are their acts; over any tape the acts
 -- print what belongs to these findings.
-pub record AreActs {T : Type 0} (t : tapes.Meaning T) (tape : T) (depth : Depth) (looked : List Looked) (findings : List Finding) (acts : List Act) : Type 0 where
+pub record AreActs {T : Type 0} (t : tapes.Meaning T) (tape : T) (depth : Depth) (looked : List Looked) (findings : List Finding)
+    (acts : List Act) : Type 0 where
   pub told : tape_calls.Tells t tape (λ c. FindInTurn depth c looked findings × (acts ≡ finding_acts c looked findings))
   pub may : MayBeFound depth looked findings
   pub text : text_of acts ≡ lines_for looked findings
@@ -26,7 +27,8 @@ pub record Counted (looked : List Looked) (findings : List Finding) (acts : List
   pub few : length (steps_of acts) ≤ 32 * length looked
 
 -- All segments were looked at: their acts went, and were counted.
-pub record HasLooked {T K : Type 0} (t : tapes.Meaning T) (k : sinks.Meaning K) (depth : Depth) (looked : List Looked) (old new : Outside T (Unit {0}) K) (before after : Counts) : Type 0 where
+pub record HasLooked {T K : Type 0} (t : tapes.Meaning T) (k : sinks.Meaning K) (depth : Depth) (looked : List Looked)
+    (old new : Outside T (Unit {0}) K) (before after : Counts) : Type 0 where
   pub findings : List Finding
   pub acts : List Act
   pub are : AreActs t old.tape depth looked findings acts
@@ -34,7 +36,8 @@ pub record HasLooked {T K : Type 0} (t : tapes.Meaning T) (k : sinks.Meaning K) 
   pub counted : Counted looked findings acts before after
 
 -- A fault of the tape or of the sink cut the acts off.
-pub record LookingCut {T K : Type 0} (t : tapes.Meaning T) (k : sinks.Meaning K) (depth : Depth) (looked : List Looked) (old new : Outside T (Unit {0}) K) (failing : Failing) : Type 0 where
+pub record LookingCut {T K : Type 0} (t : tapes.Meaning T) (k : sinks.Meaning K) (depth : Depth) (looked : List Looked)
+    (old new : Outside T (Unit {0}) K) (failing : Failing) : Type 0 where
   pub told : tape_calls.Tells t old.tape (λ c. (findings : List Finding) → FindInTurn depth c looked findings →
       Cut t no_source k old new (finding_acts c looked findings) failing)
   -- and over any tape
@@ -44,7 +47,8 @@ pub record LookingCut {T K : Type 0} (t : tapes.Meaning T) (k : sinks.Meaning K)
   pub text : text_of acts ≡ lines_for looked findings
   pub cut : Cut t no_source k old new acts failing
 
-abbrev pub Looks : {T K : Type 0} (t : tapes.Meaning T) (k : sinks.Meaning K) (depth : Depth) (looked : List Looked) (old new : Outside T (Unit {0}) K) (before after : Counts) → Result (Unit {0}) ScrubFault → Type 0
+abbrev pub Looks : {T K : Type 0} (t : tapes.Meaning T) (k : sinks.Meaning K) (depth : Depth) (looked : List Looked)
+    (old new : Outside T (Unit {0}) K) (before after : Counts) → Result (Unit {0}) ScrubFault → Type 0
 Looks t k depth looked old new before after (Ok done) = HasLooked t k depth looked old new before after
 Looks t k depth looked old new before after (Err fault.Sink) = LookingCut t k depth looked old new SinkFails
 Looks t k depth looked old new before after (Err fault.Tape) = LookingCut t k depth looked old new TapeFails

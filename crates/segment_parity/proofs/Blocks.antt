@@ -1,5 +1,6 @@
 -- The parity of a block of columns, and the parity sectors that the blocks make.
-use Rattle.std.proofs.Common.{◌≡◌, ◌≢◌, ℕ, ◌+◌, ◌<◌, ◌≤◌, sym, ◌∙◌, ap, subst, arith, refl, inl, inr, ◌-◌, List, [], ◌∷◌, ◌++◌, length, All, get_or, set, bit_xor, replicate}
+use Rattle.std.proofs.Common.{◌≡◌, ◌≢◌, ℕ, ◌+◌, ◌<◌, ◌≤◌, sym, ◌∙◌, ap, subst, arith, refl, inl, inr, ◌-◌, List, [], ◌∷◌, ◌++◌, length, All}
+use Rattle.std.proofs.Common.{get_or, set, bit_xor, replicate}
 use Rattle.std.proofs.lemmas.Bool.{cases_eq, cases_lt}
 use Rattle.std.proofs.lemmas.List.{get_or-set_same, get_or-set_other, length-replicate}
 use Rattle.std.proofs.lemmas.List.Elements.{All-nil, All-cons, All-get_or, All-from_get_or}
@@ -7,7 +8,8 @@ use Rattle.cartridge_spec.specs.Code.{product, parity, parity_sectors, column}
 use Rattle.qic_base.specs.Cartridge.{IsSector}
 use Rattle.gf256_qic.proofs.Values.{first_byte, other_bytes}
 use Rattle.gf256_qic.proofs.Agreement.{same_from_columns, column-one}
-use Rattle.gf256_qic.proofs.Parities.{bytes_of_column, column-append, bytes_of_parity, column-parity_sectors, length-parity_sectors, parity_sectors-are_sectors}
+use Rattle.gf256_qic.proofs.Parities.{bytes_of_column, column-append, bytes_of_parity, column-parity_sectors, length-parity_sectors}
+use Rattle.gf256_qic.proofs.Parities.{parity_sectors-are_sectors}
 use Rattle.segment_parity.specs.Register.{AreParity, HasColumns}
 use Rattle.segment_parity.proofs.Rows.{shifted, parity_more, column-none, parity_none}
 use Rattle.qic_base.specs.Disk.{AreBytes}

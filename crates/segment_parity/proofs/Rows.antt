@@ -1,20 +1,26 @@
 -- The register of a column: its three bytes are the data's parity, and so its rows are parity sectors.
-use Rattle.std.proofs.Common.{◌≡◌, ℕ, zero, suc, ◌+◌, ◌<◌, ◌≤◌, refl, sym, ◌∙◌, ap, subst, arith, List, [], ◌∷◌, ◌++◌, length, All, get_or, bit_xor, replicate}
+use Rattle.std.proofs.Common.{◌≡◌, ℕ, zero, suc, ◌+◌, ◌<◌, ◌≤◌, refl, sym, ◌∙◌, ap, subst, arith, List, [], ◌∷◌, ◌++◌, length, All, get_or}
+use Rattle.std.proofs.Common.{bit_xor, replicate}
 use Rattle.std.specs.Int.Bits.{xor_assoc, xor_zero_l, xor_zero_r}
 use Rattle.std.proofs.lemmas.Nat.{xor_comm}
 use Rattle.std.proofs.lemmas.List.Elements.{All-get_or, All-push}
 use Rattle.std.proofs.lemmas.List.{same_lists, length-replicate}
 use Rattle.std.proofs.Math.ListN.{length-append}
-use Rattle.cartridge_spec.specs.Code.{shifted_copies, remainder, product, power, value_at, added, lagrange, parity, parity_sectors, column, IsCodeBlock}
+use Rattle.cartridge_spec.specs.Code.{shifted_copies, remainder, product, power, value_at, added, lagrange, parity, parity_sectors, column}
+use Rattle.cartridge_spec.specs.Code.{IsCodeBlock}
 use Rattle.gf256_qic.specs.Code.{parity_sector, data_sum, scaled, distance}
 use Rattle.qic_base.specs.Cartridge.{IsSector, zero_sector}
 use Rattle.gf256_qic.proofs.Sums.{sum_byte}
-use Rattle.gf256_qic.proofs.Products.{product_byte, product_comm, product_assoc, product_sum_left, product_sum_right, product_zero_left, product_one_right}
+use Rattle.gf256_qic.proofs.Products.{product_byte, product_comm, product_assoc, product_sum_left, product_sum_right, product_zero_left}
+use Rattle.gf256_qic.proofs.Products.{product_one_right}
 use Rattle.gf256_qic.proofs.Powers.{power_more, power_one, power_byte}
-use Rattle.gf256_qic.proofs.Values.{no_bytes, more_bytes, first_byte, other_bytes, value_at-none, value_at-first, value_at-append, value_at-added, value_at-scaled, data_sum-push}
+use Rattle.gf256_qic.proofs.Values.{no_bytes, more_bytes, first_byte, other_bytes, value_at-none, value_at-first, value_at-append}
+use Rattle.gf256_qic.proofs.Values.{value_at-added, value_at-scaled, data_sum-push}
 use Rattle.gf256_qic.proofs.Distance.{AtRoots}
 use Rattle.gf256_qic.proofs.Agreement.{near_columns, distance-le, any_default, same_from_columns, column-one}
-use Rattle.gf256_qic.proofs.Parities.{bytes_of_column, column-append, length-parity, bytes_of_parity, value_at-parity, column-parity_sectors, length-parity_sectors, parity_sectors-are_sectors, length-parity_sector, get_or-parity_sector, parity_block, parity_block_only}
+use Rattle.gf256_qic.proofs.Parities.{bytes_of_column, column-append, length-parity, bytes_of_parity, value_at-parity}
+use Rattle.gf256_qic.proofs.Parities.{column-parity_sectors, length-parity_sectors, parity_sectors-are_sectors, length-parity_sector}
+use Rattle.gf256_qic.proofs.Parities.{get_or-parity_sector, parity_block, parity_block_only}
 use Rattle.segment_parity.specs.declared.Parity.{Parity}
 use Rattle.segment_parity.specs.Register.{pushed, Holds, at, feedback, Shifted}
 use Rattle.qic_base.specs.Disk.{AreBytes}

@@ -1,5 +1,6 @@
 -- The cells of sectors of which some are lost: what the code blocks that agree with the one say of the other.
-use Rattle.std.proofs.Common.{◌≡◌, ℕ, zero, suc, ◌+◌, ◌-◌, ◌/◌, ◌%◌, ◌^◌, ◌<◌, ◌≤◌, ◌↔◌, refl, sym, ◌∙◌, ap, subst, arith, inl, inr, Bool, true, false, nat_eq, List, [], ◌∷◌, length, slice_get, get_or, Option, Some, None, zero-add}
+use Rattle.std.proofs.Common.{◌≡◌, ℕ, zero, suc, ◌+◌, ◌-◌, ◌/◌, ◌%◌, ◌^◌, ◌<◌, ◌≤◌, ◌↔◌, refl, sym, ◌∙◌, ap, subst, arith, inl, inr, Bool}
+use Rattle.std.proofs.Common.{true, false, nat_eq, List, [], ◌∷◌, length, slice_get, get_or, Option, Some, None, zero-add}
 use Rattle.std.specs.Option.{option_map}
 use Rattle.std.proofs.lemmas.Bool.{cases_eq, ne_eqb, eqb-false, or_parts, or_from}
 use Rattle.std.proofs.lemmas.Option.{slice_get_within, slice_get-get_or}

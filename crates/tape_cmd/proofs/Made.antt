@@ -1,6 +1,7 @@
 -- How a generated run ends.
 use Rattle.cartridge_spec.specs.Appending.{room}
-use Rattle.std.proofs.Common.{◌≡◌, ◌≢◌, ℕ, ◌<◌, ◌≤◌, ◌&&◌, nat_le, nat_lt, Bool, true, false, cond, List, [], ◌∷◌, Option, Some, None, IfSome, Result, Ok, Err, refl, sym, ap, ◌∙◌, subst, inl, inr, arith, length, ◌-◌}
+use Rattle.std.proofs.Common.{◌≡◌, ◌≢◌, ℕ, ◌<◌, ◌≤◌, ◌&&◌, nat_le, nat_lt, Bool, true, false, cond, List, [], ◌∷◌, Option, Some, None}
+use Rattle.std.proofs.Common.{IfSome, Result, Ok, Err, refl, sym, ap, ◌∙◌, subst, inl, inr, arith, length, ◌-◌}
 use Rattle.command_laws.proofs.CommandClean.{made_order}
 use Rattle.command_laws.proofs.RestoreBehind.{piece_behind}
 use Rattle.cartridge_laws.specs.Table.{IsSoundList}
@@ -14,7 +15,8 @@ use Rattle.cartridge_spec.specs.Mounting.{Mounting}
 use Rattle.cartridge_spec.specs.Table.{Entry}
 use Rattle.drive_states.specs.Unit.{UnitView}
 use Rattle.cartridge_laws.proofs.MountOnce.{mounts_is_function}
-use Rattle.command_spec.specs.Make.{made_length, MakeStep, AppendMade, WearSector, ScrubAll, SumVolume, after_item, making, made_answer, MayDo, MayRun, Making}
+use Rattle.command_spec.specs.Make.{made_length, MakeStep, AppendMade, WearSector, ScrubAll, SumVolume, after_item, making, made_answer}
+use Rattle.command_spec.specs.Make.{MayDo, MayRun, Making}
 use Rattle.command_spec.specs.Append.{has_promised_room}
 use Rattle.command_laws.specs.MadeTerms.{Makes}
 use Rattle.command_laws.specs.RunTerms.{EndsBlind}
@@ -65,23 +67,28 @@ append_sound : (seed count : ℕ) (ws : List ℕ) (es : List Entry) (volume : �
 append_sound seed count ws es volume answer is = by_room (has_promised_room (room ws es) (Some (made_length seed volume))) refl is
   where
     by_room : (b : Bool) → has_promised_room (room ws es) (Some (made_length seed volume)) ≡ b →
-        cond b status.Done (status.Full (made_length seed volume) (room ws es)) ≡ answer → may_come_from answer (words.Make seed count) ≡ true
+        cond b status.Done (status.Full (made_length seed volume) (room ws es)) ≡ answer →
+        may_come_from answer (words.Make seed count) ≡ true
     by_room true there same = subst (λ (a : Status). may_come_from a (words.Make seed count) ≡ true) same refl
     by_room false none same =
         subst (λ (a : Status). may_come_from a (words.Make seed count) ≡ true) same
         (full_more (room ws es) (made_length seed volume) (some_bytes seed volume) none)
 
 -- a segment that lost too much is the table's, or one behind it
-lost_sound : (seed count segment lost : ℕ) → 3 < lost → 2 ≤ segment → may_come_from (status.Lost segment lost) (words.Make seed count) ≡ true
+lost_sound : (seed count segment lost : ℕ) → 3 < lost → 2 ≤ segment → may_come_from (status.Lost segment lost)
+    (words.Make seed count) ≡ true
 lost_sound seed count segment lost many from =
-    both_true (nat_lt 3 lost) (nat_le 2 segment && true) (lt-ltb 3 lost many) (both_true (nat_le 2 segment) true (le-leb 2 segment from) refl)
+    both_true (nat_lt 3 lost) (nat_le 2 segment && true) (lt-ltb 3 lost many)
+    (both_true (nat_le 2 segment) true (le-leb 2 segment from) refl)
 
 -- each step is answered as a run may be, where the list is in order
-do_sound : (seed count : ℕ) (ws : List ℕ) (es : List Entry) (item : MakeStep) (text : List ℕ) (answer : Status) → IsSoundList (length ws - 1) es → MayDo seed ws es item text answer →
+do_sound : (seed count : ℕ) (ws : List ℕ) (es : List Entry) (item : MakeStep) (text : List ℕ) (answer : Status) →
+    IsSoundList (length ws - 1) es → MayDo seed ws es item text answer →
     may_come_from answer (words.Make seed count) ≡ true
 do_sound seed count ws es (AppendMade volume) text status.Protected order may = refl
 do_sound seed count ws es (AppendMade volume) text status.TableMismatch order may = refl
-do_sound seed count ws es (AppendMade volume) text (status.Lost segment lost) order may = let at : segment ≡ 2 = may.1.0 in lost_sound seed count segment lost may.1.1 (omega arith)
+do_sound seed count ws es (AppendMade volume) text (status.Lost segment lost) order may = let at : segment ≡ 2 = may.1.0 in
+    lost_sound seed count segment lost may.1.1 (omega arith)
 do_sound seed count ws es (AppendMade volume) text answer order may = append_sound seed count ws es volume answer may.1
 do_sound seed count ws es (WearSector segment sector) text answer order may =
     subst (λ (a : Status). may_come_from a (words.Make seed count) ≡ true) (sym may.1) refl
@@ -98,7 +105,8 @@ do_sound seed count ws es (SumVolume number) text (status.Mismatch segment) orde
 do_sound seed count ws es (SumVolume number) text answer order may = absurd may.2
 
 -- a step that was carried out leaves a list in order
-order_behind : (seed : ℕ) (ws : List ℕ) (es : List Entry) (item : MakeStep) (text : List ℕ) → IsSoundList (length ws - 1) es → MayDo seed ws es item text status.Done →
+order_behind : (seed : ℕ) (ws : List ℕ) (es : List Entry) (item : MakeStep) (text : List ℕ) → IsSoundList (length ws - 1) es →
+    MayDo seed ws es item text status.Done →
     IsSoundList (length ws - 1) (after_item seed ws es item)
 order_behind seed ws es (AppendMade volume) text order may = made_order seed ws es volume order may.1
 order_behind seed ws es (WearSector segment sector) text order may = order
@@ -106,26 +114,31 @@ order_behind seed ws es ScrubAll text order may = order
 order_behind seed ws es (SumVolume number) text order may = order
 
 -- .. and so is the run
-run_sound : (seed count : ℕ) (ws : List ℕ) (items : List MakeStep) (es : List Entry) (text : List ℕ) (answer : Status) → IsSoundList (length ws - 1) es → MayRun seed ws es items text answer →
+run_sound : (seed count : ℕ) (ws : List ℕ) (items : List MakeStep) (es : List Entry) (text : List ℕ) (answer : Status) →
+    IsSoundList (length ws - 1) es → MayRun seed ws es items text answer →
     may_come_from answer (words.Make seed count) ≡ true
-run_sound seed count ws [] es text answer order (none, done) = subst (λ (a : Status). may_come_from a (words.Make seed count) ≡ true) (sym done) refl
+run_sound seed count ws [] es text answer order (none, done) = subst (λ (a : Status). may_come_from a (words.Make seed count) ≡ true)
+    (sym done) refl
 run_sound seed count ws (item ∷ items) es text answer order (inl (other, may)) = do_sound seed count ws es item text answer order may
 run_sound seed count ws (item ∷ items) es text answer order (inr (first, rest, parts, may, more)) =
     run_sound seed count ws items (after_item seed ws es item) rest answer (order_behind seed ws es item first order may) more
 
 -- it printed what such a run may print
-run_prints : (seed count : ℕ) (ws : List ℕ) (es : List Entry) (text : List ℕ) (answer : Status) → MayRun seed ws es (making seed count ws es) text answer →
+run_prints : (seed count : ℕ) (ws : List ℕ) (es : List Entry) (text : List ℕ) (answer : Status) →
+    MayRun seed ws es (making seed count ws es) text answer →
     Prints (words.Make seed count) answer text
 run_prints seed count ws es text answer may =
     ((λ is. (ws, (es, subst (MayRun seed ws es (making seed count ws es) text) is may))), (λ other. inr (ws, (es, may))))
 
 -- ---- a cartridge that is not protected
 
-unlocked_does : (goes : Going) (held : Option Cartridge) (outcome : CommandOutcome) → IfSome held (λ c. c.info.protected ≡ false) → OpenOutcome goes held outcome → WritableOutcome goes held outcome
+unlocked_does : (goes : Going) (held : Option Cartridge) (outcome : CommandOutcome) → IfSome held (λ c. c.info.protected ≡ false) →
+    OpenOutcome goes held outcome → WritableOutcome goes held outcome
 unlocked_does goes None outcome free plain = plain
 unlocked_does goes (Some c) outcome free plain = inr (free, plain)
 
-does_unlocked : (goes : Going) (held : Option Cartridge) (outcome : CommandOutcome) → IfSome held (λ c. c.info.protected ≡ false) → WritableOutcome goes held outcome → OpenOutcome goes held outcome
+does_unlocked : (goes : Going) (held : Option Cartridge) (outcome : CommandOutcome) → IfSome held (λ c. c.info.protected ≡ false) →
+    WritableOutcome goes held outcome → OpenOutcome goes held outcome
 does_unlocked goes None outcome free plain = plain
 does_unlocked goes (Some c) outcome free (inl locked) = let is = locked.0 in absurd (cc)
 does_unlocked goes (Some c) outcome free (inr plain) = plain.1
@@ -147,16 +160,21 @@ module _ {T K : Type 0} (t : tapes.Meaning T) (k : sinks.Meaning K) (seed count 
   blind : IsBlind (words.Make seed count)
   blind = record { reads = refl }
 
-  pub make_refused : (b : UnitView T) (x : K) (why : Status) → ((z : K) → k.took z [] z) → WritableEnds t a b (Err why) → EndsBlind t k (words.Make seed count) a b.tape x x why
+  pub make_refused : (b : UnitView T) (x : K) (why : Status) → ((z : K) → k.took z [] z) → WritableEnds t a b (Err why) →
+      EndsBlind t k (words.Make seed count) a b.tape x x why
   make_refused b x why nothing (inl locked) =
       rw locked.answered (turned_down t k (words.Make seed count) blind a b.tape x status.Protected nothing refl (λ is. cc)
       (told_map (t.told a) _ _ locked.told (λ held is input. locked_is (Making seed count) held is)) locked.did)
   make_refused b x why nothing (inr (inl (free, turned))) =
-      turned_down t k (words.Make seed count) blind a b.tape x why nothing (found_by_make seed count why turned.sound) (no_outcome why turned.sound)
-      (told_map (t.told a) _ _ (told_both (t.told a) _ _ free turned.told) (λ held is input. unlocked_refused_is (Making seed count) why held is.0 is.1)) turned.did
+      turned_down t k (words.Make seed count) blind a b.tape x why nothing (found_by_make seed count why turned.sound)
+      (no_outcome why turned.sound)
+      (told_map (t.told a) _ _ (told_both (t.told a) _ _ free turned.told)
+      (λ held is input. unlocked_refused_is (Making seed count) why held is.0 is.1)) turned.did
   make_refused b x why nothing (inr (inr (is, cut))) =
       rw is (cut_off t k (words.Make seed count) blind a b.tape x cut.steps nothing
-      (told_map (t.told a) _ _ cut.front (λ held front outcome rules. writable_begins (Making seed count) (making_first seed count) cut.steps held front outcome (rules []))) cut.broke)
+      (told_map (t.told a) _ _ cut.front
+      (λ held front outcome rules. writable_begins (Making seed count) (making_first seed count) cut.steps held front outcome
+      (rules []))) cut.broke)
 
   module _ (b : UnitView T) (store : StoreView) (opening : HasOpened t a b store) (free : IsUnlocked t a) where
     -- it came to its end, or to a refusal
@@ -169,7 +187,8 @@ module _ {T K : Type 0} (t : tapes.Meaning T) (k : sinks.Meaning K) (seed count 
           outcome = outcome;
           answered = refl;
           told = told_map (t.told a) _ _ (told_both (t.told a) _ _ free
-              (settled_told t a b store opening (λ d. Makes seed count d store.words store.entries run.acts answer) (λ held. OpenOutcome (Making seed count) held outcome) run.told
+              (settled_told t a b store opening (λ d. Makes seed count d store.words store.entries run.acts answer)
+              (λ held. OpenOutcome (Making seed count) held outcome) run.told
               (λ d is makes. (
                 mounting.Mounted store.header store.words is.table store.entries,
                 is.mounts,
@@ -192,19 +211,24 @@ module _ {T K : Type 0} (t : tapes.Meaning T) (k : sinks.Meaning K) (seed count 
         })
 
     -- over a mounted cartridge the acts of the outcome were cut off
-    making_cut : (c : T) (x y : K) (failing : Failing) → TakesBoth k → ((z : K) → k.took z [] z) → (d : Cartridge) → (is : IsOpened d store opening.steps) →
-        ((acts : List Act) (answer : Status) → Makes seed count (mounting.settled is.table d) store.words store.entries acts answer → Cut t no_source k (around b.tape x) (around c y) acts failing) →
-        (outcome : CommandOutcome) → OpenOutcome (Making seed count) (Some d) outcome → IsCutOff t no_source k (words.Make seed count) (around a x) (around c y) failing outcome
+    making_cut : (c : T) (x y : K) (failing : Failing) → TakesBoth k → ((z : K) → k.took z [] z) → (d : Cartridge) →
+        (is : IsOpened d store opening.steps) →
+        ((acts : List Act) (answer : Status) → Makes seed count (mounting.settled is.table d) store.words store.entries acts answer →
+        Cut t no_source k (around b.tape x) (around c y) acts failing) →
+        (outcome : CommandOutcome) → OpenOutcome (Making seed count) (Some d) outcome → IsCutOff t no_source k (words.Make seed count)
+        (around a x) (around c y) failing outcome
     making_cut c x y failing both nothing d is each outcome (m, mounts, does) =
         let same : m ≡ mounting.Mounted store.header store.words is.table store.entries = mounts_is_function d m _ mounts is.mounts in
         by_acts (subst (λ (n : Mounting). Opened (Making seed count) d n outcome) same does)
       where
-        by_acts : Making seed count d store.header store.words is.table store.entries outcome → IsCutOff t no_source k (words.Make seed count) (around a x) (around c y) failing outcome
+        by_acts : Making seed count d store.header store.words is.table store.entries outcome →
+            IsCutOff t no_source k (words.Make seed count) (around a x) (around c y) failing outcome
         by_acts found =
             let all : quiet opening.steps ∷ found.acts ≡ outcome.acts =
             ap (λ (ss : List TapeStep). quiet ss ∷ found.acts) is.settles ∙ sym (ap (λ (o : CommandOutcome). o.acts) found.is) in record {
               cut = subst (λ (acts : List Act). Cut t no_source k (around a x) (around c y) acts failing) all
-                  (cut_behind t no_source k both nothing a b.tape tt x (around c y) opening.steps found.acts failing opening.did (each found.acts found.answer found.makes));
+                  (cut_behind t no_source k both nothing a b.tape tt x (around c y) opening.steps found.acts failing opening.did
+                  (each found.acts found.answer found.makes));
               done = λ sink still. absurd (cc);
               silent = λ still. absurd (cc);
             }
@@ -222,9 +246,17 @@ module _ {T K : Type 0} (t : tapes.Meaning T) (k : sinks.Meaning K) (seed count 
           record {
             told = told_map (t.told a) _ _ (told_both (t.told a) _ Cuts free
                 (settled_told t a b store opening
-                (λ d. (acts : List Act) (answer : Status) → Makes seed count d store.words store.entries acts answer → Cut t no_source k (around b.tape x) (around c y) acts failing)
+                (λ d. (acts : List Act) (answer : Status) → Makes seed count d store.words store.entries acts answer →
+                Cut t no_source k (around b.tape x) (around c y) acts failing)
                 Cuts cut.told (λ d is each outcome plain. making_cut c x y failing both nothing d is each outcome plain)))
-                (λ held is. ([], tt, ((λ no. absurd (cc)), λ outcome plain. is.1 outcome (does_unlocked (Making seed count) held outcome is.0 plain))));
+                (λ held is. (
+                  [],
+                  tt,
+                  (
+                    (λ no. absurd (cc)),
+                    λ outcome plain. is.1 outcome (does_unlocked (Making seed count) held outcome is.0 plain),
+                  ),
+                ));
             acts = quiet opening.steps ∷ cut.acts;
             cut = cut_behind t no_source k both nothing a b.tape tt x (around c y) opening.steps cut.acts failing opening.did cut.cut;
             front = tt;
@@ -236,7 +268,8 @@ module _ {T K : Type 0} (t : tapes.Meaning T) (k : sinks.Meaning K) (seed count 
 
     -- by the answer of the call
     pub make_ended : (c : T) (x y : K) (result : Result (Unit {0}) MakeFault) → TakesBoth k → ((z : K) → k.took z [] z) →
-        MakeEnds t k store seed count (around b.tape x) (around c y) result → EndsBlind t k (words.Make seed count) a c x y (status_of_making result)
+        MakeEnds t k store seed count (around b.tape x) (around c y) result → EndsBlind t k (words.Make seed count) a c x y
+        (status_of_making result)
     make_ended c x y (Ok done) both nothing run = ran c x y status.Done both nothing run
     make_ended c x y (Err fault.Protected) both nothing run = ran c x y status.Protected both nothing run
     make_ended c x y (Err fault.TableMismatch) both nothing run = ran c x y status.TableMismatch both nothing run

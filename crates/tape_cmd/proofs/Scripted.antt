@@ -1,5 +1,6 @@
 -- How a script ends.
-use Rattle.std.proofs.Common.{◌≡◌, ◌≢◌, ℕ, true, List, [], ◌∷◌, ◌++◌, Option, Some, None, IfSome, Result, Ok, Err, refl, sym, ap, ◌∙◌, subst, inl, inr, arith}
+use Rattle.std.proofs.Common.{◌≡◌, ◌≢◌, ℕ, true, List, [], ◌∷◌, ◌++◌, Option, Some, None, IfSome, Result, Ok, Err, refl, sym, ap, ◌∙◌}
+use Rattle.std.proofs.Common.{subst, inl, inr, arith}
 use Rattle.std.specs.Prelude.{is_some, ◌==◌}
 use Rattle.std.proofs.lemmas.Bool.{eq-eqb}
 use Rattle.qic_base.specs.Cartridge.{Cartridge}
@@ -59,9 +60,14 @@ answer_done : (answer : Answer) → script_status answer ≡ status.Done → ans
 answer_done AllDone is = refl
 answer_done (FaultIn number before) is = cc
 
-names_fault : (input : List ℕ) (items : List Item) (ending : Ending) (answer : Answer) → IsScript input items ending → answer ≡ script_answer ending → NamesFault words.Script input (script_status answer)
+names_fault : (input : List ℕ) (items : List Item) (ending : Ending) (answer : Answer) → IsScript input items ending →
+    answer ≡ script_answer ending → NamesFault words.Script input (script_status answer)
 names_fault input items ending answer read is = record {
-  named = λ line place same. (items, subst (IsScript input items) (fault_ended ending line place (sym is ∙ answer_named answer line place same)) read);
+  named = λ line place same. (
+    items,
+    subst (IsScript input items)
+        (fault_ended ending line place (sym is ∙ answer_named answer line place same)) read,
+  );
   none = λ done line place fault.
       let same = inputs.one_reading IsItem inputs.items 1 0 input items fault.0 ending (AtFault line place) read fault.1 in
       let other : script_answer ending ≡ FaultIn line place = ap script_answer same.1 in
@@ -70,9 +76,11 @@ names_fault input items ending answer read is = record {
 }
 
 -- an answer that names no fault of the input, and is not that all was done
-names_none : (answer : Status) (left : Option (List ℕ)) → ((line place : ℕ) → answer ≢ status.ScriptFault line place) → answer ≢ status.Done → IfSome left (λ input. NamesFault words.Script input answer)
+names_none : (answer : Status) (left : Option (List ℕ)) → ((line place : ℕ) → answer ≢ status.ScriptFault line place) →
+    answer ≢ status.Done → IfSome left (λ input. NamesFault words.Script input answer)
 names_none answer None none other = tt
-names_none answer (Some input) none other = record { named = λ line place is. absurd (none line place is); none = λ done. absurd (other done) }
+names_none answer (Some input) none other =
+    record { named = λ line place is. absurd (none line place is); none = λ done. absurd (other done) }
 
 -- ---- the opening
 
@@ -102,12 +110,17 @@ said text = (end_line, (text, refl))
 
 module _ {T S K : Type 0} (t : tapes.Meaning T) (s : sources.Meaning S) (k : sinks.Meaning K) (a : T) (i : S) (x : K) where
   -- the opening was refused, or cut off
-  pub script_unopened : (b : UnitView T) (why : Status) → ((z : K) → k.took z [] z) → OpeningEnds t a b (Err why) → CommandEnds t s k words.Script (outside a i x) (outside b.tape i x) why
+  pub script_unopened : (b : UnitView T) (why : Status) → ((z : K) → k.took z [] z) → OpeningEnds t a b (Err why) →
+      CommandEnds t s k words.Script (outside a i x) (outside b.tape i x) why
   script_unopened b why nothing (inl turned) = inl (record {
     outcome = refused why;
     answered = refl;
     told = told_map (t.told a) _ _ turned.told
-        (λ held is. (input_of (s.left i), input_told (s.left i), ((λ is. input_bytes (s.left i)), refused_is (Scripting (input_of (s.left i))) why held is)));
+        (λ held is. (
+          input_of (s.left i),
+          input_told (s.left i),
+          ((λ is. input_bytes (s.left i)), refused_is (Scripting (input_of (s.left i))) why held is),
+        ));
     went = record { did = turned.did; wrote = record { took = nothing x; later = omega arith }; source_later = omega arith };
     left = left_by_opening why 0 (s.left i) (s.left i) (no_script why turned.sound) (none_left (s.left i));
     sound = found_by_script why turned.sound;
@@ -118,11 +131,14 @@ module _ {T S K : Type 0} (t : tapes.Meaning T) (s : sources.Meaning S) (k : sin
   })
   script_unopened b why nothing (inr (is, cut)) =
       rw is (input_unread t s k words.Script a b.tape i x cut nothing
-      (told_map (t.told a) _ _ cut.front (λ held front. begins_is (Scripting (input_of (s.left i))) (scripting_first (input_of (s.left i))) cut.steps held front)))
+      (told_map (t.told a) _ _ cut.front
+      (λ held front. begins_is (Scripting (input_of (s.left i))) (scripting_first (input_of (s.left i))) cut.steps held front)))
 
-  module _ (b : UnitView T) (store : StoreView) (opening : HasOpened t a b store) (c : T) (j : S) (y : K) (both : TakesBoth k) (nothing : (z : K) → k.took z [] z) where
+  module _ (b : UnitView T) (store : StoreView) (opening : HasOpened t a b store) (c : T) (j : S) (y : K) (both : TakesBoth k)
+      (nothing : (z : K) → k.took z [] z) where
     -- the machine's outcome over the cartridge that was opened
-    is_plain : (input : List ℕ) (came : CommandOutcome) (d : Cartridge) (is : IsOpened d store opening.steps) → ScriptDoes (mounting.settled is.table d) store.words store.entries input came →
+    is_plain : (input : List ℕ) (came : CommandOutcome) (d : Cartridge) (is : IsOpened d store opening.steps) →
+        ScriptDoes (mounting.settled is.table d) store.words store.entries input came →
         ScriptOutcome (Some d) input (record { acts = quiet opening.steps ∷ came.acts; taken = came.taken; status = came.status })
     is_plain input came d is does = (
       mounting.Mounted store.header store.words is.table store.entries,
@@ -139,17 +155,20 @@ module _ {T S K : Type 0} (t : tapes.Meaning T) (s : sources.Meaning S) (k : sin
     left_so taken (FaultIn line place) left = left
 
     -- a line at fault is one of those that a script may have
-    sound_so : (input : List ℕ) (items : List Item) (ending : Ending) (answer : Answer) → IsScript input items ending → answer ≡ script_answer ending →
+    sound_so : (input : List ℕ) (items : List Item) (ending : Ending) (answer : Answer) → IsScript input items ending →
+        answer ≡ script_answer ending →
         may_come_from (script_status answer) words.Script ≡ true
     sound_so input items ending AllDone read is = refl
     sound_so input items ending (FaultIn line place) read is =
         fault_line IsItem 0 input items line place (subst (IsScript input items) (fault_ended ending line place (sym is)) read)
 
-    prints_so : (answer : Answer) (text : List ℕ) → (answer ≡ AllDone → (replies : List ℕ) × (text ≡ replies ++ end_line)) → Prints words.Script (script_status answer) text
+    prints_so : (answer : Answer) (text : List ℕ) → (answer ≡ AllDone → (replies : List ℕ) × (text ≡ replies ++ end_line)) →
+        Prints words.Script (script_status answer) text
     prints_so AllDone text replied = ((λ is. replied refl), (λ other. absurd (other refl)))
     prints_so (FaultIn line place) text replied = ((λ is. absurd (cc)), (λ other. tt))
 
-    ended : (answer : Answer) → runs.Ended t s k store (outside b.tape i x) (outside c j y) answer → CommandEnds t s k words.Script (outside a i x) (outside c j y) (script_status answer)
+    ended : (answer : Answer) → runs.Ended t s k store (outside b.tape i x) (outside c j y) answer →
+        CommandEnds t s k words.Script (outside a i x) (outside c j y) (script_status answer)
     ended answer run =
         let came : CommandOutcome = run.outcome in
         inl (record {
@@ -168,7 +187,8 @@ module _ {T S K : Type 0} (t : tapes.Meaning T) (s : sources.Meaning S) (k : sin
         })
 
     -- the table did not show the list: over no cartridge that is told
-    mismatched : runs.Mismatched t s k (outside b.tape i x) (outside c j y) → CommandEnds t s k words.Script (outside a i x) (outside c j y) status.TableMismatch
+    mismatched : runs.Mismatched t s k (outside b.tape i x) (outside c j y) → CommandEnds t s k words.Script (outside a i x)
+        (outside c j y) status.TableMismatch
     mismatched run = inl (record {
       outcome = record { acts = quiet opening.steps ∷ run.acts; taken = run.taken; status = status.TableMismatch };
       answered = refl;
@@ -184,33 +204,43 @@ module _ {T S K : Type 0} (t : tapes.Meaning T) (s : sources.Meaning S) (k : sin
 
     -- over a mounted cartridge the acts of the outcome were cut off
     scripting_cut : (failing : Failing) (input : List ℕ) (d : Cartridge) → (is : IsOpened d store opening.steps) →
-        ((came : CommandOutcome) → ScriptDoes (mounting.settled is.table d) store.words store.entries input came → Cut t s k (outside b.tape i x) (outside c j y) came.acts failing) →
-        (outcome : CommandOutcome) → ScriptOutcome (Some d) input outcome → IsCutOff t s k words.Script (outside a i x) (outside c j y) failing outcome
+        ((came : CommandOutcome) → ScriptDoes (mounting.settled is.table d) store.words store.entries input came →
+        Cut t s k (outside b.tape i x) (outside c j y) came.acts failing) →
+        (outcome : CommandOutcome) → ScriptOutcome (Some d) input outcome → IsCutOff t s k words.Script (outside a i x)
+        (outside c j y) failing outcome
     scripting_cut failing input d is each outcome (m, mounts, does) =
         let same : m ≡ mounting.Mounted store.header store.words is.table store.entries = mounts_is_function d m _ mounts is.mounts in
         by_acts (subst (λ (n : Mounting). Opened (Scripting input) d n outcome) same does)
       where
-        by_acts : Scripting input d store.header store.words is.table store.entries outcome → IsCutOff t s k words.Script (outside a i x) (outside c j y) failing outcome
+        by_acts : Scripting input d store.header store.words is.table store.entries outcome → IsCutOff t s k words.Script (outside a i x)
+            (outside c j y) failing outcome
         by_acts found =
             let came : CommandOutcome = found.came in
             let all : quiet opening.steps ∷ came.acts ≡ outcome.acts =
             ap (λ (ss : List TapeStep). quiet ss ∷ came.acts) is.settles ∙ sym (ap (λ (o : CommandOutcome). o.acts) found.is) in record {
               cut = subst (λ (acts : List Act). Cut t s k (outside a i x) (outside c j y) acts failing) all
-                  (cut_behind t s k both nothing a b.tape i x (outside c j y) opening.steps came.acts failing opening.did (each came found.does));
+                  (cut_behind t s k both nothing a b.tape i x (outside c j y) opening.steps came.acts failing opening.did
+                  (each came found.does));
               done = λ sink still. absurd (cc);
               silent = λ still. absurd (cc);
             }
 
     -- a fault cut that off
-    cut_so : (failing : Failing) → is_some (s.left j) ≡ is_some (s.left i) → runs.CutOff t s k store (outside b.tape i x) (outside c j y) failing →
+    cut_so : (failing : Failing) → is_some (s.left j) ≡ is_some (s.left i) → runs.CutOff t s k store (outside b.tape i x)
+        (outside c j y) failing →
         CommandEnds t s k words.Script (outside a i x) (outside c j y) (fault_of failing)
     cut_so failing tells run = inr (
       failing,
       refl,
       record {
         told = settled_told t a b store opening
-            (λ d. (came : CommandOutcome) → ScriptDoes d store.words store.entries run.input came → Cut t s k (outside b.tape i x) (outside c j y) came.acts failing) _ run.told
-            (λ d is each. (run.input, run.is_told, ((λ is. run.content), λ outcome plain. scripting_cut failing run.input d is each outcome plain)));
+            (λ d. (came : CommandOutcome) → ScriptDoes d store.words store.entries run.input came →
+            Cut t s k (outside b.tape i x) (outside c j y) came.acts failing) _ run.told
+            (λ d is each. (
+              run.input,
+              run.is_told,
+              ((λ is. run.content), λ outcome plain. scripting_cut failing run.input d is each outcome plain),
+            ));
         acts = quiet opening.steps ∷ run.acts;
         cut = cut_behind t s k both nothing a b.tape i x (outside c j y) opening.steps run.acts failing opening.did run.cut;
         front = said (text_of run.acts);
@@ -221,7 +251,8 @@ module _ {T S K : Type 0} (t : tapes.Meaning T) (s : sources.Meaning S) (k : sin
     )
 
     -- by the answer of the call
-    pub script_ended : (result : Result (Unit {0}) ScriptFault) → is_some (s.left j) ≡ is_some (s.left i) → runs.ScriptEnds t s k store (outside b.tape i x) (outside c j y) result →
+    pub script_ended : (result : Result (Unit {0}) ScriptFault) → is_some (s.left j) ≡ is_some (s.left i) →
+        runs.ScriptEnds t s k store (outside b.tape i x) (outside c j y) result →
         CommandEnds t s k words.Script (outside a i x) (outside c j y) (status_of_script result)
     script_ended (Ok done) tells run = ended AllDone run
     script_ended (Err (fault.Input line place)) tells run = ended (FaultIn line place) run

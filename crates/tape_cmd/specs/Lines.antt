@@ -2,7 +2,9 @@
 use Rattle.std.specs.Prelude.{ℕ, List, codes, [], ◌++◌, decimal}
 use Rattle.command_spec.specs.declared.status.Status.{Status}
 use Rattle.qic_base.specs.declared.foreign.ForeignField.{ForeignField}
-use Rattle.qic_base.specs.declared.foreign.ForeignField.TheVariants.{FormatCode, FirstHeader, SecondHeader, FirstData, LastData, SegmentsPerTrack, Tracks, TrackMaximum, SectorMaximum, Map, Slot, Range}
+use Rattle.qic_base.specs.declared.foreign.ForeignField.TheVariants.{FormatCode, FirstHeader, SecondHeader, FirstData, LastData}
+use Rattle.qic_base.specs.declared.foreign.ForeignField.TheVariants.{SegmentsPerTrack, Tracks, TrackMaximum, SectorMaximum, Map, Slot}
+use Rattle.qic_base.specs.declared.foreign.ForeignField.TheVariants.{Range}
 use Rattle.command_spec.specs.declared.status.Status.TheVariants as status
 
 -- ---- statuses

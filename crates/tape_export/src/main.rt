@@ -10,12 +10,12 @@ mod run;
 mod status;
 
 use cart_image::ImageTape;
-use map_file::{MapFile, require_empty};
+use map_file::MapFile;
 use program_words::{ExportWords, read_command_line, read_export_words};
-use qic_base::{DiskFailed, MOST_SEGMENTS, NoMemory, SECTOR, SECTORS, Sector};
+use qic_base::{MOST_SEGMENTS, NoMemory, SECTOR, SECTORS, Sector};
 use read_ahead::{MOST, ReadAhead};
 use rescue_map::write_bytes;
-use run::{run_export, unread};
+use run::{export_files, unread};
 use status::ExportStatus;
 use std::alloc::Global;
 use std::process::ExitCode;
@@ -101,38 +101,27 @@ fn run_over_files(rt: &HostRuntime, asked: ExportWords) -> Result<ExportStatus, 
     Ok(run_over_disks(rt, &mut room, image, map))
 }
 
-/// Exports the image, where the map's file is empty.
+/// Exports the image.
 fn run_over_disks(
     rt: &HostRuntime,
     room: &mut Room,
     image: FileDisk,
-    mut map: Option<FileDisk>,
+    map: Option<FileDisk>,
 ) -> ExportStatus
     requires sectors { vec_len room.old.sectors ≡ 32 }
     requires words { most_words ≤ vec_capacity room.old.mask }
 {
-    if let Some(disk) = &mut map {
-        if let Err(status) = require_empty(disk) {
-            return status;
-        }
-    }
     let mut ahead = [0; MOST];
     let mut tape = ImageTape::open(ReadAhead::new(image, &mut ahead));
     let mut dump = StdoutSink::new(rt.stdout());
     let mut chart = MapFile::new(map);
-    match run_export(
+    export_files(
         &mut room.sectors,
         &mut room.mask,
         &mut tape,
         &mut dump,
         &mut chart,
-    ) {
-        ExportStatus::Done => match chart.sync() {
-            Ok(()) => ExportStatus::Done,
-            Err(DiskFailed) => ExportStatus::SinkFault,
-        },
-        status => status,
-    }
+    )
 }
 
 /// Prints a status, and answers its exit status.

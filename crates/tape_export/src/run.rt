@@ -3,11 +3,14 @@
 ghost use Rattle.std.specs.Prelude.{◌≡◌, ◌≢◌, ◌≤◌, length};
 ghost use Rattle.std.specs.Vec.{vec_capacity};
 ghost use Rattle.rescue_map.specs.Laws.{most_words};
+ghost use Rattle.tape_export.specs.Charts.{IsFresh};
+ghost use Rattle.tape_export.specs.Files.{Exports};
 ghost use Rattle.tape_export.specs.Runs.{Runs};
 
+use crate::map_file::MapFile;
 use crate::status::ExportStatus;
 use flat_dump::{ExportError, export};
-use qic_base::{Sector, Sink, SinkFailed, Tape};
+use qic_base::{Disk, DiskFailed, Sector, Sink, SinkFailed, Tape};
 use rescue_map::write_map;
 use std::io::ErrorKind;
 
@@ -46,5 +49,32 @@ pub fn run_export<T: Tape, K: Sink, M: Sink>(
         Err(ExportError::NoCartridge) => ExportStatus::NoCartridge,
         Err(ExportError::Tape) => ExportStatus::TapeFault,
         Err(ExportError::Sink) => ExportStatus::SinkFault,
+    }
+}
+
+/// Does that where the file of the map is empty, or none is asked for, and puts the map on the disk.
+pub fn export_files<T: Tape, K: Sink, D: Disk + Drop>(
+    sectors: &mut [Sector],
+    mask: &mut Vec<u32>,
+    tape: &mut T,
+    dump: &mut K,
+    chart: &mut MapFile<D>,
+) -> ExportStatus
+    requires sectors { length sectors.old ≡ 32 }
+    requires words { most_words ≤ vec_capacity mask.old }
+    requires fresh { IsFresh chart.old }
+    ensures { Exports T.means K.means D.means
+        record { tape = tape.old; dump = dump.old; chart = chart.old }
+        record { tape = tape.new; dump = dump.new; chart = chart.new } result }
+{
+    if let Err(status) = chart.require_empty() {
+        return status;
+    }
+    match run_export(sectors, mask, tape, dump, chart) {
+        ExportStatus::Done => match chart.sync() {
+            Ok(()) => ExportStatus::Done,
+            Err(DiskFailed) => ExportStatus::SinkFault,
+        },
+        status => status,
     }
 }

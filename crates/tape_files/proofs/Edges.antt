@@ -1,7 +1,7 @@
--- What a call of a file did, by its count of failures.
-use Rattle.std.proofs.Common.{◌≤◌, refl, arith, inl}
+-- What a call of a file did, by its counts of failures.
+use Rattle.std.proofs.Common.{◌≡◌, ◌≤◌, refl, arith, inl}
 use Rattle.qic_base.specs.Tape.{Rose}
-use Rattle.qic_base.specs.Disk.{DiskStep, Look, WriteAt, SetLen, Sync, Stored, Failed, IsSettled, Crashes, Leaves}
+use Rattle.qic_base.specs.Disk.{DiskStep, Look, WriteAt, SetLen, Sync, Stored, Failed, ChangesCounted, IsSettled, Crashes, Leaves}
 use Rattle.tape_files.specs.Edge.{FileState, file_means}
 
 settled : {F : Type 0} (f : FileState F) → IsSettled file_means f
@@ -22,18 +22,20 @@ leaves old new (WriteAt place part) = λ left may. absurd may
 leaves old new (SetLen n) = λ left may. absurd may
 leaves old new Sync = settled new
 
-pub file_stored : {F : Type 0} (old new : FileState F) (step : DiskStep) → old.faults ≤ new.faults → Stored file_means old new step
-file_stored old new step later = record {
+pub file_stored : {F : Type 0} (old new : FileState F) (step : DiskStep) → new.faults ≡ old.faults → new.failed_changes ≡ old.failed_changes → Stored file_means old new step
+file_stored old new step later changes = record {
   told = refl;
   later = later;
+  changes = changes;
   leaves = leaves old new step;
   crashes = crashes old new step;
 }
 
-pub file_failed : {F : Type 0} (old new : FileState F) (step : DiskStep) → Rose old.faults new.faults → old.faults ≤ new.faults → Failed file_means old new step
-file_failed old new step rose later = record {
+pub file_failed : {F : Type 0} (old new : FileState F) (step : DiskStep) → Rose old.faults new.faults → old.faults ≤ new.faults → ChangesCounted step old.failed_changes new.failed_changes → Failed file_means old new step
+file_failed old new step rose later changes = record {
   cause = rose;
   later = later;
+  changes = changes;
   tells = refl;
   torn = λ left told. cc;
   leaves = λ left may. absurd may;

@@ -1,8 +1,8 @@
 -- The answers of the system that let an image be used (this project's own).
-use Rattle.std.specs.Prelude.{◌≡◌, ◌⊎◌, Bool, IsTrue, Result, Ok, Err, Some, pos}
+use Rattle.std.specs.Prelude.{◌≡◌, ◌⊎◌, ◌≤◌, ℕ, Bool, IsTrue, Result, Ok, Err, Some, pos}
 use Rattle.std.specs.IoError.{error_kind, raw_os_error}
 use Rattle.std.specs.declared.io.Error.{Error as IoError}
-use Rattle.std.specs.declared.io.ErrorKind.TheVariants.{InvalidInput, PermissionDenied, ReadOnlyFilesystem}
+use Rattle.std.specs.declared.io.ErrorKind.TheVariants.{InvalidInput, NotFound, PermissionDenied, ReadOnlyFilesystem}
 use Rattle.std.specs.declared.fs.TryLockError.{TryLockError}
 use Rattle.std.specs.declared.fs.TryLockError.TheVariants.{Error, WouldBlock}
 
@@ -24,3 +24,16 @@ IsSynced reads_only (Err error) = IsTrue reads_only × (error_kind error ≡ Inv
 -- the file may not be written: EPERM, EACCES and EROFS of Linux
 abbrev pub ForbidsWriting : IoError → Type 0
 ForbidsWriting error = (error_kind error ≡ PermissionDenied) ⊎ (error_kind error ≡ ReadOnlyFilesystem)
+
+-- there is no file: ENOENT of Linux
+abbrev pub TellsNone : IoError → Type 0
+TellsNone error = error_kind error ≡ NotFound
+
+-- a path that can't be read as a link is none: it is another file (EINVAL of Linux), or there is none
+abbrev pub TellsNoLink : IoError → Type 0
+TellsNoLink error = (error_kind error ≡ InvalidInput) ⊎ TellsNone error
+
+-- a read gave at least so many bytes
+abbrev pub GaveAll : (least : ℕ) → Result ℕ IoError → Type 0
+GaveAll least (Ok n) = least ≤ n
+GaveAll least (Err error) = ⊥

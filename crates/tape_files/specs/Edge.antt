@@ -16,12 +16,13 @@ sync_kind true = Whole
 sync_kind false = DataAlone
 
 -- a file as a disk: the file, whether its length may have changed since the last sync that succeeded, the length that
--- it was seen to have, and how often a call of it failed
+-- it was seen to have, how often a call of it failed, and how often one that was no look
 pub record FileState (F : Type 0) : Type 0 where
   pub file : F
   pub resized : Bool
   pub seen : ℕ
   pub faults : ℕ
+  pub failed_changes : ℕ
 
 -- it tells neither its bytes nor what a crash leaves
 abbrev pub file_means : {F : Type 0} → disks.Meaning (FileState F)
@@ -29,6 +30,7 @@ file_means = record {
   told = λ _. None;
   seen_len = λ f. f.seen;
   faults = λ f. f.faults;
+  failed_changes = λ f. f.failed_changes;
   tells_stops = λ _. false;
   may_leave = λ _ _. ⊥;
   moment = λ _. 0;

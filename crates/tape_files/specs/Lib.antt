@@ -2,4 +2,5 @@ pub mod Answers
 pub mod Apart
 pub mod Edge
 pub mod EdgeLaws
+pub mod Paths
 pub mod Streams

@@ -1,14 +1,16 @@
 //! A file as a disk.
 
-ghost use Rattle.std.specs.Prelude.{◌≡◌, ◌≤◌, true, false, IfOk, OnOk, OnErr};
+ghost use Rattle.std.specs.Prelude.{◌≡◌, ◌-◌, ◌≤◌, ◌↔◌, Ok, true, false, length, min, IfOk, OnOk, OnErr, IsOk};
 ghost use Rattle.qic_base.specs.Tape.{Rose};
-ghost use Rattle.qic_base.specs.Disk.{SetLen, Sync, Stores};
+ghost use Rattle.qic_base.specs.Disk.{Look, SetLen, Sync, Stores};
+ghost use Rattle.tape_files.specs.Answers.{GaveAll};
 ghost use Rattle.tape_files.specs.Edge.{Whole, sync_kind, file_means};
 
 use crate::file::{DiskFile, ImageFile};
 use crate::retry::read_from;
 use qic_base::{Disk, DiskFailed};
 use std::io;
+use std::io::ErrorKind;
 use std::marker::Model;
 
 /// A file as a disk. A failure of the system is a failure of the call, and counted.
@@ -17,6 +19,8 @@ pub struct FileDisk<F: DiskFile + Drop = ImageFile> {
     file: F,
     seen: u64,
     faults: u64,
+    /// How many of the faults were writes, new lengths and syncs.
+    failed_changes: u64,
     /// Whether the length may have changed since the last sync that succeeded.
     resized: bool,
 }
@@ -31,6 +35,7 @@ impl<F: DiskFile + Drop> Model for FileDisk<F> {
       resized = d.resized;
       seen = d.seen;
       faults = d.faults;
+      failed_changes = d.failed_changes;
     } };
 }
 
@@ -42,11 +47,13 @@ impl<F: DiskFile + Drop> FileDisk<F> {
         ensures settled { IfOk result (λ disk. disk.resized ≡ false) }
         ensures seen { IfOk result (λ disk. disk.seen ≡ 0) }
         ensures faults { IfOk result (λ disk. disk.faults ≡ 0) }
+        ensures changes { IfOk result (λ disk. disk.failed_changes ≡ 0) }
     {
         let mut disk = FileDisk {
             file,
             seen: 0,
             faults: 0,
+            failed_changes: 0,
             resized: true,
         };
         disk.sync()?;
@@ -57,6 +64,7 @@ impl<F: DiskFile + Drop> FileDisk<F> {
     fn count_fault(&mut self)
         ensures failed { Rose self.old.faults self.new.faults }
         ensures later { self.old.faults ≤ self.new.faults }
+        ensures changes { self.new.failed_changes ≡ self.old.failed_changes }
         ensures seen { self.new.seen ≡ self.old.seen }
         ensures file { self.new.file ≡ self.old.file }
         ensures resized { self.new.resized ≡ self.old.resized }
@@ -70,6 +78,7 @@ impl<F: DiskFile + Drop> FileDisk<F> {
         ensures succeeded { OnOk result (self.new ≡ self.old) }
         ensures failed { OnErr result (Rose self.old.faults self.new.faults) }
         ensures later { self.old.faults ≤ self.new.faults }
+        ensures changes { self.new.failed_changes ≡ self.old.failed_changes }
         ensures seen { self.new.seen ≡ self.old.seen }
         ensures file { self.new.file ≡ self.old.file }
         ensures resized { self.new.resized ≡ self.old.resized }
@@ -81,6 +90,37 @@ impl<F: DiskFile + Drop> FileDisk<F> {
                 Err(DiskFailed)
             }
         }
+    }
+
+    /// The answer of the system to a write, a new length or a sync; a failure is counted among these, too.
+    fn changed(&mut self, answer: io::Result<()>) -> Result<(), DiskFailed>
+        ensures value { IfOk result (λ value. answer ≡ Ok value) }
+        ensures succeeded { OnOk result (self.new ≡ self.old) }
+        ensures failed { OnErr result (Rose self.old.faults self.new.faults) }
+        ensures later { self.old.faults ≤ self.new.faults }
+        ensures changes { OnErr result (Rose self.old.failed_changes self.new.failed_changes) }
+        ensures seen { self.new.seen ≡ self.old.seen }
+        ensures file { self.new.file ≡ self.old.file }
+        ensures resized { self.new.resized ≡ self.old.resized }
+    {
+        match self.counted(answer) {
+            Ok(()) => Ok(()),
+            Err(failed) => {
+                self.failed_changes = self.failed_changes.saturating_add(1);
+                Err(failed)
+            }
+        }
+    }
+}
+
+/// The answer to a read that has so many bytes to give: one that ended before them failed.
+fn all_given(answer: io::Result<usize>, least: usize) -> io::Result<usize>
+    ensures given { IfOk result (λ n. (answer ≡ Ok n) × (least ≤ n)) }
+    ensures cut { IsOk result ↔ GaveAll least answer }
+{
+    match answer {
+        Ok(count) if count < least => Err(io::Error::from(ErrorKind::UnexpectedEof)),
+        answer => answer,
     }
 }
 
@@ -102,15 +142,24 @@ impl<F: DiskFile + Drop> Disk for FileDisk<F> {
     }
 
     #[tactic(auto, using(crate::proofs::Edges::file_calls))]
-    fn read_at(&mut self, place: u64, into: &mut [u8]) -> Result<usize, DiskFailed> {
+    fn read_at(&mut self, place: u64, into: &mut [u8]) -> Result<usize, DiskFailed>
+        ensures did { Stores file_means self.old self.new Look result }
+        ensures within { IfOk result (λ n. n ≤ length into.old) }
+
+        // None that ends before the length that was seen: a file that is cut under the run is a failure.
+        ensures uncut { IfOk result (λ n. min (length into.old) (self.old.seen - place) ≤ n) }
+        ensures kept { OnOk result (self.new ≡ self.old) }
+        ensures seen { self.new.seen ≡ self.old.seen }
+    {
+        let least = self.seen.saturating_sub(place).min(into.len() as u64) as usize;
         let answer = read_from(&self.file, place, into);
-        self.counted(answer)
+        self.counted(all_given(answer, least))
     }
 
     #[tactic(auto, using(crate::proofs::Edges::file_calls))]
     fn write_at(&mut self, place: u64, from: &[u8]) -> Result<(), DiskFailed> {
         let answer = self.file.write_all_at(from, place);
-        self.counted(answer)
+        self.changed(answer)
     }
 
     #[tactic(auto, using(crate::proofs::Edges::file_calls))]
@@ -122,7 +171,7 @@ impl<F: DiskFile + Drop> Disk for FileDisk<F> {
     {
         self.resized = true;
         let answer = self.file.set_len(length);
-        match self.counted(answer) {
+        match self.changed(answer) {
             Ok(()) => {
                 self.seen = length;
                 Ok(())
@@ -151,7 +200,7 @@ impl<F: DiskFile + Drop> Disk for FileDisk<F> {
         } else {
             self.file.sync_data()
         };
-        self.counted(answer)?;
+        self.changed(answer)?;
         self.resized = false;
         Ok(())
     }
@@ -160,7 +209,7 @@ impl<F: DiskFile + Drop> Disk for FileDisk<F> {
 #[cfg(test)]
 mod tests {
     use super::*;
-    use std::io::ErrorKind;
+    use std::cell::Cell;
     use std::os::unix::fs::FileExt;
     use std::test::Fail;
 
@@ -249,6 +298,104 @@ mod tests {
         let seen = (syncs()?, FileDisk::open(make_counting(true)).is_err());
         let want = [(true, 1, 1), (false, 1, 1), (true, 2, 1), (true, 2, 2)];
         assert_eq!(rt; seen, (want, true));
+        Ok(())
+    }
+
+    /// Gives and takes two bytes a call, of at most eight.
+    #[derive(Drop)]
+    struct Slow {
+        bytes: Cell<[u8; 8]>,
+        length: Cell<usize>,
+    }
+
+    impl FileExt for Slow {
+        fn read_at(&self, into: &mut [u8], place: u64) -> io::Result<usize> {
+            let bytes = self.bytes.get();
+            let length = self.length.get().min(8);
+            let place = place.min(8) as usize;
+            let count = into.len().min(2).min(length.saturating_sub(place));
+            into[..count].copy_from_slice(&bytes[place..place + count]);
+            Ok(count)
+        }
+
+        fn write_at(&self, from: &[u8], place: u64) -> io::Result<usize> {
+            let mut bytes = self.bytes.get();
+            let place = place.min(8) as usize;
+            let count = from.len().min(2).min(8 - place);
+            bytes[place..place + count].copy_from_slice(&from[..count]);
+            self.bytes.set(bytes);
+            Ok(count)
+        }
+    }
+
+    impl DiskFile for Slow {
+        ghost synced = { λ kind old new. Unit {0} };
+
+        fn len(&self) -> io::Result<u64> {
+            Ok(self.length.get() as u64)
+        }
+
+        fn set_len(&self, length: u64) -> io::Result<()> {
+            self.length.set(length.min(8) as usize);
+            Ok(())
+        }
+
+        fn sync_all(&mut self) -> io::Result<()> {
+            Ok(())
+        }
+
+        fn sync_data(&mut self) -> io::Result<()> {
+            Ok(())
+        }
+    }
+
+    type Read = (Result<usize, DiskFailed>, [u8; 8]);
+
+    fn read(disk: &mut FileDisk<Slow>, place: u64) -> Read {
+        let mut into = [b'-'; 8];
+        (disk.read_at(place, &mut into), into)
+    }
+
+    /// What a write of five bytes leaves in a file that was made seven bytes long, as reads within it and behind it
+    /// give it, and one once another hand cut it to four bytes.
+    fn written() -> Result<[Read; 4], DiskFailed> {
+        let mut disk = FileDisk::open(Slow {
+            bytes: Cell::new(*b"........"),
+            length: Cell::new(0),
+        })?;
+        disk.set_len(7)?;
+        disk.write_at(1, b"taper")?;
+        let whole = [read(&mut disk, 0), read(&mut disk, 3), read(&mut disk, 7)];
+        disk.file.length.set(4);
+        Ok([whole[0], whole[1], whole[2], read(&mut disk, 0)])
+    }
+
+    /// How often a disk failed that told seven bytes, one that told none, and one that told the four that a file had
+    /// been cut to, each read from its third byte on into three.
+    fn reads_of_a_cut_file() -> Result<[(Result<usize, DiskFailed>, u64); 3], DiskFailed> {
+        let mut disk = FileDisk::open(Slow {
+            bytes: Cell::new(*b"shorten."),
+            length: Cell::new(4),
+        })?;
+        let untold = (disk.read_at(2, &mut [0; 3]), disk.faults);
+        let _ = disk.len()?;
+        let told = (disk.read_at(2, &mut [0; 3]), disk.faults);
+        disk.set_len(7)?;
+        disk.file.length.set(4);
+        Ok([(disk.read_at(2, &mut [0; 3]), disk.faults), untold, told])
+    }
+
+    #[test]
+    fn short_calls_go_on_and_a_file_that_is_cut_fails(rt: HostRuntime) -> Result<(), Fail> {
+        let seen = (written()?, reads_of_a_cut_file()?);
+        let written = [
+            (Ok(7), *b".taper.-"),
+            (Ok(4), *b"per.----"),
+            (Ok(0), *b"--------"),
+            (Err(DiskFailed), *b".tap----"),
+        ];
+        let cut = [(Err(DiskFailed), 1), (Ok(2), 0), (Ok(2), 0)];
+        assert_eq!(rt; seen, (written, cut));
         Ok(())
     }
 }

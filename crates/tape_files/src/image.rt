@@ -1,16 +1,15 @@
 //! The opening of an image file.
 
-ghost use Rattle.std.specs.Prelude.{◌≡◌, ◌≢◌, ◌↔◌, true, false, Err, Some, IfErr, IfOk, IsOk, IsTrue};
+ghost use Rattle.std.specs.Prelude.{◌≡◌, ◌≢◌, ◌↔◌, false, Err, Some, IfErr, IfOk, IsOk, IsTrue};
 ghost use Rattle.std.specs.Fs.{IsFile, file_type};
-ghost use Rattle.tape_files.specs.Answers.{ForbidsWriting, IsUnlocked, KnowsNoLocks};
-ghost use Rattle.tape_files.specs.Apart.{IsApart};
+ghost use Rattle.tape_files.specs.Answers.{IsUnlocked, KnowsNoLocks};
 ghost use Rattle.tape_files.specs.Streams.{IsNoStream};
 
 use crate::FileDisk;
 use crate::file::{ImageFile, as_synced};
-use std::fs::{File, Files, Metadata, OpenFile, OpenOptions, TryLockError};
-use std::io::ErrorKind;
-use std::os::fd::{AsRawFd, RawFd};
+use crate::links::{behind_links, folder_of};
+use crate::opened::{open_alone, open_file};
+use std::fs::{File, Files, Metadata, OpenFile, TryLockError};
 use std::os::unix::fs::MetadataExt;
 use std::{fs, io};
 
@@ -19,6 +18,8 @@ use std::{fs, io};
 pub enum NoImage {
     /// The system can neither open nor create it.
     NotOpened,
+    /// Once it was locked the path named another file, or none.
+    Moved,
     /// It is a folder, a device, a pipe or a socket.
     NotRegular,
     /// It is standard input or output, or has the descriptor of a standard stream.
@@ -34,9 +35,6 @@ pub enum NoImage {
     /// There was no memory for the name of its folder.
     NoMemory,
 }
-
-/// The greatest descriptor of a standard stream.
-const LAST_STREAM: RawFd = 2;
 
 /// Linux's number for a lock that this kind of file does not have.
 const EOPNOTSUPP: i32 = 95;
@@ -57,7 +55,7 @@ pub fn open_image<R: Files<File = File> + Alloc>(files: &R, path: &str) -> Resul
 {
     require_regular_path(files, path)?;
     let file = open_file(files, path)?;
-    let metadata = require_image(files, &file)?;
+    let metadata = require_image(files, path, &file)?;
     if metadata.len() == 0 {
         sync_folder(files, path, file.reads_only())?;
     }
@@ -72,11 +70,8 @@ pub fn open_to_read<R: Files<File = File>>(files: &R, path: &str) -> Result<File
     ensures faults { IfOk result (λ disk. disk.faults ≡ 0) }
 {
     require_regular_path(files, path)?;
-    let Ok(file) = File::open(files, path) else {
-        return Err(NoImage::NotOpened);
-    };
-    let image = as_image(file, true)?;
-    require_image(files, &image)?;
+    let image = open_alone(files, path)?;
+    require_image(files, path, &image)?;
     FileDisk::open(image).map_err(|_| NoImage::NotSynced)
 }
 
@@ -88,46 +83,9 @@ fn require_regular_path(files: &impl Files, path: &str) -> Result<(), NoImage> {
     }
 }
 
-fn open_file<R: Files<File = File>>(files: &R, path: &str) -> Result<ImageFile, NoImage> {
-    let opened = OpenOptions::new()
-        .read(true)
-        .write(true)
-        .create(true)
-        .open(files, path);
-    match opened {
-        Ok(file) => as_image(file, false),
-        Err(error) if forbids_writing(&error) => match File::open(files, path) {
-            Ok(file) => as_image(file, true),
-            Err(_) => Err(NoImage::NotOpened),
-        },
-        Err(_) => Err(NoImage::NotOpened),
-    }
-}
-
-/// Whether an open failed since the file may not be written.
-fn forbids_writing(error: &io::Error) -> bool
-    ensures { IsTrue result ↔ ForbidsWriting error.now }
-{
-    matches!(
-        error.kind(),
-        ErrorKind::PermissionDenied | ErrorKind::ReadOnlyFilesystem
-    )
-}
-
-fn as_image(file: File, reads_only: bool) -> Result<ImageFile, NoImage>
-    ensures apart { IsOk result ↔ IsApart file }
-    ensures reads_only { IfOk result (λ image. image.reads_only ≡ reads_only) }
-    ensures refused { IfErr result (λ cause. cause ≡ NoImage.IsStream) }
-{
-    if file.as_raw_fd() > LAST_STREAM {
-        Ok(ImageFile::new(file, reads_only))
-    } else {
-        Err(NoImage::IsStream)
-    }
-}
-
-/// Asked of the open file, since what a path names may change.
-fn require_image(files: &impl Files, image: &ImageFile) -> Result<Metadata, NoImage> {
+/// Asked of the open file, since what a path names may change. Once it is locked the path is looked at again: a file that
+/// was put in its place, or took its name, would be written by the next run.
+fn require_image(files: &impl Files, path: &str, image: &ImageFile) -> Result<Metadata, NoImage> {
     let file = image.file();
     let Ok(metadata) = file.metadata() else {
         return Err(NoImage::NotOpened);
@@ -140,6 +98,7 @@ fn require_image(files: &impl Files, image: &ImageFile) -> Result<Metadata, NoIm
     } else {
         file.try_lock()
     })?;
+    require_named(number_of(&metadata), number_at(files, path))?;
     Ok(metadata)
 }
 
@@ -204,6 +163,18 @@ fn require_no_stream(file: FileNumber, streams: &StreamNumbers) -> Result<(), No
     }
 }
 
+/// The file that a path names now, where there is one, is the one that was opened.
+fn require_named(file: FileNumber, named: Option<FileNumber>) -> Result<(), NoImage>
+    ensures named { IsOk result ↔ (named ≡ Some file) }
+    ensures refused { IfErr result (λ cause. cause ≡ NoImage.Moved) }
+{
+    if named == Some(file) {
+        Ok(())
+    } else {
+        Err(NoImage::Moved)
+    }
+}
+
 /// Whether the system knows no locks for a file, by the failure of one.
 fn knows_no_locks(error: &io::Error) -> bool
     ensures { IsTrue result ↔ KnowsNoLocks error.now }
@@ -224,25 +195,37 @@ fn require_unlocked(answer: Result<(), TryLockError>) -> Result<(), NoImage>
 }
 
 /// Puts the entry of an empty file on the disk, as it may be new, or left by a run that ended before it did this. Memory
-/// is taken for the name of its folder, which is not that of a link to it.
+/// is taken for its path, which is not that of a link to it.
 fn sync_folder<R: Files<File = File> + Alloc>(
     files: &R,
     path: &str,
     reads_only: bool,
 ) -> Result<(), NoImage> {
-    let real = match fs::canonicalize(files, path) {
-        Ok(real) => real,
-        Err(error) if error.kind() == ErrorKind::OutOfMemory => return Err(NoImage::NoMemory),
-        Err(_) => return Err(NoImage::NotSynced),
-    };
-    let Some(folder) = real.parent() else {
-        return Err(NoImage::NotSynced);
-    };
-    let Ok(folder) = File::open(files, folder) else {
+    let real = behind_links(files, path)?;
+    let Ok(folder) = File::open(files, folder_of(real.as_path())) else {
         return Err(NoImage::NotSynced);
     };
     match as_synced(folder.sync_all(), reads_only) {
         Ok(()) => Ok(()),
         Err(_) => Err(NoImage::NotSynced),
+    }
+}
+
+#[cfg(test)]
+mod tests {
+    use super::*;
+    use std::test::Fail;
+
+    /// The numbers of the roots of two file systems of Linux, each of which is the first of its own.
+    #[test]
+    fn files_of_two_devices_have_two_numbers(rt: HostRuntime) -> Result<(), Fail> {
+        let [Some(first), Some(second)] = [number_at(&rt, "/proc"), number_at(&rt, "/sys")] else {
+            return Err(Fail::from("no file systems of Linux"));
+        };
+        let told = fs::metadata(&rt, "/proc")?;
+        let seen = (first.number == second.number, first == second);
+        assert_eq!(rt; seen, (true, false));
+        assert_eq!(rt; (first.device, first.number), (told.dev(), told.ino()));
+        Ok(())
     }
 }

@@ -5,7 +5,9 @@
 mod disk;
 mod file;
 mod image;
+mod links;
 mod null;
+mod opened;
 mod retry;
 mod streams;
 

@@ -21,4 +21,5 @@ EachPlaceHasAnAddress =
 -- a segment stands behind those of the tracks before its own, and those before it on its track
 abbrev pub TracksAreInOrder : Type 0
 TracksAreInOrder =
-    (length segment : ℕ) → segment < 28 * length → (segment ≡ length * track_of length segment + logical_offset length segment) × (track_of length segment < 28) × (logical_offset length segment < length)
+    (length segment : ℕ) → segment < 28 * length → (segment ≡ length * track_of length segment + logical_offset length segment)
+    × (track_of length segment < 28) × (logical_offset length segment < length)

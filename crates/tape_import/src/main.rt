@@ -89,7 +89,10 @@ fn run_over_disks(
 ) -> ImportStatus
     requires { IfSome segments_per_track IsLength }
 {
-    let mut chart = map.map(MapSource::new);
+    let mut chart = match map {
+        Some(disk) => Some(MapSource::new(disk)),
+        None => None,
+    };
     let mut dump = StdinSource::new(rt.stdin());
     let mut told = StdoutSink::new(rt.stdout());
     run_import(

@@ -1,30 +1,29 @@
 //! The file of the map.
 
-ghost use Rattle.std.specs.Prelude.{◌≡◌};
+ghost use Rattle.std.specs.Prelude.{◌≡◌, ◌≤◌, ℕ, List, true, Some};
+ghost use Rattle.qic_base.specs.Disk.{IsSettled};
+ghost use Rattle.qic_base.specs.Tape.{Rose};
 
 use qic_base::{Disk, DiskFailed, Source, SourceFailed};
-use std::marker::Model;
 
-/// A file that a map is read from, from its begin on. It counts its failures, and tells nothing of its bytes.
+/// A file that a map is read from, from its begin on. It counts the reads that failed.
 #[derive(Drop)]
 pub struct MapSource<D: Disk + Drop> {
+    /// Nothing is pending in it, so a read that fails leaves its bytes as they were.
     disk: D,
     at: u64,
     faults: u64,
-}
-
-impl<D: Disk + Drop> Model for MapSource<D> {
-    ghost use Rattle.std.specs.Prelude.{ℕ};
-
-    ghost Value = { ℕ };
-
-    ghost view = { λ m. m.faults };
+    ghost settled: { (bytes left : List ℕ) →
+        D.means.told disk ≡ Some bytes → D.means.may_leave disk left → left ≡ bytes },
 }
 
 impl<D: Disk + Drop> MapSource<D> {
+    ghost use Rattle.tape_import.specs.Charts.{map_means};
+
     /// A file of which nothing was read yet.
     pub fn new(disk: D) -> MapSource<D>
-        ensures { result ≡ 0 }
+        requires { D.means.tells_stops disk ≡ true → IsSettled D.means disk }
+        ensures { map_means.left result ≡ D.means.told disk }
     {
         MapSource {
             disk,
@@ -32,27 +31,41 @@ impl<D: Disk + Drop> MapSource<D> {
             faults: 0,
         }
     }
+
+    /// Counts a read that failed.
+    fn fail(&mut self) -> SourceFailed
+        ensures left { map_means.left self.new ≡ map_means.left self.old }
+        ensures kept { map_means.keeps self.old self.new }
+        ensures rose { Rose (map_means.faults self.old) (map_means.faults self.new) }
+        ensures later { map_means.faults self.old ≤ map_means.faults self.new }
+    {
+        self.faults = self.faults.saturating_add(1);
+        SourceFailed
+    }
 }
 
 impl<D: Disk + Drop> Source for MapSource<D> {
-    ghost use Rattle.tape_files.specs.Edge.{stream_source_means};
+    ghost use Rattle.std.specs.Prelude.{refl};
+    ghost use Rattle.std.proofs.Common.{◌∙◌};
+    ghost use Rattle.tape_import.specs.Charts.{map_means};
 
-    ghost means = { stream_source_means };
+    ghost means = { map_means };
 
-    ghost keeps_itself = { λ s. tt };
+    ghost keeps_itself = { λ s. refl };
 
-    ghost keeps_on = { λ a b c first next. tt };
+    ghost keeps_on = { λ a b c first next. next ∙ first };
 
     fn read(&mut self, into: &mut [u8]) -> Result<usize, SourceFailed> {
         match self.disk.read_at(self.at, into) {
-            Ok(count) => {
-                self.at = self.at.saturating_add(count as u64);
-                Ok(count)
-            }
-            Err(DiskFailed) => {
-                self.faults = self.faults.saturating_add(1);
-                Err(SourceFailed)
-            }
+            // No file is so long that this overflows.
+            Ok(count) => match self.at.checked_add(count as u64) {
+                Some(at) => {
+                    self.at = at;
+                    Ok(count)
+                }
+                None => Err(self.fail()),
+            },
+            Err(DiskFailed) => Err(self.fail()),
         }
     }
 }

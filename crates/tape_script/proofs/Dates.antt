@@ -13,7 +13,8 @@ one_pair word at m n a b =
     let few = a.0 in let less = b.0 in omega arith
 
 -- the fields make the whole text
-pub form_from_fields : (word : List ℕ) (hundreds years month day hour minute second year : ℕ) → HasFields word hundreds years month day hour minute second →
+pub form_from_fields : (word : List ℕ) (hundreds years month day hour minute second year : ℕ) →
+    HasFields word hundreds years month day hour minute second →
     year ≡ 100 * hundreds + years → word ≡ date_form year month day hour minute second
 unfolding date_form
 form_from_fields word hundreds years month day hour minute second year f e =
@@ -43,7 +44,13 @@ form_from_fields word hundreds years month day hour minute second year f e =
                         f.day_at.2,
                         (
                           f.parted.2,
-                          (f.hour_at.1, (f.hour_at.2, (f.parted.3, (f.minute_at.1, (f.minute_at.2, (f.parted.4, (f.second_at.1, (f.second_at.2, tt)))))))),
+                          (
+                            f.hour_at.1,
+                            (
+                              f.hour_at.2,
+                              (f.parted.3, (f.minute_at.1, (f.minute_at.2, (f.parted.4, (f.second_at.1, (f.second_at.2, tt)))))),
+                            ),
+                          ),
                         ),
                       ),
                     ),

@@ -1,5 +1,6 @@
 -- Numbers in decimal digits.
-use Rattle.std.proofs.Common.{ℕ, ◌+◌, ◌-◌, ◌/◌, ◌%◌, ◌^◌, ◌<◌, ◌≤◌, List, [], ◌∷◌, ◌++◌, length, decimal, arith, add-one, ◌≡◌, take, get_or, sym, ap, ◌∙◌, ◌*◌, lit<, zero, suc, refl, ◌⊎◌, inl, inr}
+use Rattle.std.proofs.Common.{ℕ, ◌+◌, ◌-◌, ◌/◌, ◌%◌, ◌^◌, ◌<◌, ◌≤◌, List, [], ◌∷◌, ◌++◌, length, decimal, arith, add-one, ◌≡◌, take, get_or}
+use Rattle.std.proofs.Common.{sym, ap, ◌∙◌, ◌*◌, lit<, zero, suc, refl, ◌⊎◌, inl, inr}
 use Rattle.std.proofs.Math.Nat.{pow-suc, pow-le-pow_right}
 use Rattle.std.proofs.lemmas.Fmt.{decimal_by_steps, decimal_digit, decimal_step, decimal_nonempty, length-decimal-le, first_decimal}
 use Rattle.std.proofs.lemmas.List.{length_push, take_more, length-take-le, get_or-take}
@@ -16,7 +17,8 @@ decimal_below = decimal_by_steps (λ n ds. n < 10 ^ length ds) (λ n few. few) m
 -- a byte more is a digit more
 first_digit : (word : List ℕ) (b : ℕ) → 0 < length word → get_or word 0 0 ≡ b → 48 ≤ b → b ≤ 57 → take 1 word ≡ decimal (b - 48)
 first_digit word b some here low high =
-    take_more word 0 0 some ∙ ap (λ (x : ℕ). x ∷ []) (here ∙ (let e : b ≡ 48 + (b - 48) = omega arith in e)) ∙ sym (decimal_digit (b - 48) (omega arith))
+    take_more word 0 0 some ∙ ap (λ (x : ℕ). x ∷ []) (here ∙ (let e : b ≡ 48 + (b - 48) = omega arith in e))
+    ∙ sym (decimal_digit (b - 48) (omega arith))
 
 next_digit : (word : List ℕ) (at value b : ℕ) → at < length word → take at word ≡ decimal value → get_or word at 0 ≡ b →
     0 < value → value ≤ 99999999 → 48 ≤ b → b ≤ 57 → take (at + 1) word ≡ decimal (10 * value + (b - 48))
@@ -25,10 +27,12 @@ next_digit word at value b here so_far byte some small low high =
     let q : n / 10 ≡ value = omega arith in
     let r : 48 + n % 10 ≡ b = omega arith in
     take_more word at 0 here ∙ ap (λ (x : ℕ). take at word ++ x ∷ []) byte ∙ ap (λ xs. xs ++ b ∷ []) so_far
-    ∙ sym (decimal_step n (omega arith) (omega arith) ∙ ap (λ (x : ℕ). decimal x ++ (48 + n % 10) ∷ []) q ∙ ap (λ (x : ℕ). decimal value ++ x ∷ []) r)
+    ∙ sym (decimal_step n (omega arith) (omega arith) ∙ ap (λ (x : ℕ). decimal x ++ (48 + n % 10) ∷ []) q
+    ∙ ap (λ (x : ℕ). decimal value ++ x ∷ []) r)
 
 -- before the ninth digit a number has room for one more
-room : (word : List ℕ) (at value : ℕ) → value < 2 ^ 64 → at < length word → length word ≤ 9 → take at word ≡ decimal value → value ≤ 99999999
+room : (word : List ℕ) (at value : ℕ) → value < 2 ^ 64 → at < length word → length word ≤ 9 → take at word ≡ decimal value →
+    value ≤ 99999999
 room word at value small here short so_far =
     let long : length (decimal value) ≡ at = ap length (sym so_far) ∙ length-take-le at word (omega arith) in
     let below : value < 10 ^ at = rw long at (decimal_below value small) in
@@ -75,7 +79,8 @@ more_digits (suc n) two = omega arith
 pub no_leading_zero : (word : List ℕ) (n at : ℕ) → IsNumber word n → 0 < at → at < length word → take at word ≡ decimal 0 → ⊥
 no_leading_zero word n at number some here zeros =
     let nine = number.nine in
-    let zero_byte : get_or word 0 0 ≡ 48 = sym (get_or-take at word 0 0 some) ∙ ap (λ xs. get_or xs 0 0) (zeros ∙ decimal_digit 0 (lit< tt)) in
+    let zero_byte : get_or word 0 0 ≡ 48 = sym (get_or-take at word 0 0 some)
+    ∙ ap (λ xs. get_or xs 0 0) (zeros ∙ decimal_digit 0 (lit< tt)) in
     let one : at ≡ 1 = sym (length-take-le at word (omega arith)) ∙ ap length (zeros ∙ decimal_digit 0 (lit< tt)) in
     let above : 0 < n = more_digits n (omega (arith, ap length number.digits)) in
     let first : 48 < get_or word 0 0 = rw number.digits (first_decimal n above (omega arith)) in

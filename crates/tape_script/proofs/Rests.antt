@@ -32,7 +32,8 @@ stop_rest o None gave = record { rest = codes "end\n" ++ []; told = none_told o 
 stop_rest o (Some rest) gave = record { rest = codes "end\n" ++ rest; told = stop_told o rest gave; has = (rest, refl) }
 
 -- the whole input, from what was given and what is left
-pub whole_told : (o p : Option (List ℕ)) (given rest : List ℕ) → o ≡ option_map (λ rest. given ++ rest) p → IfSome p (λ bytes. bytes ≡ rest) →
+pub whole_told : (o p : Option (List ℕ)) (given rest : List ℕ) → o ≡ option_map (λ rest. given ++ rest) p →
+    IfSome p (λ bytes. bytes ≡ rest) →
     IfSome o (λ bytes. given ++ rest ≡ bytes)
 whole_told None p given rest gave told = tt
 whole_told (Some all) None given rest gave told = absurd (cc)

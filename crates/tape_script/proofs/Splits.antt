@@ -1,5 +1,6 @@
 -- The words of a line.
-use Rattle.std.proofs.Common.{◌≡◌, ℕ, ◌+◌, ◌<◌, ◌≤◌, ◌==◌, false, true, List, [], ◌∷◌, ◌++◌, All, length, take, drop, get_or, nat_lt, if◌then◌else◌, suc, refl, sym, ap, ◌∙◌, arith}
+use Rattle.std.proofs.Common.{◌≡◌, ℕ, ◌+◌, ◌<◌, ◌≤◌, ◌==◌, false, true, List, [], ◌∷◌, ◌++◌, All, length, take, drop, get_or, nat_lt}
+use Rattle.std.proofs.Common.{if◌then◌else◌, suc, refl, sym, ap, ◌∙◌, arith}
 use Rattle.std.proofs.lemmas.Bool.Decides.{nat_tests}
 use Rattle.std.proofs.lemmas.List.{take-append-drop, drop_more}
 use Rattle.std.proofs.lemmas.List.Splits.{slice_split_none, slice_split_at, length-slice_split}
@@ -13,7 +14,8 @@ pub words_at : (text : List ℕ) (at : ℕ) → at < length text → NoSpace (ta
     words_of text ≡ take at text ∷ words_of (drop (at + 1) text)
 words_at text at here none space =
     let parts : text ≡ take at text ++ 0x20 ∷ drop (at + 1) text =
-    sym (take-append-drop at text) ∙ ap (λ rest. take at text ++ rest) (drop_more text at 0 here ∙ ap (λ (b : ℕ). b ∷ drop (at + 1) text) space) in
+    sym (take-append-drop at text) ∙ ap (λ rest. take at text ++ rest)
+    (drop_more text at 0 here ∙ ap (λ (b : ℕ). b ∷ drop (at + 1) text) space) in
     ap words_of parts ∙ slice_split_at (λ b. b == 0x20) (take at text) 0x20 (drop (at + 1) text) none refl
 
 -- without a space there is one word

@@ -22,6 +22,8 @@ fn read_one(first: &[u8]) -> Option<Words>
         Some(Words::Info)
     } else if is_word(first, "list") {
         Some(Words::List)
+    } else if is_word(first, "room") {
+        Some(Words::Room)
     } else if is_word(first, "scrub") {
         Some(Words::Scrub)
     } else if is_word(first, "pulses") {

@@ -6,21 +6,23 @@ use Rattle.cartridge_spec.specs.Table.{Entry}
 use Rattle.cartridge_spec.specs.Volumes.{volume_length}
 use Rattle.command_spec.specs.Copied.{copied_lines}
 use Rattle.command_spec.specs.CopyPromises.{CopiesJoin, Decks, HasKind, HasRisen, IsCopyText, PrintsCopies, is_before_copies}
+use Rattle.command_spec.specs.CopyPromises.{is_from_broken, is_sink_broken, is_to_broken}
 use Rattle.command_spec.specs.Copying.{copied_line, difference, is_alike}
 use Rattle.command_spec.specs.Lines.{count_line}
 use Rattle.command_spec.specs.declared.copy_status.CopyStatus.{CopyStatus}
 use Rattle.drive_states.specs.Unit.{UnitView}
-use Rattle.qic_base.proofs.Steps.{Rose-after}
 use Rattle.qic_base.proofs.Writing.{TakesBoth, some_longer}
 use Rattle.qic_base.specs.Alone.{reading}
-use Rattle.qic_base.specs.Tape.{Rose}
 use Rattle.volume_store.proofs.Refusals.{foreign_is_refused}
+use Rattle.volume_store.specs.Mounting.{StoreView}
 use Rattle.volume_store.specs.Opening.{OpenFails}
 use Rattle.volume_store.specs.declared.opening.OpenFault.{OpenFault}
 use Rattle.volume_copy.proofs.Ends.{decks_of}
-use Rattle.volume_copy.proofs.Goes.{Chained, GoesOn, append_kind, append_late, chained, goes_broke, goes_both, goes_done, goes_same, lines_more, missing_goes}
+use Rattle.volume_copy.proofs.Goes.{Chained, GoesOn, append_kind, append_late, chained, count_behind, goes_broke, goes_both}
+use Rattle.volume_copy.proofs.Goes.{goes_done, goes_read, goes_same, lines_more, missing_goes, reads_count, reads_only}
 use Rattle.volume_copy.specs.Faults.{from_status, to_status}
-use Rattle.volume_copy.specs.Runs.{BothRefused, CopiesOne, CopyView, HasRun, IsCounted, IsRefused, IsUnprinted, MissingEnds, PrintsCount, RunEnds, SideView, Units, append_answer, append_status, next_number}
+use Rattle.volume_copy.specs.Runs.{BothRefused, CopiesOne, CopyView, HasRun, IsCounted, IsRefused, IsUnlike, IsUnprinted}
+use Rattle.volume_copy.specs.Runs.{MissingEnds, PrintsCount, RunEnds, SideView, Units, append_answer, append_status, next_number}
 use Rattle.volume_copy.specs.Source.{IsOfPart, new_source, source_means}
 use Rattle.volume_store.specs.Appending.{AppendEnds}
 use Rattle.volume_store.specs.declared.appended.Appended.{Appended}
@@ -107,39 +109,6 @@ module _ {A B : Type 0} (a : tapes.Meaning A) (b : tapes.Meaning B) (number : �
       ∙ append_late a b to.unit.tape new.unit.tape (new_source from.store from.unit number) one.source to.store new.store one.entry.name one.entry.date (volume_length from.store.words one.entry) fails_so.fault one.source.fault
       fails_so.ends one.sound.kind
 
-  source_tape : after.unit.tape ≡ one.source.unit.tape
-  source_tape = ap (λ (side : SideView A). side.unit.tape) one.back
-
-  abbrev decks_before : {K : Type 0} → K → Decks A B K
-  decks_before x = record { from = from.unit.tape; to = to.unit.tape; sink = x }
-
-  abbrev decks_after : {K : Type 0} → K → Decks A B K
-  decks_after y = record { from = after.unit.tape; to = new.unit.tape; sink = y }
-
-  pub one_risen : {K : Type 0} (k : sinks.Meaning K) (x y : K) →
-      HasRisen a b k record { from = from.unit.tape; to = to.unit.tape; sink = x } record { from = after.unit.tape; to = new.unit.tape; sink = y } answer
-  one_risen {K = K} k x y = subst (HasRisen a b k (decks_before x) (decks_after y)) (sym fails_so.answered) (by_fault fails_so.fault one.source.fault refl fails_so.ends)
-    where
-      by_tape : one.source.fault ≡ Some fault.Tape → Rose (a.faults from.unit.tape) (a.faults after.unit.tape)
-      by_tape is = subst (λ (t : A). Rose (a.faults from.unit.tape) (a.faults t)) (sym source_tape) (one.kept.by_tape refl is)
-
-      rose : Rose 0 one.source.faults → one.source.faults ≡ 0 → ⊥
-      rose risen zero = omega (arith, risen, zero)
-
-      by_fault : (f : StoreFault) (o : Option StoreFault) → one.source.fault ≡ o → Ended (Err f) → HasRisen a b k (decks_before x) (decks_after y) (append_status f o)
-      by_fault fault.Source (Some fault.Tape) is ends = by_tape is
-      by_fault fault.Source (Some (fault.Lost segment lost)) is ends = tt
-      by_fault fault.Source (Some (fault.Mismatch segment)) is ends = tt
-      by_fault fault.Source (Some f) is ends = absurd (let kind : IsOfPart (Some f) = subst IsOfPart is one.sound.kind in kind)
-      by_fault fault.Source None is ends = absurd (rose ends.cut.cause (one.sound.counted is))
-      by_fault fault.Protected o is ends = tt
-      by_fault (fault.Lost segment lost) o is ends = tt
-      by_fault fault.TableMismatch o is ends = tt
-      by_fault (fault.Full need have) o is ends = tt
-      by_fault (fault.Short promised read) o is ends = tt
-      by_fault fault.Tape o is ends = ends.cut.broke.cause
-      by_fault f o is ends = absurd ends
-
 -- it is neither that all was done nor a fault of the sink
 pub record IsOther (answer : CopyStatus) : Type 0 where
   pub done : answer ≢ status.Done
@@ -169,12 +138,15 @@ to_other (open_fault.Refused f) = record { done = λ is. cc; sink = λ is. cc }
 -- ---- a run
 
 module _ {A B K : Type 0} (a : tapes.Meaning A) (b : tapes.Meaning B) (k : sinks.Meaning K) where
-  -- a count that rose later has risen
-  risen_after : (old mid new : Decks A B K) (answer : CopyStatus) → a.faults old.from ≤ a.faults mid.from → b.faults old.to ≤ b.faults mid.to → k.faults old.sink ≤ k.faults mid.sink → HasRisen a b k mid new answer → HasRisen a b k old new answer
-  risen_after old mid new (status.From copy.Tape) from to sink risen = Rose-after (a.faults old.from) (a.faults mid.from) (a.faults new.from) from risen
-  risen_after old mid new (status.To copy.Tape) from to sink risen = Rose-after (b.faults old.to) (b.faults mid.to) (b.faults new.to) to risen
-  risen_after old mid new status.SinkFault from to sink risen = Rose-after (k.faults old.sink) (k.faults mid.sink) (k.faults new.sink) sink risen
-  risen_after old mid new answer from to sink risen = tt
+  -- what the counts do behind calls that left them as they were
+  risen_after : (old mid new : Decks A B K) (answer : CopyStatus) → a.faults mid.from ≡ a.faults old.from →
+      b.faults mid.to ≡ b.faults old.to → k.faults mid.sink ≡ k.faults old.sink →
+      HasRisen a b k mid new answer → HasRisen a b k old new answer
+  risen_after old mid new answer from to sink risen = record {
+    from = count_behind (is_from_broken answer) (a.faults old.from) (a.faults mid.from) (a.faults new.from) from risen.from;
+    to = count_behind (is_to_broken answer) (b.faults old.to) (b.faults mid.to) (b.faults new.to) to risen.to;
+    sink = count_behind (is_sink_broken answer) (k.faults old.sink) (k.faults mid.sink) (k.faults new.sink) sink risen.sink;
+  }
 
   open_goes : {T : Type 0} (t : tapes.Meaning T) (x y : T) (why : OpenFault) → OpenFails t x y why → GoesOn t x y
   open_goes t x y open_fault.NoCartridge fails = goes_done t x y [] fails.0
@@ -191,44 +163,39 @@ module _ {A B K : Type 0} (a : tapes.Meaning A) (b : tapes.Meaning B) (k : sinks
   module _ (old new : Units A B K) where
     -- ---- the cause
 
-    from_risen : (why : OpenFault) → OpenFails a old.from.tape new.from.tape why → HasRisen a b k (decks_of old) (decks_of new) (from_status why)
-    from_risen open_fault.NoCartridge fails = tt
-    from_risen (open_fault.Refused fault.Tape) fails = fails.broke.cause
-    from_risen (open_fault.Refused fault.NotFormatted) fails = tt
-    from_risen (open_fault.Refused (fault.Foreign field value)) fails = tt
-    from_risen (open_fault.Refused (fault.Lost segment lost)) fails = tt
-    from_risen (open_fault.Refused fault.TableMismatch) fails = tt
-    from_risen (open_fault.Refused f) fails = let kind = fails.kind in absurd (cc)
+    module _ (quiet : k.faults new.sink ≡ k.faults old.sink) where
+      from_risen : (why : OpenFault) → OpenFails a old.from.tape new.from.tape why → b.faults new.to.tape ≡ b.faults old.to.tape →
+          HasRisen a b k (decks_of old) (decks_of new) (from_status why)
+      from_risen open_fault.NoCartridge fails to = record { from = fails.0.later; to = to; sink = quiet }
+      from_risen (open_fault.Refused fault.Tape) fails to = record { from = fails.broke.cause; to = to; sink = quiet }
+      from_risen (open_fault.Refused fault.NotFormatted) fails to = record { from = fails.did.later; to = to; sink = quiet }
+      from_risen (open_fault.Refused (fault.Foreign field value)) fails to = record { from = fails.did.later; to = to; sink = quiet }
+      from_risen (open_fault.Refused (fault.Lost segment lost)) fails to = record { from = fails.did.later; to = to; sink = quiet }
+      from_risen (open_fault.Refused fault.TableMismatch) fails to = record { from = fails.did.later; to = to; sink = quiet }
+      from_risen (open_fault.Refused f) fails to = let kind = fails.kind in absurd (cc)
 
-    to_risen : (why : OpenFault) → OpenFails b old.to.tape new.to.tape why → HasRisen a b k (decks_of old) (decks_of new) (to_status why)
-    to_risen open_fault.NoCartridge fails = tt
-    to_risen (open_fault.Refused fault.Tape) fails = fails.broke.cause
-    to_risen (open_fault.Refused fault.NotFormatted) fails = tt
-    to_risen (open_fault.Refused (fault.Foreign field value)) fails = tt
-    to_risen (open_fault.Refused (fault.Lost segment lost)) fails = tt
-    to_risen (open_fault.Refused fault.TableMismatch) fails = tt
-    to_risen (open_fault.Refused f) fails = let kind = fails.kind in absurd (cc)
+      module _ (from : a.faults new.from.tape ≡ a.faults old.from.tape) where
+        to_risen : (why : OpenFault) → OpenFails b old.to.tape new.to.tape why →
+            HasRisen a b k (decks_of old) (decks_of new) (to_status why)
+        to_risen open_fault.NoCartridge fails = record { from = from; to = fails.0.later; sink = quiet }
+        to_risen (open_fault.Refused fault.Tape) fails = record { from = from; to = fails.broke.cause; sink = quiet }
+        to_risen (open_fault.Refused fault.NotFormatted) fails = record { from = from; to = fails.did.later; sink = quiet }
+        to_risen (open_fault.Refused (fault.Foreign field value)) fails = record { from = from; to = fails.did.later; sink = quiet }
+        to_risen (open_fault.Refused (fault.Lost segment lost)) fails = record { from = from; to = fails.did.later; sink = quiet }
+        to_risen (open_fault.Refused fault.TableMismatch) fails = record { from = from; to = fails.did.later; sink = quiet }
+        to_risen (open_fault.Refused f) fails = let kind = fails.kind in absurd (cc)
+
+        unlike_risen : (source target : StoreView) → b.faults new.to.tape ≡ b.faults old.to.tape → (answer : CopyStatus) →
+            IsUnlike source target answer → HasRisen a b k (decks_of old) (decks_of new) answer
+        unlike_risen source target to answer (inl protected) =
+            subst (HasRisen a b k (decks_of old) (decks_of new)) (sym protected.1) (record { from = from; to = to; sink = quiet })
+        unlike_risen source target to answer (inr differs) =
+            subst (HasRisen a b k (decks_of old) (decks_of new)) (sym differs.1.2) (record { from = from; to = to; sink = quiet })
 
   module _ (both : TakesBoth k) (nothing : (z : K) → k.took z [] z) where
     -- ---- the missing volumes
 
     module _ (old new : CopyView A B K) (answer : CopyStatus) (ends : MissingEnds a b k old new answer) (chain : Chained a b k old ends.mid) where
-      missing_risen : HasRisen a b k (decks_in old) (decks_in new) answer
-      missing_risen = by_end ends.ends
-        where
-          by_count : (found : CopyStatus) → PrintsCount k ends.mid.sink new.sink (length ends.mid.to.store.entries) found → HasRisen a b k (decks_in old) (decks_in new) found
-          by_count status.Done wrote = tt
-          by_count status.SinkFault broke = Rose-after (k.faults old.sink) (k.faults ends.mid.sink) (k.faults new.sink) chain.later broke.cause
-          by_count found none = absurd none
-
-          by_end : IsRefused a b ends.mid new answer ⊎ IsUnprinted a b k ends.mid new answer ⊎ IsCounted k ends.mid new answer → HasRisen a b k (decks_in old) (decks_in new) answer
-          by_end (inl refused) =
-              risen_after (decks_in old) (decks_in ends.mid) (decks_in new) answer chain.from.later chain.to.later chain.later
-              (one_risen a b (next_number ends.mid) ends.mid.from new.from ends.mid.to new.to answer refused.one k ends.mid.sink new.sink)
-          by_end (inr (inl unprinted)) =
-              subst (HasRisen a b k (decks_in old) (decks_in new)) (sym unprinted.answered) (Rose-after (k.faults old.sink) (k.faults ends.mid.sink) (k.faults new.sink) chain.later unprinted.line.cause)
-          by_end (inr (inr counted)) = by_count answer counted.count
-
       missing_kind : HasKind answer
       missing_kind = by_end ends.ends
         where
@@ -358,14 +325,26 @@ module _ {A B K : Type 0} (a : tapes.Meaning A) (b : tapes.Meaning B) (k : sinks
       run_kind (inr run) = missing_kind run.begun run.ended answer run.missing (run_chain run)
 
       pub run_risen : RunEnds a b k old new answer → HasRisen a b k (decks_of old) (decks_of new) answer
-      run_risen (inl (inl refused, same)) = subst (HasRisen a b k (decks_of old) (decks_of new)) (sym refused.3) (from_risen old new refused.0 refused.1)
-      run_risen (inl (inr (inl refused), same)) = subst (HasRisen a b k (decks_of old) (decks_of new)) (sym refused.4) (to_risen old new refused.1 refused.3)
-      run_risen (inl (inr (inr (source, target, opened, opened', inl protected)), same)) = subst (HasRisen a b k (decks_of old) (decks_of new)) (sym protected.1) tt
-      run_risen (inl (inr (inr (source, target, opened, opened', inr differs)), same)) = subst (HasRisen a b k (decks_of old) (decks_of new)) (sym differs.1.2) tt
+      run_risen (inl (inl refused, same)) =
+          subst (HasRisen a b k (decks_of old) (decks_of new)) (sym refused.3)
+          (from_risen old new (ap k.faults same) refused.0 refused.1 (ap (λ (u : UnitView B). b.faults u.tape) refused.2))
+      run_risen (inl (inr (inl refused), same)) =
+          subst (HasRisen a b k (decks_of old) (decks_of new)) (sym refused.4)
+          (to_risen old new (ap k.faults same) refused.2.did.later refused.1 refused.3)
+      run_risen (inl (inr (inr (source, target, opened, opened', unlike)), same)) =
+          unlike_risen old new (ap k.faults same) opened.did.later source target opened'.did.later answer unlike
       run_risen (inr run) =
+          let begun : CopyView A B K = run.begun in
+          let ended : CopyView A B K = run.ended in
+          let goes = missing_goes a b k both nothing begun ended answer run.opened.opened_source.fits run.opened.opened_target.fits
+          run.missing in
           subst (λ (units : Units A B K). HasRisen a b k (decks_of old) (decks_of units) answer) (sym run.left)
-          (risen_after (decks_of old) (decks_in run.begun) (decks_in run.ended) answer run.opened.opened_source.did.later run.opened.opened_target.did.later
-          (let same : k.faults run.begun.sink ≡ k.faults old.sink = ap k.faults run.sink in omega (arith, same)) (missing_risen run.begun run.ended answer run.missing (run_chain run)))
+          (risen_after (decks_of old) (decks_in begun) (decks_in ended) answer run.opened.opened_source.did.later
+          run.opened.opened_target.did.later (ap k.faults run.sink) (record {
+            from = reads_count a begun.from.unit.tape ended.from.unit.tape answer goes.from;
+            to = goes.to_count;
+            sink = goes.sink_count;
+          }))
 
       -- ---- two copies
 
@@ -396,7 +375,8 @@ module _ {A B K : Type 0} (a : tapes.Meaning A) (b : tapes.Meaning B) (k : sinks
           let goes = missing_goes a b k both nothing begun ended answer run.opened.opened_source.fits run.opened.opened_target.fits run.missing in record {
             from = subst (λ (units : Units A B K). GoesOn a old.from.tape units.from.tape) (sym run.left)
                 (goes_both a old.from.tape begun.from.unit.tape ended.from.unit.tape (goes_done a old.from.tape begun.from.unit.tape run.opened.opened_source.steps run.opened.opened_source.did)
-                (goes_done a begun.from.unit.tape ended.from.unit.tape [] goes.from));
+                (goes_read a begun.from.unit.tape ended.from.unit.tape
+                (reads_only a begun.from.unit.tape ended.from.unit.tape answer goes.from)));
             to = subst (λ (units : Units A B K). GoesOn b old.to.tape units.to.tape) (sym run.left)
                 (goes_both b old.to.tape begun.to.unit.tape ended.to.unit.tape (goes_done b old.to.tape begun.to.unit.tape run.opened.opened_target.steps run.opened.opened_target.did) goes.to);
             sink = subst (λ (units : Units A B K). k.faults old.sink ≤ k.faults units.sink) (sym run.left)

@@ -11,7 +11,7 @@ use Rattle.command_spec.specs.Lines.{count_line}
 use Rattle.command_spec.specs.Restore.{volume_at}
 use Rattle.command_spec.specs.declared.copy_status.CopyStatus.{CopyStatus}
 use Rattle.qic_base.proofs.Joins.{broke_behind, cut_is_longer, sink_cut_one, steps_of-append, text_of-append, went_both, went_then_cut}
-use Rattle.qic_base.proofs.Steps.{Done-nothing, Done-told}
+use Rattle.qic_base.proofs.Steps.{Done-nothing}
 use Rattle.qic_base.proofs.Writing.{TakesBoth}
 use Rattle.qic_base.specs.Acts.{Act, Outside, SinkCut, SinkFails, TapeCut, TapeFails, Went, steps_of, text_of}
 use Rattle.qic_base.specs.Alone.{around, no_sink, no_source, reading}
@@ -160,7 +160,7 @@ module _ {A B K : Type 0} (a : tapes.Meaning A) (b : tapes.Meaning B) (k : sinks
       let more : length new.to.store.entries ≡ length mid.to.store.entries + 1 =
       sym (ap (λ (s : Side). length s.entries) copied.next) ∙ length-append mid.to.store.entries _ in
       record {
-        from_told = Done-told goes.from ∙ at.from_told;
+        from_told = goes.from.told ∙ at.from_told;
         from_words = goes.words ∙ at.from_words;
         from_entries = goes.entries ∙ at.from_entries;
         cartridge = copied.cartridge;

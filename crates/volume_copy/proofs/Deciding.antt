@@ -1,5 +1,6 @@
 -- What a copy's answer says of one cartridge, where that one is told, and what is left of the source.
 use Rattle.std.proofs.Common.{◌≡◌, ◌⊎◌, ℕ, zero, suc, ◌<◌, ◌≤◌, Bool, true, false, List, [], length, Contains, Option, Some, None, IsSomeAnd, Ok, Err, refl, ap, sym, subst, ◌∙◌, arith, inl, inr}
+use Rattle.std.specs.Option.{option_map}
 use Rattle.std.specs.Prelude.{is_some}
 use Rattle.std.proofs.lemmas.Bool.{ltb-true}
 use Rattle.cartridge_laws.proofs.FormatWriting.{some_and}
@@ -10,7 +11,7 @@ use Rattle.cartridge_spec.specs.Mounting.{Mounting, Mounts, settled}
 use Rattle.cartridge_spec.specs.Settling.{changed_by, settling_steps}
 use Rattle.cartridge_spec.specs.Table.{Entry}
 use Rattle.cartridge_spec.specs.Volumes.{Stands, volume_length}
-use Rattle.command_laws.proofs.CommandEnds.{LeftBy, each_left, over_at, told_whole, after_steps}
+use Rattle.command_laws.proofs.CommandEnds.{LeftBy, each_left, over_at, told_whole}
 use Rattle.command_laws.proofs.CopyOutcomes.{IsTarget}
 use Rattle.command_laws.proofs.MountedListed.{mounted_listed}
 use Rattle.cartridge_laws.proofs.MountSettled.{settled_keeps_table}
@@ -24,12 +25,12 @@ use Rattle.command_spec.specs.declared.copy_status.CopyStatus.{CopyStatus}
 use Rattle.drive_spec.specs.Terms.{is_protected}
 use Rattle.drive_states.specs.Unit.{UnitView}
 use Rattle.host_driver.specs.Fits.{deck_of}
-use Rattle.qic_base.proofs.Steps.{Done-before_reads, Done-nothing, Done-told, Torn-all}
+use Rattle.qic_base.proofs.Steps.{Done-nothing, Done-told, Torn-all}
 use Rattle.qic_base.specs.Acts.{Act, steps_of}
 use Rattle.qic_base.specs.Alone.{reading}
 use Rattle.qic_base.specs.CartridgeTerms.{IsCartridge}
 use Rattle.qic_base.specs.Cartridge.{Cartridge}
-use Rattle.qic_base.specs.Step.{Step as TapeStep, Torn}
+use Rattle.qic_base.specs.Step.{Step as TapeStep, Torn, effects}
 use Rattle.qic_base.specs.declared.tape.TapeInfo.{TapeInfo}
 use Rattle.volume_store.specs.Opening.{HasOpened, OpenFails}
 use Rattle.volume_store.specs.declared.opening.OpenFault.{OpenFault}
@@ -38,7 +39,8 @@ use Rattle.volume_copy.proofs.Appended.{adds_one, adds_to_target, all_acts, neve
 use Rattle.volume_copy.proofs.Ends.{AtStart, decks_of}
 use Rattle.volume_copy.proofs.Following.{each_left_map}
 use Rattle.volume_copy.proofs.Given.{left_before, long, numbered_there, refused_so, unread_restored}
-use Rattle.volume_copy.proofs.Goes.{Chained, chained, missing_goes, too_long, too_short}
+use Rattle.volume_copy.proofs.Filling.{OnlyRead, by_done}
+use Rattle.volume_copy.proofs.Goes.{Chained, chained, missing_goes, reads_only, stops_behind, told_behind_reads, too_long, too_short}
 use Rattle.volume_copy.proofs.Openings.{OpenedAt, RefusedAs, opened_at, opened_mark, refused_as}
 use Rattle.volume_copy.specs.Faults.{copy_fault, from_status, to_status}
 use Rattle.volume_copy.specs.Runs.{CopyView, HasCopied, HasRun, HaveCopied, IsCounted, IsRefused, IsUnlike, IsUnprinted, PrintsCount, RunEnds, Units, append_status, next_number}
@@ -263,23 +265,25 @@ module _ {A B K : Type 0} (a : tapes.Meaning A) (b : tapes.Meaning B) (k : sinks
           torn = subst (λ (ss : List TapeStep). Torn ss held left) settles torn;
         })
 
-    left_done : (steps : List TapeStep) → tapes.Done a old.from.tape new.from.tape steps → IsSomeAnd (a.told new.from.tape) (λ left. Torn steps held left)
-    left_done steps did =
-        subst (λ (o : Option (Option Cartridge)). IsSomeAnd o (λ left. Torn steps held left)) (sym (after_steps a old.from.tape new.from.tape steps held did told)) (Torn-all steps held)
+    left_done : (steps : List TapeStep) → a.told new.from.tape ≡ option_map (effects steps) (a.told old.from.tape) →
+        IsSomeAnd (a.told new.from.tape) (λ left. Torn steps held left)
+    left_done steps done =
+        subst (λ (o : Option (Option Cartridge)). IsSomeAnd o (λ left. Torn steps held left))
+        (sym (done ∙ ap (option_map (effects steps)) told)) (Torn-all steps held)
 
     -- once it was opened
-    left_opened : (unit : UnitView A) (store : StoreView) → (opened : HasOpened a old.from.tape unit store) → tapes.Done a unit.tape new.from.tape [] → LeftBy a old.from.tape new.from.tape held (FromLeaves held)
+    left_opened : (unit : UnitView A) (store : StoreView) → (opened : HasOpened a old.from.tape unit store) →
+        OnlyRead a unit.tape new.from.tape → LeftBy a old.from.tape new.from.tape held (FromLeaves held)
     left_opened unit store opened read =
-        let o : OpenedAt a held unit store opened.steps = opened_at a old.from.tape unit store held opened told in
-        let did : tapes.Done a old.from.tape new.from.tape opened.steps = Done-before_reads opened.did read in record {
+        let o : OpenedAt a held unit store opened.steps = opened_at a old.from.tape unit store held opened told in record {
           steps = opened.steps;
-          stops = did.stops;
-          torn = left_done opened.steps did;
+          stops = stops_behind a old.from.tape unit.tape new.from.tape opened.steps opened.did read;
+          torn = left_done opened.steps (told_behind_reads a old.from.tape unit.tape new.from.tape opened.steps opened.did read);
           leaves = λ left torn. from_torn o.cartridge store.header store.words o.at.table store.entries opened.steps left o.is o.at.mounts o.at.settles torn;
         }
 
     left_nothing : tapes.Done a old.from.tape new.from.tape [] → LeftBy a old.from.tape new.from.tape held (FromLeaves held)
-    left_nothing did = record { steps = []; stops = did.stops; torn = left_done [] did; leaves = λ left is. inl is }
+    left_nothing did = record { steps = []; stops = did.stops; torn = left_done [] did.told; leaves = λ left is. inl is }
 
     left_failed : (why : OpenFault) → OpenFails a old.from.tape new.from.tape why → LeftBy a old.from.tape new.from.tape held (FromLeaves held)
     left_failed open_fault.NoCartridge fails = left_nothing fails.0
@@ -302,14 +306,18 @@ module _ {A B K : Type 0} (a : tapes.Meaning A) (b : tapes.Meaning B) (k : sinks
     left_failed (open_fault.Refused fault.TableMismatch) fails = left_nothing fails.did
     left_failed (open_fault.Refused f) fails = let kind = fails.kind in absurd (cc)
 
+    read_nothing : OnlyRead a new.from.tape new.from.tape
+    read_nothing = by_done a new.from.tape new.from.tape (Done-nothing a new.from.tape)
+
     left_run : RunEnds a b k old new answer → LeftBy a old.from.tape new.from.tape held (FromLeaves held)
     left_run (inl (inl refused, same)) = left_failed refused.0 refused.1
-    left_run (inl (inr (inl refused), same)) = left_opened new.from refused.0 refused.2 (Done-nothing a new.from.tape)
-    left_run (inl (inr (inr (source, target, opened, opened', unlike)), same)) = left_opened new.from source opened (Done-nothing a new.from.tape)
+    left_run (inl (inr (inl refused), same)) = left_opened new.from refused.0 refused.2 read_nothing
+    left_run (inl (inr (inr (source, target, opened, opened', unlike)), same)) = left_opened new.from source opened read_nothing
     left_run (inr run) =
         let goes = missing_goes a b k laws.both laws.nothing run.begun run.ended answer run.opened.opened_source.fits run.opened.opened_target.fits run.missing in
         left_opened run.begun.from.unit run.begun.from.store run.opened.opened_source
-        (subst (λ (units : Units A B K). tapes.Done a run.begun.from.unit.tape units.from.tape []) (sym run.left) goes.from)
+        (subst (λ (units : Units A B K). OnlyRead a run.begun.from.unit.tape units.from.tape) (sym run.left)
+        (reads_only a run.begun.from.unit.tape run.ended.from.unit.tape answer goes.from))
 
     left_same : new ≡ old → LeftBy a old.from.tape new.from.tape held (FromLeaves held)
     left_same same = left_nothing (subst (λ (units : Units A B K). tapes.Done a old.from.tape units.from.tape []) (sym same) (Done-nothing a old.from.tape))

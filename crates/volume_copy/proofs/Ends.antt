@@ -14,7 +14,7 @@ use Rattle.command_spec.specs.declared.copy_status.CopyStatus.{CopyStatus}
 use Rattle.drive_spec.specs.Terms.{is_protected}
 use Rattle.drive_states.specs.Unit.{UnitView}
 use Rattle.host_driver.specs.Fits.{deck_of}
-use Rattle.qic_base.proofs.Steps.{Broke-front, Done-before_reads, Done-nothing}
+use Rattle.qic_base.proofs.Steps.{Broke-before_reads, Broke-front, Broke-told, Done-before_reads, Done-nothing}
 use Rattle.qic_base.proofs.Writing.{TakesBoth}
 use Rattle.qic_base.specs.Acts.{Act, Outside, SinkFails, TapeCut, TapeFails, Went}
 use Rattle.qic_base.specs.Alone.{around, no_source}
@@ -27,7 +27,7 @@ use Rattle.volume_store.specs.Opening.{HasOpened, OpenFails}
 use Rattle.volume_store.specs.declared.opening.OpenFault.{OpenFault}
 use Rattle.volume_copy.proofs.Appended.{side_over}
 use Rattle.volume_copy.proofs.Carried.{Carried, Reached, carried, seen}
-use Rattle.volume_copy.proofs.Goes.{missing_goes}
+use Rattle.volume_copy.proofs.Goes.{ReadsFor, missing_goes}
 use Rattle.volume_copy.proofs.Openings.{OpenedAt, RefusedAs, opened_at, opened_mark, refused_as, settles_first, source_begins, target_begins}
 use Rattle.volume_copy.proofs.Volume.{is_outside}
 use Rattle.volume_copy.specs.Faults.{copy_fault, from_status, to_status}
@@ -152,7 +152,8 @@ module _ {A B K : Type 0} (a : tapes.Meaning A) (b : tapes.Meaning B) (k : sinks
               plain = some.1;
               front = [];
               rest = some.0.acts;
-              broke = inl (subst (tapes.Broke a old.from.tape new.from.tape) begins.1 (Broke-front begins.0 cut.broke), refl);
+              broke = subst (tapes.Broke a old.from.tape new.from.tape) begins.1 (Broke-front begins.0 cut.broke);
+              place = inl refl;
               parts = refl;
               went = untouched;
             }
@@ -302,30 +303,41 @@ module _ {A B K : Type 0} (a : tapes.Meaning A) (b : tapes.Meaning B) (k : sinks
           abbrev last : Outside B (Unit {0}) K
           last = around new.to.tape new.sink
 
-          run_ends : (answer : CopyStatus) → tapes.Done a unit.tape new.from.tape [] → Carried b k source target middle last answer → Ends answer
-          run_ends answer read_on (inl all) =
+          -- no reading failed, where nothing of the outside did
+          plain_reads : (answer : CopyStatus) → is_outside answer ≡ false → ReadsFor a unit.tape new.from.tape answer →
+              tapes.Done a unit.tape new.from.tape []
+          plain_reads (status.From copy.Tape) plain reads = absurd (cc)
+          plain_reads answer plain reads = reads
+
+          run_ends : (answer : CopyStatus) → ReadsFor a unit.tape new.from.tape answer →
+              Carried b k source target middle last answer → Ends answer
+          run_ends answer reads (inl all) =
               let acts : List Act = quiet to_opened.steps ∷ all.acts in
               went_ends (decks_of old) (decks_of new) answer from to all.plain
-              (went_with acts answer (does_copy all.acts answer all.does) read_on
+              (went_with acts answer (does_copy all.acts answer all.does) (plain_reads answer all.plain reads)
               (went_behind b no_source k laws.both laws.nothing old.to.tape to_unit.tape tt old.sink last to_opened.steps all.acts to_opened.did all.went))
-          run_ends answer read_on (inr (inl broke)) =
+          run_ends answer reads (inr (inl broke)) =
+              let cut : tapes.Broke a unit.tape new.from.tape [] = subst (ReadsFor a unit.tape new.from.tape) broke.answered reads in
               from_ends (decks_of old) (decks_of new) answer from to broke.answered (record {
                 outcome = with_acts (quiet to_opened.steps ∷ broke.acts) broke.ending;
                 plain = yields (quiet to_opened.steps ∷ broke.acts) broke.ending (does_copy broke.acts broke.ending broke.does);
                 front = quiet to_opened.steps ∷ broke.front;
                 rest = broke.rest;
-                broke = inr (Done-before_reads opened.did read_on);
+                broke = Broke-before_reads opened.did cut;
+                place = inr (Broke-told cut ∙ opened.did.told);
                 parts = ap (λ (zs : List Act). quiet to_opened.steps ∷ zs) broke.parts;
                 went = went_behind b no_source k laws.both laws.nothing old.to.tape to_unit.tape tt old.sink last to_opened.steps broke.front to_opened.did broke.went;
               })
-          run_ends answer read_on (inr (inr (inl broke))) =
+          run_ends answer reads (inr (inr (inl broke))) =
+              let read_on : tapes.Done a unit.tape new.from.tape [] = subst (ReadsFor a unit.tape new.from.tape) broke.answered reads in
               to_ends (decks_of old) (decks_of new) answer from to broke.answered (record {
                 outcome = with_acts (quiet to_opened.steps ∷ broke.acts) broke.ending;
                 plain = yields (quiet to_opened.steps ∷ broke.acts) broke.ending (does_copy broke.acts broke.ending broke.does);
                 settling = Done-before_reads opened.did read_on;
                 cut = cut_behind b no_source k laws.both laws.nothing old.to.tape to_unit.tape tt old.sink last to_opened.steps broke.acts TapeFails to_opened.did broke.cut;
               })
-          run_ends answer read_on (inr (inr (inr broke))) =
+          run_ends answer reads (inr (inr (inr broke))) =
+              let read_on : tapes.Done a unit.tape new.from.tape [] = subst (ReadsFor a unit.tape new.from.tape) broke.answered reads in
               sink_ends (decks_of old) (decks_of new) answer from to broke.answered (record {
                 outcome = with_acts (quiet to_opened.steps ∷ broke.acts) broke.ending;
                 plain = yields (quiet to_opened.steps ∷ broke.acts) broke.ending (does_copy broke.acts broke.ending broke.does);
@@ -382,7 +394,7 @@ module _ {A B K : Type 0} (a : tapes.Meaning A) (b : tapes.Meaning B) (k : sinks
         carried a b k laws.both laws.nothing from_side to_side values_so begun ended answer start run.missing in
         let goes = missing_goes a b k laws.both laws.nothing begun ended answer opened.opened_source.fits opened.opened_target.fits run.missing in
         run_ends begun.from.unit begun.from.store opened.opened_source begun.to.unit begun.to.store opened.opened_target opened answer
-        (subst (λ (units : Units A B K). tapes.Done a begun.from.unit.tape units.from.tape []) (sym run.left) goes.from)
+        (subst (λ (units : Units A B K). ReadsFor a begun.from.unit.tape units.from.tape answer) (sym run.left) goes.from)
         (subst (λ (z : K). Carried b k from_side to_side (around begun.to.unit.tape z) (around new.to.tape new.sink) answer) run.sink
         (subst (λ (units : Units A B K). Carried b k from_side to_side (seen begun) (around units.to.tape units.sink) answer) (sym run.left) all))
 

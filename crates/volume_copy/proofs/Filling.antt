@@ -1,6 +1,7 @@
 -- What the reading of the next piece makes of a source.
-use Rattle.std.proofs.Common.{◌≡◌, ℕ, ◌+◌, ◌-◌, ◌*◌, ◌^◌, ◌<◌, ◌≤◌, inl, inr, List, [], ◌++◌, take, drop, length, Option, Some, None, Result, Ok, Err, slice_get, refl, sym, ap, ◌∙◌, subst, arith}
-use Rattle.std.specs.Prelude.{IfSome, min}
+use Rattle.std.proofs.Common.{◌≡◌, ◌≢◌, ℕ, true, false, ◌+◌, ◌-◌, ◌*◌, ◌^◌, ◌<◌, ◌≤◌, inl, inr, List, [], ◌++◌, take, drop, length}
+use Rattle.std.proofs.Common.{Option, Some, None, Result, Ok, Err, slice_get, refl, sym, ap, ◌∙◌, subst, arith}
+use Rattle.std.specs.Prelude.{IfSome, is_some, min}
 use Rattle.std.proofs.lemmas.Bool.{cases_lt}
 use Rattle.std.proofs.lemmas.List.{length-take-le}
 use Rattle.std.proofs.lemmas.Option.{same_Some}
@@ -10,9 +11,9 @@ use Rattle.cartridge_spec.specs.Says.{Says, Data}
 use Rattle.cartridge_spec.specs.Table.{Entry}
 use Rattle.command_spec.specs.Restore.{Piece, LostIn, MismatchIn, PieceEnds, pieces, piece_cells, volume_at}
 use Rattle.drive_states.specs.Unit.{UnitView}
-use Rattle.qic_base.proofs.Steps.{Done-told, Broke-told, Tells-map}
+use Rattle.qic_base.proofs.Steps.{Done-told, Broke-told, Stops-nothing, Tells-map}
 use Rattle.qic_base.specs.Cartridge.{Cartridge}
-use Rattle.qic_base.specs.Tape.{Rose, Meaning, Done, Broke, Stops}
+use Rattle.qic_base.specs.Tape.{Meaning, Done, Broke, Stops}
 use Rattle.qic_base.specs.SourceCalls.{HasEnded}
 use Rattle.qic_base.specs.TapeCalls.{Tells}
 use Rattle.segment_io.proofs.Going.{done_moved}
@@ -22,7 +23,8 @@ use Rattle.volume_store.specs.Restoring.{ReadsPart}
 use Rattle.cartridge_front.specs.declared.fault.StoreFault.{StoreFault}
 use Rattle.volume_copy.proofs.Bytes.{drop_past, given_none, given_next}
 use Rattle.volume_copy.specs.Given.{given_bytes}
-use Rattle.volume_copy.specs.Source.{SourceView, IsHeld, IsSoundSource, KeepsVolume, FirstRead, IsOfPart, IsRefusal, Reads, bytes_left, first_refusal, left_where, pieces_at, pieces_of_number, source_means, source_pieces}
+use Rattle.volume_copy.specs.Source.{SourceView, IsHeld, IsSoundSource, KeepsVolume, FirstRead, IsOfPart, IsRefusal, Reads}
+use Rattle.volume_copy.specs.Source.{bytes_left, left_where, pieces_at, pieces_of_number, source_means, source_pieces}
 use Rattle.volume_copy.proofs.Lists.{from_index}
 use Rattle.cartridge_front.specs.declared.fault.StoreFault.TheVariants as fault
 
@@ -32,10 +34,14 @@ pub record OnlyRead {T : Type 0} (m : Meaning T) (old new : T) : Type 0 where
   pub stops : Stops m old new []
   pub later : m.faults old ≤ m.faults new
 
-by_done : {T : Type 0} (m : Meaning T) (old new : T) → Done m old new [] → OnlyRead m old new
-by_done m old new done = record { told = Done-told done; stops = done.stops; later = done.later }
+pub by_done : {T : Type 0} (m : Meaning T) (old new : T) → Done m old new [] → OnlyRead m old new
+by_done m old new done = record {
+  told = Done-told done;
+  stops = done.stops;
+  later = let stood = done.later in omega (arith, stood);
+}
 
-by_broke : {T : Type 0} (m : Meaning T) (old new : T) → Broke m old new [] → OnlyRead m old new
+pub by_broke : {T : Type 0} (m : Meaning T) (old new : T) → Broke m old new [] → OnlyRead m old new
 by_broke m old new broke = record { told = Broke-told broke; stops = broke.stops; later = broke.later }
 
 module _ {T : Type 0} (m : Meaning T) (s : SourceView T) (store : StoreView) (unit : UnitView T) where
@@ -56,6 +62,24 @@ module _ {T : Type 0} (m : Meaning T) (s : SourceView T) (store : StoreView) (un
   part_reads (Err (fault.Short asked read)) none = absurd none
   part_reads (Err fault.Source) none = absurd none
   part_reads (Err fault.Sink) none = absurd none
+
+  -- .. and of its count, where that is no fault of it
+  part_stood : (answer : Result (Option ℕ) StoreFault) → answer ≢ Err fault.Tape →
+      ReadsPart m s.store store s.number s.done s.unit.tape unit.tape answer → m.faults unit.tape ≡ m.faults s.unit.tape
+  part_stood (Ok None) other (e, at, found) = ap m.faults found.1
+  part_stood (Ok (Some count)) other (e, at, found) = found.2.did.later
+  part_stood (Err (fault.NoVolume number count)) other none = ap m.faults none.tape
+  part_stood (Err (fault.Lost segment lost)) other (e, at, found) = found.2.did.later
+  part_stood (Err (fault.Mismatch segment)) other (e, at, found) = found.2.did.later
+  part_stood (Err fault.Tape) other part = absurd (other refl)
+  part_stood (Err fault.NotFormatted) other none = absurd none
+  part_stood (Err (fault.Foreign field value)) other none = absurd none
+  part_stood (Err fault.TableMismatch) other none = absurd none
+  part_stood (Err (fault.Full need room)) other none = absurd none
+  part_stood (Err fault.Protected) other none = absurd none
+  part_stood (Err (fault.Short asked read)) other none = absurd none
+  part_stood (Err fault.Source) other none = absurd none
+  part_stood (Err fault.Sink) other none = absurd none
 
   -- the source behind it
   abbrev pub after : (done : ℕ) (unread : List ℕ) (faults : ℕ) (why : Option StoreFault) → SourceView T
@@ -101,17 +125,19 @@ module _ {T : Type 0} (m : Meaning T) (s : SourceView T) (store : StoreView) (un
       }
 
       kept_after : (done : ℕ) (unread : List ℕ) (faults : ℕ) (why : Option StoreFault) → IsSoundSource m (after done unread faults why) →
-          ((f : StoreFault) → s.fault ≡ Some f → why ≡ Some f) →
-          (s.fault ≡ None → why ≡ Some fault.Tape → Rose (m.faults s.unit.tape) (m.faults unit.tape)) → KeepsVolume m s (after done unread faults why)
-      kept_after done unread faults why is stays by_tape = record {
+          s.fault ≡ None → (why ≡ Some fault.Tape → Broke m s.unit.tape unit.tape []) →
+          (why ≢ Some fault.Tape → m.faults unit.tape ≡ m.faults s.unit.tape) → KeepsVolume m s (after done unread faults why)
+      kept_after done unread faults why is none by_tape stood = record {
         number = refl;
         store = kept;
         sound = λ before. is;
         told = read.told;
         stops = read.stops;
         later = read.later;
-        stays = stays;
-        by_tape = by_tape;
+        stays = λ f some. absurd (cc);
+        by_tape = λ known. by_tape;
+        stood = stood;
+        quiet = λ f some. absurd (cc);
       }
 
       -- it tells the same bytes where they are the same on each cartridge that the tape tells
@@ -144,8 +170,10 @@ module _ {T : Type 0} (m : Meaning T) (s : SourceView T) (store : StoreView) (un
         pub none_sound : IsSoundSource m (after s.done unread s.faults s.fault)
         none_sound = sound_after s.done unread s.faults s.fault sound.reads sound.refused sound.kind sound.counted sound.counting
 
-        pub none_kept : KeepsVolume m s (after s.done unread s.faults s.fault)
-        none_kept = kept_after s.done unread s.faults s.fault none_sound (λ f is. is) (λ none some. absurd (cc))
+        pub none_kept : s.fault ≡ None → ReadsPart m s.store store s.number s.done s.unit.tape unit.tape (Ok None) →
+            KeepsVolume m s (after s.done unread s.faults s.fault)
+        none_kept none part =
+            kept_after s.done unread s.faults s.fault none_sound none (λ some. absurd (cc)) (λ other. part_stood (Ok None) (λ is. cc) part)
 
       pub none_ended : ReadsPart m s.store store s.number s.done s.unit.tape unit.tape (Ok None) → s.unread ≡ [] → (unread : List ℕ) → unread ≡ [] →
           HasEnded (source_means m) (after s.done unread s.faults s.fault)
@@ -219,8 +247,10 @@ module _ {T : Type 0} (m : Meaning T) (s : SourceView T) (store : StoreView) (un
           pub some_sound : IsSoundSource m (after (s.done + 1) unread s.faults s.fault)
           some_sound = sound_after (s.done + 1) unread s.faults s.fault reads_more sound.refused sound.kind sound.counted sound.counting
 
-          pub some_kept : KeepsVolume m s (after (s.done + 1) unread s.faults s.fault)
-          some_kept = kept_after (s.done + 1) unread s.faults s.fault some_sound (λ f is. is) (λ none some. absurd (cc))
+          pub some_kept : s.fault ≡ None → KeepsVolume m s (after (s.done + 1) unread s.faults s.fault)
+          some_kept none =
+              kept_after (s.done + 1) unread s.faults s.fault some_sound none (λ some. absurd (cc))
+              (λ other. part_stood (Ok (Some count)) (λ is. cc) part)
 
         pub some_left : s.unread ≡ [] → (source_means m).left (after (s.done + 1) (take count (bytes_in store.part)) s.faults s.fault) ≡ (source_means m).left s
         some_left all = left_after (s.done + 1) (take count (bytes_in store.part)) s.faults s.fault (λ c is.
@@ -234,14 +264,6 @@ module _ {T : Type 0} (m : Meaning T) (s : SourceView T) (store : StoreView) (un
             ∙ ap (λ (bytes : List ℕ). bytes ++ given_bytes c s.store.words (drop s.done (source_pieces s))) (sym all))
 
       -- ---- it was refused
-
-      -- a refusal is there and stays, or this is the first
-      refusal_is : (known : Option StoreFault) (why : StoreFault) → s.fault ≡ known →
-          Tells m s.unit.tape (λ c. IsRefusal c s.store.words (source_pieces s) (Some why)) →
-          Tells m s.unit.tape (λ c. IsRefusal c s.store.words (source_pieces s) (Some (first_refusal known why)))
-      refusal_is None why is fact = fact
-      refusal_is (Some first) why is fact =
-          subst (λ (o : Option StoreFault). Tells m s.unit.tape (λ c. IsRefusal c s.store.words (source_pieces s) o)) is sound.refused
 
       -- what the answer says of the cartridge
       refused_so : (why : StoreFault) → ReadsPart m s.store store s.number s.done s.unit.tape unit.tape (Err why) →
@@ -304,41 +326,75 @@ module _ {T : Type 0} (m : Meaning T) (s : SourceView T) (store : StoreView) (un
       of_part fault.Source none = absurd none
       of_part fault.Sink none = absurd none
 
-      kind_is : (known : Option StoreFault) (why : StoreFault) → s.fault ≡ known →
-          ReadsPart m s.store store s.number s.done s.unit.tape unit.tape (Err why) → IsOfPart (Some (first_refusal known why))
-      kind_is None why is part = of_part why part
-      kind_is (Some first) why is part = subst IsOfPart is sound.kind
-
-      -- a fault of the tape has its cause
-      tape_rose : (known : Option StoreFault) (why : StoreFault) → s.fault ≡ known → ReadsPart m s.store store s.number s.done s.unit.tape unit.tape (Err why) →
-          s.fault ≡ None → Some (first_refusal known why) ≡ Some fault.Tape → Rose (m.faults s.unit.tape) (m.faults unit.tape)
-      tape_rose (Some first) why is ends none tape = absurd (cc)
-      tape_rose None why is ends none tape = by_fault why (same_Some why fault.Tape tape) ends
-        where
-          by_fault : (f : StoreFault) → f ≡ fault.Tape → ReadsPart m s.store store s.number s.done s.unit.tape unit.tape (Err f) →
-              Rose (m.faults s.unit.tape) (m.faults unit.tape)
-          by_fault fault.Tape same (e, at, found) = found.2.cause
-          by_fault fault.NotFormatted same ends = absurd ends
-          by_fault (fault.Foreign field value) same ends = absurd ends
-          by_fault fault.TableMismatch same ends = absurd ends
-          by_fault (fault.Full need room) same ends = absurd ends
-          by_fault (fault.NoVolume number count) same ends = absurd (cc)
-          by_fault (fault.Lost segment lost) same ends = absurd (cc)
-          by_fault (fault.Mismatch segment) same ends = absurd (cc)
-          by_fault fault.Protected same ends = absurd ends
-          by_fault (fault.Short asked read) same ends = absurd ends
-          by_fault fault.Source same ends = absurd ends
-          by_fault fault.Sink same ends = absurd ends
-
-      stays_first : (known : Option StoreFault) (why : StoreFault) → s.fault ≡ known → (f : StoreFault) → s.fault ≡ Some f → Some (first_refusal known why) ≡ Some f
-      stays_first None why is f some = absurd (cc)
-      stays_first (Some first) why is f some = sym is ∙ some
+      -- a fault of the tape broke the reading off
+      tape_broke : (why : StoreFault) → why ≡ fault.Tape → ReadsPart m s.store store s.number s.done s.unit.tape unit.tape (Err why) →
+          Broke m s.unit.tape unit.tape []
+      tape_broke fault.Tape same (e, at, found) = found.2
+      tape_broke fault.NotFormatted same ends = absurd ends
+      tape_broke (fault.Foreign field value) same ends = absurd ends
+      tape_broke fault.TableMismatch same ends = absurd ends
+      tape_broke (fault.Full need room) same ends = absurd ends
+      tape_broke (fault.NoVolume number count) same ends = absurd (cc)
+      tape_broke (fault.Lost segment lost) same ends = absurd (cc)
+      tape_broke (fault.Mismatch segment) same ends = absurd (cc)
+      tape_broke fault.Protected same ends = absurd ends
+      tape_broke (fault.Short asked read) same ends = absurd ends
+      tape_broke fault.Source same ends = absurd ends
+      tape_broke fault.Sink same ends = absurd ends
 
       module _ (why : StoreFault) (part : ReadsPart m s.store store s.number s.done s.unit.tape unit.tape (Err why)) (unread : List ℕ) (faults : ℕ)
           (rise : faults ≡ min (s.faults + 1) (2 ^ 64 - 1)) where
-        pub refused_sound : IsSoundSource m (after s.done unread faults (Some (first_refusal s.fault why)))
-        refused_sound = sound_after s.done unread faults (Some (first_refusal s.fault why)) sound.reads (refusal_is s.fault why refl (refused_so why part)) (kind_is s.fault why refl part)
+        pub refused_sound : IsSoundSource m (after s.done unread faults (Some why))
+        refused_sound = sound_after s.done unread faults (Some why) sound.reads (refused_so why part) (of_part why part)
             (λ none. absurd (cc)) (λ zero. absurd (omega arith))
 
-        pub refused_kept : KeepsVolume m s (after s.done unread faults (Some (first_refusal s.fault why)))
-        refused_kept = kept_after s.done unread faults (Some (first_refusal s.fault why)) refused_sound (stays_first s.fault why refl) (tape_rose s.fault why refl part)
+        pub refused_kept : s.fault ≡ None → KeepsVolume m s (after s.done unread faults (Some why))
+        refused_kept none =
+            kept_after s.done unread faults (Some why) refused_sound none (λ is. tape_broke why (same_Some why fault.Tape is) part)
+            (λ other. part_stood (Err why) (λ is. other (cc)) part)
+
+-- ---- a refusal is known, and a read behind it fails at once
+
+pub again_left : {T : Type 0} (m : Meaning T) (s : SourceView T) (faults : ℕ) →
+    (source_means m).left (record s { faults = faults }) ≡ (source_means m).left s
+again_left m s faults = by_told (m.told s.unit.tape)
+  where
+    by_told : (o : Option (Option Cartridge)) → left_where (record s { faults = faults }) o ≡ left_where s o
+    by_told None = refl
+    by_told (Some None) = refl
+    by_told (Some (Some c)) = refl
+
+pub none_known : (o : Option StoreFault) → is_some o ≡ false → o ≡ None
+none_known None none = refl
+none_known (Some why) none = absurd (cc)
+
+module _ {T : Type 0} (m : Meaning T) (s : SourceView T) (known : is_some s.fault ≡ true) (faults : ℕ)
+    (rise : faults ≡ min (s.faults + 1) (2 ^ 64 - 1)) where
+  is_known : s.fault ≡ None → ⊥
+  is_known none = let no : false ≡ true = sym (ap (λ (o : Option StoreFault). is_some o) none) ∙ known in cc
+
+  pub again_sound : IsSoundSource m s → IsSoundSource m (record s { faults = faults })
+  again_sound sound = record {
+    fits = sound.fits;
+    entry = sound.entry;
+    numbered = sound.numbered;
+    reads = sound.reads;
+    refused = sound.refused;
+    kind = sound.kind;
+    counted = λ none. absurd (is_known none);
+    counting = λ zero. absurd (omega (arith, rise, zero));
+  }
+
+  pub again_kept : KeepsVolume m s (record s { faults = faults })
+  again_kept = record {
+    number = refl;
+    store = record { header = refl; words = refl; entries = refl };
+    sound = again_sound;
+    told = refl;
+    stops = Stops-nothing m s.unit.tape;
+    later = omega arith;
+    stays = λ why is. is;
+    by_tape = λ none some. absurd (is_known none);
+    stood = λ other. refl;
+    quiet = λ why is. refl;
+  }

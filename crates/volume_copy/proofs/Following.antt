@@ -221,7 +221,7 @@ module _ {A B K : Type 0} (a : tapes.Meaning A) (b : tapes.Meaning B) (k : sinks
     complete ends risen none can = by_answer answer risen (ends (Some c) (Some d) from_told to_told)
       where
         by_answer : (found : CopyStatus) → HasRisen a b k old new found → CopyEnds a b k old new found (Some c) (Some d) → found ≡ status.Done
-        by_answer (status.From copy.Tape) rose cut = absurd (none.from rose)
-        by_answer (status.To copy.Tape) rose cut = absurd (none.to rose)
-        by_answer status.SinkFault rose cut = absurd (none.sink rose)
+        by_answer (status.From copy.Tape) rose cut = absurd (none.from rose.from)
+        by_answer (status.To copy.Tape) rose cut = absurd (none.to rose.to)
+        by_answer status.SinkFault rose cut = absurd (none.sink rose.sink)
         by_answer found rose went = went.answered ∙ copy_with_room_is_done c one d other went.outcome whole_d can went.plain

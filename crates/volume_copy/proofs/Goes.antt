@@ -1,5 +1,7 @@
 -- What a copy does to both tapes and the sink, over any of them.
-use Rattle.std.proofs.Common.{◌≡◌, ◌⊎◌, ℕ, zero, suc, ◌+◌, ◌<◌, ◌≤◌, Bool, true, false, nat_le, List, [], ◌∷◌, ◌++◌, length, take, Option, Some, None, Result, Ok, Err, refl, ap, sym, subst, ◌∙◌, arith, inl, inr, append-nil, append_assoc, length-append}
+use Rattle.std.proofs.Common.{◌≡◌, ◌≢◌, ◌⊎◌, ℕ, zero, suc, ◌+◌, ◌<◌, ◌≤◌, Bool, true, false, nat_le, List, [], ◌∷◌, ◌++◌, length}
+use Rattle.std.proofs.Common.{take, Option, Some, None, Result, Ok, Err, refl, ap, sym, subst, ◌∙◌, arith, inl, inr, append-nil}
+use Rattle.std.proofs.Common.{append_assoc, length-append}
 use Rattle.std.specs.Prelude.{if◌then◌else◌, ◌==◌, ◌||◌, nat_lt, is_some}
 use Rattle.std.specs.Option.{option_map}
 use Rattle.std.proofs.lemmas.Bool.{and_from, and_cases, leb-false, lt-ltb}
@@ -9,19 +11,23 @@ use Rattle.cartridge_spec.specs.Volumes.{volume_length}
 use Rattle.command_spec.specs.Append.{Fits, Taking, TooLong, TooShort, has_promised_room, taking}
 use Rattle.command_spec.specs.Copied.{copied_lines}
 use Rattle.command_spec.specs.Copying.{copied_line}
-use Rattle.command_spec.specs.CopyPromises.{HasKind, StopsGoOn, is_before_copies}
+use Rattle.command_spec.specs.CopyPromises.{CountGoes, HasKind, StopsGoOn, is_before_copies, is_from_broken, is_sink_broken, is_to_broken}
 use Rattle.command_spec.specs.declared.copy_status.CopyStatus.{CopyStatus}
-use Rattle.qic_base.proofs.Steps.{Done-Done, Done-nothing, is_some-option_map}
+use Rattle.qic_base.proofs.Steps.{Broke-after_reads, Done-Done, Done-nothing, Rose-after, Stops-Stops, is_some-option_map}
+use Rattle.qic_base.proofs.Steps.{option_map-effects-none}
 use Rattle.qic_base.proofs.Writing.{TakesBoth}
 use Rattle.qic_base.specs.Alone.{reading}
 use Rattle.qic_base.specs.Cartridge.{Cartridge}
 use Rattle.qic_base.specs.Step.{Step as TapeStep, effects}
+use Rattle.volume_copy.proofs.Filling.{OnlyRead, by_broke, by_done}
+use Rattle.volume_copy.specs.Faults.{copy_fault}
 use Rattle.volume_copy.specs.Runs.{CopiesOne, CopyView, HasCopied, HaveCopied, IsCounted, IsRefused, IsUnprinted, MissingEnds, PrintsCount, SideFits, SideView, append_answer, append_status, next_number}
 use Rattle.volume_copy.specs.Source.{IsOfPart, SourceView, new_source, source_means}
 use Rattle.volume_store.specs.Appending.{AppendEnds}
 use Rattle.volume_store.specs.Mounting.{StoreView}
 use Rattle.volume_store.specs.declared.appended.Appended.{Appended}
 use Rattle.cartridge_front.specs.declared.fault.StoreFault.{StoreFault}
+use Rattle.command_spec.specs.declared.copy_fault.CopyFault.TheVariants as copy
 use Rattle.command_spec.specs.declared.copy_status.CopyStatus.TheVariants as status
 use Rattle.qic_base.specs.Sink as sinks
 use Rattle.qic_base.specs.Tape as tapes
@@ -40,7 +46,7 @@ stops_go_on t a b steps stops = record { telling = stops.telling; clock = stops.
 
 pub goes_done : {T : Type 0} (m : tapes.Meaning T) (a b : T) (steps : List TapeStep) → tapes.Done m a b steps → GoesOn m a b
 goes_done m a b steps did = record {
-  later = did.later;
+  later = let stood = did.later in omega (arith, stood);
   tells = ap is_some did.told ∙ is_some-option_map (effects steps) (m.told a);
   stops = stops_go_on m a b steps did.stops;
 }
@@ -68,6 +74,40 @@ goes_both m a b c first next = record {
     ];
   };
 }
+
+-- calls that only read, behind steps that were done
+pub told_behind_reads : {T : Type 0} (m : tapes.Meaning T) (a b c : T) (steps : List TapeStep) → tapes.Done m a b steps → OnlyRead m b c →
+    m.told c ≡ option_map (effects steps) (m.told a)
+told_behind_reads m a b c steps did read = read.told ∙ did.told
+
+pub stops_behind : {T : Type 0} (m : tapes.Meaning T) (a b c : T) (steps : List TapeStep) → tapes.Done m a b steps → OnlyRead m b c →
+    tapes.Stops m a c steps
+stops_behind m a b c steps did read =
+    let both : tapes.Stops m a c (steps ++ []) = Stops-Stops did.told did.stops read.stops in
+    subst (tapes.Stops m a c) (append-nil steps) both
+
+pub goes_read : {T : Type 0} (m : tapes.Meaning T) (a b : T) → OnlyRead m a b → GoesOn m a b
+goes_read m a b read = record { later = read.later; tells = ap is_some read.told; stops = stops_go_on m a b [] read.stops }
+
+-- calls that only read were carried out, or a fault of the tape broke the last one off, as an answer says
+abbrev pub ReadsFor : {T : Type 0} (m : tapes.Meaning T) (x y : T) → CopyStatus → Type 0
+ReadsFor m x y (status.From copy.Tape) = tapes.Broke m x y []
+ReadsFor m x y answer = tapes.Done m x y []
+
+pub reads_only : {T : Type 0} (m : tapes.Meaning T) (x y : T) (answer : CopyStatus) → ReadsFor m x y answer → OnlyRead m x y
+reads_only m x y (status.From copy.Tape) reads = by_broke m x y reads
+reads_only m x y answer reads = by_done m x y reads
+
+-- .. and so did its count
+pub reads_count : {T : Type 0} (m : tapes.Meaning T) (x y : T) (answer : CopyStatus) → ReadsFor m x y answer →
+    CountGoes (is_from_broken answer) (m.faults x) (m.faults y)
+reads_count m x y (status.From copy.Tape) reads = reads.cause
+reads_count m x y answer reads = reads.later
+
+-- a count goes behind calls that left it as it was
+pub count_behind : (failed : Bool) (x y z : ℕ) → y ≡ x → CountGoes failed y z → CountGoes failed x z
+count_behind true x y z stood rose = Rose-after x y z stood rose
+count_behind false x y z stood still = still ∙ stood
 
 -- ---- what became of an input with a promise
 
@@ -147,6 +187,31 @@ module _ {A B : Type 0} (a : tapes.Meaning A) (b : tapes.Meaning B) (x y : B) (o
   append_goes (Err fault.Tape) ends = goes_broke b x y _ ends.cut.broke
   append_goes (Err f) ends = absurd ends
 
+  -- but for a refusal of the source its count stands
+  append_quiet : (r : Result Appended StoreFault) → r ≢ Err fault.Source → Appends r → new.faults ≡ old.faults
+  append_quiet (Ok appended) other ends = ends.ran.went.source_later
+  append_quiet (Err fault.Protected) other ends = ap (λ (s : SourceView A). s.faults) ends.1
+  append_quiet (Err (fault.Lost segment lost)) other ends = ends.2.went.source_later
+  append_quiet (Err fault.TableMismatch) other ends = ends.went.source_later
+  append_quiet (Err (fault.Full need have)) other ends = ends.went.source_later
+  append_quiet (Err (fault.Short promised read)) other ends = ends.went.source_later
+  append_quiet (Err fault.Source) other ends = absurd (other refl)
+  append_quiet (Err fault.Tape) other ends = ends.cut.source_later
+  append_quiet (Err f) other ends = absurd ends
+
+  -- the count of the tape rises just at a fault of it
+  append_count : (f : StoreFault) (refused : Option StoreFault) → Appends (Err f) →
+      CountGoes (is_to_broken (append_status f refused)) (b.faults x) (b.faults y)
+  append_count fault.Source (Some why) ends = ends.cut.did.later
+  append_count fault.Source None ends = ends.cut.did.later
+  append_count fault.Protected refused ends = ap b.faults ends.0
+  append_count (fault.Lost segment lost) refused ends = ends.2.went.did.later
+  append_count fault.TableMismatch refused ends = ends.went.did.later
+  append_count (fault.Full need have) refused ends = ends.went.did.later
+  append_count (fault.Short promised read) refused ends = ends.went.did.later
+  append_count fault.Tape refused ends = ends.cut.broke.cause
+  append_count f refused ends = absurd ends
+
   pub append_kind : (f : StoreFault) (refused : Option StoreFault) → Appends (Err f) → IsOfPart refused → HasKind (append_status f refused)
   append_kind fault.Source (Some fault.Tape) ends kind = refl
   append_kind fault.Source (Some (fault.Lost segment lost)) ends kind = lt-ltb 3 lost kind
@@ -182,15 +247,17 @@ module _ {A B : Type 0} (a : tapes.Meaning A) (b : tapes.Meaning B) (x y : B) (o
   append_late fault.Tape refused ends kind = refl
   append_late f refused ends kind = absurd ends
 
--- ---- a volume
+-- none of them is a fault of the sink
+append_sink : (f : StoreFault) (refused : Option StoreFault) → is_sink_broken (append_status f refused) ≡ false
+append_sink fault.Source (Some why) = refl
+append_sink fault.Source None = refl
+append_sink f refused = refl
 
-effects_none : (told : Option (Option Cartridge)) → told ≡ option_map (effects []) told
-effects_none None = refl
-effects_none (Some held) = refl
+-- ---- a volume
 
 -- what a copy of one did, whatever came of it
 pub record OneGoes {A B : Type 0} (a : tapes.Meaning A) (b : tapes.Meaning B) (before after : SideView A) (old new : SideView B) : Type 0 where
-  pub from : tapes.Done a before.unit.tape after.unit.tape []
+  pub from : OnlyRead a before.unit.tape after.unit.tape
   pub words : after.store.words ≡ before.store.words
   pub entries : after.store.entries ≡ before.store.entries
   pub fits : SideFits a after
@@ -203,8 +270,8 @@ module _ {A B : Type 0} (a : tapes.Meaning A) (b : tapes.Meaning B) (number : �
 
   pub one_goes : OneGoes a b from after to new
   one_goes = record {
-    from = subst (λ (t : A). tapes.Done a from.unit.tape t []) (sym source_tape)
-        (record { told = one.kept.told ∙ effects_none (a.told from.unit.tape); later = one.kept.later; stops = one.kept.stops });
+    from = subst (OnlyRead a from.unit.tape) (sym source_tape)
+        (record { told = one.kept.told; stops = one.kept.stops; later = one.kept.later });
     words = ap (λ (side : SideView A). side.store.words) one.back ∙ one.kept.store.words;
     entries = ap (λ (side : SideView A). side.store.entries) one.back ∙ one.kept.store.entries;
     fits = subst (λ (side : SideView A). SideFits a side) (sym one.back) one.sound.fits;
@@ -213,8 +280,10 @@ module _ {A B : Type 0} (a : tapes.Meaning A) (b : tapes.Meaning B) (number : �
     to_words = one.format.words;
   }
 
-  -- it was copied: the target's store fits, and has an entry more
+  -- it was copied: the source was read, and the target's store fits, and has an entry more
   pub record OneDone (bytes : ℕ) : Type 0 where
+    pub read : tapes.Done a from.unit.tape after.unit.tape []
+    pub stood : b.faults new.unit.tape ≡ b.faults to.unit.tape
     pub fits : SideFits b new
     pub entry : Entry
     pub more : new.store.entries ≡ to.store.entries ++ entry ∷ []
@@ -223,12 +292,76 @@ module _ {A B : Type 0} (a : tapes.Meaning A) (b : tapes.Meaning B) (number : �
   Ended r = AppendEnds b (source_means a) (reading to.unit.tape (new_source from.store from.unit number)) (reading new.unit.tape one.source)
       to.store new.store one.entry.name one.entry.date (Some (volume_length from.store.words one.entry)) r
 
+  -- it was read where its tape didn't fail
+  source_done : one.source.fault ≢ Some fault.Tape → tapes.Done a from.unit.tape after.unit.tape []
+  source_done other =
+      subst (λ (t : A). tapes.Done a from.unit.tape t []) (sym source_tape) (record {
+        told = one.kept.told ∙ sym (option_map-effects-none (a.told from.unit.tape));
+        later = one.kept.stood other;
+        stops = one.kept.stops;
+      })
+
+  -- a read of it failed just where the append answers that
+  unrefused : (r : Result Appended StoreFault) → r ≢ Err fault.Source → Ended r → one.source.fault ≢ Some fault.Tape
+  unrefused r other ends some =
+      let stood : one.source.faults ≡ 0 =
+      append_quiet a b to.unit.tape new.unit.tape (new_source from.store from.unit number) one.source to.store new.store
+      one.entry.name one.entry.date (volume_length from.store.words one.entry) r other ends in
+      let none : one.source.fault ≡ None = one.sound.counting stood in
+      absurd (cc)
+
+  -- how it was read, as its answer says
+  pub one_reads : (answer : CopyStatus) → result ≡ Err answer → ReadsFor a from.unit.tape after.unit.tape answer
+  one_reads answer is = by_answer one.appended one.source.fault refl one.ends (sym is ∙ one.is)
+    where
+      by_answer : (r : Result Appended StoreFault) (o : Option StoreFault) → one.source.fault ≡ o → Ended r →
+          Err answer ≡ append_answer r o → ReadsFor a from.unit.tape after.unit.tape answer
+      by_answer (Ok appended) o known ends is = absurd (cc)
+      by_answer (Err fault.Source) (Some fault.Tape) known ends is =
+          let answered : answer ≡ status.From copy.Tape = cc in
+          subst (ReadsFor a from.unit.tape after.unit.tape) (sym answered)
+          (subst (λ (t : A). tapes.Broke a from.unit.tape t []) (sym source_tape) (one.kept.by_tape refl known))
+      by_answer (Err fault.Source) (Some (fault.Lost segment lost)) known ends is =
+          let answered : answer ≡ status.From (copy.Lost segment lost) = cc in
+          subst (ReadsFor a from.unit.tape after.unit.tape) (sym answered) (source_done (λ some. cc))
+      by_answer (Err fault.Source) (Some (fault.Mismatch segment)) known ends is =
+          let answered : answer ≡ status.From (copy.Mismatch segment) = cc in
+          subst (ReadsFor a from.unit.tape after.unit.tape) (sym answered) (source_done (λ some. cc))
+      by_answer (Err fault.Source) (Some f) known ends is =
+          absurd (let kind : IsOfPart (Some f) = subst IsOfPart known one.sound.kind in kind)
+      by_answer (Err fault.Source) None known ends is =
+          let rose = ends.cut.cause in let none = one.sound.counted known in absurd (omega (arith, rose, none))
+      by_answer (Err f) o known ends is =
+          let answered : answer ≡ status.To (copy_fault f) = cc in
+          subst (ReadsFor a from.unit.tape after.unit.tape) (sym answered) (source_done (unrefused (Err f) (λ bad. cc) ends))
+
+  -- .. and what the counts of the target and of the sink do then
+  pub record OneRefused (answer : CopyStatus) : Type 0 where
+    pub count : CountGoes (is_to_broken answer) (b.faults to.unit.tape) (b.faults new.unit.tape)
+    pub quiet : is_sink_broken answer ≡ false
+
+  pub one_refused : (answer : CopyStatus) → result ≡ Err answer → OneRefused answer
+  one_refused answer is = by_answer one.appended one.ends (sym is ∙ one.is)
+    where
+      by_answer : (r : Result Appended StoreFault) → Ended r → Err answer ≡ append_answer r one.source.fault → OneRefused answer
+      by_answer (Ok appended) ends is = absurd (cc)
+      by_answer (Err f) ends is =
+          let answered : answer ≡ append_status f one.source.fault = cc in record {
+            count = subst (λ (found : CopyStatus). CountGoes (is_to_broken found) (b.faults to.unit.tape) (b.faults new.unit.tape))
+                (sym answered)
+                (append_count a b to.unit.tape new.unit.tape (new_source from.store from.unit number) one.source to.store new.store
+                one.entry.name one.entry.date (volume_length from.store.words one.entry) f one.source.fault ends);
+            quiet = ap is_sink_broken answered ∙ append_sink f one.source.fault;
+          }
+
   pub one_done : (bytes : ℕ) → result ≡ Ok bytes → OneDone bytes
   one_done bytes ok = by_answer one.appended refl
     where
       by_answer : (r : Result Appended StoreFault) → one.appended ≡ r → OneDone bytes
       by_answer (Ok appended) is =
           let does : Ended (Ok appended) = subst Ended is one.ends in record {
+            read = source_done (unrefused (Ok appended) (λ bad. cc) does);
+            stood = does.ran.went.did.later;
             fits = one.fits (λ bad. let no : Ok appended ≡ Err fault.Tape = sym is ∙ bad in cc);
             entry = does.entry;
             more = does.added;
@@ -254,6 +387,7 @@ pub record Chained {A B K : Type 0} (a : tapes.Meaning A) (b : tapes.Meaning B) 
   pub entries : mid.from.store.entries ≡ old.from.store.entries
   pub from_fits : SideFits a mid.from
   pub to : GoesOn b old.to.unit.tape mid.to.unit.tape
+  pub stood : b.faults mid.to.unit.tape ≡ b.faults old.to.unit.tape
   pub to_words : mid.to.store.words ≡ old.to.store.words
   pub to_fits : SideFits b mid.to
   pub more : List Entry
@@ -261,7 +395,7 @@ pub record Chained {A B K : Type 0} (a : tapes.Meaning A) (b : tapes.Meaning B) 
   pub lengths : List ℕ
   pub many : length lengths ≡ length more
   pub took : k.took old.sink (copied_lines (next_number old) lengths) mid.sink
-  pub later : k.faults old.sink ≤ k.faults mid.sink
+  pub later : k.faults mid.sink ≡ k.faults old.sink
 
 module _ {A B K : Type 0} (a : tapes.Meaning A) (b : tapes.Meaning B) (k : sinks.Meaning K) (both : TakesBoth k) (nothing : (z : K) → k.took z [] z) where
   chain_more : (old mid new : CopyView A B K) → Chained a b k old mid → HasCopied a b k mid new → Chained a b k old new
@@ -274,11 +408,12 @@ module _ {A B K : Type 0} (a : tapes.Meaning A) (b : tapes.Meaning B) (k : sinks
       let one_more : length (chain.more ++ done.entry ∷ []) ≡ length chain.more + 1 = length-append chain.more (done.entry ∷ []) in
       let one_longer : length (chain.lengths ++ has.bytes ∷ []) ≡ length chain.lengths + 1 = length-append chain.lengths (has.bytes ∷ []) in
       record {
-        from = Done-Done chain.from goes.from;
+        from = Done-Done chain.from done.read;
         words = goes.words ∙ chain.words;
         entries = goes.entries ∙ chain.entries;
         from_fits = goes.fits;
         to = goes_both b old.to.unit.tape mid.to.unit.tape new.to.unit.tape chain.to goes.to;
+        stood = done.stood ∙ chain.stood;
         to_words = goes.to_words ∙ chain.to_words;
         to_fits = done.fits;
         more = chain.more ++ done.entry ∷ [];
@@ -288,7 +423,7 @@ module _ {A B K : Type 0} (a : tapes.Meaning A) (b : tapes.Meaning B) (k : sinks
         took = subst (λ (text : List ℕ). k.took old.sink text new.sink)
             (ap (λ (n : ℕ). copied_lines (next_number old) chain.lengths ++ copied_line n has.bytes) number ∙ sym (lines_more (next_number old) chain.lengths has.bytes))
             (both old.sink mid.sink new.sink (copied_lines (next_number old) chain.lengths) (copied_line (next_number mid) has.bytes) chain.took has.line.took);
-        later = let e = chain.later in let f = has.line.later in omega arith;
+        later = has.line.later ∙ chain.later;
       }
 
   pub chained : (count : ℕ) (old mid : CopyView A B K) → SideFits a old.from → SideFits b old.to → HaveCopied a b k count old mid → Chained a b k old mid
@@ -299,6 +434,7 @@ module _ {A B K : Type 0} (a : tapes.Meaning A) (b : tapes.Meaning B) (k : sinks
         entries = refl;
         from_fits = source;
         to = goes_same b old.to.unit.tape old.to.unit.tape refl;
+        stood = refl;
         to_words = refl;
         to_fits = target;
         more = [];
@@ -306,40 +442,108 @@ module _ {A B K : Type 0} (a : tapes.Meaning A) (b : tapes.Meaning B) (k : sinks
         lengths = [];
         many = refl;
         took = nothing old.sink;
-        later = omega arith;
+        later = refl;
       })
   chained (suc count) old new source target (mid, before, one) = chain_more old mid new (chained count old mid source target before) one
 
+  -- the counts of the target and of the sink went as an answer says
+  abbrev CountsGo : (mid new : CopyView A B K) → CopyStatus → Type 0
+  CountsGo mid new answer =
+      CountGoes (is_to_broken answer) (b.faults mid.to.unit.tape) (b.faults new.to.unit.tape)
+      × CountGoes (is_sink_broken answer) (k.faults mid.sink) (k.faults new.sink)
+
   -- the whole of them
-  pub record AllGoes (old new : CopyView A B K) : Type 0 where
-    pub from : tapes.Done a old.from.unit.tape new.from.unit.tape []
+  pub record AllGoes (old new : CopyView A B K) (answer : CopyStatus) : Type 0 where
+    pub from : ReadsFor a old.from.unit.tape new.from.unit.tape answer
     pub to : GoesOn b old.to.unit.tape new.to.unit.tape
     pub sink : k.faults old.sink ≤ k.faults new.sink
+    pub to_count : CountGoes (is_to_broken answer) (b.faults old.to.unit.tape) (b.faults new.to.unit.tape)
+    pub sink_count : CountGoes (is_sink_broken answer) (k.faults old.sink) (k.faults new.sink)
 
-  pub missing_goes : (old new : CopyView A B K) (answer : CopyStatus) → SideFits a old.from → SideFits b old.to → MissingEnds a b k old new answer → AllGoes old new
+  pub missing_goes : (old new : CopyView A B K) (answer : CopyStatus) → SideFits a old.from → SideFits b old.to →
+      MissingEnds a b k old new answer → AllGoes old new answer
   missing_goes old new answer source target ends = by_end ends.ends
     where
       chain : Chained a b k old ends.mid
       chain = chained ends.count old ends.mid source target ends.copied
 
-      with_one : (r : Result ℕ CopyStatus) → CopiesOne a b (next_number ends.mid) ends.mid.from new.from ends.mid.to new.to r → k.faults ends.mid.sink ≤ k.faults new.sink → AllGoes old new
-      with_one r one later =
+      -- what was read behind the chain
+      read_more : (found : CopyStatus) → ReadsFor a ends.mid.from.unit.tape new.from.unit.tape found →
+          ReadsFor a old.from.unit.tape new.from.unit.tape found
+      read_more (status.From copy.Tape) more = Broke-after_reads chain.from more
+      read_more found more = Done-Done chain.from more
+
+      to_behind : CountsGo ends.mid new answer → CountGoes (is_to_broken answer) (b.faults old.to.unit.tape) (b.faults new.to.unit.tape)
+      to_behind counts =
+          count_behind (is_to_broken answer) (b.faults old.to.unit.tape) (b.faults ends.mid.to.unit.tape) (b.faults new.to.unit.tape)
+          chain.stood counts.0
+
+      sink_behind : CountsGo ends.mid new answer → CountGoes (is_sink_broken answer) (k.faults old.sink) (k.faults new.sink)
+      sink_behind counts =
+          count_behind (is_sink_broken answer) (k.faults old.sink) (k.faults ends.mid.sink) (k.faults new.sink) chain.later counts.1
+
+      with_one : (r : Result ℕ CopyStatus) → CopiesOne a b (next_number ends.mid) ends.mid.from new.from ends.mid.to new.to r →
+          ReadsFor a ends.mid.from.unit.tape new.from.unit.tape answer → k.faults ends.mid.sink ≤ k.faults new.sink →
+          CountsGo ends.mid new answer → AllGoes old new answer
+      with_one r one more later counts =
           let goes = one_goes a b (next_number ends.mid) ends.mid.from new.from ends.mid.to new.to r one in record {
-            from = Done-Done chain.from goes.from;
+            from = read_more answer more;
             to = goes_both b old.to.unit.tape ends.mid.to.unit.tape new.to.unit.tape chain.to goes.to;
             sink = let e = chain.later in omega (arith, e, later);
+            to_count = to_behind counts;
+            sink_count = sink_behind counts;
           }
 
       count_later : (found : CopyStatus) → PrintsCount k ends.mid.sink new.sink (length ends.mid.to.store.entries) found → k.faults ends.mid.sink ≤ k.faults new.sink
-      count_later status.Done wrote = wrote.later
+      count_later status.Done wrote = let stood = wrote.later in omega (arith, stood)
       count_later status.SinkFault broke = broke.later
       count_later found none = absurd none
 
-      by_end : IsRefused a b ends.mid new answer ⊎ IsUnprinted a b k ends.mid new answer ⊎ IsCounted k ends.mid new answer → AllGoes old new
-      by_end (inl refused) = with_one (Err answer) refused.one (let same : k.faults new.sink ≡ k.faults ends.mid.sink = ap k.faults refused.sink in omega (arith, same))
-      by_end (inr (inl unprinted)) = with_one (Ok unprinted.bytes) unprinted.one unprinted.line.later
+      -- the count of the lines comes behind all reading
+      count_reads : (found : CopyStatus) → PrintsCount k ends.mid.sink new.sink (length ends.mid.to.store.entries) found →
+          tapes.Done a old.from.unit.tape new.from.unit.tape [] → ReadsFor a old.from.unit.tape new.from.unit.tape found
+      count_reads status.Done wrote read = read
+      count_reads status.SinkFault broke read = read
+      count_reads found none read = absurd none
+
+      refused_counts : IsRefused a b ends.mid new answer → CountsGo ends.mid new answer
+      refused_counts refused =
+          let one = one_refused a b (next_number ends.mid) ends.mid.from new.from ends.mid.to new.to (Err answer) refused.one answer
+          refl in (
+            one.count,
+            subst (λ (failed : Bool). CountGoes failed (k.faults ends.mid.sink) (k.faults new.sink)) (sym one.quiet)
+                (ap k.faults refused.sink),
+          )
+
+      unprinted_counts : (found : CopyStatus) → found ≡ status.SinkFault →
+          b.faults new.to.unit.tape ≡ b.faults ends.mid.to.unit.tape → tapes.Rose (k.faults ends.mid.sink) (k.faults new.sink) →
+          CountsGo ends.mid new found
+      unprinted_counts found is stood rose = subst (CountsGo ends.mid new) (sym is) (stood, rose)
+
+      counted_counts : (found : CopyStatus) → PrintsCount k ends.mid.sink new.sink (length ends.mid.to.store.entries) found →
+          b.faults new.to.unit.tape ≡ b.faults ends.mid.to.unit.tape → CountsGo ends.mid new found
+      counted_counts status.Done wrote stood = (stood, wrote.later)
+      counted_counts status.SinkFault broke stood = (stood, broke.cause)
+      counted_counts found none stood = absurd none
+
+      by_end : IsRefused a b ends.mid new answer ⊎ IsUnprinted a b k ends.mid new answer ⊎ IsCounted k ends.mid new answer →
+          AllGoes old new answer
+      by_end (inl refused) =
+          with_one (Err answer) refused.one
+          (one_reads a b (next_number ends.mid) ends.mid.from new.from ends.mid.to new.to (Err answer) refused.one answer refl)
+          (let same : k.faults new.sink ≡ k.faults ends.mid.sink = ap k.faults refused.sink in omega (arith, same))
+          (refused_counts refused)
+      by_end (inr (inl unprinted)) =
+          let done = one_done a b (next_number ends.mid) ends.mid.from new.from ends.mid.to new.to (Ok unprinted.bytes) unprinted.one
+          unprinted.bytes refl in
+          with_one (Ok unprinted.bytes) unprinted.one
+          (subst (ReadsFor a ends.mid.from.unit.tape new.from.unit.tape) (sym unprinted.answered) done.read)
+          unprinted.line.later (unprinted_counts answer unprinted.answered done.stood unprinted.line.cause)
       by_end (inr (inr counted)) = record {
-        from = subst (λ (side : SideView A). tapes.Done a old.from.unit.tape side.unit.tape []) (sym counted.from) chain.from;
+        from = count_reads answer counted.count
+            (subst (λ (side : SideView A). tapes.Done a old.from.unit.tape side.unit.tape []) (sym counted.from) chain.from);
         to = subst (λ (side : SideView B). GoesOn b old.to.unit.tape side.unit.tape) (sym counted.to) chain.to;
         sink = let e = chain.later in let f = count_later answer counted.count in omega (arith, e, f);
+        to_count = to_behind (counted_counts answer counted.count (ap (λ (side : SideView B). b.faults side.unit.tape) counted.to));
+        sink_count = sink_behind (counted_counts answer counted.count (ap (λ (side : SideView B). b.faults side.unit.tape) counted.to));
       }

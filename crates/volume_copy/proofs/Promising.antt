@@ -86,7 +86,9 @@ module _ {A B K : Type 0} (a : tapes.Meaning A) (b : tapes.Meaning B) (k : sinks
         untouched = λ is. still;
         ends = λ asked. absurd (asked unasked);
         complete = λ none quiet c one d other from_told to_told can. by_answer none unasked;
-        cause = of_unasked (HasRisen a b k before after) answer tt tt unasked;
+        cause = subst (λ (decks : Decks A B K). HasRisen a b k before decks answer) (sym still)
+            (of_unasked (HasRisen a b k before before) answer (record { from = refl; to = refl; sink = refl })
+            (record { from = refl; to = refl; sink = refl }) unasked);
         kind = of_unasked HasKind answer tt tt unasked;
         short = λ promised read is. absurd (no_short promised read is unasked);
         source = if_told (a.told before.from) (λ held. FromAnswers held answer) (λ held told. of_unasked (FromAnswers held) answer tt tt unasked);

@@ -79,4 +79,6 @@ module _ {T : Type 0} (m : Meaning T) (s t : SourceView T) (unread : List ℕ) w
     later = kept.later;
     stays = kept.stays;
     by_tape = kept.by_tape;
+    stood = kept.stood;
+    quiet = kept.quiet;
   }

@@ -1,16 +1,17 @@
 -- The bytes of a volume as a source: what it is seen as, what is true of each, and what its calls keep (this project's
 -- own). The laws at the end are those that a source has to have.
-use Rattle.std.proofs.Common.{arith, ◌∙◌, refl, sym, ap}
+use Rattle.std.proofs.Common.{arith, ◌∙◌, refl, sym, ap, subst}
 use Rattle.std.proofs.lemmas.Option.{same_Some}
-use Rattle.std.specs.Prelude.{◌≡◌, ℕ, ◌+◌, ◌-◌, ◌*◌, ◌^◌, ◌<◌, ◌≤◌, List, [], ◌++◌, length, take, drop, min, slice_get, Option, Some, None, Result, Ok, Err}
+use Rattle.std.specs.Prelude.{◌≡◌, ◌≢◌, ℕ, ◌+◌, ◌-◌, ◌*◌, ◌^◌, ◌<◌, ◌≤◌, List, [], ◌++◌, length, take, drop, min, slice_get, Option}
+use Rattle.std.specs.Prelude.{Some, None, Result, Ok, Err}
 use Rattle.cartridge_spec.specs.Volumes.{bytes_in}
 use Rattle.cartridge_spec.specs.Says.{Says, Data}
 use Rattle.cartridge_spec.specs.Table.{Entry}
 use Rattle.command_spec.specs.Restore.{Piece, GivingEnd, LostIn, MismatchIn, PieceEnds, pieces, piece_cells, volume_at}
 use Rattle.drive_states.specs.Unit.{UnitView}
-use Rattle.qic_base.proofs.Steps.{Rose-after, Rose-before, Stops-nothing, Stops-Stops, option_map-effects-none}
+use Rattle.qic_base.proofs.Steps.{Broke-after_reads, Stops-nothing, Stops-Stops, option_map-effects-none}
 use Rattle.qic_base.specs.Cartridge.{Cartridge}
-use Rattle.qic_base.specs.Tape.{Rose, Meaning, Stops}
+use Rattle.qic_base.specs.Tape.{Meaning, Broke, Done, Stops}
 use Rattle.qic_base.specs.TapeCalls.{Tells}
 use Rattle.volume_copy.specs.Given.{given_bytes}
 use Rattle.volume_store.specs.Mounting.{StoreView, StoreFits, KeepsStore}
@@ -125,8 +126,8 @@ left_where s (Some None) = None
 left_where s (Some (Some c)) = Some (bytes_left s c)
 
 -- What a call keeps: the volume's number, the store's header, map and list, what is true of each source, what the tape
--- tells, also in each stop since, its count and a fault that was there. A new fault of the tape comes only where its count
--- rose.
+-- tells, also in each stop since, and a fault that was there. The count of the tape stands still but where a fault of it is
+-- new, which then came in the tape's last call. Behind a fault that was there the tape is not asked.
 pub record KeepsVolume {T : Type 0} (m : Meaning T) (old new : SourceView T) : Type 0 where
   pub number : new.number ≡ old.number
   pub store : KeepsStore old.store new.store
@@ -135,7 +136,9 @@ pub record KeepsVolume {T : Type 0} (m : Meaning T) (old new : SourceView T) : T
   pub stops : Stops m old.unit.tape new.unit.tape []
   pub later : m.faults old.unit.tape ≤ m.faults new.unit.tape
   pub stays : (why : StoreFault) → old.fault ≡ Some why → new.fault ≡ Some why
-  pub by_tape : old.fault ≡ None → new.fault ≡ Some fault.Tape → Rose (m.faults old.unit.tape) (m.faults new.unit.tape)
+  pub by_tape : old.fault ≡ None → new.fault ≡ Some fault.Tape → Broke m old.unit.tape new.unit.tape []
+  pub stood : new.fault ≢ Some fault.Tape → m.faults new.unit.tape ≡ m.faults old.unit.tape
+  pub quiet : (why : StoreFault) → old.fault ≡ Some why → new.unit.tape ≡ old.unit.tape
 
 abbrev pub source_means : {T : Type 0} → Meaning T → sources.Meaning (SourceView T)
 source_means m = record {
@@ -149,11 +152,6 @@ abbrev pub count_after : {A E : Type 0} → ℕ → Result A E → ℕ
 count_after n (Ok answer) = n
 count_after n (Err e) = min (n + 1) (2 ^ 64 - 1)
 
--- the first of the refusals, where one was there, and another comes
-abbrev pub first_refusal : Option StoreFault → StoreFault → StoreFault
-first_refusal None why = why
-first_refusal (Some first) why = first
-
 -- ---- laws
 
 pub keeps_itself : {T : Type 0} (m : Meaning T) (s : SourceView T) → KeepsVolume m s s
@@ -166,6 +164,8 @@ keeps_itself m s = record {
   later = omega arith;
   stays = λ why is. is;
   by_tape = λ none some. absurd (cc);
+  stood = λ none. refl;
+  quiet = λ why is. refl;
 }
 
 pub keeps_on : {T : Type 0} (m : Meaning T) (a b c : SourceView T) → KeepsVolume m a b → KeepsVolume m b c → KeepsVolume m a c
@@ -182,12 +182,23 @@ keeps_on {T} m a b c first next = record {
   later = let one = first.later in let two = next.later in omega arith;
   stays = λ why is. next.stays why (first.stays why is);
   by_tape = λ none some. between b.fault refl none some;
+  stood = λ none.
+      let one : m.faults b.unit.tape ≡ m.faults a.unit.tape = first.stood (λ is. none (next.stays fault.Tape is)) in
+      next.stood none ∙ one;
+  quiet = λ why is. next.quiet why (first.stays why is) ∙ first.quiet why is;
 }
   where
-    between : (o : Option StoreFault) → b.fault ≡ o → a.fault ≡ None → c.fault ≡ Some fault.Tape → Rose (m.faults a.unit.tape) (m.faults c.unit.tape)
-    between None is none some =
-        Rose-after (m.faults a.unit.tape) (m.faults b.unit.tape) (m.faults c.unit.tape) first.later (next.by_tape is some)
+    read_first : b.fault ≡ None → Done m a.unit.tape b.unit.tape []
+    read_first is = record {
+      told = first.told ∙ sym (option_map-effects-none (m.told a.unit.tape));
+      later = first.stood (λ some. absurd (cc));
+      stops = first.stops;
+    }
+
+    between : (o : Option StoreFault) → b.fault ≡ o → a.fault ≡ None → c.fault ≡ Some fault.Tape →
+        Broke m a.unit.tape c.unit.tape []
+    between None is none some = Broke-after_reads (read_first is) (next.by_tape is some)
     between (Some why) is none some =
         let same : fault.Tape ≡ why = same_Some fault.Tape why (sym some ∙ next.stays why is) in
-        Rose-before (m.faults a.unit.tape) (m.faults b.unit.tape) (m.faults c.unit.tape)
-        (first.by_tape none (is ∙ ap (λ (f : StoreFault). Some f) (sym same))) next.later
+        subst (λ (t : T). Broke m a.unit.tape t []) (sym (next.quiet why is))
+        (first.by_tape none (is ∙ ap (λ (f : StoreFault). Some f) (sym same)))

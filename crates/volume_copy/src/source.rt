@@ -7,7 +7,7 @@ ghost use Rattle.qic_base.specs.SourceCalls.{Gives, HasEnded};
 ghost use Rattle.qic_base.specs.TapeCalls.{Tells};
 ghost use Rattle.command_spec.specs.Copying.{GivenBytes};
 ghost use Rattle.volume_store.specs.Mounting.{StoreFits};
-ghost use Rattle.volume_copy.specs.Source.{IsSoundSource, KeepsVolume, count_after, first_refusal, keeps_itself, keeps_on, new_source, pieces_of_number, source_means, unread_in};
+ghost use Rattle.volume_copy.specs.Source.{IsSoundSource, KeepsVolume, count_after, keeps_itself, keeps_on, new_source, pieces_of_number, source_means, unread_in};
 
 use drive_states::Unit;
 use qic_base::{Sector, Source, SourceFailed, Tape};
@@ -15,7 +15,7 @@ use std::marker::Model;
 use volume_store::{Store, StoreFault};
 
 /// The bytes of one volume of a mounted cartridge, read segment by segment as they are asked for. A read that comes to a
-/// segment that doesn't read fails, and so does each behind it. The tape is only read.
+/// segment that doesn't read fails, and each behind it fails at once: the tape is not asked again. It is only read.
 #[derive(Drop)]
 pub struct VolumeSource<T: Tape> {
     store: Store,
@@ -74,16 +74,6 @@ fn copy_part(sectors: &[Sector], held: u32, given: u32, into: &mut [u8]) -> u32
     count as u32
 }
 
-/// The first refusal, where this one comes.
-fn first_fault(known: Option<StoreFault>, fault: StoreFault) -> StoreFault
-    ensures { result ≡ first_refusal known fault }
-{
-    match known {
-        Some(first) => first,
-        None => fault,
-    }
-}
-
 impl<T: Tape> VolumeSource<T> {
     /// The bytes of the volume with this number, counted from 1.
     pub fn new(store: Store, unit: Unit<T>, number: u32) -> VolumeSource<T>
@@ -118,7 +108,7 @@ impl<T: Tape> VolumeSource<T> {
         (store, unit)
     }
 
-    /// Why a read failed, the first time; `None` where none did.
+    /// Why a read failed, the first one that did; `None` where none did.
     pub fn fault(&self) -> Option<StoreFault>
         ensures is { result ≡ self.now.fault }
         ensures counted { (result ≡ None) ↔ (self.now.faults ≡ 0) }
@@ -138,6 +128,10 @@ impl<T: Tape> VolumeSource<T> {
         if self.given < self.held {
             return Ok(true);
         }
+        if self.fault.is_some() {
+            self.refusals = self.refusals.saturating_add(1);
+            return Err(SourceFailed);
+        }
         match self.store.part(&mut self.unit, self.number, self.next) {
             Ok(Some(bytes)) => {
                 self.held = bytes;
@@ -147,7 +141,7 @@ impl<T: Tape> VolumeSource<T> {
             }
             Ok(None) => Ok(false),
             Err(fault) => {
-                self.fault = Some(first_fault(self.fault, fault));
+                self.fault = Some(fault);
                 self.refusals = self.refusals.saturating_add(1);
                 Err(SourceFailed)
             }

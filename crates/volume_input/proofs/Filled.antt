@@ -1,5 +1,6 @@
 -- Bytes that fill some segments, and what goes behind them.
-use Rattle.std.proofs.Common.{◌≡◌, ◌⊎◌, inl, inr, ℕ, ◌+◌, ◌-◌, ◌*◌, ◌<◌, ◌≤◌, Bool, true, false, cond, List, [], ◌∷◌, ◌++◌, length, drop, All, refl, sym, ap, ◌∙◌, arith, nat_le}
+use Rattle.std.proofs.Common.{◌≡◌, ◌⊎◌, inl, inr, ℕ, ◌+◌, ◌-◌, ◌*◌, ◌<◌, ◌≤◌, Bool, true, false, cond, List, [], ◌∷◌, ◌++◌, length, drop}
+use Rattle.std.proofs.Common.{All, refl, sym, ap, ◌∙◌, arith, nat_le}
 use Rattle.std.proofs.lemmas.Bool.{le-leb, lt-leb}
 use Rattle.std.proofs.lemmas.List.{length-append, length-drop, take-append-le, drop-append-le}
 use Rattle.std.proofs.lemmas.List.Elements.{All-head, All-tail}
@@ -76,25 +77,29 @@ volume_more words s ss bytes many =
 pub filled_more : (words : List ℕ) (s : ℕ) (ss bytes : List ℕ) → capacity (mask_at words s) ≤ length bytes →
     filled_acts words (s ∷ ss) bytes ≡ segment_act words s bytes ∷ filled_acts words ss (drop (capacity (mask_at words s)) bytes)
 filled_more words s ss bytes full =
-    chosen (nat_le (capacity (mask_at words s)) (length bytes)) (segment_act words s bytes ∷ filled_acts words ss (drop (capacity (mask_at words s)) bytes)) []
+    chosen (nat_le (capacity (mask_at words s)) (length bytes))
+    (segment_act words s bytes ∷ filled_acts words ss (drop (capacity (mask_at words s)) bytes)) []
     (le-leb (capacity (mask_at words s)) (length bytes) full)
 
 pub filled_ends : (words : List ℕ) (s : ℕ) (ss bytes : List ℕ) → length bytes < capacity (mask_at words s) →
     filled_acts words (s ∷ ss) bytes ≡ []
 filled_ends words s ss bytes few =
-    refused (nat_le (capacity (mask_at words s)) (length bytes)) (segment_act words s bytes ∷ filled_acts words ss (drop (capacity (mask_at words s)) bytes)) []
+    refused (nat_le (capacity (mask_at words s)) (length bytes))
+    (segment_act words s bytes ∷ filled_acts words ss (drop (capacity (mask_at words s)) bytes)) []
     (lt-leb (capacity (mask_at words s)) (length bytes) few)
 
 taken_ends : (words : List ℕ) (s : ℕ) (ss : List ℕ) (n : ℕ) → n ≤ capacity (mask_at words s) → taken_by words n (s ∷ ss) ≡ s ∷ []
 taken_ends words s ss n few =
     ap (λ (ts : List ℕ). s ∷ ts)
-    (chosen (nat_le n (capacity (mask_at words s))) [] (taken_by words (n - capacity (mask_at words s)) ss) (le-leb n (capacity (mask_at words s)) few))
+    (chosen (nat_le n (capacity (mask_at words s))) [] (taken_by words (n - capacity (mask_at words s)) ss)
+    (le-leb n (capacity (mask_at words s)) few))
 
 taken_more : (words : List ℕ) (s : ℕ) (ss : List ℕ) (n : ℕ) → capacity (mask_at words s) < n →
     taken_by words n (s ∷ ss) ≡ s ∷ taken_by words (n - capacity (mask_at words s)) ss
 taken_more words s ss n many =
     ap (λ (ts : List ℕ). s ∷ ts)
-    (refused (nat_le n (capacity (mask_at words s))) [] (taken_by words (n - capacity (mask_at words s)) ss) (lt-leb n (capacity (mask_at words s)) many))
+    (refused (nat_le n (capacity (mask_at words s))) [] (taken_by words (n - capacity (mask_at words s)) ss)
+    (lt-leb n (capacity (mask_at words s)) many))
 
 -- ---- bytes that fill some segments
 
@@ -102,7 +107,8 @@ no_bytes : (words bytes : List ℕ) → length bytes ≡ capacity_of words [] �
 no_bytes words [] none = refl
 no_bytes words (b ∷ bs) none = absurd (omega arith)
 
-front_full : (words : List ℕ) (s : ℕ) (ss bytes : List ℕ) → length bytes ≡ capacity_of words (s ∷ ss) → capacity (mask_at words s) ≤ length bytes
+front_full : (words : List ℕ) (s : ℕ) (ss bytes : List ℕ) → length bytes ≡ capacity_of words (s ∷ ss) →
+    capacity (mask_at words s) ≤ length bytes
 front_full words s ss bytes full = omega (arith, capacity_cons words s ss)
 
 rest_full : (words : List ℕ) (s : ℕ) (ss bytes : List ℕ) → length bytes ≡ capacity_of words (s ∷ ss) →
@@ -110,7 +116,8 @@ rest_full : (words : List ℕ) (s : ℕ) (ss bytes : List ℕ) → length bytes 
 rest_full words s ss bytes full = omega (arith, capacity_cons words s ss, length-drop (capacity (mask_at words s)) bytes)
 
 -- the acts of a segment more in front
-push_act : (words : List ℕ) (s : ℕ) (bytes more : List ℕ) (xs ys zs : List Act) → Carries (mask_at words s) → capacity (mask_at words s) ≤ length bytes →
+push_act : (words : List ℕ) (s : ℕ) (bytes more : List ℕ) (xs ys zs : List Act) → Carries (mask_at words s) →
+    capacity (mask_at words s) ≤ length bytes →
     xs ≡ ys ++ zs → segment_act words s (bytes ++ more) ∷ xs ≡ (segment_act words s bytes ∷ ys) ++ zs
 push_act words s bytes more xs ys zs carry full same =
     ap (λ (act : Act). act ∷ xs) (act_front words s bytes more carry full) ∙ ap (λ (acts : List Act). segment_act words s bytes ∷ acts) same
@@ -124,14 +131,16 @@ filled_behind words (s ∷ ss) rest bytes more carry full =
     let here : cap ≤ length bytes = front_full words s ss bytes full in
     let all : cap ≤ length (bytes ++ more) = omega (arith, length-append bytes more) in
     filled_more words s (ss ++ rest) (bytes ++ more) all
-    ∙ push_act words s bytes more (filled_acts words (ss ++ rest) (drop cap (bytes ++ more))) (filled_acts words ss (drop cap bytes)) (filled_acts words rest more)
+    ∙ push_act words s bytes more (filled_acts words (ss ++ rest) (drop cap (bytes ++ more))) (filled_acts words ss (drop cap bytes))
+    (filled_acts words rest more)
     (carry_head words s ss carry) here
     (ap (λ (xs : List ℕ). filled_acts words (ss ++ rest) xs) (drop-append-le cap bytes more here)
     ∙ filled_behind words ss rest (drop cap bytes) more (carry_tail words s ss carry) (rest_full words s ss bytes full))
     ∙ ap (λ (acts : List Act). acts ++ filled_acts words rest more) (sym (filled_more words s ss bytes here))
 
 -- .. and so they are of a volume, where there are further ones
-pub volume_behind : (words front rest bytes more : List ℕ) → Carry words front → length bytes ≡ capacity_of words front → GoesOn front more →
+pub volume_behind : (words front rest bytes more : List ℕ) → Carry words front → length bytes ≡ capacity_of words front →
+    GoesOn front more →
     volume_acts words (front ++ rest) (bytes ++ more) ≡ filled_acts words front bytes ++ volume_acts words rest more
 volume_behind words [] rest bytes more carry full on = ap (λ (xs : List ℕ). volume_acts words rest (xs ++ more)) (no_bytes words bytes full)
 volume_behind words (s ∷ ss) rest bytes more carry full (inl none) = absurd (cc)
@@ -140,7 +149,8 @@ volume_behind words (s ∷ ss) rest bytes more carry full (inr some) =
     let here : cap ≤ length bytes = front_full words s ss bytes full in
     let beyond : cap < length (bytes ++ more) = omega (arith, length-append bytes more) in
     volume_more words s (ss ++ rest) (bytes ++ more) beyond
-    ∙ push_act words s bytes more (volume_acts words (ss ++ rest) (drop cap (bytes ++ more))) (filled_acts words ss (drop cap bytes)) (volume_acts words rest more)
+    ∙ push_act words s bytes more (volume_acts words (ss ++ rest) (drop cap (bytes ++ more))) (filled_acts words ss (drop cap bytes))
+    (volume_acts words rest more)
     (carry_head words s ss carry) here
     (ap (λ (xs : List ℕ). volume_acts words (ss ++ rest) xs) (drop-append-le cap bytes more here)
     ∙ volume_behind words ss rest (drop cap bytes) more (carry_tail words s ss carry) (rest_full words s ss bytes full) (inr some))
@@ -161,7 +171,8 @@ volume_full words (s ∷ t ∷ ss) rest bytes carry full some =
     let beyond : cap < length bytes = omega (arith, capacity_cons words s (t ∷ ss), capacity_cons words t ss) in
     volume_more words s (t ∷ ss ++ rest) bytes beyond
     ∙ ap (λ (acts : List Act). segment_act words s bytes ∷ acts)
-    (volume_full words (t ∷ ss) rest (drop cap bytes) (carry_tail words s (t ∷ ss) carry) (rest_full words s (t ∷ ss) bytes full) (omega arith))
+    (volume_full words (t ∷ ss) rest (drop cap bytes) (carry_tail words s (t ∷ ss) carry) (rest_full words s (t ∷ ss) bytes full)
+    (omega arith))
     ∙ sym (filled_more words s (t ∷ ss) bytes (omega arith))
 
 -- ---- the segments that are taken
@@ -188,7 +199,8 @@ taken_full words (s ∷ t ∷ ss) rest m carry full some =
     let all = capacity_cons words s (t ∷ ss) in
     let more = capacity_cons words t ss in
     taken_more words s (t ∷ ss ++ rest) m (omega arith)
-    ∙ ap (λ (ts : List ℕ). s ∷ ts) (taken_full words (t ∷ ss) rest (m - cap) (carry_tail words s (t ∷ ss) carry) (omega arith) (omega arith))
+    ∙ ap (λ (ts : List ℕ). s ∷ ts) (taken_full words (t ∷ ss) rest (m - cap) (carry_tail words s (t ∷ ss) carry) (omega arith)
+    (omega arith))
 
 -- up to the one that takes the last byte
 pub taken_last : (words front : List ℕ) (s : ℕ) (rest : List ℕ) (m n : ℕ) → m ≡ capacity_of words front → (front ≡ []) ⊎ (1 ≤ n) →

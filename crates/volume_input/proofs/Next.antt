@@ -1,5 +1,6 @@
 -- One segment: what was read for it, and what became of that.
-use Rattle.std.proofs.Common.{◌≡◌, ◌⊎◌, inl, inr, ℕ, ◌+◌, ◌-◌, ◌*◌, ◌/◌, ◌<◌, ◌≤◌, min, Bool, true, List, [], ◌∷◌, length, take, All, refl, sym, ap, ◌∙◌, subst, arith, append-nil}
+use Rattle.std.proofs.Common.{◌≡◌, ◌⊎◌, inl, inr, ℕ, ◌+◌, ◌-◌, ◌*◌, ◌/◌, ◌<◌, ◌≤◌, min, Bool, true, List, [], ◌∷◌, length, take, All, refl}
+use Rattle.std.proofs.Common.{sym, ap, ◌∙◌, subst, arith, append-nil}
 use Rattle.std.proofs.lemmas.List.Elements.{All-nil, All-head, All-tail, All-append, All-take}
 use Rattle.qic_base.specs.Tape.{Rose}
 use Rattle.qic_base.proofs.Steps.{Done-nothing}
@@ -21,13 +22,15 @@ use Rattle.qic_base.specs.Source as sources
 use Rattle.qic_base.specs.Tape as tapes
 
 -- the sectors of data, by the bytes that they hold
-pub data_sectors : (words : List ℕ) (s n : ℕ) → Carries (mask_at words s) → n ≡ capacity (mask_at words s) → n / 1024 ≡ data_count (mask_at words s)
+pub data_sectors : (words : List ℕ) (s n : ℕ) → Carries (mask_at words s) → n ≡ capacity (mask_at words s) →
+    n / 1024 ≡ data_count (mask_at words s)
 data_sectors words s n carry is =
     let all : n ≡ 1024 * data_count (mask_at words s) = is ∙ carried_all words s carry in
     omega arith
 
 -- the writes of a segment are those of its act
-same_writes : (words : List ℕ) (s count usable : ℕ) (sectors : List (List ℕ)) (bytes : List ℕ) → count ≡ data_count (mask_at words s) → usable ≡ mask_at words s →
+same_writes : (words : List ℕ) (s count usable : ℕ) (sectors : List (List ℕ)) (bytes : List ℕ) → count ≡ data_count (mask_at words s) →
+    usable ≡ mask_at words s →
     take count sectors ≡ in_sectors count bytes → segment_writes s usable sectors ≡ (segment_act words s bytes).steps
 same_writes words s count usable sectors bytes all is filled =
     ap (λ (mask : ℕ). segment_writes s mask sectors) is
@@ -52,8 +55,8 @@ are_bytes count sectors bytes are within filled =
 
 module _ {T S : Type 0} (t : tapes.Meaning T) (s : sources.Meaning S) (x y : T) (a b : S) (later : s.faults a ≤ s.faults b) where
   -- nothing was written
-  nothing : Went t s no_sink (reading x a) (reading x b) []
-  nothing = record { did = Done-nothing t x; wrote = record { took = refl; later = omega arith }; source_later = later }
+  nothing : s.faults b ≡ s.faults a → Went t s no_sink (reading x a) (reading x b) []
+  nothing stood = record { did = Done-nothing t x; wrote = record { took = refl; later = omega arith }; source_later = stood }
 
   source_cut : Rose (s.faults a) (s.faults b) → Cut t s no_sink (reading x a) (reading x b) [] SourceFails
   source_cut rose = record {
@@ -66,14 +69,16 @@ module _ {T S : Type 0} (t : tapes.Meaning T) (s : sources.Meaning S) (x y : T) 
     source_later = later;
   }
 
-  module _ (words : List ℕ) (segment before most n : ℕ) (exact : Bool) (here : Carries (mask_at words segment)) (is : n ≡ capacity (mask_at words segment)) where
+  module _ (words : List ℕ) (segment before most n : ℕ) (exact : Bool) (here : Carries (mask_at words segment))
+      (is : n ≡ capacity (mask_at words segment)) where
     room : 1024 * (n / 1024) ≡ capacity (mask_at words segment)
     room =
         let count : n / 1024 ≡ data_count (mask_at words segment) = data_sectors words segment n here is in
         let all = carried_all words segment here in
         omega arith
 
-    up_to : (bytes : List ℕ) → GaveUpTo s a b (1024 * (n / 1024)) (most - before) bytes → GaveUpTo s a b (capacity (mask_at words segment)) (most - before) bytes
+    up_to : (bytes : List ℕ) → GaveUpTo s a b (1024 * (n / 1024)) (most - before) bytes → GaveUpTo s a b (capacity (mask_at words segment))
+        (most - before) bytes
     up_to bytes gave = subst (λ (r : ℕ). GaveUpTo s a b r (most - before) bytes) room gave
 
     pub source_fault : Rose (s.faults a) (s.faults b) → GaveWithin s a b (1024 * (n / 1024)) (most - before) →
@@ -83,7 +88,8 @@ module _ {T S : Type 0} (t : tapes.Meaning T) (s : sources.Meaning S) (x y : T) 
       source_cut rose,
     )
 
-    module _ (read : ℕ) (sectors : List (List ℕ)) (are : All IsSector sectors) (filled : AreFilled s a b (n / 1024) (most - before) (take (n / 1024) sectors) read) where
+    module _ (stood : s.faults b ≡ s.faults a) (read : ℕ) (sectors : List (List ℕ)) (are : All IsSector sectors)
+        (filled : AreFilled s a b (n / 1024) (most - before) (take (n / 1024) sectors) read) where
       content : All (λ (e : ℕ). e < 256) filled.0
       content = are_bytes (n / 1024) sectors filled.0 are filled.2.fits filled.3
 
@@ -95,7 +101,7 @@ module _ {T S : Type 0} (t : tapes.Meaning T) (s : sources.Meaning S) (x y : T) 
         took = up_to filled.0 filled.2;
         is_exact = asked;
         short = (let long = filled.1 in omega arith);
-        went = nothing;
+        went = nothing stood;
         count = ap (λ (k : ℕ). before + k) (sym filled.1);
       }
 
@@ -116,10 +122,13 @@ module _ {T S : Type 0} (t : tapes.Meaning T) (s : sources.Meaning S) (x y : T) 
             some_of (inl first) = inl first
             some_of (inr more) = inr (let long = filled.1 in omega arith)
 
-        steps : (usable : ℕ) → usable ≡ mask_at words segment → segment_writes segment usable sectors ≡ (segment_act words segment filled.0).steps
-        steps usable same = same_writes words segment (n / 1024) usable sectors filled.0 (data_sectors words segment n here is) same filled.3
+        steps : (usable : ℕ) → usable ≡ mask_at words segment →
+            segment_writes segment usable sectors ≡ (segment_act words segment filled.0).steps
+        steps usable same = same_writes words segment (n / 1024) usable sectors filled.0
+            (data_sectors words segment n here is) same filled.3
 
-        pub next_written : (usable : ℕ) → usable ≡ mask_at words segment → (before ≡ 0) ⊎ (1 ≤ read) → tapes.Done t x y (segment_writes segment usable sectors) →
+        pub next_written : (usable : ℕ) → usable ≡ mask_at words segment → (before ≡ 0) ⊎ (1 ≤ read) →
+            tapes.Done t x y (segment_writes segment usable sectors) →
             NextWritten t s words segment before most exact (reading x a) (reading y b) read
         next_written usable same some did = record {
           bytes = filled.0;
@@ -127,15 +136,17 @@ module _ {T S : Type 0} (t : tapes.Meaning T) (s : sources.Meaning S) (x y : T) 
           went = record {
             did = subst (tapes.Done t x y) (steps usable same ∙ sym (append-nil (segment_act words segment filled.0).steps)) did;
             wrote = record { took = refl; later = omega arith };
-            source_later = later;
+            source_later = stood;
           };
           count = sym filled.1;
         }
 
-        pub next_broken : (usable : ℕ) → usable ≡ mask_at words segment → (before ≡ 0) ⊎ (1 ≤ read) → tapes.Broke t x y (segment_writes segment usable sectors) →
+        pub next_broken : (usable : ℕ) → usable ≡ mask_at words segment → (before ≡ 0) ⊎ (1 ≤ read) →
+            tapes.Broke t x y (segment_writes segment usable sectors) →
             NextBroken t s words segment before most exact (reading x a) (reading y b)
         next_broken usable same some broke =
-            let broken : tapes.Broke t x y (segment_act words segment filled.0).steps = subst (tapes.Broke t x y) (steps usable same) broke in
+            let broken : tapes.Broke t x y (segment_act words segment filled.0).steps = subst (tapes.Broke t x y)
+            (steps usable same) broke in
             record {
               bytes = filled.0;
               came = came some;
@@ -146,6 +157,6 @@ module _ {T S : Type 0} (t : tapes.Meaning T) (s : sources.Meaning S) (x y : T) 
                 broke = broken;
                 here = broken.torn;
                 wrote = record { took = refl; later = omega arith };
-                source_later = later;
+                source_later = stood;
               };
             }

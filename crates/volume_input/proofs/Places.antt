@@ -1,5 +1,6 @@
 -- The carrying segments from one on, one after the other.
-use Rattle.std.proofs.Common.{◌≡◌, ◌⊎◌, inl, inr, ℕ, suc, ◌+◌, ◌-◌, ◌*◌, ◌≤◌, Bool, true, false, cond, List, [], ◌∷◌, refl, sym, ap, ◌∙◌, arith, nat_le, length}
+use Rattle.std.proofs.Common.{◌≡◌, ◌⊎◌, inl, inr, ℕ, suc, ◌+◌, ◌-◌, ◌*◌, ◌≤◌, Bool, true, false, cond, List, [], ◌∷◌, refl, sym, ap, ◌∙◌}
+use Rattle.std.proofs.Common.{arith, nat_le, length}
 use Rattle.std.proofs.lemmas.Bool.{cases_Bool, le-leb, leb-true}
 use Rattle.qic_base.specs.Cartridge.{lost_places}
 use Rattle.cartridge_laws.specs.Shape.{Carries}
@@ -17,7 +18,8 @@ carries_cond false n some = absurd (omega arith)
 
 pub capacity_carries : (words : List ℕ) (s : ℕ) → 1 ≤ capacity (mask_at words s) → Carries (mask_at words s)
 capacity_carries words s some =
-    leb-true 4 (usable_count (mask_at words s)) (carries_cond (nat_le 4 (usable_count (mask_at words s))) (1024 * data_count (mask_at words s)) some)
+    leb-true 4 (usable_count (mask_at words s))
+    (carries_cond (nat_le 4 (usable_count (mask_at words s))) (1024 * data_count (mask_at words s)) some)
 
 pub data_most : (words : List ℕ) (s : ℕ) → data_count (mask_at words s) ≤ 29
 data_most words s =

@@ -1,5 +1,6 @@
 -- A volume that is written, segment after segment: those before are filled, and what comes goes behind them.
-use Rattle.std.proofs.Common.{◌≡◌, ◌⊎◌, inl, inr, ℕ, ◌+◌, ◌-◌, ◌<◌, ◌≤◌, min, Bool, List, [], ◌∷◌, ◌++◌, length, All, IfNone, Err, refl, sym, ap, ◌∙◌, subst, arith, append_assoc, append-nil}
+use Rattle.std.proofs.Common.{◌≡◌, ◌⊎◌, inl, inr, ℕ, ◌+◌, ◌-◌, ◌<◌, ◌≤◌, min, Bool, List, [], ◌∷◌, ◌++◌, length, All, IfNone, Err, refl}
+use Rattle.std.proofs.Common.{sym, ap, ◌∙◌, subst, arith, append_assoc, append-nil}
 use Rattle.std.proofs.lemmas.Bool.{cases_lt}
 use Rattle.std.proofs.lemmas.List.{length-append}
 use Rattle.std.proofs.lemmas.List.Elements.{All-nil, All-cons, All-append}
@@ -23,15 +24,18 @@ use Rattle.sector_fill.specs.Filling.{GaveWithin}
 use Rattle.volume_input.specs.declared.fault.InputFault.{InputFault}
 use Rattle.volume_input.specs.declared.fault.InputFault.TheVariants as fault
 use Rattle.volume_input.specs.declared.written.Written.{Written}
-use Rattle.volume_input.proofs.Filled.{Carry, GoesOn, carry_head, carries_some, filled_more, filled_ends, volume_ends, filled_behind, volume_behind, volume_full, taken_full, taken_last}
-use Rattle.volume_input.proofs.Inputs.{bytes_untold, told_bytes, untold_content, whole_told, still_tells, none_left, Begins, filled_begin, next_begins}
+use Rattle.volume_input.proofs.Filled.{Carry, GoesOn, carry_head, carries_some, filled_more, filled_ends, volume_ends, filled_behind}
+use Rattle.volume_input.proofs.Filled.{volume_behind, volume_full, taken_full, taken_last}
+use Rattle.volume_input.proofs.Inputs.{bytes_untold, told_bytes, untold_content, whole_told, still_tells, none_left, Begins, filled_begin}
+use Rattle.volume_input.proofs.Inputs.{next_begins}
 use Rattle.volume_input.proofs.Told.{Tells, tells_more}
 
 pub no_text : TakesBoth no_sink
 no_text a b c xs ys first next = ap (λ (l : List ℕ). l ++ ys) first ∙ next
 
 -- The segments of a front are filled, and written; the others are still to come, and so are bytes.
-pub record SoFar {T S : Type 0} (t : tapes.Meaning T) (s : sources.Meaning S) (words segments : List ℕ) (most : ℕ) (start now : Outside T S (Unit {0})) (rest : List ℕ) (written : Written) : Type 0 where
+pub record SoFar {T S : Type 0} (t : tapes.Meaning T) (s : sources.Meaning S) (words segments : List ℕ) (most : ℕ)
+    (start now : Outside T S (Unit {0})) (rest : List ℕ) (written : Written) : Type 0 where
   pub front : List ℕ
   pub bytes : List ℕ
   pub parts : segments ≡ front ++ rest
@@ -83,7 +87,9 @@ module _ {T S : Type 0} {t : tapes.Meaning T} {s : sources.Meaning S} where
     tells = record { bytes = refl; start = refl; end = refl };
   }
 
-  module _ (words segments : List ℕ) (segment most : ℕ) (exact : Bool) (start now new : Outside T S (Unit {0})) (rest : List ℕ) (written : Written) (here : Carries (mask_at words segment)) (far : SoFar t s words segments most start now (segment ∷ rest) written) where
+  module _ (words segments : List ℕ) (segment most : ℕ) (exact : Bool) (start now new : Outside T S (Unit {0})) (rest : List ℕ)
+      (written : Written) (here : Carries (mask_at words segment))
+      (far : SoFar t s words segments most start now (segment ∷ rest) written) where
     within : length far.bytes ≤ most
     within = within_most words far.front (length far.bytes) most far.full far.going
 
@@ -100,7 +106,8 @@ module _ {T S : Type 0} {t : tapes.Meaning T} {s : sources.Meaning S} where
     goes_on came (inr some) = inr some
 
     -- the acts of the segments before, and further ones
-    both_went : (acts : List Act) → Went t s no_sink now new acts → Went t s no_sink start new (filled_acts words far.front far.bytes ++ acts)
+    both_went : (acts : List Act) → Went t s no_sink now new acts →
+        Went t s no_sink start new (filled_acts words far.front far.bytes ++ acts)
     both_went acts went = went_both t s no_sink no_text start now new (filled_acts words far.front far.bytes) acts far.went went
 
     grown_tells : (came : List ℕ) → Tells (far.front ++ segment ∷ []) (length far.bytes + length came) (grown written segment (length came))
@@ -111,7 +118,8 @@ module _ {T S : Type 0} {t : tapes.Meaning T} {s : sources.Meaning S} where
         far.tells
 
     -- ---- the segment was filled, and bytes are still to come
-    pub next : (read : ℕ) → NextWritten t s words segment written.bytes most exact now new read → capacity (mask_at words segment) ≤ read → written.bytes + read < most →
+    pub next : (read : ℕ) → NextWritten t s words segment written.bytes most exact now new read → capacity (mask_at words segment) ≤ read →
+        written.bytes + read < most →
         SoFar t s words segments most start new rest (grown written segment read)
     next read come filled less =
         let came : List ℕ = come.bytes in
@@ -134,11 +142,13 @@ module _ {T S : Type 0} {t : tapes.Meaning T} {s : sources.Meaning S} where
               ∙ ap (λ (acts : List Act). filled_acts words far.front far.bytes ++ acts) (filled_more words segment [] came (omega arith))))
               (both_went (segment_act words segment came ∷ []) come.went);
           tells = subst (λ (n : ℕ). Tells (far.front ++ segment ∷ []) n (grown written segment read)) (sym all)
-              (subst (λ (n : ℕ). Tells (far.front ++ segment ∷ []) (length far.bytes + length came) (grown written segment n)) (sym count) (grown_tells came));
+              (subst (λ (n : ℕ). Tells (far.front ++ segment ∷ []) (length far.bytes + length came) (grown written segment n)) (sym count)
+              (grown_tells came));
         }
 
     -- ---- it was the last
-    pub last : (read : ℕ) → NextWritten t s words segment written.bytes most exact now new read → (read < capacity (mask_at words segment)) ⊎ (written.bytes + read ≡ most) →
+    pub last : (read : ℕ) → NextWritten t s words segment written.bytes most exact now new read → (read < capacity (mask_at words segment))
+        ⊎ (written.bytes + read ≡ most) →
         HasWritten t s words segments most exact start new (grown written segment read)
     last read come ends =
         let came : List ℕ = come.bytes in
@@ -154,8 +164,10 @@ module _ {T S : Type 0} {t : tapes.Meaning T} {s : sources.Meaning S} where
         ap (λ (n : ℕ). taken_by words n segments) all ∙ ap (λ (ss : List ℕ). taken_by words (length far.bytes + length came) ss) far.parts
         ∙ taken_last words far.front segment rest (length far.bytes) (length came) far.full on fits in
         let told : Tells (far.front ++ segment ∷ []) (length far.bytes + length came) (grown written segment read) =
-        subst (λ (n : ℕ). Tells (far.front ++ segment ∷ []) (length far.bytes + length came) (grown written segment n)) (sym count) (grown_tells came) in
-        let there : Tells (taken_by words (length (far.bytes ++ came)) segments) (length far.bytes + length came) (grown written segment read) =
+        subst (λ (n : ℕ). Tells (far.front ++ segment ∷ []) (length far.bytes + length came) (grown written segment n)) (sym count)
+        (grown_tells came) in
+        let there : Tells (taken_by words (length (far.bytes ++ came)) segments) (length far.bytes + length came)
+        (grown written segment read) =
         subst (λ (ss : List ℕ). Tells ss (length far.bytes + length came) (grown written segment read)) (sym taken) told in
         record {
           bytes = far.bytes ++ came;
@@ -175,13 +187,16 @@ module _ {T S : Type 0} {t : tapes.Meaning T} {s : sources.Meaning S} where
           end = there.end;
         }
       where
-        in_segment : (read < capacity (mask_at words segment)) ⊎ (written.bytes + read ≡ most) → length come.bytes ≤ most - written.bytes → written.bytes + read < most →
+        in_segment : (read < capacity (mask_at words segment)) ⊎ (written.bytes + read ≡ most) → length come.bytes ≤ most - written.bytes →
+            written.bytes + read < most →
             length come.bytes < capacity (mask_at words segment)
         in_segment (inl less) few below = let count : read ≡ length come.bytes = come.count in omega arith
         in_segment (inr same) few below = absurd (omega arith)
 
-        all_there : (read < capacity (mask_at words segment)) ⊎ (written.bytes + read ≡ most) → read ≡ length come.bytes → written.bytes ≡ length far.bytes → length far.bytes ≤ most →
-            length come.bytes ≡ min (capacity (mask_at words segment)) (most - written.bytes) → length (far.bytes ++ come.bytes) ≡ length far.bytes + length come.bytes →
+        all_there : (read < capacity (mask_at words segment)) ⊎ (written.bytes + read ≡ most) → read ≡ length come.bytes →
+            written.bytes ≡ length far.bytes → length far.bytes ≤ most →
+            length come.bytes ≡ min (capacity (mask_at words segment)) (most - written.bytes) →
+            length (far.bytes ++ come.bytes) ≡ length far.bytes + length come.bytes →
             length (far.bytes ++ come.bytes) ≡ most
         all_there (inl less) count before inside enough all = omega arith
         all_there (inr same) count before inside enough all = omega arith
@@ -195,7 +210,8 @@ module _ {T S : Type 0} {t : tapes.Meaning T} {s : sources.Meaning S} where
         let some : 1 ≤ length far.front = some_segment (cases_lt 0 (length far.front)) before behind in
         let least : 1024 ≤ capacity (mask_at words segment) = carries_some words segment here in
         let taken : taken_by words (length far.bytes) segments ≡ far.front =
-        ap (λ (ss : List ℕ). taken_by words (length far.bytes) ss) far.parts ∙ taken_full words far.front (segment ∷ rest) (length far.bytes) far.carry far.full some in
+        ap (λ (ss : List ℕ). taken_by words (length far.bytes) ss) far.parts ∙ taken_full words far.front (segment ∷ rest)
+        (length far.bytes) far.carry far.full some in
         let there : Tells (taken_by words (length far.bytes) segments) (length far.bytes) written =
         subst (λ (ss : List ℕ). Tells ss (length far.bytes) written) (sym taken) far.tells in
         record {
@@ -207,21 +223,24 @@ module _ {T S : Type 0} {t : tapes.Meaning T} {s : sources.Meaning S} where
           whole = λ is. let none : 0 ≡ min (capacity (mask_at words segment)) (most - written.bytes) = come.whole is in omega arith;
           went = subst (Went t s no_sink start new)
               (append-nil (filled_acts words far.front far.bytes)
-              ∙ sym (ap (λ (ss : List ℕ). volume_acts words ss far.bytes) far.parts ∙ volume_full words far.front (segment ∷ rest) far.bytes far.carry far.full some))
+              ∙ sym (ap (λ (ss : List ℕ). volume_acts words ss far.bytes) far.parts
+              ∙ volume_full words far.front (segment ∷ rest) far.bytes far.carry far.full some))
               (both_went [] come.went);
           count = there.bytes;
           start = there.start;
           end = there.end;
         }
       where
-        some_segment : (0 < length far.front) ⊎ (length far.front ≤ 0) → written.bytes ≡ length far.bytes → 1 ≤ written.bytes → 1 ≤ length far.front
+        some_segment : (0 < length far.front) ⊎ (length far.front ≤ 0) → written.bytes ≡ length far.bytes → 1 ≤ written.bytes →
+            1 ≤ length far.front
         some_segment (inl more) before behind = omega arith
         some_segment (inr few) before behind =
             let none : length far.bytes ≡ 0 = empty_front words far.front (length far.bytes) far.full (omega arith) in
             absurd (omega arith)
 
     -- ---- too few came
-    pub short : (read : ℕ) → CameShort t s words segment written.bytes most exact now new read → EndedShort t s words segments most exact start new read
+    pub short : (read : ℕ) → CameShort t s words segment written.bytes most exact now new read →
+        EndedShort t s words segments most exact start new read
     short read come =
         let came : List ℕ = come.bytes in
         let all = length-append far.bytes came in
@@ -249,7 +268,8 @@ module _ {T S : Type 0} {t : tapes.Meaning T} {s : sources.Meaning S} where
     -- the acts of some more were cut off, and the input asks for them
     cut_off : (came : List ℕ) (acts : List Act) (failing : Failing) → Gave s now.source new.source came →
         IfNone (s.left now.source) (All (λ (b : ℕ). b < 256) came) → Cut t s no_sink now new acts failing →
-        Begins words (far.front ++ segment ∷ rest) most exact (far.bytes ++ (came ++ input_of (s.left new.source))) (filled_acts words far.front far.bytes ++ acts) →
+        Begins words (far.front ++ segment ∷ rest) most exact (far.bytes ++ (came ++ input_of (s.left new.source)))
+        (filled_acts words far.front far.bytes ++ acts) →
         InputCut t s words segments most exact start new failing
     cut_off came acts failing gave content cut begins =
         let done : List Act = filled_acts words far.front far.bytes in
@@ -259,30 +279,37 @@ module _ {T S : Type 0} {t : tapes.Meaning T} {s : sources.Meaning S} where
         record {
           input = input;
           is_told = whole_told (s.left start.source) (s.left new.source) (far.bytes ++ came) (all_gave came gave);
-          content = bytes_untold (s.left start.source) (s.left now.source) (s.left new.source) far.bytes came far.gave gave far.content content;
+          content = bytes_untold (s.left start.source) (s.left now.source) (s.left new.source) far.bytes came far.gave gave far.content
+              content;
           cut = subst (λ (xs : List Act). Cut t s no_sink start new xs failing)
-              (begins.1 ∙ ap (input_acts words (far.front ++ segment ∷ rest) most exact) same ∙ ap (λ (ss : List ℕ). input_acts words ss most exact input) (sym far.parts))
+              (begins.1 ∙ ap (input_acts words (far.front ++ segment ∷ rest) most exact) same
+              ∙ ap (λ (ss : List ℕ). input_acts words ss most exact input) (sym far.parts))
               (cut_is_longer t s no_sink start new (done ++ acts) begins.0 failing
               (went_then_cut t s no_sink no_text start now new done acts failing far.went cut));
           tells = still_tells (s.left start.source) (s.left new.source) (far.bytes ++ came) (all_gave came gave);
         }
 
-    pub source_failed : GaveWithin s now.source new.source (capacity (mask_at words segment)) (most - written.bytes) → Cut t s no_sink now new [] SourceFails →
+    pub source_failed : GaveWithin s now.source new.source (capacity (mask_at words segment)) (most - written.bytes) →
+        Cut t s no_sink now new [] SourceFails →
         InputCut t s words segments most exact start new SourceFails
     source_failed gave cut =
         let done : List Act = filled_acts words far.front far.bytes in
         let came = told_bytes (s.left now.source) (s.left new.source) gave.0 gave.3 in
-        let begins = filled_begin words far.front (segment ∷ rest) far.bytes most far.carry far.full far.going within exact (came.0 ++ input_of (s.left new.source)) in
+        let begins = filled_begin words far.front (segment ∷ rest) far.bytes most far.carry far.full far.going within exact
+        (came.0 ++ input_of (s.left new.source)) in
         cut_off came.0 [] SourceFails came.1 came.2 cut
         (begins.0, ap (λ (acts : List Act). acts ++ begins.0) (append-nil done) ∙ begins.1)
 
-    pub tape_failed : NextBroken t s words segment written.bytes most exact now new → InputCut t s words segments most exact start new TapeFails
+    pub tape_failed : NextBroken t s words segment written.bytes most exact now new →
+        InputCut t s words segments most exact start new TapeFails
     tape_failed come =
         let came : List ℕ = come.bytes in
         let took = come.came.took in
         let before : written.bytes ≡ length far.bytes = far.tells.bytes in
-        cut_off came (segment_act words segment came ∷ []) TapeFails took.gave (untold_content (s.left now.source) came come.came.content) come.cut
-        (next_begins words far.front segment rest far.bytes came (input_of (s.left new.source)) most exact far.carry here far.full within took.fits
+        cut_off came (segment_act words segment came ∷ []) TapeFails took.gave (untold_content (s.left now.source) came come.came.content)
+        come.cut
+        (next_begins words far.front segment rest far.bytes came (input_of (s.left new.source)) most exact far.carry here far.full within
+        took.fits
         (let few = took.within in omega arith)
         (λ less fewer. none_left (s.left new.source) (took.ended less (omega arith)))
         (λ is. come.came.whole is ∙ ap (λ (n : ℕ). min (capacity (mask_at words segment)) (most - n)) before)

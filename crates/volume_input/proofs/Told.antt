@@ -24,7 +24,8 @@ last_pushed front segment =
     get_or_push front segment 0 (length (front ++ segment ∷ []) - 1) place
 
 -- with a segment more
-pub tells_more : (front : List ℕ) (segment m n : ℕ) (written : Written) → (length front ≡ 0 → m ≡ 0) → (1 ≤ length front → 1 ≤ m) → Tells front m written →
+pub tells_more : (front : List ℕ) (segment m n : ℕ) (written : Written) → (length front ≡ 0 → m ≡ 0) → (1 ≤ length front → 1 ≤ m) →
+    Tells front m written →
     Tells (front ++ segment ∷ []) (m + n) (grown written segment n)
 tells_more [] segment m n written none some tells = record {
   bytes = ap (λ (k : ℕ). k + n) tells.bytes;
@@ -33,6 +34,7 @@ tells_more [] segment m n written none some tells = record {
 }
 tells_more (x ∷ xs) segment m n written none some tells = record {
   bytes = ap (λ (k : ℕ). k + n) tells.bytes;
-  start = start_later written.bytes segment written.start (let few : 1 ≤ m = some (omega arith) in let same = tells.bytes in omega arith) ∙ tells.start;
+  start = start_later written.bytes segment written.start (let few : 1 ≤ m = some (omega arith) in let same = tells.bytes in omega arith)
+      ∙ tells.start;
   end = sym (last_pushed (x ∷ xs) segment);
 }

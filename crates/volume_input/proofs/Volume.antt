@@ -13,45 +13,51 @@ use Rattle.volume_input.proofs.Running.{SoFar}
 
 -- ---- the segments
 
-module _ {T S : Type 0} {t : tapes.Meaning T} {s : sources.Meaning S} (words : List ℕ) (first segment most : ℕ) (start now : Outside T S (Unit {0})) (written : Written) (far : SoFar t s words (carrying words first (length words - 1)) most start now (carrying words segment (length words - 1)) written) where
-  -- one that carries data
-  pub here_next : segment < length words → Carries (mask_at words segment) →
-      SoFar t s words (carrying words first (length words - 1)) most start now (segment ∷ carrying words (segment + 1) (length words - 1)) written
-  here_next inside carry =
-      subst (λ (rest : List ℕ). SoFar t s words (carrying words first (length words - 1)) most start now rest written)
-      (carrying_next words segment (length words - 1) (omega arith) carry) far
+module _ {T S : Type 0} {t : tapes.Meaning T} {s : sources.Meaning S} (words : List ℕ) (first segment most : ℕ)
+    (start now : Outside T S (Unit {0})) (written : Written)
+    (far : SoFar t s words (carrying words first (length words - 1)) most start now (carrying words segment (length words - 1)) written)
+  where
+    -- one that carries data
+    pub here_next : segment < length words → Carries (mask_at words segment) →
+        SoFar t s words (carrying words first (length words - 1)) most start now (segment ∷ carrying words (segment + 1) (length words - 1))
+        written
+    here_next inside carry =
+        subst (λ (rest : List ℕ). SoFar t s words (carrying words first (length words - 1)) most start now rest written)
+        (carrying_next words segment (length words - 1) (omega arith) carry) far
 
-  -- one that doesn't
-  pub skipped : segment < length words → capacity (mask_at words segment) ≡ 0 →
-      SoFar t s words (carrying words first (length words - 1)) most start now (carrying words (segment + 1) (length words - 1)) written
-  skipped inside none =
-      subst (λ (rest : List ℕ). SoFar t s words (carrying words first (length words - 1)) most start now rest written)
-      (carrying_skips words segment (length words - 1) (omega arith) none) far
+    -- one that doesn't
+    pub skipped : segment < length words → capacity (mask_at words segment) ≡ 0 →
+        SoFar t s words (carrying words first (length words - 1)) most start now (carrying words (segment + 1) (length words - 1)) written
+    skipped inside none =
+        subst (λ (rest : List ℕ). SoFar t s words (carrying words first (length words - 1)) most start now rest written)
+        (carrying_skips words segment (length words - 1) (omega arith) none) far
 
-  -- none is left only where nothing is to come
-  pub not_over : length words ≤ segment → 1 ≤ length words → 1 ≤ capacity_between words first (length words - 1) → most ≤ capacity_between words first (length words - 1) → ⊥
-  not_over past some room enough =
-      let none : carrying words segment (length words - 1) ≡ [] = carrying_none words segment (length words - 1) (omega arith) in
-      let all : carrying words first (length words - 1) ≡ far.front =
-      far.parts ∙ ap (λ (rest : List ℕ). far.front ++ rest) none ∙ append-nil far.front in
-      let carry : capacity_between words first (length words - 1) ≡ capacity_of words far.front =
-      between_carries words first (length words - 1) ∙ ap (capacity_of words) all in
-      by_going far.going carry
-    where
-      by_going : (far.front ≡ []) ⊎ (length far.bytes < most) → capacity_between words first (length words - 1) ≡ capacity_of words far.front → ⊥
-      by_going (inl empty) carry =
-          let zero : capacity_of words far.front ≡ 0 = ap (capacity_of words) empty in
-          omega arith
-      by_going (inr less) carry = let full = far.full in omega arith
+    -- none is left only where nothing is to come
+    pub not_over : length words ≤ segment → 1 ≤ length words → 1 ≤ capacity_between words first (length words - 1) →
+        most ≤ capacity_between words first (length words - 1) → ⊥
+    not_over past some room enough =
+        let none : carrying words segment (length words - 1) ≡ [] = carrying_none words segment (length words - 1) (omega arith) in
+        let all : carrying words first (length words - 1) ≡ far.front =
+        far.parts ∙ ap (λ (rest : List ℕ). far.front ++ rest) none ∙ append-nil far.front in
+        let carry : capacity_between words first (length words - 1) ≡ capacity_of words far.front =
+        between_carries words first (length words - 1) ∙ ap (capacity_of words) all in
+        by_going far.going carry
+      where
+        by_going : (far.front ≡ []) ⊎ (length far.bytes < most) →
+            capacity_between words first (length words - 1) ≡ capacity_of words far.front → ⊥
+        by_going (inl empty) carry =
+            let zero : capacity_of words far.front ≡ 0 = ap (capacity_of words) empty in
+            omega arith
+        by_going (inr less) carry = let full = far.full in omega arith
 
-  -- the bytes so far are no more than are wanted
-  pub written_within : written.bytes ≤ most
-  written_within = by_going far.going
-    where
-      by_going : (far.front ≡ []) ⊎ (length far.bytes < most) → written.bytes ≤ most
-      by_going (inl empty) =
-          let zero : capacity_of words far.front ≡ 0 = ap (capacity_of words) empty in
-          let full = far.full in
-          let count = far.tells.bytes in
-          omega arith
-      by_going (inr less) = let count = far.tells.bytes in omega arith
+    -- the bytes so far are no more than are wanted
+    pub written_within : written.bytes ≤ most
+    written_within = by_going far.going
+      where
+        by_going : (far.front ≡ []) ⊎ (length far.bytes < most) → written.bytes ≤ most
+        by_going (inl empty) =
+            let zero : capacity_of words far.front ≡ 0 = ap (capacity_of words) empty in
+            let full = far.full in
+            let count = far.tells.bytes in
+            omega arith
+        by_going (inr less) = let count = far.tells.bytes in omega arith

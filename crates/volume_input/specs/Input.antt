@@ -15,7 +15,8 @@ use Rattle.volume_input.specs.declared.fault.InputFault.TheVariants as fault
 -- ---- how it ended
 
 -- The source gave these bytes, as many as were wanted, or fewer where it has ended; they were written.
-pub record HasWritten {T S : Type 0} (t : tapes.Meaning T) (s : sources.Meaning S) (words segments : List ℕ) (most : ℕ) (exact : Bool) (old new : Outside T S (Unit {0})) (written : Written) : Type 0 where
+pub record HasWritten {T S : Type 0} (t : tapes.Meaning T) (s : sources.Meaning S) (words segments : List ℕ) (most : ℕ) (exact : Bool)
+    (old new : Outside T S (Unit {0})) (written : Written) : Type 0 where
   pub bytes : List ℕ
   pub content : All (λ b. b < 256) bytes
   pub gave : Gave s old.source new.source bytes
@@ -29,7 +30,8 @@ pub record HasWritten {T S : Type 0} (t : tapes.Meaning T) (s : sources.Meaning 
   pub end : written.end ≡ slice_index (taken_by words (length bytes) segments) (length (taken_by words (length bytes) segments) - 1)
 
 -- It ended before just as many bytes as were wanted; the segments that they fill were written.
-pub record EndedShort {T S : Type 0} (t : tapes.Meaning T) (s : sources.Meaning S) (words segments : List ℕ) (most : ℕ) (exact : Bool) (old new : Outside T S (Unit {0})) (read : ℕ) : Type 0 where
+pub record EndedShort {T S : Type 0} (t : tapes.Meaning T) (s : sources.Meaning S) (words segments : List ℕ) (most : ℕ) (exact : Bool)
+    (old new : Outside T S (Unit {0})) (read : ℕ) : Type 0 where
   pub bytes : List ℕ
   pub content : All (λ b. b < 256) bytes
   pub gave : Gave s old.source new.source bytes
@@ -40,14 +42,16 @@ pub record EndedShort {T S : Type 0} (t : tapes.Meaning T) (s : sources.Meaning 
   pub count : read ≡ length bytes
 
 -- A fault of the tape or of the source cut that off, over the input that the source told, or some input where it tells none.
-pub record InputCut {T S : Type 0} (t : tapes.Meaning T) (s : sources.Meaning S) (words segments : List ℕ) (most : ℕ) (exact : Bool) (old new : Outside T S (Unit {0})) (failing : Failing) : Type 0 where
+pub record InputCut {T S : Type 0} (t : tapes.Meaning T) (s : sources.Meaning S) (words segments : List ℕ) (most : ℕ) (exact : Bool)
+    (old new : Outside T S (Unit {0})) (failing : Failing) : Type 0 where
   pub input : List ℕ
   pub is_told : IsInput (s.left old.source) input
   pub content : IfNone (s.left old.source) (All (λ b. b < 256) input)
   pub cut : Cut t s no_sink old new (input_acts words segments most exact input) failing
   pub tells : is_some (s.left new.source) ≡ is_some (s.left old.source)
 
-abbrev pub InputEnds : {T S : Type 0} (t : tapes.Meaning T) (s : sources.Meaning S) (words segments : List ℕ) (most : ℕ) (exact : Bool) (old new : Outside T S (Unit {0})) → Result Written InputFault → Type 0
+abbrev pub InputEnds : {T S : Type 0} (t : tapes.Meaning T) (s : sources.Meaning S) (words segments : List ℕ) (most : ℕ) (exact : Bool)
+    (old new : Outside T S (Unit {0})) → Result Written InputFault → Type 0
 InputEnds t s words segments most exact old new (Ok written) = HasWritten t s words segments most exact old new written
 InputEnds t s words segments most exact old new (Err (fault.Short read)) = EndedShort t s words segments most exact old new read
 InputEnds t s words segments most exact old new (Err fault.Source) = InputCut t s words segments most exact old new SourceFails

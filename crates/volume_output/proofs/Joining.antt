@@ -79,14 +79,16 @@ module _ {T K : Type 0} (t : tapes.Meaning T) (k : sinks.Meaning K) (words : Lis
     -- ---- it went, and then those behind it ended
 
     module _ (both : TakesBoth k) (new : Outside T (Unit {0}) K) (one : Given) where
-      gave_more : (ending : GivingEnd) → GaveVolume t k words needed lined b new ending → GaveVolume t k words (piece ∷ needed) lined a new ending
+      gave_more : (ending : GivingEnd) → GaveVolume t k words needed lined b new ending →
+          GaveVolume t k words (piece ∷ needed) lined a new ending
       gave_more ending gave =
           let P : Cartridge → Type 0 = λ c. Restores c words needed gave.acts ending in
           let Q : Cartridge → Type 0 = λ c. Restores c words (piece ∷ needed) (one.act ∷ gave.acts) ending in
           record {
             acts = one.act ∷ gave.acts;
             went = subst (Went t no_source k a new) (printed_more lined piece needed one.act gave.acts)
-                (went_both t no_source k both a b new (printed lined (piece ∷ []) (one.act ∷ [])) (printed lined needed gave.acts) one.went gave.went);
+                (went_both t no_source k both a b new (printed lined (piece ∷ []) (one.act ∷ []))
+                (printed lined needed gave.acts) one.went gave.went);
             told = tells_then t a.tape P Q
                 (Tells-map t a.tape (λ c. IsRead c words piece one.act) (λ c. P c → Q c) (λ c read rest. (read, rest)) one.told)
                 (Tells-read P (only_read one) gave.told);
@@ -99,10 +101,12 @@ module _ {T K : Type 0} (t : tapes.Meaning T) (k : sinks.Meaning K) (words : Lis
           Cut t no_source k a new (printed lined (piece ∷ needed) (one.act ∷ acts)) failing
       cut_behind failing acts cut =
           subst (λ (xs : List Act). Cut t no_source k a new xs failing) (printed_more lined piece needed one.act acts)
-          (went_then_cut t no_source k both a b new (printed lined (piece ∷ []) (one.act ∷ [])) (printed lined needed acts) failing one.went cut)
+          (went_then_cut t no_source k both a b new (printed lined (piece ∷ []) (one.act ∷ []))
+          (printed lined needed acts) failing one.went cut)
 
       cut_acts : (failing : Failing) (c : Cartridge) → IsRead c words piece one.act →
-          ((acts : List Act) (ending : GivingEnd) → Restores c words needed acts ending → Cut t no_source k b new (printed lined needed acts) failing) →
+          ((acts : List Act) (ending : GivingEnd) → Restores c words needed acts ending →
+          Cut t no_source k b new (printed lined needed acts) failing) →
           (acts : List Act) (ending : GivingEnd) → Restores c words (piece ∷ needed) acts ending →
           Cut t no_source k a new (printed lined (piece ∷ needed) acts) failing
       cut_acts failing c read rest [] ending restores = absurd (read_goes_on c words piece one.act ending read restores)
@@ -111,7 +115,8 @@ module _ {T K : Type 0} (t : tapes.Meaning T) (k : sinks.Meaning K) (words : Lis
           subst (λ (x : Act). Cut t no_source k a new (printed lined (piece ∷ needed) (x ∷ acts)) failing) same
           (cut_behind failing acts (rest acts ending restores.1))
 
-      cut_more : (failing : Failing) → VolumeCut t k words needed lined b new failing → VolumeCut t k words (piece ∷ needed) lined a new failing
+      cut_more : (failing : Failing) → VolumeCut t k words needed lined b new failing →
+          VolumeCut t k words (piece ∷ needed) lined a new failing
       cut_more failing cut =
           let P : Cartridge → Type 0 = λ c. (acts : List Act) (ending : GivingEnd) → Restores c words needed acts ending →
           Cut t no_source k b new (printed lined needed acts) failing in
@@ -119,7 +124,8 @@ module _ {T K : Type 0} (t : tapes.Meaning T) (k : sinks.Meaning K) (words : Lis
           Cut t no_source k a new (printed lined (piece ∷ needed) acts) failing in
           record {
             told = tells_then t a.tape P Q
-                (Tells-map t a.tape (λ c. IsRead c words piece one.act) (λ c. P c → Q c) (λ c read rest. cut_acts failing c read rest) one.told)
+                (Tells-map t a.tape (λ c. IsRead c words piece one.act) (λ c. P c → Q c)
+                (λ c read rest. cut_acts failing c read rest) one.told)
                 (Tells-read P (only_read one) cut.told);
             acts = one.act ∷ cut.acts;
             are = (one.steps, one.size, cut.are);
@@ -165,9 +171,11 @@ module _ {T K : Type 0} (t : tapes.Meaning T) (k : sinks.Meaning K) (words : Lis
 
     module _ (failing : Failing) where
       -- its acts that were cut off begin those of all
-      cut_none : Cut t no_source k a b (printed lined (piece ∷ []) []) failing → Cut t no_source k a b (printed lined (piece ∷ needed) []) failing
+      cut_none : Cut t no_source k a b (printed lined (piece ∷ []) []) failing →
+          Cut t no_source k a b (printed lined (piece ∷ needed) []) failing
       cut_none cut =
-          subst (λ (xs : List Act). Cut t no_source k a b xs failing) (printed_none lined (piece ∷ []) ∙ sym (printed_none lined (piece ∷ needed))) cut
+          subst (λ (xs : List Act). Cut t no_source k a b xs failing)
+          (printed_none lined (piece ∷ []) ∙ sym (printed_none lined (piece ∷ needed))) cut
 
       cut_one : (act : Act) (acts : List Act) → Cut t no_source k a b (printed lined (piece ∷ []) (act ∷ [])) failing →
           Cut t no_source k a b (printed lined (piece ∷ needed) (act ∷ acts)) failing
@@ -176,7 +184,8 @@ module _ {T K : Type 0} (t : tapes.Meaning T) (k : sinks.Meaning K) (words : Lis
           (cut_is_longer t no_source k a b (printed lined (piece ∷ []) (act ∷ [])) (printed lined needed acts) failing cut)
 
       first_acts : (c : Cartridge) →
-          ((acts : List Act) (ending : GivingEnd) → Restores c words (piece ∷ []) acts ending → Cut t no_source k a b (printed lined (piece ∷ []) acts) failing) →
+          ((acts : List Act) (ending : GivingEnd) → Restores c words (piece ∷ []) acts ending →
+          Cut t no_source k a b (printed lined (piece ∷ []) acts) failing) →
           (acts : List Act) (ending : GivingEnd) → Restores c words (piece ∷ needed) acts ending →
           Cut t no_source k a b (printed lined (piece ∷ needed) acts) failing
       first_acts c first [] ending restores = cut_none (first [] ending restores)
@@ -206,7 +215,8 @@ module _ {T K : Type 0} (t : tapes.Meaning T) (k : sinks.Meaning K) (words : Lis
         cut = cut_some cut.acts cut.are cut.cut;
       }
 
-    pub ends_there : (why : OutputFault) → OutputEnds t k words (piece ∷ []) lined a b (Err why) → OutputEnds t k words (piece ∷ needed) lined a b (Err why)
+    pub ends_there : (why : OutputFault) → OutputEnds t k words (piece ∷ []) lined a b (Err why) →
+        OutputEnds t k words (piece ∷ needed) lined a b (Err why)
     ends_there (fault.Lost segment lost) ends = lost_first segment lost ends.acts ends.went ends.told ends.are ends.ends
     ends_there (fault.Mismatch segment) ends = mismatch_first segment ends.acts ends.went ends.told ends.are ends.ends
     ends_there fault.Sink ends = cut_first SinkFails ends

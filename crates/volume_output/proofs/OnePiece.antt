@@ -1,5 +1,6 @@
 -- One segment read and given, or not.
-use Rattle.std.proofs.Common.{◌≡◌, ℕ, ◌<◌, Bool, true, false, List, [], ◌∷◌, ◌++◌, length, take, refl, sym, ap, ◌∙◌, subst, arith, append-nil, codes, decimal, Result, Ok, Err, IsErr}
+use Rattle.std.proofs.Common.{◌≡◌, ℕ, ◌<◌, Bool, true, false, List, [], ◌∷◌, ◌++◌, length, take, refl, sym, ap, ◌∙◌, subst, arith}
+use Rattle.std.proofs.Common.{append-nil, codes, decimal, Result, Ok, Err, IsErr}
 use Rattle.qic_base.specs.Cartridge.{Cartridge}
 use Rattle.qic_base.proofs.Steps.{Tells-map}
 use Rattle.qic_base.proofs.Writing.{TakesBoth, Wrote-Wrote, Wrote-BrokeOff, BrokeOff-longer}
@@ -63,21 +64,25 @@ module _ (lined : Bool) (segment count : ℕ) (sectors : List (List ℕ)) (is : 
   line_broke broke = BrokeOff-longer (take count (bytes_in sectors)) (part_text lined (piece_of segment count) sectors) lined_parts broke
 
   pub line_then : {K E : Type 0} (k : sinks.Meaning K) (a b c : K) (result : Result (Unit {0}) E) → TakesBoth k → sinks.Wrote k a b line →
-      sink_calls.Writes k b c (take count (bytes_in sectors)) result → sink_calls.Writes k a c (part_text lined (piece_of segment count) sectors) result
+      sink_calls.Writes k b c (take count (bytes_in sectors)) result →
+      sink_calls.Writes k a c (part_text lined (piece_of segment count) sectors) result
   line_then k a b c (Ok done) both first next = subst (sinks.Wrote k a c) lined_parts (Wrote-Wrote both first next)
   line_then k a b c (Err e) both first next = subst (sink_calls.BrokeOff k a c) lined_parts (Wrote-BrokeOff both first next)
 
 -- ---- the ends
 
-module _ {T K : Type 0} (t : tapes.Meaning T) (k : sinks.Meaning K) (words : List ℕ) (segment count mask : ℕ) (is : mask ≡ mask_at words segment) (lined : Bool) (old new : T) where
+module _ {T K : Type 0} (t : tapes.Meaning T) (k : sinks.Meaning K) (words : List ℕ) (segment count mask : ℕ)
+    (is : mask ≡ mask_at words segment) (lined : Bool) (old new : T) where
   abbrev piece : Piece
   piece = piece_of segment count
 
   -- what the cells by the mask say, the piece's cells say
-  said_lost : (n : ℕ) (c : Cartridge) → Says (cells_of c segment mask) (LostSectors n) → Says (cells_of c segment (mask_at words segment)) (LostSectors n)
+  said_lost : (n : ℕ) (c : Cartridge) → Says (cells_of c segment mask) (LostSectors n) → Says (cells_of c segment (mask_at words segment))
+      (LostSectors n)
   said_lost n c says = subst (λ (m : ℕ). Says (cells_of c segment m) (LostSectors n)) is says
 
-  nothing_went : (sink : K) → ((x : K) → k.took x [] x) → tapes.Done t old new [] → Went t no_source k (around old sink) (around new sink) (printed lined [] [])
+  nothing_went : (sink : K) → ((x : K) → k.took x [] x) → tapes.Done t old new [] → Went t no_source k (around old sink) (around new sink)
+      (printed lined [] [])
   nothing_went sink none did =
       subst (Went t no_source k (around old sink) (around new sink)) (sym (printed_none lined []))
       (record { did = did; wrote = record { took = none sink; later = omega arith }; source_later = omega arith })
@@ -87,7 +92,8 @@ module _ {T K : Type 0} (t : tapes.Meaning T) (k : sinks.Meaning K) (words : Lis
       GaveVolume t k words (piece ∷ []) lined (around old sink) (around new sink) (LostIn named n)
   lost sink none did named n same many told =
       none_given t k words lined piece [] (around old sink) (around new sink) (LostIn named n) [] (nothing_went sink none did)
-      (Tells-map t old (λ c. (named ≡ segment) × Says (cells_of c segment mask) (LostSectors n)) (λ c. PieceEnds c words piece (LostIn named n))
+      (Tells-map t old (λ c. (named ≡ segment) × Says (cells_of c segment mask) (LostSectors n))
+      (λ c. PieceEnds c words piece (LostIn named n))
       (λ c said. (said.0, said_lost n c said.1)) told)
       (many, sym same)
 
@@ -96,7 +102,8 @@ module _ {T K : Type 0} (t : tapes.Meaning T) (k : sinks.Meaning K) (words : Lis
       GaveVolume t k words (piece ∷ []) lined (around old sink) (around new sink) (MismatchIn named)
   mismatch sink none did named same told =
       none_given t k words lined piece [] (around old sink) (around new sink) (MismatchIn named) [] (nothing_went sink none did)
-      (Tells-map t old (λ c. (named ≡ segment) × Says (cells_of c segment mask) saying.Mismatch) (λ c. PieceEnds c words piece (MismatchIn named))
+      (Tells-map t old (λ c. (named ≡ segment) × Says (cells_of c segment mask) saying.Mismatch)
+      (λ c. PieceEnds c words piece (MismatchIn named))
       (λ c said. (said.0, subst (λ (m : ℕ). Says (cells_of c segment m) saying.Mismatch) is said.1)) told)
       (sym same)
 
@@ -142,7 +149,8 @@ module _ {T K : Type 0} (t : tapes.Meaning T) (k : sinks.Meaning K) (words : Lis
           shown = ap (λ (text : List ℕ). record { steps = []; text = text }) (data_bytes mask count sectors holds);
         }
 
-    pub gave : sinks.Wrote k a b (part_text lined piece sectors) → tape_calls.Tells t old (λ c. HasSolved (cells_of c segment mask) sectors) →
+    pub gave : sinks.Wrote k a b (part_text lined piece sectors) →
+        tape_calls.Tells t old (λ c. HasSolved (cells_of c segment mask) sectors) →
         GaveVolume t k words (piece ∷ []) lined (around old a) (around new b) Restored
     gave wrote solved = record {
       acts = act ∷ [];
@@ -158,7 +166,8 @@ module _ {T K : Type 0} (t : tapes.Meaning T) (k : sinks.Meaning K) (words : Lis
     }
 
     -- the sink failed in its text
-    pub ungiven : sink_calls.BrokeOff k a b (part_text lined piece sectors) → tape_calls.Tells t old (λ c. HasSolved (cells_of c segment mask) sectors) →
+    pub ungiven : sink_calls.BrokeOff k a b (part_text lined piece sectors) →
+        tape_calls.Tells t old (λ c. HasSolved (cells_of c segment mask) sectors) →
         VolumeCut t k words (piece ∷ []) lined (around old a) (around new b) SinkFails
     ungiven broke solved = record {
       told = Tells-map t old (λ c. HasSolved (cells_of c segment mask) sectors)

@@ -1,5 +1,6 @@
 -- One piece of a volume, by its number.
-use Rattle.std.proofs.Common.{◌≡◌, ℕ, zero, suc, ◌+◌, ◌-◌, ◌*◌, ◌/◌, ◌<◌, ◌≤◌, inl, inr, nat_le, Bool, cond, List, [], ◌∷◌, length, take, drop, All, Some, None, slice_get, refl, sym, ap, ◌∙◌, subst, arith}
+use Rattle.std.proofs.Common.{◌≡◌, ℕ, zero, suc, ◌+◌, ◌-◌, ◌*◌, ◌/◌, ◌<◌, ◌≤◌, inl, inr, nat_le, Bool, cond, List, [], ◌∷◌, length, take}
+use Rattle.std.proofs.Common.{drop, All, Some, None, slice_get, refl, sym, ap, ◌∙◌, subst, arith}
 use Rattle.std.specs.Prelude.{min}
 use Rattle.std.proofs.lemmas.Bool.{cases_Bool}
 use Rattle.std.proofs.lemmas.List.{length-take-le, take-append-le, take-append-drop}
@@ -32,7 +33,8 @@ past_first : (piece : Piece) (rest : List Piece) (before : ℕ) → 0 < before �
 past_first piece rest zero some = absurd (omega arith)
 past_first piece rest (suc n) some = let same : n ≡ suc n - 1 = omega arith in ap (slice_get rest) same
 
-module _ (words : List ℕ) (start end bytes number segment left before : ℕ) (among : IsAmongLeft words start end bytes number segment left before) where
+module _ (words : List ℕ) (start end bytes number segment left before : ℕ)
+    (among : IsAmongLeft words start end bytes number segment left before) where
   pub none_left : end < segment → slice_get (pieces_between words start end bytes) number ≡ None
   none_left past = among ∙ ap (λ (ps : List Piece). slice_get ps before) (left_behind words segment end left past)
 
@@ -64,7 +66,8 @@ capacity_some mask count some within =
     ]
 
 -- as many as its capacity says
-sectors_of_capacity : (mask count answered : ℕ) → 0 < count → count ≤ capacity mask → answered ≡ capacity mask → answered / 1024 ≡ data_count mask
+sectors_of_capacity : (mask count answered : ℕ) → 0 < count → count ≤ capacity mask → answered ≡ capacity mask →
+    answered / 1024 ≡ data_count mask
 sectors_of_capacity mask count answered some within is =
     let all : capacity mask ≡ 1024 * data_count mask = capacity_some mask count some within in
     omega arith
@@ -80,7 +83,8 @@ data_first mask sectors room =
     ∙ sym (take-append-le (n - 3) (take n sectors) (drop n sectors) (omega arith))
     ∙ ap (take (n - 3)) (take-append-drop n sectors)
 
-module _ {T : Type 0} (t : tapes.Meaning T) (words : List ℕ) (segment count mask : ℕ) (is : mask ≡ mask_at words segment) (old new : T) (did : tapes.Done t old new []) where
+module _ {T : Type 0} (t : tapes.Meaning T) (words : List ℕ) (segment count mask : ℕ) (is : mask ≡ mask_at words segment) (old new : T)
+    (did : tapes.Done t old new []) where
   module _ (some : 0 < count) (within : count ≤ capacity mask) (sectors : List (List ℕ)) (room : length sectors ≡ 32)
       (block : IsCodeBlock (take (usable_count mask) sectors)) where
     said_data : (c : Cartridge) → HasSolved (cells_of c segment mask) sectors →
@@ -100,7 +104,8 @@ module _ {T : Type 0} (t : tapes.Meaning T) (words : List ℕ) (segment count ma
         let all : capacity mask ≡ 1024 * data_count mask = capacity_some mask count some within in
         let size : length (take (data_count mask) sectors) ≡ data_count mask = length-take-le (data_count mask) sectors (omega arith) in
         let size_block : length (take n sectors) ≡ n = length-take-le n sectors (omega arith) in
-        let are : All IsSector (data_of (take n sectors)) = All-take IsSector (length (take n sectors) - 3) (take n sectors) block.sectors in
+        let are : All IsSector (data_of (take n sectors)) = All-take IsSector (length (take n sectors) - 3)
+        (take n sectors) block.sectors in
         let read : ReadsPiece t words (piece_of segment count) old new (take (data_count mask) sectors) count = record {
           counted = refl;
           some = some;

@@ -1,5 +1,6 @@
 -- The segments of a volume, one after the other.
-use Rattle.std.proofs.Common.{◌≡◌, ℕ, zero, suc, ◌+◌, ◌-◌, ◌*◌, ◌<◌, ◌≤◌, inl, inr, Bool, true, false, List, [], ◌∷◌, Result, Ok, Err, refl, sym, ap, ◌∙◌, subst, arith}
+use Rattle.std.proofs.Common.{◌≡◌, ℕ, zero, suc, ◌+◌, ◌-◌, ◌*◌, ◌<◌, ◌≤◌, inl, inr, Bool, true, false, List, [], ◌∷◌, Result, Ok, Err, refl}
+use Rattle.std.proofs.Common.{sym, ap, ◌∙◌, subst, arith}
 use Rattle.std.specs.Prelude.{min}
 use Rattle.std.proofs.lemmas.Bool.{cases_Bool, leb-true}
 use Rattle.qic_base.specs.Sink as sinks
@@ -95,12 +96,14 @@ module _ (words : List ℕ) where
 -- ---- the loop
 
 -- however what is left ends, all ends so
-abbrev pub GoesOn : {T K : Type 0} (t : tapes.Meaning T) (k : sinks.Meaning K) (words : List ℕ) (all left : List Piece) (lined : Bool) (start now : Outside T (Unit {0}) K) → Type 0
+abbrev pub GoesOn : {T K : Type 0} (t : tapes.Meaning T) (k : sinks.Meaning K) (words : List ℕ) (all left : List Piece) (lined : Bool)
+    (start now : Outside T (Unit {0}) K) → Type 0
 GoesOn {T} {K} t k words all left lined start now =
     (new : Outside T (Unit {0}) K) (result : Result (Unit {0}) OutputFault) → OutputEnds t k words left lined now new result →
     OutputEnds t k words all lined start new result
 
-module _ {T K : Type 0} (t : tapes.Meaning T) (k : sinks.Meaning K) (words : List ℕ) (all left : List Piece) (lined : Bool) (start now : Outside T (Unit {0}) K) (goes : GoesOn t k words all left lined start now) where
+module _ {T K : Type 0} (t : tapes.Meaning T) (k : sinks.Meaning K) (words : List ℕ) (all left : List Piece) (lined : Bool)
+    (start now : Outside T (Unit {0}) K) (goes : GoesOn t k words all left lined start now) where
   -- what is left by another name
   pub same_left : (rest : List Piece) → left ≡ rest → GoesOn t k words all rest lined start now
   same_left rest same = subst (λ (ps : List Piece). GoesOn t k words all ps lined start now) same goes

@@ -12,7 +12,8 @@ use Rattle.qic_base.specs.TapeCalls as tape_calls
 use Rattle.volume_output.specs.declared.fault.OutputFault.TheVariants as fault
 
 -- The pieces were read up to this ending, and the sink took their bytes.
-pub record GaveVolume {T K : Type 0} (t : tapes.Meaning T) (k : sinks.Meaning K) (words : List ℕ) (needed : List Piece) (lined : Bool) (old new : Outside T (Unit {0}) K) (ending : GivingEnd) : Type 0 where
+pub record GaveVolume {T K : Type 0} (t : tapes.Meaning T) (k : sinks.Meaning K) (words : List ℕ) (needed : List Piece) (lined : Bool)
+    (old new : Outside T (Unit {0}) K) (ending : GivingEnd) : Type 0 where
   pub acts : List Act
   pub went : Went t no_source k old new (printed lined needed acts)
   pub told : tape_calls.Tells t old.tape (λ c. Restores c words needed acts ending)
@@ -21,7 +22,8 @@ pub record GaveVolume {T K : Type 0} (t : tapes.Meaning T) (k : sinks.Meaning K)
   pub ends : EndsAt needed (length acts) ending
 
 -- A fault of the tape or of the sink cut that off.
-pub record VolumeCut {T K : Type 0} (t : tapes.Meaning T) (k : sinks.Meaning K) (words : List ℕ) (needed : List Piece) (lined : Bool) (old new : Outside T (Unit {0}) K) (failing : Failing) : Type 0 where
+pub record VolumeCut {T K : Type 0} (t : tapes.Meaning T) (k : sinks.Meaning K) (words : List ℕ) (needed : List Piece) (lined : Bool)
+    (old new : Outside T (Unit {0}) K) (failing : Failing) : Type 0 where
   pub told : tape_calls.Tells t old.tape (λ c. (acts : List Act) (ending : GivingEnd) → Restores c words needed acts ending →
       Cut t no_source k old new (printed lined needed acts) failing)
   -- and over any tape
@@ -30,7 +32,8 @@ pub record VolumeCut {T K : Type 0} (t : tapes.Meaning T) (k : sinks.Meaning K) 
   pub cut : Cut t no_source k old new (printed lined needed acts) failing
 
 -- how it ended
-abbrev pub OutputEnds : {T K : Type 0} (t : tapes.Meaning T) (k : sinks.Meaning K) (words : List ℕ) (needed : List Piece) (lined : Bool) (old new : Outside T (Unit {0}) K) → Result (Unit {0}) OutputFault → Type 0
+abbrev pub OutputEnds : {T K : Type 0} (t : tapes.Meaning T) (k : sinks.Meaning K) (words : List ℕ) (needed : List Piece) (lined : Bool)
+    (old new : Outside T (Unit {0}) K) → Result (Unit {0}) OutputFault → Type 0
 OutputEnds t k words needed lined old new (Ok done) = GaveVolume t k words needed lined old new Restored
 OutputEnds t k words needed lined old new (Err (fault.Lost segment lost)) = GaveVolume t k words needed lined old new (LostIn segment lost)
 OutputEnds t k words needed lined old new (Err (fault.Mismatch segment)) = GaveVolume t k words needed lined old new (MismatchIn segment)

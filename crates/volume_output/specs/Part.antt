@@ -21,7 +21,8 @@ abbrev pub OfPiece : List Piece → (number : ℕ) → (Piece → Type 0) → Ty
 OfPiece needed number P = (piece : Piece) × (slice_get needed number ≡ Some piece) × P piece
 
 -- the piece was read: its segment says these data sectors, which hold so many bytes of the volume
-pub record ReadsPiece {T : Type 0} (t : tapes.Meaning T) (words : List ℕ) (piece : Piece) (old new : T) (sectors : List (List ℕ)) (count : ℕ) : Type 0 where
+pub record ReadsPiece {T : Type 0} (t : tapes.Meaning T) (words : List ℕ) (piece : Piece) (old new : T) (sectors : List (List ℕ))
+    (count : ℕ) : Type 0 where
   pub counted : count ≡ piece.count
   pub some : 0 < count
   pub within : count ≤ 1024 * length sectors
@@ -45,7 +46,8 @@ pub record MismatchesPiece {T : Type 0} (t : tapes.Meaning T) (words : List ℕ)
   pub told : tape_calls.Tells t old (λ c. PieceEnds c words piece (MismatchIn segment))
 
 -- how the reading of the piece with a number ended: without one nothing was read
-abbrev pub PartEnds : {T : Type 0} (t : tapes.Meaning T) (words : List ℕ) (needed : List Piece) (number : ℕ) (old new : T) (sectors : List (List ℕ)) → Result (Option PartRead) OutputFault → Type 0
+abbrev pub PartEnds : {T : Type 0} (t : tapes.Meaning T) (words : List ℕ) (needed : List Piece) (number : ℕ) (old new : T)
+    (sectors : List (List ℕ)) → Result (Option PartRead) OutputFault → Type 0
 PartEnds t words needed number old new sectors (Ok None) = (slice_get needed number ≡ None) × (new ≡ old)
 PartEnds t words needed number old new sectors (Ok (Some part)) =
     OfPiece needed number (λ piece. ReadsPiece t words piece old new (take part.sectors sectors) part.bytes)

@@ -1,5 +1,6 @@
 -- An append of a script, by what the store's append answered.
-use Rattle.std.proofs.Common.{◌≡◌, ◌≢◌, ℕ, ◌+◌, ◌≤◌, true, false, List, [], ◌∷◌, ◌++◌, length, take, drop, Option, Some, None, Result, Ok, Err, IfSome, IfNone, refl, sym, ap, ◌∙◌, subst, arith, inl, inr, append-nil}
+use Rattle.std.proofs.Common.{◌≡◌, ◌≢◌, ℕ, ◌+◌, ◌≤◌, true, false, List, [], ◌∷◌, ◌++◌, length, take, drop, Option, Some, None, Result, Ok}
+use Rattle.std.proofs.Common.{Err, IfSome, IfNone, refl, sym, ap, ◌∙◌, subst, arith, inl, inr, append-nil}
 use Rattle.std.specs.Option.{option_map}
 use Rattle.std.specs.Prelude.{◌↔◌}
 use Rattle.std.proofs.lemmas.List.{length-append, length-take-le}
@@ -38,7 +39,8 @@ use Rattle.volume_script.specs.Items.{ItemDone, ItemShort, ItemCut, ItemEnds, Wo
 use Rattle.volume_script.specs.Limited.{limited_means}
 use Rattle.command_spec.specs.Script.{refusal_line, Did, LineDoes, Meeting, Finds, Meets, acts_on, line_refused, reply, taken_as}
 use Rattle.volume_script.specs.Promised.{RanPromised, Refuses, replied_so}
-use Rattle.command_laws.proofs.ScriptActs.{same_acts, same_taking, took_enough, took_too_long, took_short, full_acts, full_taking, short_acts, fits_acts, front_acts, front_and_last, replied_steps, replied_text, input_texts}
+use Rattle.command_laws.proofs.ScriptActs.{same_acts, same_taking, took_enough, took_too_long, took_short, full_acts, full_taking}
+use Rattle.command_laws.proofs.ScriptActs.{short_acts, fits_acts, front_acts, front_and_last, replied_steps, replied_text, input_texts}
 use Rattle.command_laws.proofs.ScriptGiven.{gave_all, gave_few, Behind}
 use Rattle.command_laws.proofs.ScriptLifting.{TakesNone, read_went, read_cut, replied_went, replied_cut, rested}
 use Rattle.volume_script.proofs.Content.{BehindBytes, GivenAs, any_bytes, behind_bytes, content_both, given_as, limit_untold, taken_content}
@@ -70,7 +72,8 @@ same_first : (bytes rest other more : List ℕ) (n : ℕ) → bytes ++ rest ≡ 
 same_first bytes rest other more n is long too = sym (front_of other more n too) ∙ ap (take n) (sym is) ∙ front_of bytes rest n long
 
 -- what would be done with the first of some bytes is what was done with them
-would_be : (c : Cartridge) (words : List ℕ) (entries : List Entry) (asked : Line) (bytes rest : List ℕ) → length bytes ≡ promised_by asked → (did : Did) → LineDoes c words entries asked bytes did →
+would_be : (c : Cartridge) (words : List ℕ) (entries : List Entry) (asked : Line) (bytes rest : List ℕ) → length bytes ≡ promised_by asked →
+    (did : Did) → LineDoes c words entries asked bytes did →
     (acts : List Act) → WouldDo c words entries asked (bytes ++ rest) acts → did.acts ≡ acts
 would_be c words entries asked bytes rest long did does acts (inl (other, (more, (parts, too, (did', same, does'))))) =
     let first : other ≡ bytes = same_first bytes rest other more (promised_by asked) parts long too in
@@ -82,7 +85,8 @@ would_be c words entries asked bytes rest long did does acts (inr (short, early)
 abbrev Known : (store : StoreView) (table : List (List ℕ)) (settling : List Step) → Cartridge → Type 0
 Known store table settling c = (TableIs c table × (settling ≡ settling_steps table c)) × (c.info.protected ≡ false)
 
-module _ {T S K : Type 0} (t : tapes.Meaning T) (s : sources.Meaning S) (k : sinks.Meaning K) (store after : StoreView) (name : List ℕ) (promised date : ℕ) (both : TakesBoth k) (none : TakesNone k) (a b : T) (i j : S) (x : K) where
+module _ {T S K : Type 0} (t : tapes.Meaning T) (s : sources.Meaning S) (k : sinks.Meaning K) (store after : StoreView) (name : List ℕ)
+    (promised date : ℕ) (both : TakesBoth k) (none : TakesNone k) (a b : T) (i j : S) (x : K) where
   abbrev asked : Line
   asked = line.Append name promised date
 
@@ -108,7 +112,8 @@ module _ {T S K : Type 0} (t : tapes.Meaning T) (s : sources.Meaning S) (k : sin
     given_long = ran.lends.gave.1
 
     pub was_given : Gave s i j ran.lends.gave.0
-    was_given = subst (λ (p : S). Gave s p j ran.lends.gave.0) ran.starts (subst (λ (q : S). Gave s ran.before.source.now q ran.lends.gave.0) ran.stops ran.lends.gave.2)
+    was_given = subst (λ (p : S). Gave s p j ran.lends.gave.0) ran.starts
+        (subst (λ (q : S). Gave s ran.before.source.now q ran.lends.gave.0) ran.stops ran.lends.gave.2)
 
     -- what the limited source tells
     limit_told : (input : List ℕ) → IsInput (option_map (take ran.before.left) (s.left ran.before.source.now)) input →
@@ -118,34 +123,46 @@ module _ {T S K : Type 0} (t : tapes.Meaning T) (s : sources.Meaning S) (k : sin
         (subst (λ (n : ℕ). IsInput (option_map (take n) (s.left ran.before.source.now)) input) ran.promises told)
 
     -- and of which bytes it is where it tells none
-    limit_content : (bytes : List ℕ) → IfNone (option_map (take ran.before.left) (s.left ran.before.source.now)) (AreBytes bytes) → IfNone (s.left i) (AreBytes bytes)
+    limit_content : (bytes : List ℕ) → IfNone (option_map (take ran.before.left) (s.left ran.before.source.now)) (AreBytes bytes) →
+        IfNone (s.left i) (AreBytes bytes)
     limit_content bytes known =
-        subst (λ (p : S). IfNone (s.left p) (AreBytes bytes)) ran.starts (limit_untold (take ran.before.left) (s.left ran.before.source.now) (AreBytes bytes) known)
+        subst (λ (p : S). IfNone (s.left p) (AreBytes bytes)) ran.starts
+        (limit_untold (take ran.before.left) (s.left ran.before.source.now) (AreBytes bytes) known)
 
-    limit_left : (n : ℕ) → option_map (take ran.behind.left) (s.left ran.behind.source.now) ≡ option_map (drop n) (option_map (take ran.before.left) (s.left ran.before.source.now)) →
+    limit_left : (n : ℕ) → option_map (take ran.behind.left) (s.left ran.behind.source.now) ≡ option_map (drop n)
+        (option_map (take ran.before.left) (s.left ran.before.source.now)) →
         option_map (take left) (s.left j) ≡ option_map (drop n) (option_map (take promised) (s.left i))
     limit_left n told =
-        sym (ap (λ (q : S). option_map (take left) (s.left q)) ran.stops) ∙ sym (ap (λ (m : ℕ). option_map (take m) (s.left ran.behind.source.now)) ran.leaves) ∙ told
+        sym (ap (λ (q : S). option_map (take left) (s.left q)) ran.stops)
+        ∙ sym (ap (λ (m : ℕ). option_map (take m) (s.left ran.behind.source.now)) ran.leaves) ∙ told
         ∙ ap (λ (m : ℕ). option_map (drop n) (option_map (take m) (s.left ran.before.source.now))) ran.promises
         ∙ ap (λ (q : S). option_map (drop n) (option_map (take promised) (s.left q))) ran.starts
 
-    lift : (acts : List Act) → Went t (limited_means s) no_sink (reading a ran.before) (reading b ran.behind) acts → Went t s k (outside a i x) (outside b j x) acts
+    lift : (acts : List Act) → Went t (limited_means s) no_sink (reading a ran.before) (reading b ran.behind) acts →
+        Went t s k (outside a i x) (outside b j x) acts
     lift acts went = read_went t s k (limited_means s) ran.before ran.behind i j begins stands none a b x acts went
 
-    lift_cut : (acts : List Act) (failing : Failing) → failing ≢ SinkFails → Cut t (limited_means s) no_sink (reading a ran.before) (reading b ran.behind) acts failing →
+    lift_cut : (acts : List Act) (failing : Failing) → failing ≢ SinkFails → Cut t (limited_means s) no_sink (reading a ran.before)
+        (reading b ran.behind) acts failing →
         Cut t s k (outside a i x) (outside b j x) acts failing
-    lift_cut acts failing other cut = read_cut t s k (limited_means s) ran.before ran.behind i j begins stands none a b x acts failing other cut
+    lift_cut acts failing other cut = read_cut t s k (limited_means s) ran.before ran.behind i j begins stands none a b x acts failing other
+        cut
 
     -- what is known of the cartridge, by the data that the append found
     known_so : tape_calls.Tells t a (λ c. c.info.protected ≡ false) → (table : List (List ℕ)) (settling : List Step) →
-        tape_calls.Tells t a (λ c. TableIs c table × (settling ≡ settling_steps table c)) → tape_calls.Tells t a (Known store table settling)
+        tape_calls.Tells t a (λ c. TableIs c table × (settling ≡ settling_steps table c)) →
+        tape_calls.Tells t a (Known store table settling)
     known_so free table settling told =
-        tells_two t a (λ c. TableIs c table × (settling ≡ settling_steps table c)) (λ c. c.info.protected ≡ false) (Known store table settling) (λ c is off. (is, off)) told free
+        tells_two t a (λ c. TableIs c table × (settling ≡ settling_steps table c)) (λ c. c.info.protected ≡ false)
+        (Known store table settling) (λ c is off. (is, off)) told free
 
     -- ---- all bytes came
 
-    module _ (y : K) (answered : Appended) (has : HasAppended t (limited_means s) (reading a ran.before) (reading b ran.behind) store after name date (Some promised) answered) (free : tape_calls.Tells t a (λ c. c.info.protected ≡ false)) where
-      abbrev r : AppendRan t (limited_means s) (reading a ran.before) (reading b ran.behind) store name date (Some promised) (Fits has.bytes)
+    module _ (y : K) (answered : Appended)
+        (has : HasAppended t (limited_means s) (reading a ran.before) (reading b ran.behind) store after name date (Some promised) answered)
+        (free : tape_calls.Tells t a (λ c. c.info.protected ≡ false)) where
+      abbrev r : AppendRan t (limited_means s) (reading a ran.before) (reading b ran.behind) store name date (Some promised)
+          (Fits has.bytes)
       r = has.ran
 
       abbrev kept : Kept
@@ -160,37 +177,49 @@ module _ {T S K : Type 0} (t : tapes.Meaning T) (s : sources.Meaning S) (k : sin
       gave_bytes : Gave s i j has.bytes
       gave_bytes =
           subst (Gave s i j) (sym took_all.1)
-          (gave_all (s.left i) (s.left j) ran.lends.gave.0 has.ran.input promised ran.lends.count left was_given given_long counted (limit_told has.ran.input has.ran.is_told) took_all.0
-          (limit_left promised (has.ran.left ∙ ap (λ (n : ℕ). option_map (drop n) (option_map (take ran.before.left) (s.left ran.before.source.now))) bytes_long)))
+          (gave_all (s.left i) (s.left j) ran.lends.gave.0 has.ran.input promised ran.lends.count left was_given given_long counted
+          (limit_told has.ran.input has.ran.is_told) took_all.0
+          (limit_left promised (has.ran.left
+          ∙ ap (λ (n : ℕ). option_map (drop n) (option_map (take ran.before.left) (s.left ran.before.source.now))) bytes_long)))
 
       bytes_content : IfNone (s.left i) (AreBytes has.bytes)
-      bytes_content = subst (λ (bytes : List ℕ). IfNone (s.left i) (AreBytes bytes)) (sym took_all.1) (taken_content (s.left i) promised has.ran.input (limit_content has.ran.input has.ran.content))
+      bytes_content = subst (λ (bytes : List ℕ). IfNone (s.left i) (AreBytes bytes)) (sym took_all.1)
+          (taken_content (s.left i) promised has.ran.input (limit_content has.ran.input has.ran.content))
 
       -- the acts, with the reply
       abbrev whole : List Act
       whole = append_acts kept name date (Some promised) reply_of has.ran.input
 
-      same_bytes : append_acts kept name date (Some promised) reply_of has.ran.input ≡ append_acts kept name date (Some promised) reply_of has.bytes
+      same_bytes : append_acts kept name date (Some promised) reply_of has.ran.input ≡ append_acts kept name date
+          (Some promised) reply_of has.bytes
       same_bytes =
-          same_acts kept name date promised has.ran.input took_all.0 reply_of ∙ ap (λ (bs : List ℕ). append_acts kept name date (Some promised) reply_of bs) (sym took_all.1)
+          same_acts kept name date promised has.ran.input took_all.0 reply_of
+          ∙ ap (λ (bs : List ℕ). append_acts kept name date (Some promised) reply_of bs) (sym took_all.1)
 
       fits_bytes : taking (room_in kept) (Some promised) has.bytes ≡ Fits has.bytes
       fits_bytes =
-          ap (λ (bs : List ℕ). taking (room_in kept) (Some promised) bs) took_all.1 ∙ sym (same_taking kept name date promised has.ran.input took_all.0) ∙ has.ran.took
+          ap (λ (bs : List ℕ). taking (room_in kept) (Some promised) bs) took_all.1
+          ∙ sym (same_taking kept name date promised has.ran.input took_all.0) ∙ has.ran.took
 
       does : (entries : List Entry) → entries ≡ store.entries ++ has.entry ∷ [] →
           tape_calls.Tells t a (λ c. LineDoes c store.words store.entries asked has.bytes (record { acts = whole; entries = entries }))
       does entries added =
-          Tells-map t a (Known store has.ran.table has.ran.settling) (λ c. LineDoes c store.words store.entries asked has.bytes (record { acts = whole; entries = entries }))
+          Tells-map t a (Known store has.ran.table has.ran.settling)
+          (λ c. LineDoes c store.words store.entries asked has.bytes (record { acts = whole; entries = entries }))
           (λ c known.
-          let settles : kept ≡ kept_over c store.words store.entries has.ran.table = ap (λ (ss : List Step). kept_by store has.ran.table ss) known.0.1 in
-          let entry : entries ≡ store.entries ++ entry_for kept name date has.bytes ∷ [] = added ∙ ap (λ (e : Entry). store.entries ++ e ∷ []) has.is_entry in (
+          let settles : kept ≡ kept_over c store.words store.entries has.ran.table =
+          ap (λ (ss : List Step). kept_by store has.ran.table ss) known.0.1 in
+          let entry : entries ≡ store.entries ++ entry_for kept name date has.bytes ∷ [] = added
+          ∙ ap (λ (e : Entry). store.entries ++ e ∷ []) has.is_entry in (
             Finds has.ran.table,
             (known.1, known.0.0),
             ap (λ (es : List Entry). record { acts = whole; entries = es }) entry
-                ∙ ap (λ (acts : List Act). record { acts = acts; entries = store.entries ++ entry_for kept name date has.bytes ∷ [] }) same_bytes
-                ∙ sym (ap (λ (became : Taking). taken_as kept name date (append_acts kept name date (Some promised) reply_of has.bytes) became) fits_bytes)
-                ∙ ap (λ (by : Kept). taken_as by name date (append_acts by name date (Some promised) reply_of has.bytes) (taking (room_in by) (Some promised) has.bytes)) settles,
+                ∙ ap (λ (acts : List Act). record { acts = acts; entries = store.entries ++ entry_for kept name date has.bytes ∷ [] })
+                same_bytes
+                ∙ sym (ap (λ (became : Taking). taken_as kept name date (append_acts kept name date (Some promised) reply_of has.bytes)
+                became) fits_bytes)
+                ∙ ap (λ (by : Kept). taken_as by name date (append_acts by name date (Some promised) reply_of has.bytes)
+                (taking (room_in by) (Some promised) has.bytes)) settles,
           )) (known_so free has.ran.table has.ran.settling has.ran.known)
 
       silent : Went t s k (outside a i x) (outside b j x) (append_acts kept name date (Some promised) silently has.ran.input)
@@ -208,7 +237,8 @@ module _ {T S K : Type 0} (t : tapes.Meaning T) (s : sources.Meaning S) (k : sin
         acts = whole;
         went = record {
           did = subst (tapes.Done t a b) (replied_steps kept name date promised has.ran.input has.bytes has.ran.took reply_of) silent.did;
-          wrote = subst (sinks.Wrote k x y) (sym (replied_text kept name date promised has.ran.input has.bytes has.ran.took reply_of)) wrote;
+          wrote = subst (sinks.Wrote k x y) (sym (replied_text kept name date promised has.ran.input has.bytes has.ran.took reply_of))
+              wrote;
           source_later = silent.source_later;
         };
         told = does after.entries has.added;
@@ -216,7 +246,8 @@ module _ {T S K : Type 0} (t : tapes.Meaning T) (s : sources.Meaning S) (k : sin
 
       abbrev last : Act
       last = record {
-        steps = table_writes (slot_sector (length store.entries)) (table_with kept.table (length kept.entries) (entry_for kept name date has.bytes));
+        steps = table_writes (slot_sector (length store.entries))
+            (table_with kept.table (length kept.entries) (entry_for kept name date has.bytes));
         text = text;
       }
 
@@ -228,7 +259,8 @@ module _ {T S K : Type 0} (t : tapes.Meaning T) (s : sources.Meaning S) (k : sin
           rest = [];
           parts = sym (fits_acts kept name date promised has.ran.input has.bytes has.ran.took reply_of);
         };
-        did = subst (tapes.Done t a b) (sym (front_and_last kept name date promised has.ran.input has.bytes has.ran.took reply_of last refl)) silent.did;
+        did = subst (tapes.Done t a b) (sym
+            (front_and_last kept name date promised has.ran.input has.bytes has.ran.took reply_of last refl)) silent.did;
         broke = broke_behind (text_of (front_acts kept promised has.ran.input)) (input_texts kept (Some promised) has.ran.input) broke;
         source_later = silent.source_later;
       }
@@ -239,10 +271,13 @@ module _ {T S K : Type 0} (t : tapes.Meaning T) (s : sources.Meaning S) (k : sin
             rest = has.bytes ++ rest.rest;
             is_told = flip (s.left i) (has.bytes ++ rest.rest) (whole_told (s.left i) (s.left j) has.bytes rest.rest gave_bytes rest.told);
             content = content_both (s.left i) (s.left j) has.bytes rest.rest gave_bytes bytes_content rest.content;
-            told = Tells-map t a (λ c. LineDoes c store.words store.entries asked has.bytes (record { acts = whole; entries = store.entries ++ has.entry ∷ [] }))
-                (λ c. (acts : List Act) → WouldDo c store.words store.entries asked (has.bytes ++ rest.rest) acts → Cut t s k (outside a i x) (outside b j y) acts SinkFails)
+            told = Tells-map t a (λ c. LineDoes c store.words store.entries asked has.bytes
+                (record { acts = whole; entries = store.entries ++ has.entry ∷ [] }))
+                (λ c. (acts : List Act) → WouldDo c store.words store.entries asked (has.bytes ++ rest.rest) acts →
+                Cut t s k (outside a i x) (outside b j y) acts SinkFails)
                 (λ c does acts would. subst (λ (zs : List Act). Cut t s k (outside a i x) (outside b j y) zs SinkFails)
-                (would_be c store.words store.entries asked has.bytes rest.rest bytes_long (record { acts = whole; entries = store.entries ++ has.entry ∷ [] }) does acts would) (unreplied broke))
+                (would_be c store.words store.entries asked has.bytes rest.rest bytes_long
+                (record { acts = whole; entries = store.entries ++ has.entry ∷ [] }) does acts would) (unreplied broke))
                 (does (store.entries ++ has.entry ∷ []) refl);
             acts = whole;
             cut = unreplied broke;
@@ -256,20 +291,25 @@ module _ {T S K : Type 0} (t : tapes.Meaning T) (s : sources.Meaning S) (k : sin
           ∙ ap (λ (n : ℕ). appended_line (length store.entries + 1) (length has.bytes) has.entry.start n) has.end
           ∙ ap (λ (e : Entry). appended_line (length store.entries + 1) (length has.bytes) e.start e.end) has.is_entry
 
-      pub appended_ends : (r : Result (Unit {0}) SinkFailed) → sink_calls.Writes k x y (appended_line answered.number answered.bytes answered.start answered.end) r →
+      pub appended_ends : (r : Result (Unit {0}) SinkFailed) →
+          sink_calls.Writes k x y (appended_line answered.number answered.bytes answered.start answered.end) r →
           ItemEnds t s k store after (outside a i x) (outside b j y) asked (replied_so r)
       appended_ends (Ok done) wrote = appended_done (subst (sinks.Wrote k x y) text_is wrote)
       appended_ends (Err failed) broke = appended_cut (subst (sink_calls.BrokeOff k x y) text_is broke)
 
     -- ---- fewer bytes came
 
-    pub came_short : (asked_for got : ℕ) (short : AppendRan t (limited_means s) (reading a ran.before) (reading b ran.behind) store name date (Some promised) (TooShort asked_for got)) →
+    pub came_short : (asked_for got : ℕ)
+        (short : AppendRan t (limited_means s) (reading a ran.before) (reading b ran.behind) store name date (Some promised)
+        (TooShort asked_for got)) →
         tape_calls.Tells t a (λ c. c.info.protected ≡ false) → ItemShort t s k store (outside a i x) (outside b j x) asked
     came_short asked_for got short free =
         let kept : Kept = kept_by store short.table short.settling in
         let few = took_short (room_in kept) promised short.input asked_for got short.took in
-        let gave = gave_few (s.left i) (s.left j) ran.lends.gave.0 short.input promised ran.lends.count left was_given given_long counted (limit_told short.input short.is_told) few.0
-        (limit_left (length short.input) (short.left ∙ ap (λ (n : ℕ). option_map (drop n) (option_map (take ran.before.left) (s.left ran.before.source.now))) few.1)) in
+        let gave = gave_few (s.left i) (s.left j) ran.lends.gave.0 short.input promised ran.lends.count left was_given given_long counted
+        (limit_told short.input short.is_told) few.0
+        (limit_left (length short.input)
+        (short.left ∙ ap (λ (n : ℕ). option_map (drop n) (option_map (take ran.before.left) (s.left ran.before.source.now))) few.1)) in
         let acts : List Act = append_acts kept name date (Some promised) silently short.input in
         record {
           bytes = short.input;
@@ -284,22 +324,26 @@ module _ {T S K : Type 0} (t : tapes.Meaning T) (s : sources.Meaning S) (k : sin
                 Finds short.table,
                 (known.1, known.0.0),
                 short_acts kept name date promised silently reply_of short.input asked_for got short.took
-                    ∙ ap (λ (ss : List Step). append_acts (kept_by store short.table ss) name date (Some promised) reply_of short.input) known.0.1,
+                    ∙ ap (λ (ss : List Step). append_acts (kept_by store short.table ss) name date (Some promised) reply_of short.input)
+                    known.0.1,
               )) (known_so free short.table short.settling short.known);
         }
 
     -- ---- a fault of the outside
 
     -- acts that an append would do are cut off as its own are
-    longer_taken : (kept : Kept) (acts : List Act) (became : Taking) (failing : Failing) → Cut t s k (outside a i x) (outside b j x) acts failing →
+    longer_taken : (kept : Kept) (acts : List Act) (became : Taking) (failing : Failing) →
+        Cut t s k (outside a i x) (outside b j x) acts failing →
         Cut t s k (outside a i x) (outside b j x) (taken_as kept name date acts became).acts failing
     longer_taken kept acts (Fits bytes) failing cut = cut
     longer_taken kept acts (TooLong need have) failing cut =
         cut_is_longer t s k (outside a i x) (outside b j x) acts (reply (refusal_line (why.Full need have)) ∷ []) failing cut
     longer_taken kept acts (TooShort n read) failing cut = cut
 
-    pub failed : (failing : Failing) → failing ≢ SinkFails → AppendCut t (limited_means s) (reading a ran.before) (reading b ran.behind) store name date (Some promised) failing →
-        CutUnread t (limited_means s) (reading a ran.before) (reading b ran.behind) failing → tape_calls.Tells t a (λ c. c.info.protected ≡ false) → ItemCut t s k store (outside a i x) (outside b j x) asked failing
+    pub failed : (failing : Failing) → failing ≢ SinkFails → AppendCut t (limited_means s) (reading a ran.before)
+        (reading b ran.behind) store name date (Some promised) failing →
+        CutUnread t (limited_means s) (reading a ran.before) (reading b ran.behind) failing →
+        tape_calls.Tells t a (λ c. c.info.protected ≡ false) → ItemCut t s k store (outside a i x) (outside b j x) asked failing
     failed failing other cut unread free =
         let both : BehindBytes (s.left i) promised cut.input =
         behind_bytes (s.left i) promised cut.input (limit_told cut.input cut.is_told) (limit_content cut.input cut.content) in
@@ -309,18 +353,25 @@ module _ {T S K : Type 0} (t : tapes.Meaning T) (s : sources.Meaning S) (k : sin
           content = both.content;
           told = tells_two t a
               (λ c. ((table : List (List ℕ)) → TableIs c table → (reply : Entry → List ℕ) →
-              Cut t (limited_means s) no_sink (reading a ran.before) (reading b ran.behind) (append_acts (kept_by store table (settling_steps table c)) name date (Some promised) reply cut.input) failing)
-              × (((table : List (List ℕ)) → TableIs c table → ⊥) → Cut t (limited_means s) no_sink (reading a ran.before) (reading b ran.behind) [] failing))
+              Cut t (limited_means s) no_sink (reading a ran.before) (reading b ran.behind)
+              (append_acts (kept_by store table (settling_steps table c)) name date (Some promised) reply cut.input) failing)
+              × (((table : List (List ℕ)) → TableIs c table → ⊥) → Cut t (limited_means s) no_sink (reading a ran.before)
+              (reading b ran.behind) [] failing))
               (λ c. c.info.protected ≡ false)
-              (λ c. (acts : List Act) → WouldDo c store.words store.entries asked at.rest acts → Cut t s k (outside a i x) (outside b j x) acts failing)
+              (λ c. (acts : List Act) → WouldDo c store.words store.entries asked at.rest acts →
+              Cut t s k (outside a i x) (outside b j x) acts failing)
               (λ c each off acts would. by_cases at c each.0 each.1 off acts would)
               (tells_two t a
               (λ c. (table : List (List ℕ)) → TableIs c table → (reply : Entry → List ℕ) →
-              Cut t (limited_means s) no_sink (reading a ran.before) (reading b ran.behind) (append_acts (kept_by store table (settling_steps table c)) name date (Some promised) reply cut.input) failing)
-              (λ c. ((table : List (List ℕ)) → TableIs c table → ⊥) → Cut t (limited_means s) no_sink (reading a ran.before) (reading b ran.behind) [] failing)
+              Cut t (limited_means s) no_sink (reading a ran.before) (reading b ran.behind)
+              (append_acts (kept_by store table (settling_steps table c)) name date (Some promised) reply cut.input) failing)
+              (λ c. ((table : List (List ℕ)) → TableIs c table → ⊥) → Cut t (limited_means s) no_sink (reading a ran.before)
+              (reading b ran.behind) [] failing)
               (λ c. ((table : List (List ℕ)) → TableIs c table → (reply : Entry → List ℕ) →
-              Cut t (limited_means s) no_sink (reading a ran.before) (reading b ran.behind) (append_acts (kept_by store table (settling_steps table c)) name date (Some promised) reply cut.input) failing)
-              × (((table : List (List ℕ)) → TableIs c table → ⊥) → Cut t (limited_means s) no_sink (reading a ran.before) (reading b ran.behind) [] failing))
+              Cut t (limited_means s) no_sink (reading a ran.before) (reading b ran.behind)
+              (append_acts (kept_by store table (settling_steps table c)) name date (Some promised) reply cut.input) failing)
+              × (((table : List (List ℕ)) → TableIs c table → ⊥) → Cut t (limited_means s) no_sink (reading a ran.before)
+              (reading b ran.behind) [] failing))
               (λ c each lost. (each, lost)) cut.told unread)
               free;
           acts = cut.acts;
@@ -328,7 +379,8 @@ module _ {T S K : Type 0} (t : tapes.Meaning T) (s : sources.Meaning S) (k : sin
         }
       where
         -- refused before anything
-        unbegun : (c : Cartridge) → c.info.protected ≡ false → (meeting : Refusal) → Meets c (script.Refuses meeting) → (table : List (List ℕ)) → TableIs c table → ⊥
+        unbegun : (c : Cartridge) → c.info.protected ≡ false → (meeting : Refusal) → Meets c (script.Refuses meeting) →
+            (table : List (List ℕ)) → TableIs c table → ⊥
         unbegun c off why.Protected meets table is = absurd (cc)
         unbegun c off (why.Lost segment lost) meets table is = not_lost c table lost is meets.2
         unbegun c off (why.Full need have) meets table is = meets
@@ -338,28 +390,38 @@ module _ {T S K : Type 0} (t : tapes.Meaning T) (s : sources.Meaning S) (k : sin
 
         by_cases : (at : Behind (s.left i) promised cut.input) (c : Cartridge) →
             ((table : List (List ℕ)) → TableIs c table → (reply : Entry → List ℕ) →
-            Cut t (limited_means s) no_sink (reading a ran.before) (reading b ran.behind) (append_acts (kept_by store table (settling_steps table c)) name date (Some promised) reply cut.input) failing) →
-            (((table : List (List ℕ)) → TableIs c table → ⊥) → Cut t (limited_means s) no_sink (reading a ran.before) (reading b ran.behind) [] failing) → c.info.protected ≡ false →
-            (acts : List Act) → WouldDo c store.words store.entries asked at.rest acts → Cut t s k (outside a i x) (outside b j x) acts failing
+            Cut t (limited_means s) no_sink (reading a ran.before) (reading b ran.behind)
+            (append_acts (kept_by store table (settling_steps table c)) name date (Some promised) reply cut.input) failing) →
+            (((table : List (List ℕ)) → TableIs c table → ⊥) → Cut t (limited_means s) no_sink (reading a ran.before)
+            (reading b ran.behind) [] failing) → c.info.protected ≡ false →
+            (acts : List Act) → WouldDo c store.words store.entries asked at.rest acts →
+            Cut t s k (outside a i x) (outside b j x) acts failing
         by_cases at c each lost off acts (inl (bytes, (more, (parts, long, (did, same, (script.Refuses meeting, meets, is)))))) =
-            cut_is_longer t s k (outside a i x) (outside b j x) [] acts failing (lift_cut [] failing other (lost (unbegun c off meeting meets)))
+            cut_is_longer t s k (outside a i x) (outside b j x) [] acts failing
+            (lift_cut [] failing other (lost (unbegun c off meeting meets)))
         by_cases at c each lost off acts (inl (bytes, (more, (parts, long, (did, same, (Finds table, meets, is)))))) =
             let kept : Kept = kept_over c store.words store.entries table in
-            let enough : promised ≤ length cut.input = at.enough (let l = ap length parts in let m = length-append bytes more in omega arith) in
+            let enough : promised ≤ length cut.input = at.enough (let l = ap length parts in let m = length-append bytes more in
+            omega arith) in
             let first : take promised cut.input ≡ bytes = sym at.front ∙ ap (take promised) parts ∙ front_of bytes more promised long in
-            let whole : append_acts kept name date (Some promised) reply_of cut.input ≡ append_acts kept name date (Some promised) reply_of bytes =
-            same_acts kept name date promised cut.input enough reply_of ∙ ap (λ (bs : List ℕ). append_acts kept name date (Some promised) reply_of bs) first in
+            let whole : append_acts kept name date (Some promised) reply_of cut.input ≡ append_acts kept name date
+            (Some promised) reply_of bytes =
+            same_acts kept name date promised cut.input enough reply_of
+            ∙ ap (λ (bs : List ℕ). append_acts kept name date (Some promised) reply_of bs) first in
             let own : Cut t s k (outside a i x) (outside b j x) (append_acts kept name date (Some promised) reply_of bytes) failing =
             subst (λ (zs : List Act). Cut t s k (outside a i x) (outside b j x) zs failing) whole
             (lift_cut (append_acts kept name date (Some promised) reply_of cut.input) failing other (each table meets.1 reply_of)) in
             subst (λ (zs : List Act). Cut t s k (outside a i x) (outside b j x) zs failing) (ap (λ (d : Did). d.acts) (sym is) ∙ same)
-            (longer_taken kept (append_acts kept name date (Some promised) reply_of bytes) (taking (room_in kept) (Some promised) bytes) failing own)
+            (longer_taken kept (append_acts kept name date (Some promised) reply_of bytes)
+            (taking (room_in kept) (Some promised) bytes) failing own)
         by_cases at c each lost off acts (inr (short, (script.Refuses meeting, meets, is))) =
-            cut_is_longer t s k (outside a i x) (outside b j x) [] acts failing (lift_cut [] failing other (lost (unbegun c off meeting meets)))
+            cut_is_longer t s k (outside a i x) (outside b j x) [] acts failing
+            (lift_cut [] failing other (lost (unbegun c off meeting meets)))
         by_cases at c each lost off acts (inr (short, (Finds table, meets, is))) =
             let kept : Kept = kept_over c store.words store.entries table in
             let input : cut.input ≡ at.rest = at.few short in
-            subst (λ (zs : List Act). Cut t s k (outside a i x) (outside b j x) zs failing) (ap (λ (bs : List ℕ). append_acts kept name date (Some promised) reply_of bs) input ∙ sym is)
+            subst (λ (zs : List Act). Cut t s k (outside a i x) (outside b j x) zs failing)
+            (ap (λ (bs : List ℕ). append_acts kept name date (Some promised) reply_of bs) input ∙ sym is)
             (lift_cut (append_acts kept name date (Some promised) reply_of cut.input) failing other (each table meets.1 reply_of))
 
     -- ---- refused
@@ -367,16 +429,21 @@ module _ {T S K : Type 0} (t : tapes.Meaning T) (s : sources.Meaning S) (k : sin
     -- it was refused behind these acts, whatever the bytes are
     pub record Refusing (acts : List Act) (refusal : Refusal) : Type 0 where
       pub went : Went t s k (outside a i x) (outside b j x) acts
-      pub told : tape_calls.Tells t a (λ c. (meeting : Meeting) × Meets c meeting × (((bytes : List ℕ) → acts_on c store.words store.entries name promised date bytes meeting ≡ acts)
-          × ((bytes : List ℕ) → script.append_did c store.words store.entries name promised date bytes meeting ≡ line_refused acts store.entries refusal)))
+      pub told : tape_calls.Tells t a (λ c. (meeting : Meeting) × Meets c meeting
+          × (((bytes : List ℕ) → acts_on c store.words store.entries name promised date bytes meeting ≡ acts)
+          × ((bytes : List ℕ) → script.append_did c store.words store.entries name promised date bytes meeting ≡ line_refused acts
+          store.entries refusal)))
 
     pub refusing_full : (need have : ℕ) → tape_calls.Tells t a (λ c. c.info.protected ≡ false) →
-        (full : AppendRan t (limited_means s) (reading a ran.before) (reading b ran.behind) store name date (Some promised) (TooLong need have)) → Refusing (quiet full.settling ∷ []) (why.Full need have)
+        (full : AppendRan t (limited_means s) (reading a ran.before) (reading b ran.behind) store name date (Some promised)
+        (TooLong need have)) → Refusing (quiet full.settling ∷ []) (why.Full need have)
     refusing_full need have free full =
         let kept : Kept = kept_by store full.table full.settling in
         let small = took_too_long (room_in kept) promised full.input need have full.took in
         record {
-          went = lift (quiet full.settling ∷ []) (subst (λ (zs : List Act). Went t (limited_means s) no_sink (reading a ran.before) (reading b ran.behind) zs) (full_acts kept name date promised small.0 silently full.input) full.went);
+          went = lift (quiet full.settling ∷ [])
+              (subst (λ (zs : List Act). Went t (limited_means s) no_sink (reading a ran.before) (reading b ran.behind) zs)
+              (full_acts kept name date promised small.0 silently full.input) full.went);
           told = Tells-map t a (Known store full.table full.settling) _
               (λ c known.
               let by : Kept = kept_over c store.words store.entries full.table in
@@ -388,7 +455,8 @@ module _ {T S K : Type 0} (t : tapes.Meaning T) (s : sources.Meaning S) (k : sin
                 (
                   alone,
                   λ bytes.
-                      ap (λ (became : Taking). taken_as by name date (append_acts by name date (Some promised) reply_of bytes) became) (full_taking by name date promised small.0 bytes)
+                      ap (λ (became : Taking). taken_as by name date (append_acts by name date (Some promised) reply_of bytes) became)
+                      (full_taking by name date promised small.0 bytes)
                       ∙ ap (λ (acts : List Act). line_refused acts store.entries (why.Full promised (room_in by))) (alone bytes)
                       ∙ ap (λ (n : ℕ). line_refused (quiet full.settling ∷ []) store.entries (why.Full n (room_in by))) (sym small.1)
                       ∙ ap (λ (n : ℕ). line_refused (quiet full.settling ∷ []) store.entries (why.Full need n)) (sym small.2),
@@ -397,10 +465,12 @@ module _ {T S K : Type 0} (t : tapes.Meaning T) (s : sources.Meaning S) (k : sin
         }
 
     pub refusing_lost : (segment lost : ℕ) → segment ≡ 2 → tape_calls.Tells t a (λ c. c.info.protected ≡ false) →
-        (refusal : TableRefused t (limited_means s) (reading a ran.before) (reading b ran.behind) (λ c. TableSays (table_cells c) (ByCode (LostSectors lost)))) → Refusing refusal.acts (why.Lost segment lost)
+        (refusal : TableRefused t (limited_means s) (reading a ran.before) (reading b ran.behind)
+        (λ c. TableSays (table_cells c) (ByCode (LostSectors lost)))) → Refusing refusal.acts (why.Lost segment lost)
     refusing_lost segment lost is free refusal = record {
       went = lift refusal.acts refusal.went;
-      told = tells_two t a (λ c. c.info.protected ≡ false) (λ c. (refusal.acts ≡ []) × (ran.behind ≡ ran.before) × TableSays (table_cells c) (ByCode (LostSectors lost))) _
+      told = tells_two t a (λ c. c.info.protected ≡ false)
+          (λ c. (refusal.acts ≡ []) × (ran.behind ≡ ran.before) × TableSays (table_cells c) (ByCode (LostSectors lost))) _
           (λ c off says. (
             script.Refuses (why.Lost segment lost),
             (off, is, says.2),
@@ -411,22 +481,32 @@ module _ {T S K : Type 0} (t : tapes.Meaning T) (s : sources.Meaning S) (k : sin
           )) free refusal.told;
     }
 
-    pub refusing_protected : tape_calls.Tells t a (λ c. c.info.protected ≡ true) → (ran.behind ≡ ran.before) → b ≡ a → Refusing [] why.Protected
+    pub refusing_protected : tape_calls.Tells t a (λ c. c.info.protected ≡ true) → (ran.behind ≡ ran.before) → b ≡ a →
+        Refusing [] why.Protected
     refusing_protected mark source tape =
         let faults : s.faults i ≡ s.faults j = sym begins ∙ ap (λ (l : Limited S). s.faults l.source.now) (sym source) ∙ stands in
         record {
           went = subst (λ (w : T). Went t s k (outside a i x) (outside w j x) []) (sym tape) (rested t s k none a i j x (omega arith));
-          told = Tells-map t a (λ c. c.info.protected ≡ true) _ (λ c is. (script.Refuses why.Protected, is, ((λ bytes. refl), (λ bytes. refl)))) mark;
+          told = Tells-map t a (λ c. c.info.protected ≡ true) _
+              (λ c is. (script.Refuses why.Protected, is, ((λ bytes. refl), (λ bytes. refl)))) mark;
         }
 
-    module _ (same : after.entries ≡ store.entries) (acts : List Act) (refusal : Refusal) (refusing : Refusing acts refusal) (j2 : S) (y : K) where
+    module _ (same : after.entries ≡ store.entries) (acts : List Act) (refusal : Refusal) (refusing : Refusing acts refusal) (j2 : S)
+        (y : K) where
       does_so : (bytes : List ℕ) (entries : List Entry) → entries ≡ store.entries →
-          tape_calls.Tells t a (λ c. LineDoes c store.words store.entries asked bytes (record { acts = acts ++ reply (refusal_line refusal) ∷ []; entries = entries }))
+          tape_calls.Tells t a (λ c. LineDoes c store.words store.entries asked bytes
+          (record { acts = acts ++ reply (refusal_line refusal) ∷ []; entries = entries }))
       does_so bytes entries is =
-          Tells-map t a _ (λ c. LineDoes c store.words store.entries asked bytes (record { acts = acts ++ reply (refusal_line refusal) ∷ []; entries = entries }))
-          (λ c known. (known.0, known.1, ap (λ (es : List Entry). record { acts = acts ++ reply (refusal_line refusal) ∷ []; entries = es }) is ∙ sym (known.2.1 bytes))) refusing.told
+          Tells-map t a _ (λ c. LineDoes c store.words store.entries asked bytes
+          (record { acts = acts ++ reply (refusal_line refusal) ∷ []; entries = entries }))
+          (λ c known. (
+            known.0,
+            known.1,
+            ap (λ (es : List Entry). record { acts = acts ++ reply (refusal_line refusal) ∷ []; entries = es })
+                is ∙ sym (known.2.1 bytes),
+          )) refusing.told
 
-      later_went : s.faults j ≤ s.faults j2 → Went t s k (outside a i x) (outside b j2 x) acts
+      later_went : s.faults j2 ≡ s.faults j → Went t s k (outside a i x) (outside b j2 x) acts
       later_went later = record {
         did = refusing.went.did;
         wrote = refusing.went.wrote;
@@ -443,7 +523,8 @@ module _ {T S K : Type 0} (t : tapes.Meaning T) (s : sources.Meaning S) (k : sin
       all_long : (bytes : List ℕ) → length bytes ≡ left → length (ran.lends.gave.0 ++ bytes) ≡ promised
       all_long bytes long = (let l = length-append ran.lends.gave.0 bytes in let g = given_long in let c = counted in omega arith)
 
-      pub refused_ends : (r : Result (Unit {0}) ItemFault) → Refuses s k j j2 x y left refusal r → ItemEnds t s k store after (outside a i x) (outside b j2 y) asked r
+      pub refused_ends : (r : Result (Unit {0}) ItemFault) → Refuses s k j j2 x y left refusal r →
+          ItemEnds t s k store after (outside a i x) (outside b j2 y) asked r
       refused_ends (Ok done) (all, wrote) = let given = given_so all.bytes all.gave in record {
         bytes = given.bytes;
         kept = given.long ∙ all_long all.bytes all.all;
@@ -453,17 +534,19 @@ module _ {T S K : Type 0} (t : tapes.Meaning T) (s : sources.Meaning S) (k : sin
         went = replied_went t s k both (outside a i x) b j2 x y acts (refusal_line refusal) (later_went all.later) wrote;
         told = does_so given.bytes after.entries same;
       }
-      refused_ends (Err fault.Short) (short, sink) = subst (λ (z : K). ItemShort t s k store (outside a i x) (outside b j2 z) asked) (sym sink) (let given = given_so short.bytes short.gave in record {
-        bytes = given.bytes;
-        short = (let same = given.long in let l = length-append ran.lends.gave.0 short.bytes in let g = given_long in let c = counted in let f = short.short in omega arith);
-        gave = given.gave;
-        content = given.content;
-        ended = short.ended;
-        acts = acts;
-        went = later_went short.later;
-        told = Tells-map t a _ (λ c. EarlyDoes c store.words store.entries asked given.bytes acts)
-            (λ c known. (known.0, known.1, sym (known.2.0 given.bytes))) refusing.told;
-      })
+      refused_ends (Err fault.Short) (short, sink) = subst (λ (z : K). ItemShort t s k store (outside a i x) (outside b j2 z) asked)
+          (sym sink) (let given = given_so short.bytes short.gave in record {
+            bytes = given.bytes;
+            short = (let same = given.long in let l = length-append ran.lends.gave.0 short.bytes in let g = given_long in let c = counted in
+                let f = short.short in omega arith);
+            gave = given.gave;
+            content = given.content;
+            ended = short.ended;
+            acts = acts;
+            went = later_went short.later;
+            told = Tells-map t a _ (λ c. EarlyDoes c store.words store.entries asked given.bytes acts)
+                (λ c known. (known.0, known.1, sym (known.2.0 given.bytes))) refusing.told;
+          })
       refused_ends (Err fault.Sink) (all, broke) =
           let given = given_so all.bytes all.gave in
           let bytes : List ℕ = given.bytes in
@@ -473,56 +556,67 @@ module _ {T S K : Type 0} (t : tapes.Meaning T) (s : sources.Meaning S) (k : sin
             rest = bytes ++ rest.rest;
             is_told = flip (s.left i) (bytes ++ rest.rest) (whole_told (s.left i) (s.left j2) bytes rest.rest given.gave rest.told);
             content = content_both (s.left i) (s.left j2) bytes rest.rest given.gave given.content rest.content;
-            told = Tells-map t a (λ c. LineDoes c store.words store.entries asked bytes (record { acts = acts ++ reply (refusal_line refusal) ∷ []; entries = store.entries }))
-                (λ c. (zs : List Act) → WouldDo c store.words store.entries asked (bytes ++ rest.rest) zs → Cut t s k (outside a i x) (outside b j2 y) zs SinkFails)
+            told = Tells-map t a (λ c. LineDoes c store.words store.entries asked bytes
+                (record { acts = acts ++ reply (refusal_line refusal) ∷ []; entries = store.entries }))
+                (λ c. (zs : List Act) → WouldDo c store.words store.entries asked (bytes ++ rest.rest) zs →
+                Cut t s k (outside a i x) (outside b j2 y) zs SinkFails)
                 (λ c does zs would. subst (λ (ws : List Act). Cut t s k (outside a i x) (outside b j2 y) ws SinkFails)
-                (would_be c store.words store.entries asked bytes rest.rest (given.long ∙ all_long all.bytes all.all) (record { acts = acts ++ reply (refusal_line refusal) ∷ []; entries = store.entries }) does zs would) cut)
+                (would_be c store.words store.entries asked bytes rest.rest (given.long ∙ all_long all.bytes all.all)
+                (record { acts = acts ++ reply (refusal_line refusal) ∷ []; entries = store.entries }) does zs would) cut)
                 (does_so bytes store.entries refl);
             acts = acts ++ reply (refusal_line refusal) ∷ [];
             cut = cut;
           }
       refused_ends (Err fault.Source) (failed, sink) =
-          let went = later_went failed.later in
           let rest = any_bytes (s.left i) in
           let cut : Cut t s k (outside a i x) (outside b j2 x) acts SourceFails = record {
             front = acts;
             rest = [];
             parts = append-nil acts;
-            did = went.did;
-            wrote = went.wrote;
+            did = refusing.went.did;
+            wrote = refusing.went.wrote;
             cause = (let e = refusing.went.source_later in let f = failed.cause in omega arith);
-            source_later = went.source_later;
+            source_later = (let e = refusing.went.source_later in let f = failed.later in omega arith);
           } in
           subst (λ (z : K). ItemCut t s k store (outside a i x) (outside b j2 z) asked SourceFails) (sym sink) (record {
             rest = rest.rest;
             is_told = rest.told;
             content = rest.content;
-            told = Tells-map t a _ (λ c. (zs : List Act) → WouldDo c store.words store.entries asked rest.rest zs → Cut t s k (outside a i x) (outside b j2 x) zs SourceFails)
+            told = Tells-map t a _ (λ c. (zs : List Act) → WouldDo c store.words store.entries asked rest.rest zs →
+                Cut t s k (outside a i x) (outside b j2 x) zs SourceFails)
                 (λ c known zs would. by_would c known.0 known.1 known.2.0 known.2.1 rest.rest zs would cut) refusing.told;
             acts = acts;
             cut = cut;
           })
         where
-          by_would : (c : Cartridge) (meeting : Meeting) → Meets c meeting → ((bytes : List ℕ) → acts_on c store.words store.entries name promised date bytes meeting ≡ acts) →
-              ((bytes : List ℕ) → script.append_did c store.words store.entries name promised date bytes meeting ≡ line_refused acts store.entries refusal) → (rest : List ℕ) (zs : List Act) →
-              WouldDo c store.words store.entries asked rest zs → Cut t s k (outside a i x) (outside b j2 x) acts SourceFails → Cut t s k (outside a i x) (outside b j2 x) zs SourceFails
+          by_would : (c : Cartridge) (meeting : Meeting) → Meets c meeting →
+              ((bytes : List ℕ) → acts_on c store.words store.entries name promised date bytes meeting ≡ acts) →
+              ((bytes : List ℕ) → script.append_did c store.words store.entries name promised date bytes meeting ≡ line_refused acts
+              store.entries refusal) → (rest : List ℕ) (zs : List Act) →
+              WouldDo c store.words store.entries asked rest zs → Cut t s k (outside a i x) (outside b j2 x) acts SourceFails →
+              Cut t s k (outside a i x) (outside b j2 x) zs SourceFails
           by_would c meeting meets alone whole rest zs (inl (bytes, (more, (parts, long, (did, is, (other, again, too)))))) cut =
               let one : other ≡ meeting = meets_one c meeting other meets again in
               let acts_are : acts ++ reply (refusal_line refusal) ∷ [] ≡ zs =
-              ap (λ (d : Did). d.acts) (sym (whole bytes) ∙ ap (λ (m : Meeting). script.append_did c store.words store.entries name promised date bytes m) (sym one) ∙ sym too) ∙ is in
+              ap (λ (d : Did). d.acts) (sym (whole bytes)
+              ∙ ap (λ (m : Meeting). script.append_did c store.words store.entries name promised date bytes m) (sym one) ∙ sym too)
+              ∙ is in
               subst (λ (ws : List Act). Cut t s k (outside a i x) (outside b j2 x) ws SourceFails) acts_are
               (cut_is_longer t s k (outside a i x) (outside b j2 x) acts (reply (refusal_line refusal) ∷ []) SourceFails cut)
           by_would c meeting meets alone whole rest zs (inr (short, (other, again, too))) cut =
               let one : other ≡ meeting = meets_one c meeting other meets again in
-              let acts_are : acts ≡ zs = sym (alone rest) ∙ ap (λ (m : Meeting). acts_on c store.words store.entries name promised date rest m) (sym one) ∙ sym too in
+              let acts_are : acts ≡ zs = sym (alone rest)
+              ∙ ap (λ (m : Meeting). acts_on c store.words store.entries name promised date rest m) (sym one) ∙ sym too in
               subst (λ (ws : List Act). Cut t s k (outside a i x) (outside b j2 x) ws SourceFails) acts_are cut
       refused_ends (Err fault.TableMismatch) never = absurd never
       refused_ends (Err fault.Tape) never = absurd never
 
 -- ---- by the answer
 
-module _ {T S K : Type 0} (t : tapes.Meaning T) (s : sources.Meaning S) (k : sinks.Meaning K) (store after : StoreView) (name : List ℕ) (promised date : ℕ) (both : TakesBoth k) (none : TakesNone k) (u : UnitView T) (b : T) (i j : S) (x : K)
-    (left : ℕ) (answer : Result Appended StoreFault) (ran : RanPromised t s u.tape b i j store after name date promised left answer) (fits : StoreFits t store u)
+module _ {T S K : Type 0} (t : tapes.Meaning T) (s : sources.Meaning S) (k : sinks.Meaning K) (store after : StoreView) (name : List ℕ)
+    (promised date : ℕ) (both : TakesBoth k) (none : TakesNone k) (u : UnitView T) (b : T) (i j : S) (x : K)
+    (left : ℕ) (answer : Result Appended StoreFault) (ran : RanPromised t s u.tape b i j store after name date promised left answer)
+    (fits : StoreFits t store u)
     (mark : (answer ≡ Err store_fault.Protected) ↔ (is_protected u.drive.deck ≡ true)) (list : KeepsList answer store after) where
   ran_as : (r : Result Appended StoreFault) → answer ≡ r → RanPromised t s u.tape b i j store after name date promised left r
   ran_as r is = subst (λ (r : Result Appended StoreFault). RanPromised t s u.tape b i j store after name date promised left r) is ran
@@ -534,46 +628,64 @@ module _ {T S K : Type 0} (t : tapes.Meaning T) (s : sources.Meaning S) (k : sin
   free other = told_mark t store u fits false (unmarked (is_protected u.drive.deck) (answer ≡ Err store_fault.Protected) mark other)
 
   pub by_ok : (y : K) (answered : Appended) → answer ≡ Ok answered → (r : Result (Unit {0}) SinkFailed) →
-      sink_calls.Writes k x y (appended_line answered.number answered.bytes answered.start answered.end) r → ItemEnds t s k store after (outside u.tape i x) (outside b j y) (line.Append name promised date) (replied_so r)
+      sink_calls.Writes k x y (appended_line answered.number answered.bytes answered.start answered.end) r →
+      ItemEnds t s k store after (outside u.tape i x) (outside b j y) (line.Append name promised date) (replied_so r)
   by_ok y answered is r wrote =
       let as_ok = ran_as (Ok answered) is in
-      appended_ends t s k store after name promised date both none u.tape b i j x left (Ok answered) as_ok y answered as_ok.ends (free (λ e. let no = sym is ∙ e in cc)) r wrote
+      appended_ends t s k store after name promised date both none u.tape b i j x left (Ok answered) as_ok y answered as_ok.ends
+      (free (λ e. let no = sym is ∙ e in cc)) r wrote
 
-  pub by_full : (need have : ℕ) → answer ≡ Err (store_fault.Full need have) → (j2 : S) (y : K) (r : Result (Unit {0}) ItemFault) → Refuses s k j j2 x y left (why.Full need have) r →
+  pub by_full : (need have : ℕ) → answer ≡ Err (store_fault.Full need have) → (j2 : S) (y : K) (r : Result (Unit {0}) ItemFault) →
+      Refuses s k j j2 x y left (why.Full need have) r →
       ItemEnds t s k store after (outside u.tape i x) (outside b j2 y) (line.Append name promised date) r
   by_full need have is j2 y r refuses =
       let as_full = ran_as (Err (store_fault.Full need have)) is in
-      refused_ends t s k store after name promised date both none u.tape b i j x left (Err (store_fault.Full need have)) as_full (list_as (Err (store_fault.Full need have)) is) (quiet as_full.ends.settling ∷ []) (why.Full need have)
-      (refusing_full t s k store after name promised date both none u.tape b i j x left (Err (store_fault.Full need have)) as_full need have (free (λ e. let no = sym is ∙ e in cc)) as_full.ends) j2 y r refuses
+      refused_ends t s k store after name promised date both none u.tape b i j x left (Err (store_fault.Full need have)) as_full
+      (list_as (Err (store_fault.Full need have)) is) (quiet as_full.ends.settling ∷ []) (why.Full need have)
+      (refusing_full t s k store after name promised date both none u.tape b i j x left (Err (store_fault.Full need have)) as_full need have
+      (free (λ e. let no = sym is ∙ e in cc)) as_full.ends) j2 y r refuses
 
-  pub by_lost : (segment lost : ℕ) → answer ≡ Err (store_fault.Lost segment lost) → (j2 : S) (y : K) (r : Result (Unit {0}) ItemFault) → Refuses s k j j2 x y left (why.Lost segment lost) r →
+  pub by_lost : (segment lost : ℕ) → answer ≡ Err (store_fault.Lost segment lost) → (j2 : S) (y : K) (r : Result (Unit {0}) ItemFault) →
+      Refuses s k j j2 x y left (why.Lost segment lost) r →
       ItemEnds t s k store after (outside u.tape i x) (outside b j2 y) (line.Append name promised date) r
   by_lost segment lost is j2 y r refuses =
       let as_lost = ran_as (Err (store_fault.Lost segment lost)) is in
-      refused_ends t s k store after name promised date both none u.tape b i j x left (Err (store_fault.Lost segment lost)) as_lost (list_as (Err (store_fault.Lost segment lost)) is) as_lost.ends.2.acts (why.Lost segment lost)
-      (refusing_lost t s k store after name promised date both none u.tape b i j x left (Err (store_fault.Lost segment lost)) as_lost segment lost as_lost.ends.0 (free (λ e. let no = sym is ∙ e in cc)) as_lost.ends.2) j2 y r refuses
+      refused_ends t s k store after name promised date both none u.tape b i j x left (Err (store_fault.Lost segment lost)) as_lost
+      (list_as (Err (store_fault.Lost segment lost)) is) as_lost.ends.2.acts (why.Lost segment lost)
+      (refusing_lost t s k store after name promised date both none u.tape b i j x left
+      (Err (store_fault.Lost segment lost)) as_lost segment lost as_lost.ends.0 (free (λ e. let no = sym is ∙ e in cc)) as_lost.ends.2)
+      j2 y r refuses
 
-  pub by_protected : answer ≡ Err store_fault.Protected → (j2 : S) (y : K) (r : Result (Unit {0}) ItemFault) → Refuses s k j j2 x y left why.Protected r →
+  pub by_protected : answer ≡ Err store_fault.Protected → (j2 : S) (y : K) (r : Result (Unit {0}) ItemFault) →
+      Refuses s k j j2 x y left why.Protected r →
       ItemEnds t s k store after (outside u.tape i x) (outside b j2 y) (line.Append name promised date) r
   by_protected is j2 y r refuses =
       let as_refused = ran_as (Err store_fault.Protected) is in
-      refused_ends t s k store after name promised date both none u.tape b i j x left (Err store_fault.Protected) as_refused (list_as (Err store_fault.Protected) is) [] why.Protected
-      (refusing_protected t s k store after name promised date both none u.tape b i j x left (Err store_fault.Protected) as_refused (told_mark t store u fits true (mark.0 is)) as_refused.ends.1 as_refused.ends.0) j2 y r refuses
+      refused_ends t s k store after name promised date both none u.tape b i j x left (Err store_fault.Protected) as_refused
+      (list_as (Err store_fault.Protected) is) [] why.Protected
+      (refusing_protected t s k store after name promised date both none u.tape b i j x left (Err store_fault.Protected) as_refused
+      (told_mark t store u fits true (mark.0 is)) as_refused.ends.1 as_refused.ends.0) j2 y r refuses
 
-  pub by_short : (asked_for got : ℕ) → answer ≡ Err (store_fault.Short asked_for got) → ItemShort t s k store (outside u.tape i x) (outside b j x) (line.Append name promised date)
+  pub by_short : (asked_for got : ℕ) → answer ≡ Err (store_fault.Short asked_for got) → ItemShort t s k store (outside u.tape i x)
+      (outside b j x) (line.Append name promised date)
   by_short asked_for got is =
       let as_short = ran_as (Err (store_fault.Short asked_for got)) is in
-      came_short t s k store after name promised date both none u.tape b i j x left (Err (store_fault.Short asked_for got)) as_short asked_for got as_short.ends (free (λ e. let no = sym is ∙ e in cc))
+      came_short t s k store after name promised date both none u.tape b i j x left
+      (Err (store_fault.Short asked_for got)) as_short asked_for got as_short.ends (free (λ e. let no = sym is ∙ e in cc))
 
-  pub by_source : answer ≡ Err store_fault.Source → ItemCut t s k store (outside u.tape i x) (outside b j x) (line.Append name promised date) SourceFails
+  pub by_source : answer ≡ Err store_fault.Source → ItemCut t s k store (outside u.tape i x) (outside b j x)
+      (line.Append name promised date) SourceFails
   by_source is =
       let as_cut = ran_as (Err store_fault.Source) is in
-      failed t s k store after name promised date both none u.tape b i j x left (Err store_fault.Source) as_cut SourceFails (λ e. cc) as_cut.ends as_cut.unread (free (λ e. let no = sym is ∙ e in cc))
+      failed t s k store after name promised date both none u.tape b i j x left (Err store_fault.Source) as_cut SourceFails
+      (λ e. cc) as_cut.ends as_cut.unread (free (λ e. let no = sym is ∙ e in cc))
 
-  pub by_tape : answer ≡ Err store_fault.Tape → ItemCut t s k store (outside u.tape i x) (outside b j x) (line.Append name promised date) TapeFails
+  pub by_tape : answer ≡ Err store_fault.Tape → ItemCut t s k store (outside u.tape i x) (outside b j x)
+      (line.Append name promised date) TapeFails
   by_tape is =
       let as_cut = ran_as (Err store_fault.Tape) is in
-      failed t s k store after name promised date both none u.tape b i j x left (Err store_fault.Tape) as_cut TapeFails (λ e. cc) as_cut.ends as_cut.unread (free (λ e. let no = sym is ∙ e in cc))
+      failed t s k store after name promised date both none u.tape b i j x left (Err store_fault.Tape) as_cut TapeFails
+      (λ e. cc) as_cut.ends as_cut.unread (free (λ e. let no = sym is ∙ e in cc))
 
 -- an answer that is a fault, and the fault
 pub is_err : (r : Result Appended StoreFault) (f g : StoreFault) → r ≡ Err f → f ≡ g → r ≡ Err g

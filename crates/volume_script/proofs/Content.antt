@@ -1,5 +1,6 @@
 -- The bytes of a script's input, where no one tells them.
-use Rattle.std.proofs.Common.{◌≡◌, ℕ, ◌+◌, ◌<◌, nat_lt, ltb-true, Bool, true, false, cond, List, [], ◌∷◌, ◌++◌, length, take, replicate, Option, Some, None, IfSome, IfNone, codes, refl, sym, ap, ◌∙◌, ◌/◌, ◌%◌, subst, arith, inl, inr}
+use Rattle.std.proofs.Common.{◌≡◌, ℕ, ◌+◌, ◌<◌, nat_lt, ltb-true, Bool, true, false, cond, List, [], ◌∷◌, ◌++◌, length, take, replicate}
+use Rattle.std.proofs.Common.{Option, Some, None, IfSome, IfNone, codes, refl, sym, ap, ◌∙◌, ◌/◌, ◌%◌, subst, arith, inl, inr}
 use Rattle.std.specs.List.{AllZip}
 use Rattle.std.specs.List.{join_with_byte}
 use Rattle.std.specs.Option.{option_map}
@@ -31,7 +32,8 @@ below (x ∷ xs) = cond (nat_lt x 256) (below xs) false
 below_bytes : (xs : List ℕ) → below xs ≡ true → AreBytes xs
 below_bytes [] is = All-nil (λ b. b < 256)
 below_bytes (x ∷ xs) is = elim (cases_Bool (nat_lt x 256)) [
-  | inl less ↦ All-cons (λ b. b < 256) x xs (ltb-true x 256 less) (below_bytes xs (sym (ap (λ (b : Bool). cond b (below xs) false) less) ∙ is))
+  | inl less ↦ All-cons (λ b. b < 256) x xs (ltb-true x 256 less)
+      (below_bytes xs (sym (ap (λ (b : Bool). cond b (below xs) false) less) ∙ is))
   | inr more ↦ absurd (let no : false ≡ true = sym (ap (λ (b : Bool). cond b (below xs) false) more) ∙ is in cc)
 ]
 
@@ -42,7 +44,8 @@ name_bytes : (word : List ℕ) → IsNameText word → AreBytes word
 name_bytes word is = λ k d within. let most = (is.printable k d within).1 in omega arith
 
 two_bytes : (n : ℕ) → AreBytes (two_digits n)
-two_bytes n = All-cons (λ b. b < 256) (48 + n / 10 % 10) ((48 + n % 10) ∷ []) (omega arith) (All-cons (λ b. b < 256) (48 + n % 10) [] (omega arith) (All-nil (λ b. b < 256)))
+two_bytes n = All-cons (λ b. b < 256) (48 + n / 10 % 10) ((48 + n % 10) ∷ []) (omega arith)
+    (All-cons (λ b. b < 256) (48 + n % 10) [] (omega arith) (All-nil (λ b. b < 256)))
 
 date_bytes : (word : List ℕ) (date : ℕ) → IsDateWord word date → AreBytes word
 unfolding date_form
@@ -54,11 +57,16 @@ date_bytes word date is =
     let from_month : List ℕ = two_digits is.month ++ codes "-" ++ from_day in
     let from_year : List ℕ = two_digits is.year ++ codes "-" ++ from_month in
     let minutes : AreBytes from_minute =
-    both (two_digits is.minute) (codes ":" ++ two_digits is.second) (two_bytes is.minute) (both (codes ":") (two_digits is.second) (below_bytes (codes ":") refl) (two_bytes is.second)) in
-    let hours : AreBytes from_hour = both (two_digits is.hour) (codes ":" ++ from_minute) (two_bytes is.hour) (both (codes ":") from_minute (below_bytes (codes ":") refl) minutes) in
-    let days : AreBytes from_day = both (two_digits is.day) (codes "T" ++ from_hour) (two_bytes is.day) (both (codes "T") from_hour (below_bytes (codes "T") refl) hours) in
-    let months : AreBytes from_month = both (two_digits is.month) (codes "-" ++ from_day) (two_bytes is.month) (both (codes "-") from_day (below_bytes (codes "-") refl) days) in
-    let years : AreBytes from_year = both (two_digits is.year) (codes "-" ++ from_month) (two_bytes is.year) (both (codes "-") from_month (below_bytes (codes "-") refl) months) in
+    both (two_digits is.minute) (codes ":" ++ two_digits is.second) (two_bytes is.minute)
+    (both (codes ":") (two_digits is.second) (below_bytes (codes ":") refl) (two_bytes is.second)) in
+    let hours : AreBytes from_hour = both (two_digits is.hour) (codes ":" ++ from_minute) (two_bytes is.hour)
+    (both (codes ":") from_minute (below_bytes (codes ":") refl) minutes) in
+    let days : AreBytes from_day = both (two_digits is.day) (codes "T" ++ from_hour) (two_bytes is.day)
+    (both (codes "T") from_hour (below_bytes (codes "T") refl) hours) in
+    let months : AreBytes from_month = both (two_digits is.month) (codes "-" ++ from_day) (two_bytes is.month)
+    (both (codes "-") from_day (below_bytes (codes "-") refl) days) in
+    let years : AreBytes from_year = both (two_digits is.year) (codes "-" ++ from_month) (two_bytes is.year)
+    (both (codes "-") from_month (below_bytes (codes "-") refl) months) in
     subst AreBytes (sym is.written) (both (two_digits (is.year / 100)) from_year (two_bytes (is.year / 100)) years)
 
 -- the words that stand in a form are of bytes
@@ -94,12 +102,15 @@ joined_bytes (word ∷ other ∷ words) known =
 
 line_words : (words : List (List ℕ)) (asked : Line) → HasForm words (line_forms asked) → WordsAreBytes words
 line_words words (line.Append name n date) has = elim (dated_cases words (Word (codes "append") ∷ Name name ∷ AnyNumber n ∷ []) date has) [
-  | inl full ↦ form_bytes words (Word (codes "append") ∷ Name name ∷ AnyNumber n ∷ Date date ∷ []) (below_bytes (codes "append") refl, (tt, (tt, (tt, tt)))) full
-  | inr bare ↦ form_bytes words (Word (codes "append") ∷ Name name ∷ AnyNumber n ∷ []) (below_bytes (codes "append") refl, (tt, (tt, tt))) bare.0
+  | inl full ↦ form_bytes words (Word (codes "append") ∷ Name name ∷ AnyNumber n ∷ Date date ∷ [])
+      (below_bytes (codes "append") refl, (tt, (tt, (tt, tt)))) full
+  | inr bare ↦ form_bytes words (Word (codes "append") ∷ Name name ∷ AnyNumber n ∷ [])
+      (below_bytes (codes "append") refl, (tt, (tt, tt))) bare.0
 ]
 line_words words line.List (inl is) = form_bytes words (Word (codes "list") ∷ []) (below_bytes (codes "list") refl, tt) is
 line_words words line.List (inr never) = absurd never
-line_words words (line.Restore number) (inl is) = form_bytes words (Word (codes "restore") ∷ AnyNumber number ∷ []) (below_bytes (codes "restore") refl, (tt, tt)) is
+line_words words (line.Restore number) (inl is) = form_bytes words (Word (codes "restore") ∷ AnyNumber number ∷ [])
+    (below_bytes (codes "restore") refl, (tt, tt)) is
 line_words words (line.Restore number) (inr never) = absurd never
 line_words words line.Scrub (inl is) = form_bytes words (Word (codes "scrub") ∷ []) (below_bytes (codes "scrub") refl, tt) is
 line_words words line.Scrub (inr never) = absurd never
@@ -112,21 +123,26 @@ line_words words line.End (inr never) = absurd never
 -- a line is one of bytes
 line_bytes : (text : List ℕ) (asked : Line) → IsLineText text asked → AreBytes text
 line_bytes text asked is =
-    let before : AreBytes is.before = subst AreBytes (join_with_byte-slice_split 0x20 is.before) (joined_bytes (words_of is.before) (line_words (words_of is.before) asked is.has)) in
-    subst AreBytes (sym is.whole) (All-append (λ b. b < 256) is.before (0x0A ∷ []) before (All-cons (λ b. b < 256) 0x0A [] (omega arith) (All-nil (λ b. b < 256))))
+    let before : AreBytes is.before = subst AreBytes (join_with_byte-slice_split 0x20 is.before)
+    (joined_bytes (words_of is.before) (line_words (words_of is.before) asked is.has)) in
+    subst AreBytes (sym is.whole) (All-append (λ b. b < 256) is.before (0x0A ∷ []) before
+    (All-cons (λ b. b < 256) 0x0A [] (omega arith) (All-nil (λ b. b < 256))))
 
 -- ---- where none are told
 
-pub content_both : (before between : Option (List ℕ)) (xs ys : List ℕ) → before ≡ option_map (λ rest. xs ++ rest) between → IfNone before (AreBytes xs) → IfNone between (AreBytes ys) →
+pub content_both : (before between : Option (List ℕ)) (xs ys : List ℕ) → before ≡ option_map (λ rest. xs ++ rest) between →
+    IfNone before (AreBytes xs) → IfNone between (AreBytes ys) →
     IfNone before (AreBytes (xs ++ ys))
 content_both (Some told) between xs ys gave content more = tt
 content_both None (Some left) xs ys gave content more = absurd (cc)
 content_both None None xs ys gave content more = All-append (λ b. b < 256) xs ys content more
 
 -- a line is, and what stands behind it
-pub content_behind : (before between : Option (List ℕ)) (text ys : List ℕ) (asked : Line) → IsLineText text asked → before ≡ option_map (λ rest. text ++ rest) between → IfNone between (AreBytes ys) →
+pub content_behind : (before between : Option (List ℕ)) (text ys : List ℕ) (asked : Line) → IsLineText text asked →
+    before ≡ option_map (λ rest. text ++ rest) between → IfNone between (AreBytes ys) →
     IfNone before (AreBytes (text ++ ys))
-content_behind before between text ys asked is gave more = content_both before between text ys gave (untold_content before text (line_bytes text asked is)) more
+content_behind before between text ys asked is gave more = content_both before between text ys gave
+    (untold_content before text (line_bytes text asked is)) more
 
 pub no_content : (told : Option (List ℕ)) → IfNone told (AreBytes [])
 no_content told = untold_content told [] (All-nil (λ b. b < 256))
@@ -148,7 +164,8 @@ pub record GivenAs (before after : Option (List ℕ)) (count : ℕ) : Type 0 whe
   pub gave : before ≡ option_map (λ rest. bytes ++ rest) after
   pub content : IfNone before (AreBytes bytes)
 
-pub given_as : (before after : Option (List ℕ)) (bytes : List ℕ) → before ≡ option_map (λ rest. bytes ++ rest) after → GivenAs before after (length bytes)
+pub given_as : (before after : Option (List ℕ)) (bytes : List ℕ) → before ≡ option_map (λ rest. bytes ++ rest) after →
+    GivenAs before after (length bytes)
 given_as (Some told) after bytes gave = record { bytes = bytes; long = refl; gave = gave; content = tt }
 given_as None (Some left) bytes gave = absurd (cc)
 given_as None None bytes gave = record {
@@ -173,8 +190,12 @@ pub record BehindBytes (told : Option (List ℕ)) (n : ℕ) (input : List ℕ) :
   pub at : Behind told n input
   pub content : IfNone told (AreBytes at.rest)
 
-pub behind_bytes : (told : Option (List ℕ)) (n : ℕ) (input : List ℕ) → IsInput (option_map (take n) told) input → IfNone told (AreBytes input) → BehindBytes told n input
-behind_bytes None n input is content = record { at = record { rest = input; told = tt; front = refl; enough = λ e. e; few = λ e. refl }; content = content }
+pub behind_bytes : (told : Option (List ℕ)) (n : ℕ) (input : List ℕ) → IsInput (option_map (take n) told) input →
+    IfNone told (AreBytes input) → BehindBytes told n input
+behind_bytes None n input is content = record {
+  at = record { rest = input; told = tt; front = refl; enough = λ e. e; few = λ e. refl };
+  content = content;
+}
 behind_bytes (Some bytes) n input is content = record { at = behind (Some bytes) n input is; content = tt }
 
 pub zero_byte : AreBytes (0 ∷ [])

@@ -1,5 +1,6 @@
 -- What one line of the input did, from the line that was read and what was done with it.
-use Rattle.std.proofs.Common.{◌≡◌, ◌≢◌, ℕ, ◌+◌, ◌<◌, ◌≤◌, nat_le, leb-true, leb-false, List, [], ◌++◌, length, take, drop, Option, Some, None, IfSome, codes, refl, sym, ap, ◌∙◌, subst, arith, inl, inr, append_assoc}
+use Rattle.std.proofs.Common.{◌≡◌, ◌≢◌, ℕ, ◌+◌, ◌<◌, ◌≤◌, nat_le, leb-true, leb-false, List, [], ◌++◌, length, take, drop, Option, Some}
+use Rattle.std.proofs.Common.{None, IfSome, codes, refl, sym, ap, ◌∙◌, subst, arith, inl, inr, append_assoc}
 use Rattle.std.specs.Option.{option_map}
 use Rattle.std.proofs.lemmas.Bool.{cases_Bool}
 use Rattle.std.proofs.lemmas.List.{length-append, length-take-le, take-append-drop}
@@ -34,8 +35,10 @@ use Rattle.command_laws.proofs.ScriptLifting.{TakesNone}
 use Rattle.qic_base.specs.Alone.{outside}
 
 -- an append's line with too few bytes behind it
-abbrev pub early_of : (text bytes : List ℕ) (asked : Line) → IsLineText text asked → length bytes < promised asked → EndsEarly (text ++ bytes)
-early_of text bytes (line.Append name n date) is short = record { name = name; promised = n; date = date; text = text; bytes = bytes; lined = is; parts = refl; short = short }
+abbrev pub early_of : (text bytes : List ℕ) (asked : Line) → IsLineText text asked → length bytes < promised asked →
+    EndsEarly (text ++ bytes)
+early_of text bytes (line.Append name n date) is short =
+    record { name = name; promised = n; date = date; text = text; bytes = bytes; lined = is; parts = refl; short = short }
 early_of text bytes line.List is short = absurd (omega arith)
 early_of text bytes (line.Restore number) is short = absurd (omega arith)
 early_of text bytes line.Scrub is short = absurd (omega arith)
@@ -44,13 +47,15 @@ early_of text bytes line.End is short = absurd (omega arith)
 
 -- ---- behind the last line that may be an item
 
-no_stop_behind : (o p : Option (List ℕ)) (text : List ℕ) (asked : Line) → IsLineText text asked → asked ≢ line.End → o ≡ option_map (λ rest. text ++ rest) p →
+no_stop_behind : (o p : Option (List ℕ)) (text : List ℕ) (asked : Line) → IsLineText text asked → asked ≢ line.End →
+    o ≡ option_map (λ rest. text ++ rest) p →
     IfSome o (λ all. (t rest : List ℕ) → all ≡ t ++ rest → ¬ (t ≡ codes "end\n"))
 no_stop_behind None p text asked is other gave = tt
 no_stop_behind (Some all) None text asked is other gave = absurd (cc)
 no_stop_behind (Some all) (Some behind) text asked is other gave = λ t rest parts stop.
     let same : all ≡ text ++ behind = cc in
-    other (same_line text (codes "end\n") behind rest asked line.End is end_is_line (sym same ∙ parts ∙ ap (λ (l : List ℕ). l ++ rest) stop)).items
+    other (same_line text (codes "end\n") behind rest asked line.End is end_is_line
+    (sym same ∙ parts ∙ ap (λ (l : List ℕ). l ++ rest) stop)).items
 
 pub on_line : {S : Type 0} (s : sources.Meaning S) (i j : S) (asked : Line) (n : ℕ) → asked ≢ line.End →
     (text : List ℕ) × IsLineText text asked × (length text ≡ n) × Gave s i j text → GaveNoEnd s i j
@@ -71,18 +76,33 @@ on_line s i j asked n other read = record {
 no_stop_there : (o : Option (List ℕ)) → IfSome o (λ all. (text rest : List ℕ) → all ≡ text ++ rest → ¬ (IsLineText text line.End)) →
     IfSome o (λ all. (t rest : List ℕ) → all ≡ t ++ rest → ¬ (t ≡ codes "end\n"))
 no_stop_there None no_line = tt
-no_stop_there (Some all) no_line = λ t rest parts stop. no_line t rest parts (subst (λ (l : List ℕ). IsLineText l line.End) (sym stop) end_is_line)
+no_stop_there (Some all) no_line = λ t rest parts stop. no_line t rest parts
+    (subst (λ (l : List ℕ). IsLineText l line.End) (sym stop) end_is_line)
 
-pub on_bad : {S : Type 0} (s : sources.Meaning S) (i j : S) (n : ℕ) → 0 < n → n ≤ 128 → GaveInLine s i j n → ((asked : Line) → BeginsWithNo s i (λ text. IsLineText text asked)) → GaveNoEnd s i j
-on_bad s i j n some few gave no_line = record { n = n; some = some; few = few; gave = gave; no_stop = no_stop_there (s.left i) (no_line line.End) }
+pub on_bad : {S : Type 0} (s : sources.Meaning S) (i j : S) (n : ℕ) → 0 < n → n ≤ 128 → GaveInLine s i j n →
+    ((asked : Line) → BeginsWithNo s i (λ text. IsLineText text asked)) → GaveNoEnd s i j
+on_bad s i j n some few gave no_line = record {
+  n = n;
+  some = some;
+  few = few;
+  gave = gave;
+  no_stop = no_stop_there (s.left i) (no_line line.End);
+}
 
 module _ {T S K : Type 0} (t : tapes.Meaning T) (s : sources.Meaning S) (k : sinks.Meaning K) where
   -- ---- from before the line was read
 
-  pub earlier_went : (a : T) (i m : S) (x : K) (new : Outside T S K) (acts : List Act) → s.faults i ≤ s.faults m → Went t s k (outside a m x) new acts → Went t s k (outside a i x) new acts
-  earlier_went a i m x new acts later went = record { did = went.did; wrote = went.wrote; source_later = let e = went.source_later in omega arith }
+  pub earlier_went : (a : T) (i m : S) (x : K) (new : Outside T S K) (acts : List Act) → s.faults m ≡ s.faults i →
+      Went t s k (outside a m x) new acts → Went t s k (outside a i x) new acts
+  earlier_went a i m x new acts later went = record {
+    did = went.did;
+    wrote = went.wrote;
+    source_later = let e = went.source_later in
+        omega arith;
+  }
 
-  pub earlier_cut : (a : T) (i m : S) (x : K) (new : Outside T S K) (acts : List Act) (failing : Failing) → s.faults i ≤ s.faults m → Cut t s k (outside a m x) new acts failing →
+  pub earlier_cut : (a : T) (i m : S) (x : K) (new : Outside T S K) (acts : List Act) (failing : Failing) → s.faults m ≡ s.faults i →
+      Cut t s k (outside a m x) new acts failing →
       Cut t s k (outside a i x) new acts failing
   earlier_cut a i m x new acts TapeFails later cut = record {
     front = cut.front;
@@ -102,13 +122,15 @@ module _ {T S K : Type 0} (t : tapes.Meaning T) (s : sources.Meaning S) (k : sin
     cause = Rose-after (s.faults i) (s.faults m) (s.faults new.source) later cut.cause;
     source_later = let e = cut.source_later in omega arith;
   }
-  earlier_cut a i m x new acts SinkFails later cut = record { at = cut.at; did = cut.did; broke = cut.broke; source_later = let e = cut.source_later in omega arith }
+  earlier_cut a i m x new acts SinkFails later cut =
+      record { at = cut.at; did = cut.did; broke = cut.broke; source_later = let e = cut.source_later in omega arith }
 
-  module _ (store after : StoreView) (a b : T) (i m j : S) (x y : K) (later : s.faults i ≤ s.faults m) where
+  module _ (store after : StoreView) (a b : T) (i m j : S) (x y : K) (later : s.faults m ≡ s.faults i) where
     -- ---- a line that is no end
 
     module _ (asked : Line) (text : List ℕ) (is : IsLineText text asked) (other : asked ≢ line.End) (gave : Gave s i m text) where
-      pub heard_item : (n : ℕ) → length text ≡ n → ItemDone t s k store after (outside a m x) (outside b j y) asked → HeardItem t s k store after (outside a i x) (outside b j y) (n + promised asked)
+      pub heard_item : (n : ℕ) → length text ≡ n → ItemDone t s k store after (outside a m x) (outside b j y) asked →
+          HeardItem t s k store after (outside a i x) (outside b j y) (n + promised asked)
       heard_item n long done = record {
         item = record { line = asked; bytes = done.bytes };
         text = text ++ done.bytes;
@@ -146,7 +168,8 @@ module _ {T S K : Type 0} (t : tapes.Meaning T) (s : sources.Meaning S) (k : sin
       }
 
       -- what the plain machine does next is what the line would do
-      would_next : (c : Cartridge) (number place : ℕ) (rest : List ℕ) (acts : List Act) → number ≤ most_items → NextDoes c store.words store.entries number place (text ++ rest) acts →
+      would_next : (c : Cartridge) (number place : ℕ) (rest : List ℕ) (acts : List Act) → number ≤ most_items →
+          NextDoes c store.words store.entries number place (text ++ rest) acts →
           WouldDo c store.words store.entries asked rest acts
       would_next c number place rest acts within (inl (below, (item, (front, (behind, (parts, item_is, (did, same, does))))))) =
           let one = line_of_item text rest front behind asked item is item_is parts in
@@ -166,8 +189,10 @@ module _ {T S K : Type 0} (t : tapes.Meaning T) (s : sources.Meaning S) (k : sin
       would_next c number place rest acts within (inr (AtStop, ends, does)) =
           absurd (other (same_line text (codes "end\n") rest ends.0 asked line.End is end_is_line ends.1).items)
       would_next c number place rest acts within (inr (AtFault line_number at, ends, inl (below, (early, (meeting, meets, are))))) =
-          let one = same_line text early.text rest early.bytes asked (line.Append early.name early.promised early.date) is early.lined early.parts in
-          let does : EarlyDoes c store.words store.entries (line.Append early.name early.promised early.date) early.bytes acts = (meeting, meets, are) in
+          let one = same_line text early.text rest early.bytes asked (line.Append early.name early.promised early.date) is early.lined
+          early.parts in
+          let does : EarlyDoes c store.words store.entries (line.Append early.name early.promised early.date) early.bytes acts =
+          (meeting, meets, are) in
           inr (
             (let e = early.short in let r = ap length one.rests in let p = ap promised one.items in omega arith),
             subst (λ (bs : List ℕ). EarlyDoes c store.words store.entries asked bs acts) (sym one.rests)
@@ -184,7 +209,8 @@ module _ {T S K : Type 0} (t : tapes.Meaning T) (s : sources.Meaning S) (k : sin
                     (
                       drop n rest,
                       (
-                        ap (λ (bs : List ℕ). text ++ bs) (sym (take-append-drop n rest)) ∙ sym (append_assoc text (take n rest) (drop n rest)),
+                        ap (λ (bs : List ℕ). text ++ bs) (sym (take-append-drop n rest))
+                            ∙ sym (append_assoc text (take n rest) (drop n rest)),
                         item_of text (take n rest) asked is other (length-take-le n rest (leb-true n (length rest) enough)),
                       ),
                     ),
@@ -195,22 +221,28 @@ module _ {T S K : Type 0} (t : tapes.Meaning T) (s : sources.Meaning S) (k : sin
                 (early_of text rest asked is (leb-false (promised asked) (length rest) few)))
           ]
 
-      pub heard_cut : (number place : ℕ) (failing : Failing) → number ≤ most_items → ItemCut t s k store (outside a m x) (outside b j y) asked failing →
+      pub heard_cut : (number place : ℕ) (failing : Failing) → number ≤ most_items → ItemCut t s k store (outside a m x)
+          (outside b j y) asked failing →
           HeardCut t s k store (outside a i x) (outside b j y) number place failing
       heard_cut number place failing within cut = record {
         rest = text ++ cut.rest;
         is_told = flip (s.left i) (text ++ cut.rest) (whole_told (s.left i) (s.left m) text cut.rest gave cut.is_told);
         content = content_behind (s.left i) (s.left m) text cut.rest asked is gave cut.content;
-        told = Tells-map t a (λ c. (acts : List Act) → WouldDo c store.words store.entries asked cut.rest acts → Cut t s k (outside a m x) (outside b j y) acts failing)
-            (λ c. (acts : List Act) → NextDoes c store.words store.entries number place (text ++ cut.rest) acts → Cut t s k (outside a i x) (outside b j y) acts failing)
-            (λ c each acts next. earlier_cut a i m x (outside b j y) acts failing later (each acts (would_next c number place cut.rest acts within next))) cut.told;
+        told = Tells-map t a (λ c. (acts : List Act) → WouldDo c store.words store.entries asked cut.rest acts →
+            Cut t s k (outside a m x) (outside b j y) acts failing)
+            (λ c. (acts : List Act) → NextDoes c store.words store.entries number place (text ++ cut.rest) acts →
+            Cut t s k (outside a i x) (outside b j y) acts failing)
+            (λ c each acts next. earlier_cut a i m x (outside b j y) acts failing later
+            (each acts (would_next c number place cut.rest acts within next))) cut.told;
         acts = cut.acts;
         cut = earlier_cut a i m x (outside b j y) cut.acts failing later cut.cut;
       }
 
+  module _ (store after : StoreView) (a b : T) (i m j : S) (x y : K) (later : s.faults i ≤ s.faults m) where
     -- ---- the source failed before the line's end
 
-    pub unheard : TakesNone k → (number place : ℕ) → Rose (s.faults i) (s.faults m) → HeardCut t s k store (outside a i x) (outside a m x) number place SourceFails
+    pub unheard : TakesNone k → (number place : ℕ) → Rose (s.faults i) (s.faults m) → HeardCut t s k store (outside a i x)
+        (outside a m x) number place SourceFails
     unheard none number place rose =
         let rest = any_bytes (s.left i) in
         let cut : Cut t s k (outside a i x) (outside a m x) [] SourceFails = record {
@@ -226,7 +258,8 @@ module _ {T S K : Type 0} (t : tapes.Meaning T) (s : sources.Meaning S) (k : sin
           rest = rest.rest;
           is_told = rest.told;
           content = rest.content;
-          told = tells_always t a (λ c. (acts : List Act) → NextDoes c store.words store.entries number place rest.rest acts → Cut t s k (outside a i x) (outside a m x) acts SourceFails)
+          told = tells_always t a (λ c. (acts : List Act) → NextDoes c store.words store.entries number place rest.rest acts →
+              Cut t s k (outside a i x) (outside a m x) acts SourceFails)
               (λ c acts next. cut_is_longer t s k (outside a i x) (outside a m x) [] acts SourceFails cut);
           acts = [];
           cut = cut;

@@ -12,7 +12,8 @@ use Rattle.volume_script.specs.Items.{WouldDo}
 -- ---- lines that promise no bytes
 
 -- what they would do they do
-pub would_without : (c : Cartridge) (words : List ℕ) (entries : List Entry) (asked : Line) (rest : List ℕ) (acts : List Act) → promised asked ≡ 0 →
+pub would_without : (c : Cartridge) (words : List ℕ) (entries : List Entry) (asked : Line) (rest : List ℕ) (acts : List Act) →
+    promised asked ≡ 0 →
     WouldDo c words entries asked rest acts → (did : Did) × (did.acts ≡ acts) × LineDoes c words entries asked [] did
 would_without c words entries asked rest acts none (inl (bytes, (behind, (parts, long, (did, same, does))))) =
     let empty : bytes ≡ [] = nil_from_length bytes (long ∙ none) in

@@ -1,5 +1,6 @@
 -- A run of a script, item after item: the acts so far went, and then those of what is left went or were cut off.
-use Rattle.std.proofs.Common.{◌≡◌, ℕ, ◌+◌, ◌*◌, ◌<◌, ◌≤◌, List, [], ◌∷◌, ◌++◌, length, drop, None, IfSome, IfNone, Result, Ok, Err, codes, refl, sym, ap, ◌∙◌, subst, arith, inl, inr, append_assoc, append-nil, ◌⊎◌}
+use Rattle.std.proofs.Common.{◌≡◌, ◌≢◌, ℕ, ◌+◌, ◌*◌, ◌<◌, ◌≤◌, List, [], ◌∷◌, ◌++◌, length, drop, None, IfSome, IfNone, Result, Ok, Err}
+use Rattle.std.proofs.Common.{codes, refl, sym, ap, ◌∙◌, subst, arith, inl, inr, append_assoc, append-nil, ◌⊎◌}
 use Rattle.std.proofs.lemmas.List.{length-append, length_push}
 use Rattle.std.proofs.Math.Seq.{drop-append_seam}
 use Rattle.qic_base.specs.Cartridge.{Cartridge}
@@ -11,7 +12,8 @@ use Rattle.cartridge_spec.specs.Table.{Entry}
 use Rattle.cartridge_spec.specs.Settling.{changed_by}
 use Rattle.segment_io.proofs.Going.{tells_always}
 use Rattle.command_spec.specs.declared.line.Line.{Line}
-use Rattle.command_spec.specs.Input.{Item, IsItem, IsFault, Ending, AtEnd, AtStop, AtFault, ItemsEnd, HasItems, IsScript, most_items, promised, IsLineText, input_status}
+use Rattle.command_spec.specs.Input.{Item, IsItem, IsFault, Ending, AtEnd, AtStop, AtFault, ItemsEnd, HasItems, IsScript, most_items}
+use Rattle.command_spec.specs.Input.{promised, IsLineText, input_status}
 use Rattle.qic_base.specs.SourceCalls.{Gave, HasEnded}
 use Rattle.qic_base.proofs.Giving.{Gave-Gave, Gave-end, Gave-nothing}
 use Rattle.command_laws.proofs.TextInputs.{one_reading, no_ending}
@@ -23,7 +25,8 @@ use Rattle.volume_script.specs.declared.fault.ScriptFault.{ScriptFault}
 use Rattle.volume_script.specs.Ending.{HearsEnd, RepliesEnd}
 use Rattle.volume_script.specs.Heard.{longest, HeardItem, HeardNone, HeardShort, HeardCut, Hears, NextDoes}
 use Rattle.command_laws.specs.ScriptItems.{EarlyDoes}
-use Rattle.command_spec.specs.Script.{end_line, Did, EndDoes, EndsEarly, ItemsDo, ScriptDoes, acts_of, cartridge_behind, entries_behind, place_behind, reply, items_taken}
+use Rattle.command_spec.specs.Script.{end_line, Did, EndDoes, EndsEarly, ItemsDo, ScriptDoes, acts_of, cartridge_behind, entries_behind}
+use Rattle.command_spec.specs.Script.{place_behind, reply, items_taken}
 use Rattle.volume_script.specs.Runs.{Leaves, Ended, CutOff}
 use Rattle.volume_script.specs.Answers.{Answer, AllDone, FaultIn, script_answer, script_status}
 use Rattle.command_laws.specs.ScriptTerms.{FaultDoes, ItemDoes}
@@ -31,9 +34,11 @@ use Rattle.command_spec.specs.Outcome.{CommandOutcome}
 use Rattle.volume_script.proofs.Appended.{flip}
 use Rattle.volume_script.proofs.Content.{any_bytes, content_both, ended_content, no_content}
 use Rattle.volume_script.proofs.Hearing.{early_of}
-use Rattle.volume_script.proofs.Input.{no_line_fault, no_line_early, early_fault, none_content, none_rest, on_content, on_rest, stop_content}
+use Rattle.volume_script.proofs.Input.{no_line_fault, no_line_early, early_fault, none_content, none_rest, on_content, on_rest}
+use Rattle.volume_script.proofs.Input.{stop_content}
 use Rattle.command_laws.proofs.ScriptLifting.{TakesNone, replied_went, replied_cut}
-use Rattle.command_laws.proofs.ScriptReading.{Reads, reads_more, read_end, place_is, split_reading, acts_of-append, entries_behind-append, cartridge_is, do_more, split_doing}
+use Rattle.command_laws.proofs.ScriptReading.{Reads, reads_more, read_end, place_is, split_reading, acts_of-append, entries_behind-append}
+use Rattle.command_laws.proofs.ScriptReading.{cartridge_is, do_more, split_doing}
 use Rattle.qic_base.specs.Source.{IsInput}
 use Rattle.qic_base.specs.Disk.{AreBytes}
 use Rattle.qic_base.specs.Alone.{outside}
@@ -64,7 +69,8 @@ pub record Ran (first now : StoreView) (items : List Item) (acts : List Act) (c 
   pub entries : entries_behind first.entries dids ≡ now.entries
 
 -- so many items were read, with so many bytes; the acts of all of them went
-pub record SoFar {T S K : Type 0} (t : tapes.Meaning T) (s : sources.Meaning S) (k : sinks.Meaning K) (first store : StoreView) (start now : Outside T S K) (lines place : ℕ) : Type 0 where
+pub record SoFar {T S K : Type 0} (t : tapes.Meaning T) (s : sources.Meaning S) (k : sinks.Meaning K) (first store : StoreView)
+    (start now : Outside T S K) (lines place : ℕ) : Type 0 where
   pub items : List Item
   pub texts : List ℕ
   pub reads : Reads texts items
@@ -90,25 +96,35 @@ module _ {T S K : Type 0} {t : tapes.Meaning T} {s : sources.Meaning S} {k : sin
     gave = Gave-nothing s start.source start.source refl;
     content = no_content (s.left start.source);
     acts = [];
-    went = record { did = Done-nothing t start.tape; wrote = record { took = none start.sink; later = omega arith }; source_later = omega arith };
+    went = record {
+      did = Done-nothing t start.tape;
+      wrote = record { took = none start.sink; later = omega arith };
+      source_later =
+          omega arith;
+    };
     told = tells_always t start.tape (Ran first first [] []) (λ c. record { dids = []; ran_so = tt; are = refl; entries = refl });
     words = refl;
   }
 
-  module _ (both : TakesBoth k) (first store after : StoreView) (start now new : Outside T S K) (lines place : ℕ) (far : SoFar t s k first store start now lines place) where
+  module _ (both : TakesBoth k) (first store after : StoreView) (start now new : Outside T S K) (lines place : ℕ)
+      (far : SoFar t s k first store start now lines place) where
     -- what is told of the cartridge behind the items so far
-    at_start : (P : Cartridge → Type 0) → tape_calls.Tells t now.tape P → tape_calls.Tells t start.tape (λ c. Ran first store far.items far.acts c × P (changed_by (steps_of far.acts) c))
+    at_start : (P : Cartridge → Type 0) → tape_calls.Tells t now.tape P →
+        tape_calls.Tells t start.tape (λ c. Ran first store far.items far.acts c × P (changed_by (steps_of far.acts) c))
     at_start P told =
-        tells_two t start.tape (Ran first store far.items far.acts) (λ c. P (changed_by (steps_of far.acts) c)) (λ c. Ran first store far.items far.acts c × P (changed_by (steps_of far.acts) c))
+        tells_two t start.tape (Ran first store far.items far.acts) (λ c. P (changed_by (steps_of far.acts) c))
+        (λ c. Ran first store far.items far.acts c × P (changed_by (steps_of far.acts) c))
         (λ c ran is. (ran, is)) far.told (back t start.tape now.tape (steps_of far.acts) P far.went.did.told told)
 
     -- the cartridge and the volumes behind them
-    behind_is : (c : Cartridge) (ran : Ran first store far.items far.acts c) → changed_by (steps_of far.acts) c ≡ cartridge_behind c ran.dids
+    behind_is : (c : Cartridge) (ran : Ran first store far.items far.acts c) →
+        changed_by (steps_of far.acts) c ≡ cartridge_behind c ran.dids
     behind_is c ran = ap (λ (acts : List Act). changed_by (steps_of acts) c) ran.are ∙ sym (cartridge_is c ran.dids)
 
     -- ---- one item more
 
-    pub next : (n : ℕ) → after.words ≡ store.words → n ≤ longest → HeardItem t s k store after now new n → SoFar t s k first after start new (lines + 1) (place + n)
+    pub next : (n : ℕ) → after.words ≡ store.words → n ≤ longest → HeardItem t s k store after now new n →
+        SoFar t s k first after start new (lines + 1) (place + n)
     next n words few heard = record {
       items = far.items ++ heard.item ∷ [];
       texts = far.texts ++ heard.text;
@@ -120,11 +136,15 @@ module _ {T S K : Type 0} {t : tapes.Meaning T} {s : sources.Meaning S} {k : sin
       content = content_both (s.left start.source) (s.left now.source) far.texts heard.text far.gave far.content heard.content;
       acts = far.acts ++ heard.acts;
       went = went_both t s k both start now new far.acts heard.acts far.went heard.went;
-      told = Tells-map t start.tape _ (Ran first after (far.items ++ heard.item ∷ []) (far.acts ++ heard.acts)) (λ c both_told. more c both_told.0 both_told.1)
-          (at_start (λ c. ItemDoes c store.words store.entries heard.item (record { acts = heard.acts; entries = after.entries })) heard.told);
+      told = Tells-map t start.tape _ (Ran first after (far.items ++ heard.item ∷ []) (far.acts ++ heard.acts))
+          (λ c both_told. more c both_told.0 both_told.1)
+          (at_start (λ c. ItemDoes c store.words store.entries heard.item (record { acts = heard.acts; entries = after.entries }))
+          heard.told);
       words = words ∙ far.words;
     } where
-      more : (c : Cartridge) → Ran first store far.items far.acts c → ItemDoes (changed_by (steps_of far.acts) c) store.words store.entries heard.item (record { acts = heard.acts; entries = after.entries }) →
+      more : (c : Cartridge) → Ran first store far.items far.acts c →
+          ItemDoes (changed_by (steps_of far.acts) c) store.words store.entries heard.item
+          (record { acts = heard.acts; entries = after.entries }) →
           Ran first after (far.items ++ heard.item ∷ []) (far.acts ++ heard.acts) c
       more c ran does =
           let did : Did = record { acts = heard.acts; entries = after.entries } in
@@ -133,37 +153,47 @@ module _ {T S K : Type 0} {t : tapes.Meaning T} {s : sources.Meaning S} {k : sin
           let R : List Entry → Type 0 = λ es. ItemDoes (cartridge_behind c ran.dids) first.words es heard.item did in
           record {
             dids = ran.dids ++ did ∷ [];
-            ran_so = do_more c first.words first.entries far.items heard.item ran.dids did ran.ran_so (subst R (sym ran.entries) (subst Q far.words (subst P (behind_is c ran) does)));
-            are = ap (λ (acts : List Act). acts ++ heard.acts) ran.are ∙ ap (λ (acts : List Act). acts_of ran.dids ++ acts) (sym (append-nil heard.acts)) ∙ sym (acts_of-append ran.dids (did ∷ []));
+            ran_so = do_more c first.words first.entries far.items heard.item ran.dids did ran.ran_so
+                (subst R (sym ran.entries) (subst Q far.words (subst P (behind_is c ran) does)));
+            are = ap (λ (acts : List Act). acts ++ heard.acts) ran.are ∙ ap (λ (acts : List Act). acts_of ran.dids ++ acts)
+                (sym (append-nil heard.acts)) ∙ sym (acts_of-append ran.dids (did ∷ []));
             entries = entries_behind-append first.entries ran.dids (did ∷ []);
           }
 
     -- ---- an end
 
     -- how the input ends behind the items is how it ends
-    ended_so : (rest : List ℕ) (ending : Ending) (answer : Answer) (last : List Act) → lines ≤ most_items → Went t s k now new last → IfSome (s.left now.source) (λ bytes. bytes ≡ rest) →
-        IfNone (s.left now.source) (AreBytes rest) → ItemsEnd IsItem (lines + 1) place rest ending → script_answer ending ≡ answer → tape_calls.Tells t now.tape (λ c. EndDoes c store.words store.entries rest ending last) →
+    ended_so : (rest : List ℕ) (ending : Ending) (answer : Answer) (last : List Act) → lines ≤ most_items → Went t s k now new last →
+        IfSome (s.left now.source) (λ bytes. bytes ≡ rest) →
+        IfNone (s.left now.source) (AreBytes rest) → ItemsEnd IsItem (lines + 1) place rest ending → script_answer ending ≡ answer →
+        tape_calls.Tells t now.tape (λ c. EndDoes c store.words store.entries rest ending last) →
         (answer ≡ AllDone → last ≡ reply end_line ∷ []) →
-        ((read : IsScript (far.texts ++ rest) far.items ending) → Leaves s start.source new.source (items_taken (far.texts ++ rest) far.items ending read) answer) →
+        ((read : IsScript (far.texts ++ rest) far.items ending) →
+        Leaves s start.source new.source (items_taken (far.texts ++ rest) far.items ending read) answer) →
         Ended t s k first start new answer
     ended_so rest ending answer last few went told content ends answered does only left =
         let input : List ℕ = far.texts ++ rest in
         let read : IsScript input far.items ending =
-        read_end far.items far.texts rest 1 0 (lines + 1) place ending far.reads (let n = far.number in omega arith) (let n = far.number in omega arith) (let b = far.bytes in omega arith) ends in
+        read_end far.items far.texts rest 1 0 (lines + 1) place ending far.reads (let n = far.number in omega arith)
+        (let n = far.number in omega arith) (let b = far.bytes in omega arith) ends in
         let behind : drop (place_behind 1 0 input far.items ending read) input ≡ rest =
-        ap (λ (n : ℕ). drop n input) (place_is far.items far.texts rest 1 0 input ending read refl far.reads ∙ plain_place far.texts) ∙ drop-append_seam far.texts rest in
+        ap (λ (n : ℕ). drop n input) (place_is far.items far.texts rest 1 0 input ending read refl far.reads ∙ plain_place far.texts)
+        ∙ drop-append_seam far.texts rest in
         record {
           input = input;
           is_told = whole_told (s.left start.source) (s.left now.source) far.texts rest far.gave told;
           content = content_both (s.left start.source) (s.left now.source) far.texts rest far.gave far.content content;
           outcome = record { acts = far.acts ++ last; taken = items_taken input far.items ending read; status = input_status ending };
-          told = Tells-map t start.tape _ (λ c. ScriptDoes c first.words first.entries input (record { acts = far.acts ++ last; taken = items_taken input far.items ending read; status = input_status ending }))
+          told = Tells-map t start.tape _
+              (λ c. ScriptDoes c first.words first.entries input
+              (record { acts = far.acts ++ last; taken = items_taken input far.items ending read; status = input_status ending }))
               (λ c both_told.
               let ran = both_told.0 in
               let P : Cartridge → Type 0 = λ d. EndDoes d store.words store.entries rest ending last in
               let Q : List ℕ → Type 0 = λ ws. EndDoes (cartridge_behind c ran.dids) ws store.entries rest ending last in
               let R : List Entry → Type 0 = λ es. EndDoes (cartridge_behind c ran.dids) first.words es rest ending last in
-              let V : List ℕ → Type 0 = λ bs. EndDoes (cartridge_behind c ran.dids) first.words (entries_behind first.entries ran.dids) bs ending last in
+              let V : List ℕ → Type 0 = λ bs. EndDoes (cartridge_behind c ran.dids) first.words
+              (entries_behind first.entries ran.dids) bs ending last in
               record {
                 items = far.items;
                 ending = ending;
@@ -172,7 +202,11 @@ module _ {T S K : Type 0} {t : tapes.Meaning T} {s : sources.Meaning S} {k : sin
                 did = ran.ran_so;
                 last = last;
                 ends = subst V (sym behind) (subst R (sym ran.entries) (subst Q far.words (subst P (behind_is c ran) both_told.1)));
-                is = ap (λ (acts : List Act). record { acts = acts ++ last; taken = items_taken input far.items ending read; status = input_status ending }) ran.are;
+                is = ap (λ (acts : List Act). record {
+                  acts = acts ++ last;
+                  taken = items_taken input far.items ending read;
+                  status = input_status ending;
+                }) ran.are;
               }) (at_start (λ c. EndDoes c store.words store.entries rest ending last) does);
           answered = status_is ending ∙ ap script_status answered;
           went = went_both t s k both start now new far.acts last far.went went;
@@ -183,49 +217,61 @@ module _ {T S K : Type 0} {t : tapes.Meaning T} {s : sources.Meaning S} {k : sin
           by_ending = sym answered;
           replied = λ done. (
             text_of far.acts,
-            text_of-append far.acts last ∙ ap (λ (acts : List Act). text_of far.acts ++ text_of acts) (only done) ∙ ap (λ (text : List ℕ). text_of far.acts ++ text) (append-nil end_line),
+            text_of-append far.acts last ∙ ap (λ (acts : List Act). text_of far.acts ++ text_of acts) (only done)
+                ∙ ap (λ (text : List ℕ). text_of far.acts ++ text) (append-nil end_line),
           );
         }
 
     -- a fault of the outside cut off what comes next
-    pub cut_so : (failing : Failing) → lines ≤ most_items → HeardCut t s k store now new (lines + 1) place failing → CutOff t s k first start new failing
+    pub cut_so : (failing : Failing) → lines ≤ most_items → HeardCut t s k store now new (lines + 1) place failing →
+        CutOff t s k first start new failing
     cut_so failing few heard =
         let input : List ℕ = far.texts ++ heard.rest in
         record {
           input = input;
           is_told = whole_told (s.left start.source) (s.left now.source) far.texts heard.rest far.gave heard.is_told;
           content = content_both (s.left start.source) (s.left now.source) far.texts heard.rest far.gave far.content heard.content;
-          told = Tells-map t start.tape _ (λ c. (outcome : CommandOutcome) → ScriptDoes c first.words first.entries input outcome → Cut t s k start new outcome.acts failing)
+          told = Tells-map t start.tape _ (λ c. (outcome : CommandOutcome) → ScriptDoes c first.words first.entries input outcome →
+              Cut t s k start new outcome.acts failing)
               (λ c both_told outcome does. by_outcome c both_told.0 both_told.1 outcome does)
-              (at_start (λ c. (acts : List Act) → NextDoes c store.words store.entries (lines + 1) place heard.rest acts → Cut t s k now new acts failing) heard.told);
+              (at_start (λ c. (acts : List Act) → NextDoes c store.words store.entries (lines + 1) place heard.rest acts →
+              Cut t s k now new acts failing) heard.told);
           acts = far.acts ++ heard.acts;
           cut = went_then_cut t s k both start now new far.acts heard.acts failing far.went heard.cut;
         }
       where
         -- the acts of the machine's outcome begin with those so far and the next ones
-        later : (c : Cartridge) (ran : Ran first store far.items far.acts c) (rears : List Did) (last next_acts others : List Act) → acts_of rears ++ last ≡ next_acts ++ others →
+        later : (c : Cartridge) (ran : Ran first store far.items far.acts c) (rears : List Did) (last next_acts others : List Act) →
+            acts_of rears ++ last ≡ next_acts ++ others →
             Cut t s k now new next_acts failing → Cut t s k start new (acts_of (ran.dids ++ rears) ++ last) failing
         later c ran rears last next_acts others is cut =
             let parts : far.acts ++ (next_acts ++ others) ≡ acts_of (ran.dids ++ rears) ++ last =
             ap (λ (acts : List Act). far.acts ++ acts) (sym is) ∙ sym (append_assoc far.acts (acts_of rears) last)
-            ∙ ap (λ (acts : List Act). (acts ++ acts_of rears) ++ last) ran.are ∙ ap (λ (acts : List Act). acts ++ last) (sym (acts_of-append ran.dids rears)) in
+            ∙ ap (λ (acts : List Act). (acts ++ acts_of rears) ++ last) ran.are ∙ ap (λ (acts : List Act). acts ++ last)
+            (sym (acts_of-append ran.dids rears)) in
             subst (λ (acts : List Act). Cut t s k start new acts failing) parts
-            (went_then_cut t s k both start now new far.acts (next_acts ++ others) failing far.went (cut_is_longer t s k now new next_acts others failing cut))
+            (went_then_cut t s k both start now new far.acts (next_acts ++ others) failing far.went
+            (cut_is_longer t s k now new next_acts others failing cut))
 
         -- the next acts, by the items that are left
         by_more : (c : Cartridge) (ran : Ran first store far.items far.acts c) →
-            ((acts : List Act) → NextDoes (changed_by (steps_of far.acts) c) store.words store.entries (lines + 1) place heard.rest acts → Cut t s k now new acts failing) →
-            (more : List Item) (rears : List Did) (ending : Ending) (last : List Act) → HasItems IsItem (lines + 1) place heard.rest more ending →
+            ((acts : List Act) → NextDoes (changed_by (steps_of far.acts) c) store.words store.entries (lines + 1) place heard.rest acts →
+            Cut t s k now new acts failing) →
+            (more : List Item) (rears : List Did) (ending : Ending) (last : List Act) →
+            HasItems IsItem (lines + 1) place heard.rest more ending →
             ItemsDo (cartridge_behind c ran.dids) first.words (entries_behind first.entries ran.dids) more rears →
-            (more ≡ [] → EndDoes (cartridge_behind c (ran.dids ++ rears)) first.words (entries_behind first.entries (ran.dids ++ rears)) heard.rest ending last) →
+            (more ≡ [] → EndDoes (cartridge_behind c (ran.dids ++ rears)) first.words
+            (entries_behind first.entries (ran.dids ++ rears)) heard.rest ending last) →
             Cut t s k start new (acts_of (ran.dids ++ rears) ++ last) failing
         by_more c ran each [] [] ending last read ran_so ends =
             let here = ends refl in
             let P : Cartridge → Type 0 = λ d. EndDoes d first.words (entries_behind first.entries ran.dids) heard.rest ending last in
             let Q : List Entry → Type 0 = λ es. EndDoes (changed_by (steps_of far.acts) c) first.words es heard.rest ending last in
             let R : List ℕ → Type 0 = λ ws. EndDoes (changed_by (steps_of far.acts) c) ws store.entries heard.rest ending last in
-            let V : List Did → Type 0 = λ ds. EndDoes (cartridge_behind c ds) first.words (entries_behind first.entries ds) heard.rest ending last in
-            let does = subst R (sym far.words) (subst Q ran.entries (subst P (sym (behind_is c ran)) (subst V (append-nil ran.dids) here))) in
+            let V : List Did → Type 0 = λ ds. EndDoes (cartridge_behind c ds) first.words
+            (entries_behind first.entries ds) heard.rest ending last in
+            let does = subst R (sym far.words) (subst Q ran.entries (subst P (sym (behind_is c ran)) (subst V (append-nil ran.dids) here)))
+            in
             later c ran [] last last [] (sym (append-nil last)) (each last (inr (ending, read, does)))
         by_more c ran each [] (r ∷ rears) ending last read ran_so ends = absurd ran_so
         by_more c ran each (m ∷ more) [] ending last read ran_so ends = absurd ran_so
@@ -238,16 +284,21 @@ module _ {T S K : Type 0} {t : tapes.Meaning T} {s : sources.Meaning S} {k : sin
             (each r.acts (inl (within, (m, (text, (behind, (parts, is, (r, refl, now_does))))))))
 
         by_outcome : (c : Cartridge) → Ran first store far.items far.acts c →
-            ((acts : List Act) → NextDoes (changed_by (steps_of far.acts) c) store.words store.entries (lines + 1) place heard.rest acts → Cut t s k now new acts failing) →
-            (outcome : CommandOutcome) → ScriptDoes c first.words first.entries (far.texts ++ heard.rest) outcome → Cut t s k start new outcome.acts failing
+            ((acts : List Act) → NextDoes (changed_by (steps_of far.acts) c) store.words store.entries (lines + 1) place heard.rest acts →
+            Cut t s k now new acts failing) →
+            (outcome : CommandOutcome) → ScriptDoes c first.words first.entries (far.texts ++ heard.rest) outcome →
+            Cut t s k start new outcome.acts failing
         by_outcome c ran each outcome does =
             let input : List ℕ = far.texts ++ heard.rest in
             let reading = split_reading far.items far.texts heard.rest 1 0 (lines + 1) place input does.items does.ending far.reads refl
             (let n = far.number in omega arith) (let n = far.number in omega arith) (let b = far.bytes in omega arith) does.read in
             let P : List Item → Type 0 = λ is. ItemsDo c first.words first.entries is does.dids in
-            let doing = split_doing far.items reading.more c first.words first.entries ran.dids does.dids ran.ran_so (subst P reading.whole does.did) in
-            let Q : List Did → Type 0 = λ ds. EndDoes (cartridge_behind c ds) first.words (entries_behind first.entries ds) (drop (place_behind 1 0 input does.items does.ending does.read) input) does.ending does.last in
-            let R : List ℕ → Type 0 = λ bs. EndDoes (cartridge_behind c (ran.dids ++ doing.rears)) first.words (entries_behind first.entries (ran.dids ++ doing.rears)) bs does.ending does.last in
+            let doing = split_doing far.items reading.more c first.words first.entries ran.dids does.dids ran.ran_so
+            (subst P reading.whole does.did) in
+            let Q : List Did → Type 0 = λ ds. EndDoes (cartridge_behind c ds) first.words (entries_behind first.entries ds)
+            (drop (place_behind 1 0 input does.items does.ending does.read) input) does.ending does.last in
+            let R : List ℕ → Type 0 = λ bs. EndDoes (cartridge_behind c (ran.dids ++ doing.rears)) first.words
+            (entries_behind first.entries (ran.dids ++ doing.rears)) bs does.ending does.last in
             let V : List Item → Type 0 = λ is. Reads far.texts is in
             subst (λ (o : CommandOutcome). Cut t s k start new o.acts failing) (sym does.is)
             (subst (λ (ds : List Did). Cut t s k start new (acts_of ds ++ does.last) failing) (sym doing.whole)
@@ -255,26 +306,35 @@ module _ {T S K : Type 0} {t : tapes.Meaning T} {s : sources.Meaning S} {k : sin
             (λ none.
             let all : does.items ≡ far.items = reading.whole ∙ ap (λ (xs : List Item). far.items ++ xs) none ∙ append-nil far.items in
             let at : drop (place_behind 1 0 input does.items does.ending does.read) input ≡ heard.rest =
-            ap (λ (n : ℕ). drop n input) (place_is does.items far.texts heard.rest 1 0 input does.ending does.read refl (subst V (sym all) far.reads) ∙ plain_place far.texts) ∙ drop-append_seam far.texts heard.rest in
+            ap (λ (n : ℕ). drop n input)
+            (place_is does.items far.texts heard.rest 1 0 input does.ending does.read refl (subst V (sym all) far.reads)
+            ∙ plain_place far.texts) ∙ drop-append_seam far.texts heard.rest in
             subst R at (subst Q doing.whole does.ends))))
 
   -- ---- the input is over
 
-  module _ (both : TakesBoth k) (none : TakesNone k) (first store : StoreView) (start now : Outside T S K) (lines place : ℕ) (far : SoFar t s k first store start now lines place) (few : lines ≤ most_items) where
+  module _ (both : TakesBoth k) (none : TakesNone k) (first store : StoreView) (start now : Outside T S K) (lines place : ℕ)
+      (far : SoFar t s k first store start now lines place) (few : lines ≤ most_items) where
     -- the last acts are these alone
     end_alone : (c : Cartridge) (rest : List ℕ) (ending : Ending) (acts last : List Act) → ItemsEnd IsItem (lines + 1) place rest ending →
-        (EndDoes c store.words store.entries rest ending acts → last ≡ acts) → NextDoes c store.words store.entries (lines + 1) place rest acts → last ≡ acts
+        (EndDoes c store.words store.entries rest ending acts → last ≡ acts) → NextDoes c store.words store.entries
+        (lines + 1) place rest acts → last ≡ acts
     end_alone c rest ending acts last ends only (inl (below, (item, (text, (behind, (parts, is, did)))))) =
         absurd (no_ending IsItem inputs.items (lines + 1) place rest text behind item ending ends below parts is)
     end_alone c rest ending acts last ends only (inr (other, again, does)) =
         let same : other ≡ ending = (one_reading IsItem inputs.items (lines + 1) place rest [] [] other ending again ends).1 in
         only (subst (λ (e : Ending). EndDoes c store.words store.entries rest e acts) same does)
 
-    module _ (tape : T) (source : S) (sink y : K) (rest : List ℕ) (ending : Ending) (told : IfSome (s.left now.source) (λ bytes. bytes ≡ rest)) (content : IfNone (s.left now.source) (AreBytes rest)) (ends : ItemsEnd IsItem (lines + 1) place rest ending)
-        (went : Went t s k now (outside tape source sink) []) (does : (c : Cartridge) → EndDoes c store.words store.entries rest ending (reply end_line ∷ []))
-        (only : (c : Cartridge) (acts : List Act) → EndDoes c store.words store.entries rest ending acts → (reply end_line ∷ []) ≡ acts) where
+    module _ (tape : T) (source : S) (sink y : K) (rest : List ℕ) (ending : Ending)
+        (told : IfSome (s.left now.source) (λ bytes. bytes ≡ rest)) (content : IfNone (s.left now.source) (AreBytes rest))
+        (ends : ItemsEnd IsItem (lines + 1) place rest ending)
+        (went : Went t s k now (outside tape source sink) [])
+        (does : (c : Cartridge) → EndDoes c store.words store.entries rest ending (reply end_line ∷ []))
+        (only : (c : Cartridge) (acts : List Act) → EndDoes c store.words store.entries rest ending acts →
+        (reply end_line ∷ []) ≡ acts) where
       replied_end : sinks.Wrote k sink y end_line → script_answer ending ≡ AllDone →
-          ((read : IsScript (far.texts ++ rest) far.items ending) → Leaves s start.source source (items_taken (far.texts ++ rest) far.items ending read) AllDone) →
+          ((read : IsScript (far.texts ++ rest) far.items ending) →
+          Leaves s start.source source (items_taken (far.texts ++ rest) far.items ending read) AllDone) →
           Ended t s k first start (outside tape source y) AllDone
       replied_end wrote answered left =
           ended_so both first store store start now (outside tape source y) lines place far rest ending AllDone (reply end_line ∷ []) few
@@ -288,8 +348,10 @@ module _ {T S K : Type 0} {t : tapes.Meaning T} {s : sources.Meaning S} {k : sin
             rest = rest;
             is_told = told;
             content = content;
-            told = tells_always t now.tape (λ c. (acts : List Act) → NextDoes c store.words store.entries (lines + 1) place rest acts → Cut t s k now (outside tape source y) acts SinkFails)
-                (λ c acts next. subst (λ (zs : List Act). Cut t s k now (outside tape source y) zs SinkFails) (end_alone c rest ending acts (reply end_line ∷ []) ends (only c acts) next) cut);
+            told = tells_always t now.tape (λ c. (acts : List Act) → NextDoes c store.words store.entries (lines + 1) place rest acts →
+                Cut t s k now (outside tape source y) acts SinkFails)
+                (λ c acts next. subst (λ (zs : List Act). Cut t s k now (outside tape source y) zs SinkFails)
+                (end_alone c rest ending acts (reply end_line ∷ []) ends (only c acts) next) cut);
             acts = reply end_line ∷ [];
             cut = cut;
           })
@@ -297,25 +359,34 @@ module _ {T S K : Type 0} {t : tapes.Meaning T} {s : sources.Meaning S} {k : sin
     abbrev Rests : T → S → K → Type 0
     Rests tape source sink = Went t s k now (outside tape source sink) []
 
-    at_end : (tape : T) (source : S) (sink y : K) → Rests tape source sink → GaveEnd s now.source source → (r : Result (Unit {0}) ScriptFault) → RepliesEnd k sink y r →
+    at_end : (tape : T) (source : S) (sink y : K) → Rests tape source sink → GaveEnd s now.source source →
+        (r : Result (Unit {0}) ScriptFault) → RepliesEnd k sink y r →
         runs.ScriptEnds t s k first start (outside tape source y) r
     at_end tape source sink y went (inl end) (Ok done) wrote =
         let behind = ended_rest (s.left now.source) end.0 in
-        replied_end tape source sink y behind.rest AtEnd behind.told (ended_content (s.left now.source) behind.rest behind.has) behind.has went (λ c. refl) (λ c acts is. sym is) wrote refl
-        (λ read. left_behind (s.left start.source) (s.left source) far.texts (length (far.texts ++ behind.rest)) (Gave-end s start.source now.source source far.texts far.gave end.1)
+        replied_end tape source sink y behind.rest AtEnd behind.told (ended_content (s.left now.source) behind.rest behind.has) behind.has
+        went (λ c. refl) (λ c acts is. sym is) wrote refl
+        (λ read. left_behind (s.left start.source) (s.left source) far.texts (length (far.texts ++ behind.rest))
+        (Gave-end s start.source now.source source far.texts far.gave end.1)
         (ap (λ rest. length (far.texts ++ rest)) behind.has ∙ ap length (append-nil far.texts)))
     at_end tape source sink y went (inl end) (Err fault.Sink) broke =
         let behind = ended_rest (s.left now.source) end.0 in
-        unreplied_end tape source sink y behind.rest AtEnd behind.told (ended_content (s.left now.source) behind.rest behind.has) behind.has went (λ c. refl) (λ c acts is. sym is) broke
+        unreplied_end tape source sink y behind.rest AtEnd behind.told (ended_content (s.left now.source) behind.rest behind.has) behind.has
+        went (λ c. refl) (λ c acts is. sym is) broke
     at_end tape source sink y went (inr stop) (Ok done) wrote =
         let behind = stop_rest (s.left now.source) (s.left source) stop in
-        replied_end tape source sink y behind.rest AtStop behind.told (stop_content (s.left now.source) (s.left source) stop) behind.has went (λ c. refl) (λ c acts is. sym is) wrote refl
-        (λ read. left_behind (s.left start.source) (s.left source) (far.texts ++ codes "end\n") (items_taken (far.texts ++ behind.rest) far.items AtStop read)
+        replied_end tape source sink y behind.rest AtStop behind.told (stop_content (s.left now.source) (s.left source) stop) behind.has
+        went (λ c. refl) (λ c acts is. sym is) wrote refl
+        (λ read. left_behind (s.left start.source) (s.left source) (far.texts ++ codes "end\n")
+        (items_taken (far.texts ++ behind.rest) far.items AtStop read)
         (Gave-Gave s start.source now.source source far.texts (codes "end\n") far.gave stop)
-        (ap (λ (n : ℕ). n + length (codes "end\n")) (place_is far.items far.texts behind.rest 1 0 (far.texts ++ behind.rest) AtStop read refl far.reads ∙ plain_place far.texts) ∙ sym (length-append far.texts (codes "end\n"))))
+        (ap (λ (n : ℕ). n + length (codes "end\n"))
+        (place_is far.items far.texts behind.rest 1 0 (far.texts ++ behind.rest) AtStop read refl far.reads ∙ plain_place far.texts)
+        ∙ sym (length-append far.texts (codes "end\n"))))
     at_end tape source sink y went (inr stop) (Err fault.Sink) broke =
         let behind = stop_rest (s.left now.source) (s.left source) stop in
-        unreplied_end tape source sink y behind.rest AtStop behind.told (stop_content (s.left now.source) (s.left source) stop) behind.has went (λ c. refl) (λ c acts is. sym is) broke
+        unreplied_end tape source sink y behind.rest AtStop behind.told (stop_content (s.left now.source) (s.left source) stop) behind.has
+        went (λ c. refl) (λ c acts is. sym is) broke
     at_end tape source sink y went (inl end) (Err (fault.Input line at)) never = absurd never
     at_end tape source sink y went (inl end) (Err fault.TableMismatch) never = absurd never
     at_end tape source sink y went (inl end) (Err fault.Source) never = absurd never
@@ -328,44 +399,59 @@ module _ {T S K : Type 0} {t : tapes.Meaning T} {s : sources.Meaning S} {k : sin
     -- ---- the input is at fault
 
     -- what is left behind a fault
-    behind_fault : (source : S) (bytes : List ℕ) (number at : ℕ) → at ≡ place → Gave s now.source source bytes → (length bytes ≤ 128) ⊎ HasEnded s source →
+    behind_fault : (source : S) (bytes : List ℕ) (number at : ℕ) → at ≡ place → Gave s now.source source bytes → (length bytes ≤ 128)
+        ⊎ HasEnded s source →
         Leaves s start.source source 0 (FaultIn number at)
     behind_fault source bytes number at equal gave far_enough = (
       length bytes,
-      left_behind (s.left start.source) (s.left source) (far.texts ++ bytes) (at + length bytes) (Gave-Gave s start.source now.source source far.texts bytes far.gave gave)
+      left_behind (s.left start.source) (s.left source) (far.texts ++ bytes) (at + length bytes)
+          (Gave-Gave s start.source now.source source far.texts bytes far.gave gave)
           (let b = far.bytes in let l = length-append far.texts bytes in omega arith),
       far_enough,
     )
 
-    faulty : (new : Outside T S K) (rest bytes : List ℕ) (number at : ℕ) (last : List Act) → number ≡ lines + 1 → at ≡ place → IfSome (s.left now.source) (λ bytes. bytes ≡ rest) →
-        IfNone (s.left now.source) (AreBytes rest) → IsFault IsItem (lines + 1) rest → Went t s k now new last → Gave s now.source new.source bytes →
-        (length bytes ≤ 128) ⊎ HasEnded s new.source → tape_calls.Tells t now.tape (λ c. FaultDoes c store.words store.entries number rest last) →
+    faulty : (new : Outside T S K) (rest bytes : List ℕ) (number at : ℕ) (last : List Act) → number ≡ lines + 1 → at ≡ place →
+        IfSome (s.left now.source) (λ bytes. bytes ≡ rest) →
+        IfNone (s.left now.source) (AreBytes rest) → IsFault IsItem (lines + 1) rest → Went t s k now new last →
+        Gave s now.source new.source bytes →
+        (length bytes ≤ 128) ⊎ HasEnded s new.source →
+        tape_calls.Tells t now.tape (λ c. FaultDoes c store.words store.entries number rest last) →
         Ended t s k first start new (FaultIn number at)
     faulty new rest bytes number at last same equal told content is went gave far_enough does =
-        ended_so both first store store start now new lines place far rest (AtFault number at) (FaultIn number at) last few went told content (is, same, equal) refl does (λ done. cc)
+        ended_so both first store store start now new lines place far rest (AtFault number at)
+        (FaultIn number at) last few went told content (is, same, equal) refl does (λ done. cc)
         (λ read. behind_fault new.source bytes number at equal gave far_enough)
 
-    at_none : (new : Outside T S K) (number at : ℕ) → number ≡ lines + 1 → at ≡ place → HeardNone t s k now new → Ended t s k first start new (FaultIn number at)
+    at_none : (new : Outside T S K) (number at : ℕ) → number ≡ lines + 1 → at ≡ place → HeardNone t s k now new →
+        Ended t s k first start new (FaultIn number at)
     at_none new number at same equal heard =
-        let behind = none_rest (s.left now.source) (s.left new.source) heard.n heard.gave.0 heard.some heard.gave.1 heard.gave.2 heard.no_line in
+        let behind = none_rest (s.left now.source) (s.left new.source) heard.n heard.gave.0 heard.some heard.gave.1 heard.gave.2
+        heard.no_line in
         faulty new behind.rest heard.gave.0 number at [] same equal behind.told
-        (none_content (s.left now.source) (s.left new.source) heard.n heard.gave.0 heard.some heard.gave.1 heard.gave.2 heard.no_line) (no_line_fault (lines + 1) behind.rest behind.has) heard.went heard.gave.2
+        (none_content (s.left now.source) (s.left new.source) heard.n heard.gave.0 heard.some heard.gave.1 heard.gave.2 heard.no_line)
+        (no_line_fault (lines + 1) behind.rest behind.has) heard.went heard.gave.2
         (inl (let l = heard.gave.1 in let f = heard.few in omega arith))
-        (tells_always t now.tape (λ c. FaultDoes c store.words store.entries number behind.rest []) (λ c. inr ((λ within. no_line_early behind.rest behind.has), refl)))
+        (tells_always t now.tape (λ c. FaultDoes c store.words store.entries number behind.rest [])
+        (λ c. inr ((λ within. no_line_early behind.rest behind.has), refl)))
 
-    at_short : (new : Outside T S K) (number at : ℕ) → lines + 1 ≤ most_items → number ≡ lines + 1 → at ≡ place → HeardShort t s k store now new → Ended t s k first start new (FaultIn number at)
+    at_short : (new : Outside T S K) (number at : ℕ) → lines + 1 ≤ most_items → number ≡ lines + 1 → at ≡ place →
+        HeardShort t s k store now new → Ended t s k first start new (FaultIn number at)
     at_short new number at within same equal heard =
         let behind = ended_rest (s.left new.source) heard.ended in
         let rest : List ℕ = heard.text ++ heard.bytes in
         let early : EndsEarly rest = early_of heard.text heard.bytes heard.asked heard.is heard.short in
         let whole = whole_told (s.left now.source) (s.left new.source) rest behind.rest heard.gave behind.told in
         let told : IfSome (s.left now.source) (λ bytes. bytes ≡ rest) =
-        flip (s.left now.source) rest (subst (λ (l : List ℕ). IsInput (s.left now.source) l) (ap (λ (l : List ℕ). rest ++ l) behind.has ∙ append-nil rest) whole) in
-        faulty new rest rest number at heard.acts same equal told heard.content (early_fault (lines + 1) rest early) heard.went heard.gave (inr heard.ended)
-        (Tells-map t now.tape (λ c. EarlyDoes c store.words store.entries heard.asked heard.bytes heard.acts) (λ c. FaultDoes c store.words store.entries number rest heard.acts)
+        flip (s.left now.source) rest (subst (λ (l : List ℕ). IsInput (s.left now.source) l)
+        (ap (λ (l : List ℕ). rest ++ l) behind.has ∙ append-nil rest) whole) in
+        faulty new rest rest number at heard.acts same equal told heard.content (early_fault (lines + 1) rest early) heard.went heard.gave
+        (inr heard.ended)
+        (Tells-map t now.tape (λ c. EarlyDoes c store.words store.entries heard.asked heard.bytes heard.acts)
+        (λ c. FaultDoes c store.words store.entries number rest heard.acts)
         (λ c does. early_does c heard.text heard.bytes heard.asked heard.acts heard.is heard.short number (omega arith) does) heard.told)
       where
-        early_does : (c : Cartridge) (text bytes : List ℕ) (asked : Line) (acts : List Act) (is : IsLineText text asked) → (short : length bytes < promised asked) → (number : ℕ) → number ≤ most_items →
+        early_does : (c : Cartridge) (text bytes : List ℕ) (asked : Line) (acts : List Act) (is : IsLineText text asked) →
+            (short : length bytes < promised asked) → (number : ℕ) → number ≤ most_items →
             EarlyDoes c store.words store.entries asked bytes acts → FaultDoes c store.words store.entries number (text ++ bytes) acts
         early_does c text bytes (line.Append name n date) acts is short number below (meeting, meets, are) =
             inl (below, (early_of text bytes (line.Append name n date) is short, (meeting, meets, are)))
@@ -377,13 +463,15 @@ module _ {T S K : Type 0} {t : tapes.Meaning T} {s : sources.Meaning S} {k : sin
 
     -- ---- how a line ended it
 
-    pub line_failed : (new : Outside T S K) (after : StoreView) → lines < most_items → (why : ScriptFault) → Hears t s k store after now new (lines + 1) place (Err why) → runs.ScriptEnds t s k first start new (Err why)
+    pub line_failed : (new : Outside T S K) (after : StoreView) → lines < most_items → (why : ScriptFault) →
+        Hears t s k store after now new (lines + 1) place (Err why) → runs.ScriptEnds t s k first start new (Err why)
     line_failed new after below (fault.Input number at) (same, equal, inl heard) = at_none new number at same equal heard
     line_failed new after below (fault.Input number at) (same, equal, inr heard) = at_short new number at (omega arith) same equal heard
     line_failed new after below fault.TableMismatch heard = record {
       acts = far.acts ++ heard.acts;
       went = went_both t s k both start now new far.acts heard.acts far.went heard.went;
-      told = Tells-map t start.tape _ (λ c. ⊥) (λ c both_told. both_told.1) (at_start both first store after start now new lines place far (λ c. ⊥) heard.told);
+      told = Tells-map t start.tape _ (λ c. ⊥) (λ c both_told. both_told.1)
+          (at_start both first store after start now new lines place far (λ c. ⊥) heard.told);
       taken = length (far.texts ++ heard.bytes);
       left = left_behind (s.left start.source) (s.left new.source) (far.texts ++ heard.bytes) (length (far.texts ++ heard.bytes))
           (Gave-Gave s start.source now.source new.source far.texts heard.bytes far.gave heard.gave) refl;
@@ -393,27 +481,40 @@ module _ {T S K : Type 0} {t : tapes.Meaning T} {s : sources.Meaning S} {k : sin
     line_failed new after below fault.Tape heard = cut_so both first store after start now new lines place far TapeFails few heard
 
     -- the input was over at a line
-    pub over : (mid : Outside T S K) (after : StoreView) (y : K) (r : Result (Unit {0}) ScriptFault) → Hears t s k store after now mid (lines + 1) place (Ok None) → RepliesEnd k mid.sink y r →
+    pub over : (mid : Outside T S K) (after : StoreView) (y : K) (r : Result (Unit {0}) ScriptFault) →
+        Hears t s k store after now mid (lines + 1) place (Ok None) → RepliesEnd k mid.sink y r →
         runs.ScriptEnds t s k first start (outside mid.tape mid.source y) r
     over mid after y r (went, same, end) replies = at_end mid.tape mid.source mid.sink y went end r replies
 
     -- ---- the line behind the last that may be an item
 
-    pub end_over : (source : S) (y : K) (r : Result (Unit {0}) ScriptFault) → s.faults now.source ≤ s.faults source → GaveEnd s now.source source → RepliesEnd k now.sink y r →
+    pub end_over : (source : S) (y : K) (r : Result (Unit {0}) ScriptFault) → s.faults source ≡ s.faults now.source →
+        GaveEnd s now.source source → RepliesEnd k now.sink y r →
         runs.ScriptEnds t s k first start (outside now.tape source y) r
     end_over source y r later end replies =
-        at_end now.tape source now.sink y (record { did = Done-nothing t now.tape; wrote = record { took = none now.sink; later = omega arith }; source_later = later }) end r replies
+        at_end now.tape source now.sink y
+        (record { did = Done-nothing t now.tape; wrote = record { took = none now.sink; later = omega arith }; source_later = later })
+        end r replies
 
-    pub end_failed : (source : S) (why : ScriptFault) → lines ≡ most_items → s.faults now.source ≤ s.faults source → HearsEnd s now.source source (most_items + 1) place (Err why) →
+    pub end_failed : (source : S) (why : ScriptFault) → lines ≡ most_items → s.faults now.source ≤ s.faults source →
+        (why ≢ fault.Source → s.faults source ≡ s.faults now.source) → HearsEnd s now.source source (most_items + 1) place (Err why) →
         runs.ScriptEnds t s k first start (outside now.tape source now.sink) (Err why)
-    end_failed source (fault.Input number at) all later (same, equal, on) =
-        let behind = on_rest (lines + 1) (s.left now.source) (s.left source) on.n on.gave.0 (omega arith) on.some on.gave.1 on.gave.2 on.no_stop in
+    end_failed source (fault.Input number at) all later stood (same, equal, on) =
+        let behind = on_rest (lines + 1) (s.left now.source) (s.left source) on.n on.gave.0
+        (omega arith) on.some on.gave.1 on.gave.2 on.no_stop in
         faulty (outside now.tape source now.sink) behind.rest on.gave.0 number at [] (let e = same in omega arith) equal behind.told
-        (on_content (lines + 1) (s.left now.source) (s.left source) on.n on.gave.0 (omega arith) on.some on.gave.1 on.gave.2 on.no_stop) behind.has
-        (record { did = Done-nothing t now.tape; wrote = record { took = none now.sink; later = omega arith }; source_later = later }) on.gave.2
+        (on_content (lines + 1) (s.left now.source) (s.left source) on.n on.gave.0 (omega arith) on.some on.gave.1 on.gave.2 on.no_stop)
+        behind.has
+        (record {
+          did = Done-nothing t now.tape;
+          wrote = record { took = none now.sink; later = omega arith };
+          source_later =
+              stood (λ e. cc);
+        }) on.gave.2
         (inl (let l = on.gave.1 in let f = on.few in omega arith))
-        (tells_always t now.tape (λ c. FaultDoes c store.words store.entries number behind.rest []) (λ c. inr ((λ within. absurd (omega arith)), refl)))
-    end_failed source fault.Source all later rose =
+        (tells_always t now.tape (λ c. FaultDoes c store.words store.entries number behind.rest [])
+        (λ c. inr ((λ within. absurd (omega arith)), refl)))
+    end_failed source fault.Source all later stood rose =
         let rest = any_bytes (s.left now.source) in
         let cut : Cut t s k now (outside now.tape source now.sink) [] SourceFails = record {
           front = [];
@@ -428,11 +529,12 @@ module _ {T S K : Type 0} {t : tapes.Meaning T} {s : sources.Meaning S} {k : sin
           rest = rest.rest;
           is_told = rest.told;
           content = rest.content;
-          told = tells_always t now.tape (λ c. (acts : List Act) → NextDoes c store.words store.entries (lines + 1) place rest.rest acts → Cut t s k now (outside now.tape source now.sink) acts SourceFails)
+          told = tells_always t now.tape (λ c. (acts : List Act) → NextDoes c store.words store.entries (lines + 1) place rest.rest acts →
+              Cut t s k now (outside now.tape source now.sink) acts SourceFails)
               (λ c acts next. cut_is_longer t s k now (outside now.tape source now.sink) [] acts SourceFails cut);
           acts = [];
           cut = cut;
         })
-    end_failed source fault.TableMismatch all later never = absurd never
-    end_failed source fault.Sink all later never = absurd never
-    end_failed source fault.Tape all later never = absurd never
+    end_failed source fault.TableMismatch all later stood never = absurd never
+    end_failed source fault.Sink all later stood never = absurd never
+    end_failed source fault.Tape all later stood never = absurd never

@@ -24,7 +24,8 @@ abbrev pub longest : ℕ
 longest = 4294967550
 
 -- an item was read and carried out, of so many bytes
-pub record HeardItem {T S K : Type 0} (t : tapes.Meaning T) (s : sources.Meaning S) (k : sinks.Meaning K) (store after : StoreView) (old new : Outside T S K) (n : ℕ) : Type 0 where
+pub record HeardItem {T S K : Type 0} (t : tapes.Meaning T) (s : sources.Meaning S) (k : sinks.Meaning K) (store after : StoreView)
+    (old new : Outside T S K) (n : ℕ) : Type 0 where
   pub item : Item
   pub text : List ℕ
   pub is : IsItem text item
@@ -36,7 +37,8 @@ pub record HeardItem {T S K : Type 0} (t : tapes.Meaning T) (s : sources.Meaning
   pub told : tape_calls.Tells t old.tape (λ c. ItemDoes c store.words store.entries item (record { acts = acts; entries = after.entries }))
 
 -- bytes were taken that begin with no line, no more than a line's and none behind one
-pub record HeardNone {T S K : Type 0} (t : tapes.Meaning T) (s : sources.Meaning S) (k : sinks.Meaning K) (old new : Outside T S K) : Type 0 where
+pub record HeardNone {T S K : Type 0} (t : tapes.Meaning T) (s : sources.Meaning S) (k : sinks.Meaning K)
+    (old new : Outside T S K) : Type 0 where
   pub n : ℕ
   pub some : 0 < n
   pub few : n ≤ 128
@@ -45,7 +47,8 @@ pub record HeardNone {T S K : Type 0} (t : tapes.Meaning T) (s : sources.Meaning
   pub went : Went t s k old new []
 
 -- a line was read, and the source ended before the bytes that it promises
-pub record HeardShort {T S K : Type 0} (t : tapes.Meaning T) (s : sources.Meaning S) (k : sinks.Meaning K) (store : StoreView) (old new : Outside T S K) : Type 0 where
+pub record HeardShort {T S K : Type 0} (t : tapes.Meaning T) (s : sources.Meaning S) (k : sinks.Meaning K) (store : StoreView)
+    (old new : Outside T S K) : Type 0 where
   pub asked : Line
   pub text : List ℕ
   pub is : IsLineText text asked
@@ -66,18 +69,21 @@ NextDoes c words entries number place rest acts =
     ⊎ ((ending : Ending) × ItemsEnd IsItem number place rest ending × EndDoes c words entries rest ending acts)
 
 -- a fault of the outside cut that off, whatever is left
-pub record HeardCut {T S K : Type 0} (t : tapes.Meaning T) (s : sources.Meaning S) (k : sinks.Meaning K) (store : StoreView) (old new : Outside T S K) (number place : ℕ) (failing : Failing) : Type 0 where
+pub record HeardCut {T S K : Type 0} (t : tapes.Meaning T) (s : sources.Meaning S) (k : sinks.Meaning K) (store : StoreView)
+    (old new : Outside T S K) (number place : ℕ) (failing : Failing) : Type 0 where
   pub rest : List ℕ
   pub is_told : IfSome (s.left old.source) (λ bytes. bytes ≡ rest)
   pub content : IfNone (s.left old.source) (All (λ b. b < 256) rest)
-  pub told : tape_calls.Tells t old.tape (λ c. (acts : List Act) → NextDoes c store.words store.entries number place rest acts → Cut t s k old new acts failing)
+  pub told : tape_calls.Tells t old.tape (λ c. (acts : List Act) → NextDoes c store.words store.entries number place rest acts →
+      Cut t s k old new acts failing)
   -- and over any tape
   pub acts : List Act
   pub cut : Cut t s k old new acts failing
 
 -- What a line did that may be an item, with this number and so many bytes before it: it was carried out; the input is
 -- over; it is at fault; or a fault of the outside cut it off.
-abbrev pub Hears : {T S K : Type 0} (t : tapes.Meaning T) (s : sources.Meaning S) (k : sinks.Meaning K) (store after : StoreView) (old new : Outside T S K) (number place : ℕ) → Result (Option ℕ) ScriptFault → Type 0
+abbrev pub Hears : {T S K : Type 0} (t : tapes.Meaning T) (s : sources.Meaning S) (k : sinks.Meaning K) (store after : StoreView)
+    (old new : Outside T S K) (number place : ℕ) → Result (Option ℕ) ScriptFault → Type 0
 Hears t s k store after old new number place (Ok (Some n)) = HeardItem t s k store after old new n
 Hears t s k store after old new number place (Ok None) =
     Went t s k old new [] × (after ≡ store) × GaveEnd s old.source new.source

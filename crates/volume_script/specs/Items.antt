@@ -17,17 +17,20 @@ use Rattle.qic_base.specs.TapeCalls as tape_calls
 use Rattle.volume_script.specs.declared.fault.ItemFault.TheVariants as fault
 
 -- The line was carried out, with all the bytes that it promises; bytes they are, too, where the source tells none.
-pub record ItemDone {T S K : Type 0} (t : tapes.Meaning T) (s : sources.Meaning S) (k : sinks.Meaning K) (store after : StoreView) (old new : Outside T S K) (asked : Line) : Type 0 where
+pub record ItemDone {T S K : Type 0} (t : tapes.Meaning T) (s : sources.Meaning S) (k : sinks.Meaning K) (store after : StoreView)
+    (old new : Outside T S K) (asked : Line) : Type 0 where
   pub bytes : List ℕ
   pub kept : length bytes ≡ promised asked
   pub gave : Gave s old.source new.source bytes
   pub content : IfNone (s.left old.source) (All (λ b. b < 256) bytes)
   pub acts : List Act
   pub went : Went t s k old new acts
-  pub told : tape_calls.Tells t old.tape (λ c. LineDoes c store.words store.entries asked bytes (record { acts = acts; entries = after.entries }))
+  pub told : tape_calls.Tells t old.tape
+      (λ c. LineDoes c store.words store.entries asked bytes (record { acts = acts; entries = after.entries }))
 
 -- The source ended before them.
-pub record ItemShort {T S K : Type 0} (t : tapes.Meaning T) (s : sources.Meaning S) (k : sinks.Meaning K) (store : StoreView) (old new : Outside T S K) (asked : Line) : Type 0 where
+pub record ItemShort {T S K : Type 0} (t : tapes.Meaning T) (s : sources.Meaning S) (k : sinks.Meaning K) (store : StoreView)
+    (old new : Outside T S K) (asked : Line) : Type 0 where
   pub bytes : List ℕ
   pub short : length bytes < promised asked
   pub gave : Gave s old.source new.source bytes
@@ -45,17 +48,20 @@ WouldDo c words entries asked rest acts =
     ⊎ ((length rest < promised asked) × EarlyDoes c words entries asked rest acts)
 
 -- A fault of the outside cut it off, whatever is left of the source.
-pub record ItemCut {T S K : Type 0} (t : tapes.Meaning T) (s : sources.Meaning S) (k : sinks.Meaning K) (store : StoreView) (old new : Outside T S K) (asked : Line) (failing : Failing) : Type 0 where
+pub record ItemCut {T S K : Type 0} (t : tapes.Meaning T) (s : sources.Meaning S) (k : sinks.Meaning K) (store : StoreView)
+    (old new : Outside T S K) (asked : Line) (failing : Failing) : Type 0 where
   pub rest : List ℕ
   pub is_told : IfSome (s.left old.source) (λ bytes. bytes ≡ rest)
   pub content : IfNone (s.left old.source) (All (λ b. b < 256) rest)
-  pub told : tape_calls.Tells t old.tape (λ c. (acts : List Act) → WouldDo c store.words store.entries asked rest acts → Cut t s k old new acts failing)
+  pub told : tape_calls.Tells t old.tape
+      (λ c. (acts : List Act) → WouldDo c store.words store.entries asked rest acts → Cut t s k old new acts failing)
   -- and over any tape
   pub acts : List Act
   pub cut : Cut t s k old new acts failing
 
 -- the volume table did not show the volumes
-pub record ItemMismatched {T S K : Type 0} (t : tapes.Meaning T) (s : sources.Meaning S) (k : sinks.Meaning K) (old new : Outside T S K) : Type 0 where
+pub record ItemMismatched {T S K : Type 0} (t : tapes.Meaning T) (s : sources.Meaning S) (k : sinks.Meaning K)
+    (old new : Outside T S K) : Type 0 where
   pub acts : List Act
   pub went : Went t s k old new acts
   pub told : tape_calls.Tells t old.tape (λ c. ⊥)
@@ -63,7 +69,8 @@ pub record ItemMismatched {T S K : Type 0} (t : tapes.Meaning T) (s : sources.Me
   pub gave : Gave s old.source new.source bytes
 
 -- how a line ended
-abbrev pub ItemEnds : {T S K : Type 0} (t : tapes.Meaning T) (s : sources.Meaning S) (k : sinks.Meaning K) (store after : StoreView) (old new : Outside T S K) → Line → Result (Unit {0}) ItemFault → Type 0
+abbrev pub ItemEnds : {T S K : Type 0} (t : tapes.Meaning T) (s : sources.Meaning S) (k : sinks.Meaning K) (store after : StoreView)
+    (old new : Outside T S K) → Line → Result (Unit {0}) ItemFault → Type 0
 ItemEnds t s k store after old new asked (Ok done) = ItemDone t s k store after old new asked
 ItemEnds t s k store after old new asked (Err fault.Short) = ItemShort t s k store old new asked
 ItemEnds t s k store after old new asked (Err fault.TableMismatch) = ItemMismatched t s k old new

@@ -33,7 +33,8 @@ lends_itself m itself a = record {
   gave = ([], refl, Gave-nothing m a.source.now a.source.now refl);
 }
 
-pub lends_on : {S : Type 0} (m : Meaning S) → ((a b c : S) → m.keeps a b → m.keeps b c → m.keeps a c) → (a b c : Limited S) → Lends m a b → Lends m b c → Lends m a c
+pub lends_on : {S : Type 0} (m : Meaning S) → ((a b c : S) → m.keeps a b → m.keeps b c → m.keeps a c) → (a b c : Limited S) → Lends m a b →
+    Lends m b c → Lends m a c
 lends_on m on a b c first next = record {
   same = next.same ∙ first.same;
   kept = on a.source.now b.source.now c.source.now first.kept next.kept;

@@ -19,7 +19,8 @@ use Rattle.volume_script.specs.Limited.{Lends, limited_means}
 use Rattle.command_spec.specs.Script.{refusal_line}
 
 -- A store's append was lent the promised bytes of a source, and left so many of them.
-pub record RanPromised {T S : Type 0} (t : tapes.Meaning T) (s : sources.Meaning S) (a b : T) (i j : S) (store after : StoreView) (name : List ℕ) (date promised left : ℕ) (answer : Result Appended StoreFault) : Type 0 where
+pub record RanPromised {T S : Type 0} (t : tapes.Meaning T) (s : sources.Meaning S) (a b : T) (i j : S) (store after : StoreView)
+    (name : List ℕ) (date promised left : ℕ) (answer : Result Appended StoreFault) : Type 0 where
   pub before : Limited S
   pub behind : Limited S
   pub starts : before.source.now ≡ i
@@ -35,7 +36,7 @@ pub record GaveAll {S : Type 0} (s : sources.Meaning S) (i j : S) (asked : ℕ) 
   pub bytes : List ℕ
   pub all : length bytes ≡ asked
   pub gave : Gave s i j bytes
-  pub later : s.faults i ≤ s.faults j
+  pub later : s.faults j ≡ s.faults i
 
 -- it ended before
 pub record GaveShort {S : Type 0} (s : sources.Meaning S) (i j : S) (asked : ℕ) : Type 0 where
@@ -43,14 +44,15 @@ pub record GaveShort {S : Type 0} (s : sources.Meaning S) (i j : S) (asked : ℕ
   pub short : length bytes < asked
   pub gave : Gave s i j bytes
   pub ended : HasEnded s j
-  pub later : s.faults i ≤ s.faults j
+  pub later : s.faults j ≡ s.faults i
 
 -- it failed
 pub record GaveNone {S : Type 0} (s : sources.Meaning S) (i j : S) : Type 0 where
   pub cause : Rose (s.faults i) (s.faults j)
   pub later : s.faults i ≤ s.faults j
 
-abbrev pub Refuses : {S K : Type 0} (s : sources.Meaning S) (k : sinks.Meaning K) (i j : S) (x y : K) (left : ℕ) → Refusal → Result (Unit {0}) ItemFault → Type 0
+abbrev pub Refuses : {S K : Type 0} (s : sources.Meaning S) (k : sinks.Meaning K) (i j : S) (x y : K) (left : ℕ) → Refusal →
+    Result (Unit {0}) ItemFault → Type 0
 Refuses s k i j x y left why (Ok done) = GaveAll s i j left × sinks.Wrote k x y (refusal_line why)
 Refuses s k i j x y left why (Err fault.Short) = GaveShort s i j left × (y ≡ x)
 Refuses s k i j x y left why (Err fault.Sink) = GaveAll s i j left × sink_calls.BrokeOff k x y (refusal_line why)

@@ -23,7 +23,8 @@ Leaves s old new taken (FaultIn number place) = LeftAtFault place (s.left old) (
 
 -- It came to its end, with this answer: all acts of the plain machine's outcome went, over the input that the source told,
 -- or some input of bytes where it tells none.
-pub record Ended {T S K : Type 0} (t : tapes.Meaning T) (s : sources.Meaning S) (k : sinks.Meaning K) (store : StoreView) (old new : Outside T S K) (answer : Answer) : Type 0 where
+pub record Ended {T S K : Type 0} (t : tapes.Meaning T) (s : sources.Meaning S) (k : sinks.Meaning K) (store : StoreView)
+    (old new : Outside T S K) (answer : Answer) : Type 0 where
   pub input : List ℕ
   pub is_told : IsInput (s.left old.source) input
   pub content : IfNone (s.left old.source) (All (λ b. b < 256) input)
@@ -41,7 +42,8 @@ pub record Ended {T S K : Type 0} (t : tapes.Meaning T) (s : sources.Meaning S) 
   pub replied : answer ≡ AllDone → (replies : List ℕ) × (text_of outcome.acts ≡ replies ++ end_line)
 
 -- The volume table did not show the volumes that were mounted: never where the tape tells its cartridge.
-pub record Mismatched {T S K : Type 0} (t : tapes.Meaning T) (s : sources.Meaning S) (k : sinks.Meaning K) (old new : Outside T S K) : Type 0 where
+pub record Mismatched {T S K : Type 0} (t : tapes.Meaning T) (s : sources.Meaning S) (k : sinks.Meaning K)
+    (old new : Outside T S K) : Type 0 where
   pub acts : List Act
   pub went : Went t s k old new acts
   pub told : tape_calls.Tells t old.tape (λ c. ⊥)
@@ -49,7 +51,8 @@ pub record Mismatched {T S K : Type 0} (t : tapes.Meaning T) (s : sources.Meanin
   pub left : s.left new.source ≡ option_map (drop taken) (s.left old.source)
 
 -- A fault of this object of the outside cut it off, in the midst of the acts of the plain machine's outcome.
-pub record CutOff {T S K : Type 0} (t : tapes.Meaning T) (s : sources.Meaning S) (k : sinks.Meaning K) (store : StoreView) (old new : Outside T S K) (failing : Failing) : Type 0 where
+pub record CutOff {T S K : Type 0} (t : tapes.Meaning T) (s : sources.Meaning S) (k : sinks.Meaning K) (store : StoreView)
+    (old new : Outside T S K) (failing : Failing) : Type 0 where
   pub input : List ℕ
   pub is_told : IsInput (s.left old.source) input
   pub content : IfNone (s.left old.source) (All (λ b. b < 256) input)
@@ -60,7 +63,8 @@ pub record CutOff {T S K : Type 0} (t : tapes.Meaning T) (s : sources.Meaning S)
   pub cut : Cut t s k old new acts failing
 
 -- how a run ended
-abbrev pub ScriptEnds : {T S K : Type 0} (t : tapes.Meaning T) (s : sources.Meaning S) (k : sinks.Meaning K) (store : StoreView) (old new : Outside T S K) → Result (Unit {0}) ScriptFault → Type 0
+abbrev pub ScriptEnds : {T S K : Type 0} (t : tapes.Meaning T) (s : sources.Meaning S) (k : sinks.Meaning K) (store : StoreView)
+    (old new : Outside T S K) → Result (Unit {0}) ScriptFault → Type 0
 ScriptEnds t s k store old new (Ok done) = Ended t s k store old new AllDone
 ScriptEnds t s k store old new (Err (fault.Input line place)) = Ended t s k store old new (FaultIn line place)
 ScriptEnds t s k store old new (Err fault.TableMismatch) = Mismatched t s k old new

@@ -1,6 +1,6 @@
 //! The line behind the last that may be an item, and the last reply.
 
-ghost use Rattle.std.specs.Prelude.{◌≡◌, ◌≢◌, ◌≤◌, is_some};
+ghost use Rattle.std.specs.Prelude.{◌≡◌, ◌≢◌, ◌≤◌, Err, is_some};
 ghost use Rattle.command_spec.specs.declared.line.Line.TheVariants.{End as end_line};
 ghost use Rattle.volume_script.specs.Ending.{HearsEnd, RepliesEnd};
 
@@ -25,6 +25,8 @@ pub fn end_input<S: Source>(
     ensures kept { S.means.keeps source.old source.new }
     ensures tells { is_some (S.means.left source.new) ≡ is_some (S.means.left source.old) }
     ensures later { S.means.faults source.old ≤ S.means.faults source.new }
+    ensures stood { result ≢ Err ScriptFault.Source →
+        S.means.faults source.new ≡ S.means.faults source.old }
 {
     match read_line(source, buffer) {
         Ok(LineRead::End) => Ok(()),

@@ -31,15 +31,21 @@ module _ {T S : Type 0} (t : tapes.Meaning T) (s : sources.Meaning S) where
   }
 
   -- the settling failed
-  pub unread_first : (x0 x1 : T) (a : S) (why : StoreFault) (r : Result Appended StoreFault) → r ≡ Err why → FaultUnread {A = Unit {0}} t x0 x1 (Err why) → IsOfReading {A = Unit {0}} (Err why) →
+  pub unread_first : (x0 x1 : T) (a : S) (why : StoreFault) (r : Result Appended StoreFault) → r ≡ Err why →
+      FaultUnread {A = Unit {0}} t x0 x1 (Err why) → IsOfReading {A = Unit {0}} (Err why) →
       FaultsUnread t s (reading x0 a) (reading x1 a) r
-  unread_first x0 x1 a why r is unread kind = subst (λ (answer : Result Appended StoreFault). FaultsUnread t s (reading x0 a) (reading x1 a) answer) (sym is) (by_fault why unread kind)
+  unread_first x0 x1 a why r is unread kind =
+      subst (λ (answer : Result Appended StoreFault). FaultsUnread t s (reading x0 a) (reading x1 a) answer) (sym is)
+      (by_fault why unread kind)
     where
-      by_fault : (f : StoreFault) → FaultUnread {A = Unit {0}} t x0 x1 (Err f) → IsOfReading {A = Unit {0}} (Err f) → FaultsUnread t s (reading x0 a) (reading x1 a) (Err f)
+      by_fault : (f : StoreFault) → FaultUnread {A = Unit {0}} t x0 x1 (Err f) → IsOfReading {A = Unit {0}} (Err f) →
+          FaultsUnread t s (reading x0 a) (reading x1 a) (Err f)
       by_fault fault.Tape (inl broke) kind =
-          tells_always t x0 (λ c. ((table : List (List ℕ)) → TableIs c table → ⊥) → Cut t s no_sink (reading x0 a) (reading x1 a) [] TapeFails) (λ c none. broke_first x0 x1 a broke)
+          tells_always t x0 (λ c. ((table : List (List ℕ)) → TableIs c table → ⊥) →
+          Cut t s no_sink (reading x0 a) (reading x1 a) [] TapeFails) (λ c none. broke_first x0 x1 a broke)
       by_fault fault.Tape (inr told) kind =
-          Tells-map t x0 (λ c. (area : List (List ℕ)) × TableIs c area) (λ c. ((table : List (List ℕ)) → TableIs c table → ⊥) → Cut t s no_sink (reading x0 a) (reading x1 a) [] TapeFails)
+          Tells-map t x0 (λ c. (area : List (List ℕ)) × TableIs c area)
+          (λ c. ((table : List (List ℕ)) → TableIs c table → ⊥) → Cut t s no_sink (reading x0 a) (reading x1 a) [] TapeFails)
           (λ c some none. absurd (none some.0 some.1)) told
       by_fault fault.Source unread kind = absurd kind
       by_fault (fault.Lost segment lost) unread kind = tt
@@ -54,10 +60,12 @@ module _ {T S : Type 0} (t : tapes.Meaning T) (s : sources.Meaning S) where
       by_fault fault.Sink unread kind = tt
 
   -- the settling went, so the table says data
-  known_cut : (old new : Outside T S (Unit {0})) (area : List (List ℕ)) (steps : List Step) (failing : Failing) → Tells t old.tape (λ c. TableIs c area × (steps ≡ settling_steps area c)) →
+  known_cut : (old new : Outside T S (Unit {0})) (area : List (List ℕ)) (steps : List Step) (failing : Failing) →
+      Tells t old.tape (λ c. TableIs c area × (steps ≡ settling_steps area c)) →
       CutUnread t s old new failing
   known_cut old new area steps failing told =
-      Tells-map t old.tape (λ c. TableIs c area × (steps ≡ settling_steps area c)) (λ c. ((table : List (List ℕ)) → TableIs c table → ⊥) → Cut t s no_sink old new [] failing)
+      Tells-map t old.tape (λ c. TableIs c area × (steps ≡ settling_steps area c))
+      (λ c. ((table : List (List ℕ)) → TableIs c table → ⊥) → Cut t s no_sink old new [] failing)
       (λ c known none. absurd (none area known.0)) told
 
   pub unread_known : (old new : Outside T S (Unit {0})) (area : List (List ℕ)) (steps : List Step) (r : Result Appended StoreFault) →

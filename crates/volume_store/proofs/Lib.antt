@@ -1,6 +1,7 @@
 pub mod BrokenUnread
 pub mod Ending
 pub mod Fitting
+pub mod FoundRoom
 pub mod Mounted
 pub mod Opened
 pub mod Ordering

@@ -24,7 +24,8 @@ is_mounted : (info : TapeInfo) (store : StoreView) (steps : List TapeStep) (held
 is_mounted info store steps None known settles = cc
 is_mounted info store steps (Some c) known settles = settles
 
-is_refused : (info : TapeInfo) (f : StoreFault) (held : Option Cartridge) → IsInfoOf (Some info) held → IfSome held (λ c. MountRefuses c f) → IsSomeAnd held (λ c. MountRefuses c f)
+is_refused : (info : TapeInfo) (f : StoreFault) (held : Option Cartridge) → IsInfoOf (Some info) held →
+    IfSome held (λ c. MountRefuses c f) → IsSomeAnd held (λ c. MountRefuses c f)
 is_refused info f None known refuses = cc
 is_refused info f (Some c) known refuses = refuses
 
@@ -32,7 +33,8 @@ is_refused info f (Some c) known refuses = refuses
 pub cut_first : {T : Type 0} (t : tapes.Meaning T) (a b : T) → tapes.Broke t a b [] → SettlingBreaks t a b
 cut_first t a b broke = record { steps = []; broke = broke; front = nothing_begins (t.told a) }
   where
-    nothing_begins : (told : Option (Option Cartridge)) → IfSome told (λ held. (◌≡◌ {A = List TapeStep} [] []) ⊎ IsSomeAnd held (λ c. IsSettling c []))
+    nothing_begins : (told : Option (Option Cartridge)) →
+        IfSome told (λ held. (◌≡◌ {A = List TapeStep} [] []) ⊎ IsSomeAnd held (λ c. IsSettling c []))
     nothing_begins None = tt
     nothing_begins (Some h) = inl refl
 
@@ -42,7 +44,8 @@ open_unstarted t a b open_fault.NoCartridge fails = fails
 open_unstarted t a b (open_fault.Refused fault.Tape) fails = cut_first t a b fails
 open_unstarted t a b (open_fault.Refused f) fails = absurd fails
 
-pub open_shown : {T : Type 0} (t : tapes.Meaning T) (a b : T) (c : UnitView T) (info : TapeInfo) (store : StoreView) → Present t a b info → MountDoes t b c.tape (Ok store) → StoreFits t store c →
+pub open_shown : {T : Type 0} (t : tapes.Meaning T) (a b : T) (c : UnitView T) (info : TapeInfo) (store : StoreView) → Present t a b info →
+    MountDoes t b c.tape (Ok store) → StoreFits t store c →
     HasOpened t a c store
 open_shown t a b c info store there does fits = record {
   steps = does.steps;
@@ -54,7 +57,8 @@ open_shown t a b c info store there does fits = record {
   fits = fits;
 }
 
-turned : {T : Type 0} (n : ℕ) (t : tapes.Meaning T) (a b : T) (c : UnitView T) (info : TapeInfo) (f : StoreFault) → Present t a b info → tapes.Done t b c.tape [] → tape_calls.Tells t b (λ d. MountRefuses d f) →
+pub turned : {T : Type 0} (n : ℕ) (t : tapes.Meaning T) (a b : T) (c : UnitView T) (info : TapeInfo) (f : StoreFault) → Present t a b info →
+    tapes.Done t b c.tape [] → tape_calls.Tells t b (λ d. MountRefuses d f) →
     is_of_mounting f ≡ true → NamesCause {A = StoreView} n (Err f) → IsTurnedDown t a c.tape f
 turned n t a b c info f there did told kind cause = record {
   did = Done-Done there.did did;
@@ -65,12 +69,17 @@ turned n t a b c info f there did told kind cause = record {
       (told_at_start t a b there.did (λ d. MountRefuses d f) told) (λ held known refuses. is_refused info f held known refuses);
 }
 
-pub open_failed : {T : Type 0} (n : ℕ) (t : tapes.Meaning T) (a b : T) (c : UnitView T) (info : TapeInfo) (f : StoreFault) → Present t a b info → MountDoes t b c.tape (Err f) → is_of_mounting f ≡ true →
+pub open_failed : {T : Type 0} (n : ℕ) (t : tapes.Meaning T) (a b : T) (c : UnitView T) (info : TapeInfo) (f : StoreFault) →
+    Present t a b info → MountDoes t b c.tape (Err f) → is_of_mounting f ≡ true →
     NamesCause {A = StoreView} n (Err f) → OpenFails t a c.tape (open_fault.Refused f)
-open_failed n t a b c info fault.NotFormatted there does kind cause = turned n t a b c info fault.NotFormatted there does.done does.told kind cause
-open_failed n t a b c info (fault.Foreign field value) there does kind cause = turned n t a b c info (fault.Foreign field value) there does.done does.told kind cause
-open_failed n t a b c info (fault.Lost segment lost) there does kind cause = turned n t a b c info (fault.Lost segment lost) there does.done does.told kind cause
-open_failed n t a b c info fault.TableMismatch there does kind cause = turned n t a b c info fault.TableMismatch there does.done does.told kind cause
+open_failed n t a b c info fault.NotFormatted there does kind cause =
+    turned n t a b c info fault.NotFormatted there does.done does.told kind cause
+open_failed n t a b c info (fault.Foreign field value) there does kind cause =
+    turned n t a b c info (fault.Foreign field value) there does.done does.told kind cause
+open_failed n t a b c info (fault.Lost segment lost) there does kind cause =
+    turned n t a b c info (fault.Lost segment lost) there does.done does.told kind cause
+open_failed n t a b c info fault.TableMismatch there does kind cause =
+    turned n t a b c info fault.TableMismatch there does.done does.told kind cause
 open_failed n t a b c info fault.Tape there does kind cause = record {
   steps = does.steps;
   broke = Done-Broke there.did does.broke;

@@ -16,11 +16,14 @@ use Rattle.volume_store.specs.Restoring.{ReadsPart, fault_of_output}
 
 module _ {T : Type 0} (t : Meaning T) (old new : T) (part : ℕ) (sectors : List (List ℕ)) where
   -- of a volume's pieces
-  pub piece_of_volume : (store : StoreView) (words : List ℕ) (e : Entry) (bytes : ℕ) (answer : Result (Option PartRead) OutputFault) → words ≡ store.words →
-      bytes ≡ volume_length store.words e → PartEnds t words (pieces_of words (carrying words e.start e.end) bytes) part old new sectors answer →
+  pub piece_of_volume : (store : StoreView) (words : List ℕ) (e : Entry) (bytes : ℕ) (answer : Result (Option PartRead) OutputFault) →
+      words ≡ store.words →
+      bytes ≡ volume_length store.words e →
+      PartEnds t words (pieces_of words (carrying words e.start e.end) bytes) part old new sectors answer →
       PartEnds t store.words (pieces store.words e) part old new sectors answer
   piece_of_volume store words e bytes answer same long ends =
-      subst (λ (n : ℕ). PartEnds t store.words (pieces_of store.words (carrying store.words e.start e.end) n) part old new sectors answer) long
+      subst (λ (n : ℕ). PartEnds t store.words (pieces_of store.words (carrying store.words e.start e.end) n) part old new sectors answer)
+      long
       (subst (λ (ws : List ℕ). PartEnds t ws (pieces_of ws (carrying ws e.start e.end) bytes) part old new sectors answer) same ends)
 
   pub part_failed : (store after : StoreView) (number : ℕ) (e : Entry) (why : OutputFault) → volume_at store.entries number ≡ Some e →

@@ -1,5 +1,6 @@
 -- What a restore gave, by its answer, and the fit of a store behind a call that keeps its list.
-use Rattle.std.proofs.Common.{◌≡◌, ℕ, zero, suc, ◌-◌, ◌*◌, ◌<◌, ◌++◌, Bool, true, false, List, [], ◌∷◌, length, Option, Some, None, IfSome, Result, Ok, Err, refl, sym, ap, ◌∙◌, subst, arith, slice_get, append_assoc}
+use Rattle.std.proofs.Common.{◌≡◌, ℕ, zero, suc, ◌-◌, ◌*◌, ◌<◌, ◌++◌, Bool, true, false, List, [], ◌∷◌, length, Option, Some, None, IfSome}
+use Rattle.std.proofs.Common.{Result, Ok, Err, refl, sym, ap, ◌∙◌, subst, arith, slice_get, append_assoc}
 use Rattle.std.proofs.lemmas.Option.{slice_get_past}
 use Rattle.cartridge_laws.specs.TableCells.{HasList}
 use Rattle.qic_base.specs.Cartridge.{Cartridge}
@@ -30,7 +31,8 @@ use Rattle.volume_output.specs.declared.fault.OutputFault.TheVariants as output
 
 -- ---- the volume
 
-pub volume_there : (entries : List Entry) (number : ℕ) (e : Entry) → 0 < number → slice_get entries (number - 1) ≡ Some e → volume_at entries number ≡ Some e
+pub volume_there : (entries : List Entry) (number : ℕ) (e : Entry) → 0 < number → slice_get entries (number - 1) ≡ Some e →
+    volume_at entries number ≡ Some e
 volume_there entries zero e some at = absurd (omega arith)
 volume_there entries (suc n) e some at = let one : n ≡ suc n - 1 = omega arith in ap (slice_get entries) one ∙ at
 
@@ -38,7 +40,8 @@ pub no_volume : (entries : List Entry) (number : ℕ) → (0 < number → length
 no_volume entries zero past = refl
 no_volume entries (suc n) past = let over : length entries < suc n = past (omega arith) in slice_get_past entries n (omega arith)
 
-length_is : (words : List ℕ) (bytes : ℕ) (at : Option Entry) (e : Entry) → at ≡ Some e → IfSome at (λ entry. bytes ≡ volume_length words entry) → bytes ≡ volume_length words e
+length_is : (words : List ℕ) (bytes : ℕ) (at : Option Entry) (e : Entry) → at ≡ Some e →
+    IfSome at (λ entry. bytes ≡ volume_length words entry) → bytes ≡ volume_length words e
 length_is words bytes at e is long = subst (λ (o : Option Entry). IfSome o (λ entry. bytes ≡ volume_length words entry)) is long
 
 pub length_there : (store : StoreView) (i : ℕ) (e : Entry) (bytes : ℕ) → slice_get store.entries i ≡ Some e →
@@ -49,13 +52,16 @@ length_there store i e bytes at long = length_is store.words bytes (slice_get st
 pub volume_told : (store : StoreView) (number : ℕ) (e : Entry) (bytes : ℕ) → 0 < number → slice_get store.entries (number - 1) ≡ Some e →
     IfSome (slice_get store.entries (number - 1)) (λ entry. bytes ≡ volume_length store.words entry) →
     (volume_at store.entries number ≡ Some e) × (bytes ≡ volume_length store.words e)
-volume_told store number e bytes some at long = (volume_there store.entries number e some at, length_there store (number - 1) e bytes at long)
+volume_told store number e bytes some at long =
+    (volume_there store.entries number e some at, length_there store (number - 1) e bytes at long)
 
 -- ---- what it gave
 
-module _ {T K : Type 0} (t : Meaning T) (k : sinks.Meaning K) (store : StoreView) (number : ℕ) (lined : Bool) (old new : Outside T (Unit {0}) K) where
+module _ {T K : Type 0} (t : Meaning T) (k : sinks.Meaning K) (store : StoreView) (number : ℕ) (lined : Bool)
+    (old new : Outside T (Unit {0}) K) where
   -- of its pieces
-  pub of_volume : (words : List ℕ) (e : Entry) (bytes : ℕ) (answer : Result (Unit {0}) OutputFault) → words ≡ store.words → bytes ≡ volume_length store.words e →
+  pub of_volume : (words : List ℕ) (e : Entry) (bytes : ℕ) (answer : Result (Unit {0}) OutputFault) → words ≡ store.words →
+      bytes ≡ volume_length store.words e →
       OutputEnds t k words (pieces_of words (carrying words e.start e.end) bytes) lined old new answer →
       OutputEnds t k store.words (pieces store.words e) lined old new answer
   of_volume words e bytes answer same long ends =
@@ -63,7 +69,8 @@ module _ {T K : Type 0} (t : Meaning T) (k : sinks.Meaning K) (store : StoreView
       (subst (λ (ws : List ℕ). OutputEnds t k ws (pieces_of ws (carrying ws e.start e.end) bytes) lined old new answer) same ends)
 
   pub restore_failed : (e : Entry) (why : OutputFault) → volume_at store.entries number ≡ Some e →
-      OutputEnds t k store.words (pieces store.words e) lined old new (Err why) → RestoreEnds t k store number lined old new (Err (fault_of_output why))
+      OutputEnds t k store.words (pieces store.words e) lined old new (Err why) → RestoreEnds t k store number lined old new
+      (Err (fault_of_output why))
   restore_failed e (output.Lost segment lost) at ends = (e, at, ends)
   restore_failed e (output.Mismatch segment) at ends = (e, at, ends)
   restore_failed e output.Sink at ends = (e, at, ends)
@@ -75,7 +82,8 @@ printed_in_no_step : (needed : List Piece) (lined : Bool) (acts : List Act) → 
 printed_in_no_step [] true [] are = refl
 printed_in_no_step (piece ∷ needed) true [] are = refl
 printed_in_no_step [] true (act ∷ acts) are = absurd are
-printed_in_no_step (piece ∷ needed) true (act ∷ acts) are = no_step act.steps (framed needed acts) are.0 (printed_in_no_step needed true acts are.2)
+printed_in_no_step (piece ∷ needed) true (act ∷ acts) are = no_step act.steps (framed needed acts) are.0
+    (printed_in_no_step needed true acts are.2)
 printed_in_no_step needed false [] are = refl
 printed_in_no_step [] false (act ∷ acts) are = absurd are
 printed_in_no_step (piece ∷ needed) false (act ∷ acts) are = no_step act.steps acts are.0 (printed_in_no_step needed false acts are.2)
@@ -87,14 +95,17 @@ no_step_before acts at none =
     ∙ sym (steps_of-append at.front (at.act ∷ at.rest))
     ∙ ap (λ (xs : List Act). steps_of xs) at.parts ∙ none)
 
-told_still : {T : Type 0} (m : Meaning T) (old new : T) (steps : List Step) (P : Cartridge → Type 0) → steps ≡ [] → Done m old new steps → Tells m old P → Tells m new P
+told_still : {T : Type 0} (m : Meaning T) (old new : T) (steps : List Step) (P : Cartridge → Type 0) → steps ≡ [] → Done m old new steps →
+    Tells m old P → Tells m new P
 told_still m old new steps P none done told =
     subst (λ (held : Option (Option Cartridge)). IfSome held (λ h. IfSome h P)) (sym (Done-told (subst (Done m old new) none done))) told
 
-module _ {T K : Type 0} (t : Meaning T) (k : sinks.Meaning K) (words : List ℕ) (needed : List Piece) (lined : Bool) (old new : Outside T (Unit {0}) K) (P : Cartridge → Type 0) where
+module _ {T K : Type 0} (t : Meaning T) (k : sinks.Meaning K) (words : List ℕ) (needed : List Piece) (lined : Bool)
+    (old new : Outside T (Unit {0}) K) (P : Cartridge → Type 0) where
   given_told : (ending : GivingEnd) → GaveVolume t k words needed lined old new ending → Tells t old.tape P → Tells t new.tape P
   given_told ending gave told =
-      told_still t old.tape new.tape (steps_of (printed lined needed gave.acts)) P (printed_in_no_step needed lined gave.acts gave.are) gave.went.did told
+      told_still t old.tape new.tape (steps_of (printed lined needed gave.acts)) P
+      (printed_in_no_step needed lined gave.acts gave.are) gave.went.did told
 
   cut_told : VolumeCut t k words needed lined old new SinkFails → Tells t old.tape P → Tells t new.tape P
   cut_told cut told =
@@ -102,7 +113,8 @@ module _ {T K : Type 0} (t : Meaning T) (k : sinks.Meaning K) (words : List ℕ)
       (no_step_before (printed lined needed cut.acts) cut.cut.at (printed_in_no_step needed lined cut.acts cut.are)) cut.cut.did told
 
   -- it was only read
-  pub output_told : (answer : Result (Unit {0}) OutputFault) → OutputEnds t k words needed lined old new answer → (answer ≡ Err output.Tape → ⊥) →
+  pub output_told : (answer : Result (Unit {0}) OutputFault) → OutputEnds t k words needed lined old new answer →
+      (answer ≡ Err output.Tape → ⊥) →
       Tells t old.tape P → Tells t new.tape P
   output_told (Ok done) ends other told = given_told _ ends told
   output_told (Err (output.Lost segment lost)) ends other told = given_told _ ends told
@@ -112,10 +124,12 @@ module _ {T K : Type 0} (t : Meaning T) (k : sinks.Meaning K) (words : List ℕ)
 
 -- ---- the store
 
-pub still_fits : {T : Type 0} (m : Meaning T) (store after : StoreView) (u v : UnitView T) → StoreFits m store u → KeepsStore store after → Keeps m after.host u v →
+pub still_fits : {T : Type 0} (m : Meaning T) (store after : StoreView) (u v : UnitView T) → StoreFits m store u → KeepsStore store after →
+    Keeps m after.host u v →
     Tells m v.tape (λ c. c.info.protected ≡ false → HasList c store.entries) → StoreFits m after v
 still_fits m store after u v fits same keeps told =
-    let one : segments_of store.host ≡ segments_of after.host = one_length m store.host after.host u v fits.host keeps.ready.fits keeps.same.cartridge in
+    let one : segments_of store.host ≡ segments_of after.host =
+    one_length m store.host after.host u v fits.host keeps.ready.fits keeps.same.cartridge in
     record {
       host = keeps.ready.fits;
       rest = keeps.ready.rest;

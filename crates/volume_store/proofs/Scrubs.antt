@@ -1,5 +1,6 @@
 -- What scrubbing in either form leaves of the volume table's list, done or cut off by the sink.
-use Rattle.std.proofs.Common.{◌≡◌, ℕ, ◌-◌, ◌++◌, List, length, Contains, Option, Some, None, IfSome, IsSomeAnd, Result, Ok, Err, refl, sym, ap, ◌∙◌, subst}
+use Rattle.std.proofs.Common.{◌≡◌, ℕ, ◌-◌, ◌++◌, List, length, Contains, Option, Some, None, IfSome, IsSomeAnd, Result, Ok, Err, refl, sym}
+use Rattle.std.proofs.Common.{ap, ◌∙◌, subst}
 use Rattle.std.specs.Option.{option_map}
 use Rattle.std.proofs.lemmas.List.Elements.{All-take}
 use Rattle.cartridge_laws.specs.TableCells.{HasList}
@@ -43,7 +44,8 @@ use Rattle.segment_mending.specs.declared.fault.ScrubFault.TheVariants as fault
 
 -- ---- a cartridge that is being mended
 
-mended_list : (looked : List Looked) (c d : Cartridge) (entries : List Entry) → Rise looked → Contains looked (whole_segment 2) → IsBeingMended looked c d →
+mended_list : (looked : List Looked) (c d : Cartridge) (entries : List Entry) → Rise looked → Contains looked (whole_segment 2) →
+    IsBeingMended looked c d →
     HasList c entries → HasList d entries
 mended_list looked c d entries rise among way has =
     let data_sectors : List (List ℕ) = data_of has.block in
@@ -78,33 +80,40 @@ module _ (depth : Depth) (words : List ℕ) (entries : List Entry) (last : ℕ) 
       let same : IsSameIn c e 2 = seen_table depth c e looked fs run.seen in
       let known : HasList c entries = lists (ap (λ (info : TapeInfo). info.protected) (sym left.behind.info.0) ∙ mark) in
       list_same left.other d entries (left_table looked c e d same left)
-      (mended_list looked e left.other entries run.rise (looks_in_front words entries run.rise).table left.way (list_same c e entries same known))
+      (mended_list looked e left.other entries run.rise (looks_in_front words entries run.rise).table left.way
+      (list_same c e entries same known))
 
   left_lists : (c : Cartridge) (acts : List Act) (fs : List Finding) (left : Option Cartridge) → AsSeen depth c words entries acts fs →
-      IsSomeAnd left (IsLeft (looked_at words entries) c (without_all c (looked_at words entries) fs)) → Listed entries c → IfSome left (Listed entries)
+      IsSomeAnd left (IsLeft (looked_at words entries) c (without_all c (looked_at words entries) fs)) → Listed entries c →
+      IfSome left (Listed entries)
   left_lists c acts fs None run way lists = tt
   left_lists c acts fs (Some d) run way lists = one_left c d acts fs run way lists
 
-  torn_lists : (c : Cartridge) (acts : List Act) (left : Option Cartridge) → ScrubsAs depth c words entries acts → Torn (steps_of acts) (Some c) left →
+  torn_lists : (c : Cartridge) (acts : List Act) (left : Option Cartridge) → ScrubsAs depth c words entries acts →
+      Torn (steps_of acts) (Some c) left →
       Listed entries c → IfSome left (Listed entries)
   torn_lists c acts left scrubs torn lists =
       let run : AsSeen depth c words entries acts scrubs.findings = as_seen depth c words entries last acts order scrubs in
       left_lists c acts scrubs.findings left run (stopped_left depth c words entries acts scrubs.findings left run torn) lists
 
 -- a host that fits has learnt a cartridge that is there
-pub told_there : {T : Type 0} (m : Meaning T) (host : Host) (u : UnitView T) → Fits m host u → AgreesWithTape m u → m.told u.tape ≡ Some None → ⊥
+pub told_there : {T : Type 0} (m : Meaning T) (host : Host) (u : UnitView T) → Fits m host u → AgreesWithTape m u →
+    m.told u.tape ≡ Some None → ⊥
 told_there m host u fits agrees = by_cases u.drive.deck.cartridge (m.told u.tape) fits.cartridge agrees
   where
-    by_cases : (cartridge : Option TapeInfo) (held : Option (Option Cartridge)) → IsSomeAnd cartridge (λ info. info.segments_per_track ≡ segments_of host) →
+    by_cases : (cartridge : Option TapeInfo) (held : Option (Option Cartridge)) →
+        IsSomeAnd cartridge (λ info. info.segments_per_track ≡ segments_of host) →
         IfSome cartridge (λ info. IfSome held (λ there. IsSomeAnd there (λ c. c.info ≡ info))) → held ≡ Some None → ⊥
     by_cases None held long known is = absurd long
     by_cases (Some info) None long known is = cc
     by_cases (Some info) (Some None) long known is = absurd known
     by_cases (Some info) (Some (Some c)) long known is = cc
 
-module _ {T K : Type 0} (t : Meaning T) (k : sinks.Meaning K) (depth : Depth) (words : List ℕ) (entries : List Entry) (last : ℕ) (order : IsSoundList last entries) (old new : Outside T (Unit {0}) K) where
+module _ {T K : Type 0} (t : Meaning T) (k : sinks.Meaning K) (depth : Depth) (words : List ℕ) (entries : List Entry) (last : ℕ)
+    (order : IsSoundList last entries) (old new : Outside T (Unit {0}) K) where
   went_held : (acts : List Act) (report : ScrubReport) (held : Option (Option Cartridge)) → (held ≡ Some None → ⊥) →
-      IfSome held (λ h. IfSome h (λ c. (scrubs : ScrubsAs depth c words entries acts) × (reported report ≡ counts_for c (looked_at words entries) scrubs.findings))) →
+      IfSome held (λ h. IfSome h (λ c. (scrubs : ScrubsAs depth c words entries acts)
+      × (reported report ≡ counts_for c (looked_at words entries) scrubs.findings))) →
       IfSome held (λ h. IfSome h (Listed entries)) → IfSome (option_map (effects (steps_of acts)) held) (λ h. IfSome h (Listed entries))
   went_held acts report None there told lists = tt
   went_held acts report (Some None) there told lists = absurd (there refl)
@@ -122,9 +131,11 @@ module _ {T K : Type 0} (t : Meaning T) (k : sinks.Meaning K) (depth : Depth) (w
   torn_held c acts None scrubs torn lists = absurd torn
   torn_held c acts (Some left) scrubs torn lists = torn_lists depth words entries last order c acts left scrubs torn lists
 
-  cut_held : (held : Option (Option Cartridge)) (size : Option ℕ) → t.told old.tape ≡ held → IsToldRight held size → ScrubCut t k depth words entries old new SinkFails →
+  cut_held : (held : Option (Option Cartridge)) (size : Option ℕ) → t.told old.tape ≡ held → IsToldRight held size →
+      ScrubCut t k depth words entries old new SinkFails →
       (held ≡ Some None → ⊥) →
-      IfSome held (λ h. IfSome h (λ c. (acts : List Act) → ScrubsAs depth c words entries acts → Cut t no_source k old new acts SinkFails)) →
+      IfSome held (λ h. IfSome h (λ c. (acts : List Act) → ScrubsAs depth c words entries acts → Cut t no_source k old new acts SinkFails))
+      →
       IfSome held (λ h. IfSome h (Listed entries)) → Tells t new.tape (Listed entries)
   cut_held None size is right cut there told lists =
       subst (λ (held : Option (Option Cartridge)). IfSome held (λ h. IfSome h (Listed entries)))
@@ -132,12 +143,15 @@ module _ {T K : Type 0} (t : Meaning T) (k : sinks.Meaning K) (depth : Depth) (w
   cut_held (Some None) size is right cut there told lists = absurd (there refl)
   cut_held (Some (Some c)) size is right cut there told lists =
       let scrub = form_always depth c words entries right.0 in
-      torn_held c scrub.0 (t.told new.tape) scrub.1 (cut_is_torn t no_source k old new scrub.0 SinkFails (Some c) (told scrub.0 scrub.1) is) lists
+      torn_held c scrub.0 (t.told new.tape) scrub.1 (cut_is_torn t no_source k old new scrub.0 SinkFails (Some c) (told scrub.0 scrub.1) is)
+      lists
 
   -- the list stands where it stood
-  pub scrub_lists : (answer : Result ScrubReport ScrubFault) → ScrubEnds t k depth words entries old new answer → (answer ≡ Err fault.Tape → ⊥) →
+  pub scrub_lists : (answer : Result ScrubReport ScrubFault) → ScrubEnds t k depth words entries old new answer →
+      (answer ≡ Err fault.Tape → ⊥) →
       IsToldRight (t.told old.tape) (t.size old.tape) → (t.told old.tape ≡ Some None → ⊥) →
       Tells t old.tape (Listed entries) → Tells t new.tape (Listed entries)
   scrub_lists (Ok report) ends other right there lists = went_lists report ends there lists
-  scrub_lists (Err fault.Sink) ends other right there lists = cut_held (t.told old.tape) (t.size old.tape) refl right ends there ends.told lists
+  scrub_lists (Err fault.Sink) ends other right there lists = cut_held (t.told old.tape)
+      (t.size old.tape) refl right ends there ends.told lists
   scrub_lists (Err fault.Tape) ends other right there lists = absurd (other refl)

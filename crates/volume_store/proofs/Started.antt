@@ -11,25 +11,31 @@ use Rattle.qic_base.specs.Tape as tapes
 use Rattle.qic_base.specs.TapeCalls as tape_calls
 
 -- a fact of what is told after the insertion was told before it
-pub told_before : {T : Type 0} (t : tapes.Meaning T) (a b : T) → tapes.Done t a b [] → (P : Option Cartridge → Type 0) → IfSome (t.told b) P → IfSome (t.told a) P
+pub told_before : {T : Type 0} (t : tapes.Meaning T) (a b : T) → tapes.Done t a b [] → (P : Option Cartridge → Type 0) →
+    IfSome (t.told b) P → IfSome (t.told a) P
 told_before t a b inserted P told = subst (λ (held : Option (Option Cartridge)). IfSome held P) (Done-told inserted) told
 
 -- .. what the drive knows since the insertion among them
-known_before : {T : Type 0} (t : tapes.Meaning T) (a b : T) (cartridge : Option TapeInfo) → tapes.Done t a b [] → IfSome (t.told b) (IsInfoOf cartridge) → IfSome (t.told a) (IsInfoOf cartridge)
+known_before : {T : Type 0} (t : tapes.Meaning T) (a b : T) (cartridge : Option TapeInfo) → tapes.Done t a b [] →
+    IfSome (t.told b) (IsInfoOf cartridge) → IfSome (t.told a) (IsInfoOf cartridge)
 known_before t a b cartridge inserted known = told_before t a b inserted (IsInfoOf cartridge) known
 
 -- .. and what was told of the cartridge
-pub told_at_start : {T : Type 0} (t : tapes.Meaning T) (a b : T) → tapes.Done t a b [] → (P : Cartridge → Type 0) → tape_calls.Tells t b P → tape_calls.Tells t a P
+pub told_at_start : {T : Type 0} (t : tapes.Meaning T) (a b : T) → tapes.Done t a b [] → (P : Cartridge → Type 0) → tape_calls.Tells t b P →
+    tape_calls.Tells t a P
 told_at_start t a b inserted P told = told_before t a b inserted (λ h. IfSome h P) told
 
 -- a fact of what is told follows from what the drive knows
-pub told_known : (held : Option (Option Cartridge)) (cartridge : Option TapeInfo) (R : Option Cartridge → Type 0) → IfSome held (IsInfoOf cartridge) → ((h : Option Cartridge) → IsInfoOf cartridge h → R h) → IfSome held R
+pub told_known : (held : Option (Option Cartridge)) (cartridge : Option TapeInfo) (R : Option Cartridge → Type 0) →
+    IfSome held (IsInfoOf cartridge) → ((h : Option Cartridge) → IsInfoOf cartridge h → R h) → IfSome held R
 told_known None cartridge R known follows = tt
 told_known (Some h) cartridge R known follows = follows h known
 
 -- .. and from a fact of the cartridge
-pub told_known_beside : (held : Option (Option Cartridge)) (cartridge : Option TapeInfo) (Q : Cartridge → Type 0) (R : Option Cartridge → Type 0) →
-    IfSome held (IsInfoOf cartridge) → IfSome held (λ h. IfSome h Q) → ((h : Option Cartridge) → IsInfoOf cartridge h → IfSome h Q → R h) → IfSome held R
+pub told_known_beside : (held : Option (Option Cartridge)) (cartridge : Option TapeInfo) (Q : Cartridge → Type 0)
+    (R : Option Cartridge → Type 0) →
+    IfSome held (IsInfoOf cartridge) → IfSome held (λ h. IfSome h Q) → ((h : Option Cartridge) → IsInfoOf cartridge h → IfSome h Q → R h) →
+    IfSome held R
 told_known_beside None cartridge Q R known fact follows = tt
 told_known_beside (Some h) cartridge Q R known fact follows = follows h known fact
 
@@ -50,8 +56,10 @@ pub record Present {T : Type 0} (t : tapes.Meaning T) (a b : T) (info : TapeInfo
 pub there_of : {T : Type 0} {t : tapes.Meaning T} {a b : UnitView T} {host : Host} → HasStarted t a b host → IsThere b.drive.deck.cartridge
 there_of started = is_there _ _ started.ready.fits.cartridge
 
-pub present : {T : Type 0} {t : tapes.Meaning T} {a b : UnitView T} {host : Host} → (started : HasStarted t a b host) → Present t a.tape b.tape (there_of started).info
+pub present : {T : Type 0} {t : tapes.Meaning T} {a b : UnitView T} {host : Host} → (started : HasStarted t a b host) →
+    Present t a.tape b.tape (there_of started).info
 present {t = t} {a = a} {b = b} started = record {
   did = started.did;
-  known = subst (λ (i : Option TapeInfo). IfSome (t.told a.tape) (IsInfoOf i)) (there_of started).is (known_before t a.tape b.tape b.drive.deck.cartridge started.did started.known);
+  known = subst (λ (i : Option TapeInfo). IfSome (t.told a.tape) (IsInfoOf i)) (there_of started).is
+      (known_before t a.tape b.tape b.drive.deck.cartridge started.did started.known);
 }

@@ -1,5 +1,6 @@
 -- What a store is made of: where its volumes end, and what the mounting of its cartridge did.
-use Rattle.std.proofs.Common.{◌≡◌, zero, ℕ, suc, ◌+◌, ◌-◌, ◌<◌, ◌≤◌, ◌++◌, Bool, true, false, List, [], ◌∷◌, length, map, take, Option, Some, None, IfSome, IsSomeAnd, refl, sym, ap, ◌∙◌, subst, arith, slice_get}
+use Rattle.std.proofs.Common.{◌≡◌, zero, ℕ, suc, ◌+◌, ◌-◌, ◌<◌, ◌≤◌, ◌++◌, Bool, true, false, List, [], ◌∷◌, length, map, take, Option}
+use Rattle.std.proofs.Common.{Some, None, IfSome, IsSomeAnd, refl, sym, ap, ◌∙◌, subst, arith, slice_get}
 use Rattle.std.specs.Prelude.{sum_by, if◌then◌else◌}
 use Rattle.std.specs.List.{range_with_len}
 use Rattle.std.specs.Option.{option_map, option_map_or}
@@ -76,7 +77,8 @@ ends_within (x ∷ xs) before last (suc i) e order at =
 -- ---- what the mounting did
 
 -- the writes of the workspace settle a cartridge that was learnt
-settles_learnt : (host : Host) (c : Cartridge) (words : List ℕ) (sectors : List (List ℕ)) (entries : List Entry) (learnt : Learnt) (protected : Bool) → length sectors ≡ 32 →
+settles_learnt : (host : Host) (c : Cartridge) (words : List ℕ) (sectors : List (List ℕ)) (entries : List Entry) (learnt : Learnt)
+    (protected : Bool) → length sectors ≡ 32 →
     protected ≡ is_protected (deck_of host) → IsLearnt host c → HasLearnt c words sectors entries learnt →
     Settles c (header_of learnt.header) words entries (mending_steps protected learnt.unread sectors)
 settles_learnt host c words sectors entries learnt protected room mark known has = record {
@@ -86,12 +88,14 @@ settles_learnt host c words sectors entries learnt protected room mark known has
 }
 
 -- writes to a cartridge that is there
-effects_changed : (places : List ℕ) (sectors : List (List ℕ)) (c : Cartridge) → effects (writes_of 2 places sectors) (Some c) ≡ Some (changed_by (writes_of 2 places sectors) c)
+effects_changed : (places : List ℕ) (sectors : List (List ℕ)) (c : Cartridge) → effects (writes_of 2 places sectors) (Some c) ≡ Some
+    (changed_by (writes_of 2 places sectors) c)
 effects_changed [] sectors c = refl
 effects_changed (p ∷ places) [] c = refl
 effects_changed (p ∷ places) (bytes ∷ sectors) c = effects_changed places sectors (changed (WriteSector 2 p bytes) c)
 
-settling_effects : (area : List (List ℕ)) (c : Cartridge) → effects (settling_steps area c) (Some c) ≡ Some (changed_by (settling_steps area c) c)
+settling_effects : (area : List (List ℕ)) (c : Cartridge) → effects (settling_steps area c) (Some c) ≡ Some
+    (changed_by (settling_steps area c) c)
 settling_effects area c = by_mark c.info.protected
   where
     by_mark : (b : Bool) →
@@ -103,7 +107,8 @@ settling_effects area c = by_mark c.info.protected
 settled_info : (area : List (List ℕ)) (c : Cartridge) → (settled area c).info ≡ c.info
 settled_info area c = by_mark c.info.protected
   where
-    by_mark : (b : Bool) → (if b then c else changed_by (writes_of 2 (usable_places whole_mask) (area ++ parity_sectors area)) c).info ≡ c.info
+    by_mark : (b : Bool) → (if b then c else changed_by (writes_of 2 (usable_places whole_mask) (area ++ parity_sectors area)) c).info ≡
+        c.info
     by_mark true = refl
     by_mark false = writes_info (usable_places whole_mask) (area ++ parity_sectors area) c 2
 
@@ -113,7 +118,8 @@ none_written [] sectors = refl
 none_written (p ∷ places) [] = refl
 none_written (p ∷ places) (bytes ∷ sectors) = none_written places sectors
 
-pub none_mended : (protected : Bool) (unread : Unread) (sectors : List (List ℕ)) → effects (mending_steps protected unread sectors) None ≡ None
+pub none_mended : (protected : Bool) (unread : Unread) (sectors : List (List ℕ)) →
+    effects (mending_steps protected unread sectors) None ≡ None
 none_mended true unread sectors = refl
 none_mended false unread sectors =
     none_written (mending_places unread sectors) (map (sector_at (collected_block sectors)) (mending_places unread sectors))
@@ -122,52 +128,67 @@ none_mended false unread sectors =
 abbrev ListsWhereWritable : List Entry → Option Cartridge → Type 0
 ListsWhereWritable entries held = IfSome held (λ c. c.info.protected ≡ false → HasList c entries)
 
-settled_lists : (c : Cartridge) (header : Header) (words : List ℕ) (entries : List Entry) (steps : List Step) → IsCartridge c → Settles c header words entries steps →
+settled_lists : (c : Cartridge) (header : Header) (words : List ℕ) (entries : List Entry) (steps : List Step) → IsCartridge c →
+    Settles c header words entries steps →
     ListsWhereWritable entries (effects steps (Some c))
 settled_lists c header words entries steps whole settles =
     let table : TableIs c settles.table = settles.mounts.reads in
     let after : effects steps (Some c) ≡ Some (settled settles.table c) =
-    ap (λ (ss : List Step). effects ss (Some c)) settles.settles ∙ settling_effects settles.table c ∙ ap Some (settling_settles c settles.table table) in
+    ap (λ (ss : List Step). effects ss (Some c)) settles.settles ∙ settling_effects settles.table c
+    ∙ ap Some (settling_settles c settles.table table) in
     subst (ListsWhereWritable entries) (sym after)
-    (λ mark. settled_list c settles.table entries whole table settles.mounts.shown (ap (λ (info : TapeInfo). info.protected) (sym (settled_info settles.table c)) ∙ mark))
+    (λ mark. settled_list c settles.table entries whole table settles.mounts.shown
+    (ap (λ (info : TapeInfo). info.protected) (sym (settled_info settles.table c)) ∙ mark))
 
 -- the store's list is that of the settled cartridge
 pub told_lists : {T : Type 0} (m : Meaning T) (old new : T) (header : Header) (words : List ℕ) (entries : List Entry) (steps : List Step) →
-    IsToldRight (m.told old) (m.size old) → effects steps None ≡ None → Done m old new steps → Tells m old (λ c. Settles c header words entries steps) →
+    IsToldRight (m.told old) (m.size old) → effects steps None ≡ None → Done m old new steps →
+    Tells m old (λ c. Settles c header words entries steps) →
     Tells m new (λ c. c.info.protected ≡ false → HasList c entries)
 told_lists m old new header words entries steps right none done settles =
-    subst (λ (told : Option (Option Cartridge)). IfSome told (ListsWhereWritable entries)) (sym done.told) (by_told (m.told old) (m.size old) right settles)
+    subst (λ (told : Option (Option Cartridge)). IfSome told (ListsWhereWritable entries)) (sym done.told)
+    (by_told (m.told old) (m.size old) right settles)
   where
-    by_told : (told : Option (Option Cartridge)) (size : Option ℕ) → IsToldRight told size → IfSome told (λ h. IfSome h (λ c. Settles c header words entries steps)) →
+    by_told : (told : Option (Option Cartridge)) (size : Option ℕ) → IsToldRight told size →
+        IfSome told (λ h. IfSome h (λ c. Settles c header words entries steps)) →
         IfSome (option_map (effects steps) told) (ListsWhereWritable entries)
     by_told None size known fact = tt
     by_told (Some None) size known fact = subst (ListsWhereWritable entries) (sym none) tt
     by_told (Some (Some c)) size known fact = settled_lists c header words entries steps known.0 fact
 
 -- where the tape tells, the settling's writes are those of the cartridge that was mounted
-pub told_settles : {T : Type 0} (m : Meaning T) (host : Host) (old : T) (u : UnitView T) (words : List ℕ) (sectors : List (List ℕ)) (entries : List Entry) (learnt : Learnt) →
-    Fits m host u → AgreesWithTape m u → Done m old u.tape [] → length sectors ≡ 32 → Tells m old (λ c. HasLearnt c words sectors entries learnt) →
+pub told_settles : {T : Type 0} (m : Meaning T) (host : Host) (old : T) (u : UnitView T) (words : List ℕ) (sectors : List (List ℕ))
+    (entries : List Entry) (learnt : Learnt) →
+    Fits m host u → AgreesWithTape m u → Done m old u.tape [] → length sectors ≡ 32 →
+    Tells m old (λ c. HasLearnt c words sectors entries learnt) →
     Tells m old (λ c. Settles c (header_of learnt.header) words entries (mending_steps (is_protected u.drive.deck) learnt.unread sectors))
 told_settles m host old u words sectors entries learnt fits agrees read room has =
     tells_two m old (IsLearnt host) (λ c. HasLearnt c words sectors entries learnt)
     (λ c. Settles c (header_of learnt.header) words entries (mending_steps (is_protected u.drive.deck) learnt.unread sectors))
-    (λ c known mounted. settles_learnt host c words sectors entries learnt (is_protected u.drive.deck) room (ap is_protected fits.deck) known mounted)
+    (λ c known mounted. settles_learnt host c words sectors entries learnt (is_protected u.drive.deck) room
+    (ap is_protected fits.deck) known mounted)
     (Tells-read (IsLearnt host) read (told_learnt m host u fits agrees)) has
 
 -- what gives a fact of a cartridge that the drive knows gives it of what the tape tells
-pub told_there : (cartridge : Option TapeInfo) (told : Option (Option Cartridge)) (S : TapeInfo → Type 0) (P : Cartridge → Type 0) (R : Option Cartridge → Type 0) → IsSomeAnd cartridge S →
-    IfSome cartridge (λ info. IfSome told (λ held. IsSomeAnd held (λ c. c.info ≡ info))) → ((c : Cartridge) → P c → R (Some c)) → IfSome told (λ held. IfSome held P) → IfSome told R
+pub told_there : (cartridge : Option TapeInfo) (told : Option (Option Cartridge)) (S : TapeInfo → Type 0) (P : Cartridge → Type 0)
+    (R : Option Cartridge → Type 0) → IsSomeAnd cartridge S →
+    IfSome cartridge (λ info. IfSome told (λ held. IsSomeAnd held (λ c. c.info ≡ info))) → ((c : Cartridge) → P c → R (Some c)) →
+    IfSome told (λ held. IfSome held P) → IfSome told R
 told_there None told S P R there agrees gives fact = absurd there
 told_there (Some info) None S P R there agrees gives fact = tt
 told_there (Some info) (Some None) S P R there agrees gives fact = absurd agrees
 told_there (Some info) (Some (Some c)) S P R there agrees gives fact = gives c fact
 
 -- hosts that fit units with one cartridge have learnt one length
-pub one_length : {T : Type 0} (m : Meaning T) (one other : Host) (u v : UnitView T) → Fits m one u → Fits m other v → v.drive.deck.cartridge ≡ u.drive.deck.cartridge → segments_of one ≡ segments_of other
+pub one_length : {T : Type 0} (m : Meaning T) (one other : Host) (u v : UnitView T) → Fits m one u → Fits m other v →
+    v.drive.deck.cartridge ≡ u.drive.deck.cartridge → segments_of one ≡ segments_of other
 one_length m one other u v fits next same =
-    by_cartridge u.drive.deck.cartridge fits.cartridge (subst (λ (cartridge : Option TapeInfo). IsSomeAnd cartridge (λ info. info.segments_per_track ≡ segments_of other)) same next.cartridge)
+    by_cartridge u.drive.deck.cartridge fits.cartridge
+    (subst (λ (cartridge : Option TapeInfo). IsSomeAnd cartridge (λ info. info.segments_per_track ≡ segments_of other)) same
+    next.cartridge)
   where
-    by_cartridge : (cartridge : Option TapeInfo) → IsSomeAnd cartridge (λ info. info.segments_per_track ≡ segments_of one) → IsSomeAnd cartridge (λ info. info.segments_per_track ≡ segments_of other) →
+    by_cartridge : (cartridge : Option TapeInfo) → IsSomeAnd cartridge (λ info. info.segments_per_track ≡ segments_of one) →
+        IsSomeAnd cartridge (λ info. info.segments_per_track ≡ segments_of other) →
         segments_of one ≡ segments_of other
     by_cartridge None first second = absurd first
     by_cartridge (Some info) first second = sym first ∙ second

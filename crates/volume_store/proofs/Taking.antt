@@ -1,5 +1,7 @@
 -- An input that was taken: what became of it, and the acts that it asked for.
-use Rattle.std.proofs.Common.{◌≡◌, Bool, true, false, cond, refl, ◌&&◌, ℕ, ◌+◌, ◌-◌, ◌≤◌, min, List, length, None, nat_le, ◌<◌, ap, ◌∙◌, arith, sym, Some, ◌⊎◌, inl, inr, take, nat_lt, ◌++◌, All, Option, IfNone, subst, append-nil, drop, zero, suc, [], ◌∷◌, slice_get, Ok, Err, append_assoc}
+use Rattle.std.proofs.Common.{◌≡◌, Bool, true, false, cond, refl, ◌&&◌, ℕ, ◌+◌, ◌-◌, ◌≤◌, min, List, length, None, nat_le, ◌<◌, ap, ◌∙◌}
+use Rattle.std.proofs.Common.{arith, sym, Some, ◌⊎◌, inl, inr, take, nat_lt, ◌++◌, All, Option, IfNone, subst, append-nil, drop, zero, suc}
+use Rattle.std.proofs.Common.{[], ◌∷◌, slice_get, Ok, Err, append_assoc}
 use Rattle.std.proofs.lemmas.Bool.{le-leb, lt-leb, le-ltb, lt-ltb, cases_lt}
 use Rattle.std.specs.Option.{option_map}
 use Rattle.std.proofs.Math.Seq.{drop-append_seam, take-append-add}
@@ -11,7 +13,8 @@ use Rattle.cartridge_spec.specs.Appending.{end_behind, room, free_segments}
 use Rattle.cartridge_spec.specs.Table.{Entry}
 use Rattle.cartridge_spec.specs.Volumes.{carrying}
 use Rattle.command_laws.proofs.StoreTaking.{both_true}
-use Rattle.command_spec.specs.Append.{Fits, TooLong, taking, has_promised_room, TooShort, volume_acts, filled_acts, input_acts, Taking, input_writes}
+use Rattle.command_spec.specs.Append.{Fits, TooLong, taking, has_promised_room, TooShort, volume_acts, filled_acts, input_acts, Taking}
+use Rattle.command_spec.specs.Append.{input_writes}
 use Rattle.command_laws.specs.AppendTerms.{bytes_taken}
 use Rattle.qic_base.proofs.Giving.{Gave-nothing, Gave-Gave, Gave-end}
 use Rattle.qic_base.proofs.Steps.{Done-nothing, Rose-after}
@@ -66,17 +69,21 @@ has_none have n (inr few) = second_false (nat_le 1 have) (nat_le n have) (lt-leb
 
 promised_fits : (have n : ℕ) (input : List ℕ) → 1 ≤ have → n ≤ have → n ≤ length input → taking have (Some n) input ≡ Fits (take n input)
 promised_fits have n input some within enough =
-    chosen (has_promised_room have (Some n)) (cond (nat_lt (length input) n) (TooShort n (length input)) (Fits (take n input))) (TooLong n have) (has_room have n some within)
+    chosen (has_promised_room have (Some n)) (cond (nat_lt (length input) n) (TooShort n (length input)) (Fits (take n input)))
+    (TooLong n have) (has_room have n some within)
     ∙ refused (nat_lt (length input) n) (TooShort n (length input)) (Fits (take n input)) (le-ltb (length input) n enough)
 
-promised_short : (have n : ℕ) (input : List ℕ) → 1 ≤ have → n ≤ have → length input < n → taking have (Some n) input ≡ TooShort n (length input)
+promised_short : (have n : ℕ) (input : List ℕ) → 1 ≤ have → n ≤ have → length input < n → taking have (Some n) input ≡ TooShort n
+    (length input)
 promised_short have n input some within less =
-    chosen (has_promised_room have (Some n)) (cond (nat_lt (length input) n) (TooShort n (length input)) (Fits (take n input))) (TooLong n have) (has_room have n some within)
+    chosen (has_promised_room have (Some n)) (cond (nat_lt (length input) n) (TooShort n (length input)) (Fits (take n input)))
+    (TooLong n have) (has_room have n some within)
     ∙ chosen (nat_lt (length input) n) (TooShort n (length input)) (Fits (take n input)) (lt-ltb (length input) n less)
 
 promised_full : (have n : ℕ) (input : List ℕ) → (have ≡ 0) ⊎ (have < n) → taking have (Some n) input ≡ TooLong n have
 promised_full have n input few =
-    refused (has_promised_room have (Some n)) (cond (nat_lt (length input) n) (TooShort n (length input)) (Fits (take n input))) (TooLong n have) (has_none have n few)
+    refused (has_promised_room have (Some n)) (cond (nat_lt (length input) n) (TooShort n (length input)) (Fits (take n input)))
+    (TooLong n have) (has_none have n few)
 
 -- ---- the input, by what was given of it
 
@@ -86,7 +93,8 @@ given_content (Some told) after bytes gave content = tt
 given_content None (Some left) bytes gave content = absurd (cc)
 given_content None None bytes gave content = subst (All (λ (b : ℕ). b < 256)) (sym (append-nil bytes)) content
 
-dropped : (before after : Option (List ℕ)) (bytes : List ℕ) → before ≡ option_map (λ rest. bytes ++ rest) after → after ≡ option_map (drop (length bytes)) before
+dropped : (before after : Option (List ℕ)) (bytes : List ℕ) → before ≡ option_map (λ rest. bytes ++ rest) after →
+    after ≡ option_map (drop (length bytes)) before
 dropped before None bytes gave = sym (ap (option_map (drop (length bytes))) gave)
 dropped before (Some rest) bytes gave =
     ap (λ (xs : List ℕ). Some xs) (sym (drop-append_seam bytes rest)) ∙ sym (ap (option_map (drop (length bytes))) gave)
@@ -94,9 +102,11 @@ dropped before (Some rest) bytes gave =
 -- at most one byte that was skipped, whatever it may be where it isn't told
 abbrev SkippedAs : (before after : Option (List ℕ)) (n : ℕ) → Type 0
 SkippedAs before after n =
-    (bytes : List ℕ) × (length bytes ≡ n) × (before ≡ option_map (λ rest. bytes ++ rest) after) × IfNone before (All (λ (b : ℕ). b < 256) bytes)
+    (bytes : List ℕ) × (length bytes ≡ n) × (before ≡ option_map (λ rest. bytes ++ rest) after)
+    × IfNone before (All (λ (b : ℕ). b < 256) bytes)
 
-skipped_as : (before after : Option (List ℕ)) (bytes : List ℕ) (n : ℕ) → n ≤ 1 → length bytes ≡ n → before ≡ option_map (λ rest. bytes ++ rest) after → SkippedAs before after n
+skipped_as : (before after : Option (List ℕ)) (bytes : List ℕ) (n : ℕ) → n ≤ 1 → length bytes ≡ n →
+    before ≡ option_map (λ rest. bytes ++ rest) after → SkippedAs before after n
 skipped_as (Some told) after bytes n few long gave = (bytes, long, gave, tt)
 skipped_as None (Some left) bytes n few long gave = absurd (cc)
 skipped_as None None bytes zero few long gave = ([], refl, refl, All-nil (λ (b : ℕ). b < 256))
@@ -104,7 +114,8 @@ skipped_as None None bytes (suc zero) few long gave =
     (0 ∷ [], refl, refl, All-cons (λ (b : ℕ). b < 256) 0 [] (omega arith) (All-nil (λ (b : ℕ). b < 256)))
 skipped_as None None bytes (suc (suc n)) few long gave = absurd (omega arith)
 
-content_both : (before between after : Option (List ℕ)) (xs ys : List ℕ) → before ≡ option_map (λ rest. xs ++ rest) between → All (λ (b : ℕ). b < 256) xs →
+content_both : (before between after : Option (List ℕ)) (xs ys : List ℕ) → before ≡ option_map (λ rest. xs ++ rest) between →
+    All (λ (b : ℕ). b < 256) xs →
     IfNone between (All (λ (b : ℕ). b < 256) ys) → IfNone before (All (λ (b : ℕ). b < 256) (xs ++ ys))
 content_both (Some told) between after xs ys gave content more = tt
 content_both None (Some left) after xs ys gave content more = absurd (cc)
@@ -117,7 +128,8 @@ front_of bytes rest n long =
 
 -- ---- the first free segment
 
-pub end_of_last : (entries : List Entry) (before i : ℕ) (e : Entry) → slice_get entries i ≡ Some e → length entries ≡ i + 1 → end_behind before entries ≡ e.end
+pub end_of_last : (entries : List Entry) (before i : ℕ) (e : Entry) → slice_get entries i ≡ Some e → length entries ≡ i + 1 →
+    end_behind before entries ≡ e.end
 end_of_last [] before i e at long = absurd (omega arith)
 end_of_last (x ∷ []) before zero e at long = ap (λ (y : Entry). y.end) (same_Some x e at)
 end_of_last (x ∷ []) before (suc i) e at long = absurd (omega arith)
@@ -132,7 +144,8 @@ pub no_entries : (entries : List Entry) → length entries ≡ 0 → 2 ≡ last_
 no_entries [] none = refl
 no_entries (e ∷ es) none = absurd (omega arith)
 
-module _ {T S : Type 0} (t : tapes.Meaning T) (s : sources.Meaning S) (words : List ℕ) (entries : List Entry) (old new : Outside T S (Unit {0})) where
+module _ {T S : Type 0} (t : tapes.Meaning T) (s : sources.Meaning S) (words : List ℕ) (entries : List Entry)
+    (old new : Outside T S (Unit {0})) where
   abbrev segments : List ℕ
   segments = free_segments words entries
 
@@ -145,9 +158,11 @@ module _ {T S : Type 0} (t : tapes.Meaning T) (s : sources.Meaning S) (words : L
 
   writes_some : (n : ℕ) (input : List ℕ) → 1 ≤ have → n ≤ have →
       input_writes words entries (Some n) input ≡ input_acts words segments n true input
-  writes_some n input some within = chosen (has_promised_room have (Some n)) (input_acts words segments n true input) [] (has_room have n some within)
+  writes_some n input some within = chosen (has_promised_room have (Some n)) (input_acts words segments n true input) []
+      (has_room have n some within)
 
-  went_with : (promised : Option ℕ) (bytes : List ℕ) (became : Taking) → Gave s old.source new.source bytes → IfNone (s.left old.source) (All (λ (b : ℕ). b < 256) bytes) →
+  went_with : (promised : Option ℕ) (bytes : List ℕ) (became : Taking) → Gave s old.source new.source bytes →
+      IfNone (s.left old.source) (All (λ (b : ℕ). b < 256) bytes) →
       taking have promised (bytes ++ input_of (s.left new.source)) ≡ became → bytes_taken promised became ≡ length bytes →
       Went t s no_sink old new (input_writes words entries promised (bytes ++ input_of (s.left new.source))) →
       InputWent t s words entries promised old new became
@@ -160,7 +175,8 @@ module _ {T S : Type 0} (t : tapes.Meaning T) (s : sources.Meaning S) (words : L
     left = dropped (s.left old.source) (s.left new.source) bytes gave ∙ ap (λ (n : ℕ). option_map (drop n) (s.left old.source)) (sym taken);
   }
 
-  broke_with : (promised : Option ℕ) (failing : Failing) (bytes : List ℕ) → Gave s old.source new.source bytes → IfNone (s.left old.source) (All (λ (b : ℕ). b < 256) bytes) →
+  broke_with : (promised : Option ℕ) (failing : Failing) (bytes : List ℕ) → Gave s old.source new.source bytes →
+      IfNone (s.left old.source) (All (λ (b : ℕ). b < 256) bytes) →
       Cut t s no_sink old new (input_writes words entries promised (bytes ++ input_of (s.left new.source))) failing →
       InputBroke t s words entries promised old new failing
   broke_with promised failing bytes gave content cut = record {
@@ -173,7 +189,8 @@ module _ {T S : Type 0} (t : tapes.Meaning T) (s : sources.Meaning S) (words : L
 
   -- ---- with a promise
   module _ (n : ℕ) (some : 1 ≤ have) (within : n ≤ have) where
-    pub promised_written : (written : Written) → HasWritten t s words segments n true old new written → InputWritten t s words entries (Some n) old new written
+    pub promised_written : (written : Written) → HasWritten t s words segments n true old new written →
+        InputWritten t s words entries (Some n) old new written
     promised_written written has =
         let all : length has.bytes ≡ n = has.whole refl in
         let input : List ℕ = has.bytes ++ input_of (s.left new.source) in
@@ -185,7 +202,9 @@ module _ {T S : Type 0} (t : tapes.Meaning T) (s : sources.Meaning S) (words : L
               (promised_fits have n input some within enough ∙ ap (λ (xs : List ℕ). Fits xs) front) refl
               (subst (Went t s no_sink old new)
               (ap (volume_acts words segments) (sym front)
-              ∙ sym (refused (true && nat_lt (length input) n) (filled_acts words segments input) (volume_acts words segments (take n input)) (second_false true (nat_lt (length input) n) (le-ltb (length input) n enough)))
+              ∙ sym (refused (true && nat_lt (length input) n) (filled_acts words segments input)
+              (volume_acts words segments (take n input))
+              (second_false true (nat_lt (length input) n) (le-ltb (length input) n enough)))
               ∙ sym (writes_some n input some within))
               has.went);
           count = has.count;
@@ -193,24 +212,28 @@ module _ {T S : Type 0} (t : tapes.Meaning T) (s : sources.Meaning S) (words : L
           end = has.end;
         }
 
-    pub promised_ends_short : (read : ℕ) → EndedShort t s words segments n true old new read → InputWent t s words entries (Some n) old new (TooShort n read)
+    pub promised_ends_short : (read : ℕ) → EndedShort t s words segments n true old new read → InputWent t s words entries (Some n) old new
+        (TooShort n read)
     promised_ends_short read has =
         let input : List ℕ = has.bytes ++ input_of (s.left new.source) in
-        let all : input ≡ has.bytes = ap (λ (xs : List ℕ). has.bytes ++ xs) (none_left (s.left new.source) has.ended) ∙ append-nil has.bytes in
+        let all : input ≡ has.bytes = ap (λ (xs : List ℕ). has.bytes ++ xs) (none_left (s.left new.source) has.ended)
+        ∙ append-nil has.bytes in
         let long : length input ≡ read = ap (λ (xs : List ℕ). length xs) all ∙ sym has.count in
         let less : length input < n = subst (λ (xs : List ℕ). length xs < n) (sym all) has.short in
         went_with (Some n) has.bytes (TooShort n read) has.gave (untold_content (s.left old.source) has.bytes has.content)
         (promised_short have n input some within less ∙ ap (λ (k : ℕ). TooShort n k) long) has.count
         (subst (Went t s no_sink old new)
         (ap (filled_acts words segments) (sym all)
-        ∙ sym (chosen (true && nat_lt (length input) n) (filled_acts words segments input) (volume_acts words segments (take n input)) (both_true true (nat_lt (length input) n) refl (lt-ltb (length input) n less)))
+        ∙ sym (chosen (true && nat_lt (length input) n) (filled_acts words segments input) (volume_acts words segments (take n input))
+        (both_true true (nat_lt (length input) n) refl (lt-ltb (length input) n less)))
         ∙ sym (writes_some n input some within))
         has.went)
 
   -- ---- with none
   module _ (some : 1 ≤ have) where
     -- the source has ended
-    all_written : (bytes : List ℕ) → Gave s old.source new.source bytes → All (λ (b : ℕ). b < 256) bytes → length bytes ≤ have → HasEnded s new.source →
+    all_written : (bytes : List ℕ) → Gave s old.source new.source bytes → All (λ (b : ℕ). b < 256) bytes → length bytes ≤ have →
+        HasEnded s new.source →
         Went t s no_sink old new (volume_acts words segments bytes) → InputWent t s words entries None old new (Fits bytes)
     all_written bytes gave content few ended went =
         let input : List ℕ = bytes ++ input_of (s.left new.source) in
@@ -220,7 +243,8 @@ module _ {T S : Type 0} (t : tapes.Meaning T) (s : sources.Meaning S) (words : L
         (subst (Went t s no_sink old new)
         (ap (volume_acts words segments) (sym (take_all have bytes few) ∙ ap (take have) (sym all)) ∙ sym (writes_none input some)) went)
 
-    pub all_ended : (written : Written) → HasWritten t s words segments have false old new written → written.bytes < have → InputWritten t s words entries None old new written
+    pub all_ended : (written : Written) → HasWritten t s words segments have false old new written → written.bytes < have →
+        InputWritten t s words entries None old new written
     all_ended written has less =
         let count : written.bytes ≡ length has.bytes = has.count in
         record {
@@ -231,7 +255,8 @@ module _ {T S : Type 0} (t : tapes.Meaning T) (s : sources.Meaning S) (words : L
           end = has.end;
         }
 
-module _ {T S : Type 0} (t : tapes.Meaning T) (s : sources.Meaning S) (words : List ℕ) (entries : List Entry) (old new : Outside T S (Unit {0})) where
+module _ {T S : Type 0} (t : tapes.Meaning T) (s : sources.Meaning S) (words : List ℕ) (entries : List Entry)
+    (old new : Outside T S (Unit {0})) where
   -- the segments and the room by the numbers that a call was handed
   pub moved : (first most : ℕ) (written : Written) → first ≡ last_end entries + 1 → most ≡ room words entries →
       HasWritten t s words (carrying words first (length words - 1)) most false old new written →
@@ -246,7 +271,7 @@ module _ {T S : Type 0} (t : tapes.Meaning T) (s : sources.Meaning S) (words : L
   all_full written has least = let count = has.count in let few = has.within in omega arith
 
 module _ {T S : Type 0} (t : tapes.Meaning T) (s : sources.Meaning S) (words : List ℕ) (entries : List Entry) (x : T) (a : S) where
-  nothing : (c : S) → s.faults a ≤ s.faults c → Went t s no_sink (reading x a) (reading x c) []
+  nothing : (c : S) → s.faults c ≡ s.faults a → Went t s no_sink (reading x a) (reading x c) []
   nothing c later = record { did = Done-nothing t x; wrote = record { took = refl; later = omega arith }; source_later = later }
 
   no_writes : (input : List ℕ) → room words entries ≡ 0 → input_writes words entries None input ≡ []
@@ -265,11 +290,12 @@ module _ {T S : Type 0} (t : tapes.Meaning T) (s : sources.Meaning S) (words : L
       (untold_content (s.left a) [] (All-nil (λ (b : ℕ). b < 256)))
       (promised_full have n input few) refl
       (subst (Went t s no_sink (reading x a) (reading x a))
-      (sym (refused (has_promised_room have (Some n)) (input_acts words (free_segments words entries) n true input) [] (has_none have n few)))
+      (sym (refused (has_promised_room have (Some n)) (input_acts words (free_segments words entries) n true input) []
+      (has_none have n few)))
       (nothing a (omega arith)))
 
   -- ---- one at most where there is no room, and none is promised
-  pub none_fits : (c : S) (n : ℕ) → room words entries ≡ 0 → s.faults a ≤ s.faults c → Skips {E = Unit {0}} s a c 1 (Ok n) →
+  pub none_fits : (c : S) (n : ℕ) → room words entries ≡ 0 → s.faults c ≡ s.faults a → Skips {E = Unit {0}} s a c 1 (Ok n) →
       InputWent t s words entries None (reading x a) (reading x c) (TooLong n 0)
   none_fits c n none later skipped =
       let have : ℕ = room words entries in
@@ -290,7 +316,8 @@ module _ {T S : Type 0} (t : tapes.Meaning T) (s : sources.Meaning S) (words : L
           let all = length-append bytes (input_of (s.left c)) in
           omega arith
 
-  pub none_fails : (c : S) → room words entries ≡ 0 → s.faults a ≤ s.faults c → Rose (s.faults a) (s.faults c) → Skips {E = Unit {0}} s a c 1 (Err tt) →
+  pub none_fails : (c : S) → room words entries ≡ 0 → s.faults a ≤ s.faults c → Rose (s.faults a) (s.faults c) →
+      Skips {E = Unit {0}} s a c 1 (Err tt) →
       InputBroke t s words entries None (reading x a) (reading x c) SourceFails
   none_fails c none later rose skipped =
       let got = skipped_as (s.left a) (s.left c) skipped.2.0 skipped.0 (let few = skipped.1 in omega arith) skipped.2.1 skipped.2.2 in
@@ -308,7 +335,9 @@ module _ {T S : Type 0} (t : tapes.Meaning T) (s : sources.Meaning S) (words : L
       }))
 
   -- ---- a byte more where all of the room was written
-  module _ (y : T) (b c : S) (some : 1 ≤ room words entries) (written : Written) (has : HasWritten t s words (free_segments words entries) (room words entries) false (reading x a) (reading y b) written) (full : written.bytes ≡ room words entries) (later : s.faults b ≤ s.faults c) where
+  module _ (y : T) (b c : S) (some : 1 ≤ room words entries) (written : Written)
+      (has : HasWritten t s words (free_segments words entries) (room words entries) false (reading x a) (reading y b) written)
+      (full : written.bytes ≡ room words entries) (later : s.faults b ≤ s.faults c) where
     abbrev had : ℕ
     had = room words entries
 
@@ -318,8 +347,8 @@ module _ {T S : Type 0} (t : tapes.Meaning T) (s : sources.Meaning S) (words : L
     long_all : length has.bytes ≡ had
     long_all = sym has.count ∙ full
 
-    behind : Went t s no_sink (reading x a) (reading y c) (volume_acts words places has.bytes)
-    behind = record {
+    behind : s.faults c ≡ s.faults b → Went t s no_sink (reading x a) (reading y c) (volume_acts words places has.bytes)
+    behind stood = record {
       did = has.went.did;
       wrote = has.went.wrote;
       source_later = (let first = has.went.source_later in omega arith);
@@ -328,17 +357,20 @@ module _ {T S : Type 0} (t : tapes.Meaning T) (s : sources.Meaning S) (words : L
     all_given : (more : List ℕ) → Gave s b c more → Gave s a c (has.bytes ++ more)
     all_given more gave = Gave-Gave s a b c has.bytes more has.gave gave
 
-    writes_same : (more : List ℕ) → volume_acts words places has.bytes ≡ input_writes words entries None ((has.bytes ++ more) ++ input_of (s.left c))
+    writes_same : (more : List ℕ) → volume_acts words places has.bytes ≡ input_writes words entries None
+        ((has.bytes ++ more) ++ input_of (s.left c))
     writes_same more =
         let rest : List ℕ = input_of (s.left c) in
         ap (volume_acts words places)
         (sym (ap (take had) (append_assoc has.bytes more rest) ∙ front_of has.bytes (more ++ rest) had long_all))
         ∙ sym (writes_none t s words entries (reading x a) (reading y c) ((has.bytes ++ more) ++ rest) some)
 
-    pub no_more : Skips {E = Unit {0}} s b c 1 (Ok 0) → InputWritten t s words entries None (reading x a) (reading y c) written
-    no_more skipped = record {
+    pub no_more : s.faults c ≡ s.faults b → Skips {E = Unit {0}} s b c 1 (Ok 0) → InputWritten t s words entries None (reading x a)
+        (reading y c) written
+    no_more stood skipped = record {
       bytes = has.bytes;
-      went = all_written t s words entries (reading x a) (reading y c) some has.bytes (given skipped.1.0 skipped.1.1 skipped.1.2) has.content has.within (skipped.2 (omega arith)) behind;
+      went = all_written t s words entries (reading x a) (reading y c) some has.bytes
+          (given skipped.1.0 skipped.1.1 skipped.1.2) has.content has.within (skipped.2 (omega arith)) (behind stood);
       count = has.count;
       start = has.start;
       end = has.end;
@@ -348,18 +380,22 @@ module _ {T S : Type 0} (t : tapes.Meaning T) (s : sources.Meaning S) (words : L
         given [] none gave = Gave-end s a b c has.bytes has.gave gave
         given (e ∷ es) none gave = absurd (omega arith)
 
-    pub one_more : (n : ℕ) → 1 ≤ n → Skips {E = Unit {0}} s b c 1 (Ok n) → InputWent t s words entries None (reading x a) (reading y c) (TooLong (had + 1) had)
-    one_more n more skipped =
+    pub one_more : s.faults c ≡ s.faults b → (n : ℕ) → 1 ≤ n → Skips {E = Unit {0}} s b c 1 (Ok n) →
+        InputWent t s words entries None (reading x a) (reading y c) (TooLong (had + 1) had)
+    one_more stood n more skipped =
         let got = skipped_as (s.left b) (s.left c) skipped.1.0 n skipped.0 skipped.1.1 skipped.1.2 in
         let one : n ≡ 1 = (let few : n ≤ 1 = skipped.0 in omega arith) in
-        let all : length (has.bytes ++ got.0) ≡ had + 1 = length-append has.bytes got.0 ∙ ap (λ (k : ℕ). length has.bytes + k) (got.1 ∙ one) ∙ ap (λ (k : ℕ). k + 1) long_all in
-        let beyond : had < length ((has.bytes ++ got.0) ++ input_of (s.left c)) = omega (arith, length-append (has.bytes ++ got.0) (input_of (s.left c))) in
+        let all : length (has.bytes ++ got.0) ≡ had + 1 = length-append has.bytes got.0 ∙ ap (λ (k : ℕ). length has.bytes + k) (got.1 ∙ one)
+        ∙ ap (λ (k : ℕ). k + 1) long_all in
+        let beyond : had < length ((has.bytes ++ got.0) ++ input_of (s.left c)) =
+        omega (arith, length-append (has.bytes ++ got.0) (input_of (s.left c))) in
         went_with t s words entries (reading x a) (reading y c) None (has.bytes ++ got.0) (TooLong (had + 1) had) (all_given got.0 got.2)
         (content_both (s.left a) (s.left b) (s.left c) has.bytes got.0 has.gave has.content got.3)
         (too_long had ((has.bytes ++ got.0) ++ input_of (s.left c)) beyond) (sym all)
-        (subst (Went t s no_sink (reading x a) (reading y c)) (writes_same got.0) behind)
+        (subst (Went t s no_sink (reading x a) (reading y c)) (writes_same got.0) (behind stood))
 
-    pub more_fails : Rose (s.faults b) (s.faults c) → Skips {E = Unit {0}} s b c 1 (Err tt) → InputBroke t s words entries None (reading x a) (reading y c) SourceFails
+    pub more_fails : Rose (s.faults b) (s.faults c) → Skips {E = Unit {0}} s b c 1 (Err tt) →
+        InputBroke t s words entries None (reading x a) (reading y c) SourceFails
     more_fails rose skipped =
         let got = skipped_as (s.left b) (s.left c) skipped.2.0 skipped.0 (let few = skipped.1 in omega arith) skipped.2.1 skipped.2.2 in
         broke_with t s words entries (reading x a) (reading y c) None SourceFails (has.bytes ++ got.0) (all_given got.0 got.2)
@@ -369,16 +405,18 @@ module _ {T S : Type 0} (t : tapes.Meaning T) (s : sources.Meaning S) (words : L
           front = volume_acts words places has.bytes;
           rest = [];
           parts = append-nil (volume_acts words places has.bytes);
-          did = behind.did;
-          wrote = behind.wrote;
+          did = has.went.did;
+          wrote = has.went.wrote;
           cause = Rose-after (s.faults a) (s.faults b) (s.faults c) has.went.source_later rose;
-          source_later = behind.source_later;
+          source_later = (let first = has.went.source_later in omega arith);
         }))
 
 -- ---- where nothing has room, by the answer
 
-pub none_taken : {T S : Type 0} (t : tapes.Meaning T) (s : sources.Meaning S) (words : List ℕ) (entries : List Entry) (x y : T) (a c : S) (promised : Option ℕ) (why : StoreFault) →
-    y ≡ x → promised ≡ None → room words entries ≡ 0 → TakesNone s a c why → InputIs t s words entries promised (reading x a) (reading y c) (Err why)
+pub none_taken : {T S : Type 0} (t : tapes.Meaning T) (s : sources.Meaning S) (words : List ℕ) (entries : List Entry) (x y : T) (a c : S)
+    (promised : Option ℕ) (why : StoreFault) →
+    y ≡ x → promised ≡ None → room words entries ≡ 0 → TakesNone s a c why → InputIs t s words entries promised (reading x a) (reading y c)
+    (Err why)
 none_taken {T} {S} t s words entries x y a c promised why same is none takes =
     subst (λ (z : T). InputIs t s words entries promised (reading x a) (reading z c) (Err why)) (sym same)
     (subst (λ (p : Option ℕ). InputIs t s words entries p (reading x a) (reading x c) (Err why)) (sym is) (by_fault why takes))

@@ -1,4 +1,5 @@
 pub mod Appending
+pub mod Looking
 pub mod Mounting
 pub mod Opening
 pub mod Restoring

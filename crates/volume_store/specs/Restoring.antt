@@ -27,21 +27,26 @@ pub record NoneGiven {T K : Type 0} (store : StoreView) (asked : ℕ) (old new :
   pub tape : new.tape ≡ old.tape
   pub sink : new.sink ≡ old.sink
 
-abbrev pub RestoreEnds : {T K : Type 0} (t : tapes.Meaning T) (k : sinks.Meaning K) (store : StoreView) (number : ℕ) (lined : Bool) (old new : Outside T (Unit {0}) K) → Result ℕ StoreFault → Type 0
+abbrev pub RestoreEnds : {T K : Type 0} (t : tapes.Meaning T) (k : sinks.Meaning K) (store : StoreView) (number : ℕ) (lined : Bool)
+    (old new : Outside T (Unit {0}) K) → Result ℕ StoreFault → Type 0
 RestoreEnds t k store number lined old new (Ok bytes) =
-    OfVolume store number (λ e. (bytes ≡ volume_length store.words e) × GaveVolume t k store.words (pieces store.words e) lined old new Restored)
+    OfVolume store number (λ e. (bytes ≡ volume_length store.words e)
+    × GaveVolume t k store.words (pieces store.words e) lined old new Restored)
 RestoreEnds t k store number lined old new (Err (fault.NoVolume asked count)) = NoneGiven store number old new asked count
 RestoreEnds t k store number lined old new (Err (fault.Lost segment lost)) =
     OfVolume store number (λ e. GaveVolume t k store.words (pieces store.words e) lined old new (LostIn segment lost))
 RestoreEnds t k store number lined old new (Err (fault.Mismatch segment)) =
     OfVolume store number (λ e. GaveVolume t k store.words (pieces store.words e) lined old new (MismatchIn segment))
-RestoreEnds t k store number lined old new (Err fault.Sink) = OfVolume store number (λ e. VolumeCut t k store.words (pieces store.words e) lined old new SinkFails)
-RestoreEnds t k store number lined old new (Err fault.Tape) = OfVolume store number (λ e. VolumeCut t k store.words (pieces store.words e) lined old new TapeFails)
+RestoreEnds t k store number lined old new (Err fault.Sink) =
+    OfVolume store number (λ e. VolumeCut t k store.words (pieces store.words e) lined old new SinkFails)
+RestoreEnds t k store number lined old new (Err fault.Tape) =
+    OfVolume store number (λ e. VolumeCut t k store.words (pieces store.words e) lined old new TapeFails)
 RestoreEnds t k store number lined old new (Err fault) = ⊥
 
 -- How the reading of one piece of a volume ended: its data sectors then stand in the store. Without such a piece nothing
 -- was read.
-abbrev pub ReadsPart : {T : Type 0} (t : tapes.Meaning T) (store after : StoreView) (number part : ℕ) (old new : T) → Result (Option ℕ) StoreFault → Type 0
+abbrev pub ReadsPart : {T : Type 0} (t : tapes.Meaning T) (store after : StoreView) (number part : ℕ) (old new : T) →
+    Result (Option ℕ) StoreFault → Type 0
 ReadsPart t store after number part old new (Ok None) =
     OfVolume store number (λ e. (slice_get (pieces store.words e) part ≡ None) × (new ≡ old))
 ReadsPart t store after number part old new (Ok (Some count)) =

@@ -10,7 +10,8 @@ use Rattle.qic_base.specs.Sink as sinks
 use Rattle.qic_base.specs.Tape as tapes
 use Rattle.cartridge_front.specs.declared.fault.StoreFault.TheVariants as fault
 
-abbrev pub MendEnds : {T K : Type 0} (t : tapes.Meaning T) (k : sinks.Meaning K) (depth : Depth) (store : StoreView) (old new : Outside T (Unit {0}) K) → Result ScrubReport StoreFault → Type 0
+abbrev pub MendEnds : {T K : Type 0} (t : tapes.Meaning T) (k : sinks.Meaning K) (depth : Depth) (store : StoreView)
+    (old new : Outside T (Unit {0}) K) → Result ScrubReport StoreFault → Type 0
 MendEnds t k depth store old new (Ok report) = HasScrubbed t k depth store.words store.entries old new report
 MendEnds t k depth store old new (Err fault.Protected) = (new.tape ≡ old.tape) × (new.sink ≡ old.sink)
 MendEnds t k depth store old new (Err fault.Sink) = ScrubCut t k depth store.words store.entries old new SinkFails

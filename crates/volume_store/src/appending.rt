@@ -40,7 +40,7 @@ fn first_free(table: &Table) -> u32
 }
 
 /// The bytes that a new volume may have on a cartridge of so many segments.
-fn free_room(map: &BadMap, table: &Table, segments: u32) -> u32
+pub(crate) fn free_room(map: &BadMap, table: &Table, segments: u32) -> u32
     requires map { length map.now ≡ segments }
     requires least { 84 ≤ segments }
     requires most { segments ≤ 28 * LONGEST }

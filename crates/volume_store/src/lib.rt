@@ -6,6 +6,7 @@
 mod appended;
 mod appending;
 mod listing;
+mod looking;
 mod opening;
 mod room;
 mod store;
@@ -14,6 +15,7 @@ mod volume_text;
 pub use appended::Appended;
 pub use cartridge_front::StoreFault;
 pub use listing::write_list;
+pub use looking::find_room;
 pub use opening::{OpenFault, open, start};
 pub use room::Room;
 pub use segment_mending::ScrubReport;

@@ -18,7 +18,8 @@ has_entry area entries i within is =
     let of : IsSlotOf area i (Some entry) = subst (IsSlotOf area i) here is in
     (of.0, here ∙ ap Some of.1)
 
-pub shown_by_each : (area : List (List ℕ)) (entries : List Entry) → length entries ≤ 232 → EachIsSlotOf area entries 232 → Shows area entries
+pub shown_by_each : (area : List (List ℕ)) (entries : List Entry) → length entries ≤ 232 → EachIsSlotOf area entries 232 →
+    Shows area entries
 shown_by_each area entries few each = record {
   room = few;
   used = λ i within. (has_entry area entries i within (each i (omega arith))).0;

@@ -1,5 +1,6 @@
 -- What a reader has learned from the slots below one: the invariant of its loop.
-use Rattle.std.proofs.Common.{◌≡◌, ℕ, ◌+◌, ◌<◌, ◌≤◌, ◌||◌, Bool, true, false, List, [], ◌∷◌, ◌++◌, length, Some, None, zero, suc, refl, sym, ap, ◌∙◌, arith, add-one, below_more, nat_lt}
+use Rattle.std.proofs.Common.{◌≡◌, ℕ, ◌+◌, ◌<◌, ◌≤◌, ◌||◌, Bool, true, false, List, [], ◌∷◌, ◌++◌, length, Some, None, zero, suc, refl, sym}
+use Rattle.std.proofs.Common.{ap, ◌∙◌, arith, add-one, below_more, nat_lt}
 use Rattle.std.specs.List.{slice_get}
 use Rattle.std.proofs.lemmas.List.{length-append}
 use Rattle.std.proofs.lemmas.Bool.Decides.{nat_tests}
@@ -46,7 +47,9 @@ SoFar-start area last taken is =
     }
 
 -- behind a free slot
-pub SoFar-free : (area : List (List ℕ)) (last n taken : ℕ) (seen_free : Bool) (entries : List table.Entry) → SoFar area last n taken seen_free entries → slot_fault area last n ≡ None → is_free (slot area n) ≡ true → SoFar area last (n + 1) taken true entries
+pub SoFar-free : (area : List (List ℕ)) (last n taken : ℕ) (seen_free : Bool) (entries : List table.Entry) →
+    SoFar area last n taken seen_free entries → slot_fault area last n ≡ None → is_free (slot area n) ≡ true →
+    SoFar area last (n + 1) taken true entries
 SoFar-free area last n taken seen_free entries s sound free =
     record {
       sound = below_more (λ (i : ℕ). slot_fault area last i ≡ None) n s.sound sound;
@@ -63,7 +66,8 @@ SoFar-free area last n taken seen_free entries s sound free =
 ends_behind : (start end last : ℕ) (b : Bool) → (nat_lt start 3 || nat_lt end start || nat_lt last end || b) ≡ false → 2 ≤ end
 ends_behind start end last b h = grind (arith, nat_tests)
 
-good_range : (area : List (List ℕ)) (last n : ℕ) → is_used (slot area n) ≡ true → some_free_below area n ≡ false → slot_fault area last n ≡ None → (b : Bool) → has_bad_range area last n ≡ b → b ≡ false
+good_range : (area : List (List ℕ)) (last n : ℕ) → is_used (slot area n) ≡ true → some_free_below area n ≡ false →
+    slot_fault area last n ≡ None → (b : Bool) → has_bad_range area last n ≡ b → b ≡ false
 good_range area last n used below sound true bad =
     let e : slot_fault area last n ≡ Some (BadRange n) = slot_fault-bad_range area last n used below bad in cc
 good_range area last n used below sound false good = refl
@@ -80,7 +84,8 @@ slice_get-push (y ∷ xs) x = slice_get-push xs x
 taken_before-more : (area : List (List ℕ)) (n : ℕ) → taken_before area (n + 1) ≡ (entry_in (slot area n)).end
 taken_before-more area n = rw add-one refl
 
-ends_at : (area : List (List ℕ)) (last n : ℕ) (entry : Entry) → slot_fault area last n ≡ None → ShowsVolume area n entry → IsTakenBefore area (n + 1) entry.end
+ends_at : (area : List (List ℕ)) (last n : ℕ) (entry : Entry) → slot_fault area last n ≡ None → ShowsVolume area n entry →
+    IsTakenBefore area (n + 1) entry.end
 ends_at area last n entry sound v =
     let is : entry.end ≡ (entry_in (slot area n)).end = ap (λ (e : table.Entry). e.end) v.shown in
     let good : has_bad_range area last n ≡ false = good_range area last n v.used v.behind_used sound (has_bad_range area last n) refl in
@@ -88,10 +93,13 @@ ends_at area last n entry sound v =
     record { is = is ∙ sym (taken_before-more area n); least = omega arith }
 
 -- behind a used slot
-SoFar-push : (area : List (List ℕ)) (last n taken : ℕ) (seen_free : Bool) (entries : List table.Entry) (entry : Entry) → SoFar area last n taken seen_free entries → slot_fault area last n ≡ None → ShowsVolume area n entry → SoFar area last (n + 1) entry.end seen_free (entries ++ entry_of entry ∷ [])
+SoFar-push : (area : List (List ℕ)) (last n taken : ℕ) (seen_free : Bool) (entries : List table.Entry) (entry : Entry) →
+    SoFar area last n taken seen_free entries → slot_fault area last n ≡ None → ShowsVolume area n entry →
+    SoFar area last (n + 1) entry.end seen_free (entries ++ entry_of entry ∷ [])
 SoFar-push area last n taken seen_free entries entry s sound v =
     let count : length entries ≡ n = s.all_used (s.freed ∙ v.behind_used) in
-    let more : length (entries ++ entry_of entry ∷ []) ≡ n + 1 = length-append entries (entry_of entry ∷ []) ∙ ap (λ (k : ℕ). k + 1) count in
+    let more : length (entries ++ entry_of entry ∷ []) ≡ n + 1 = length-append entries (entry_of entry ∷ [])
+    ∙ ap (λ (k : ℕ). k + 1) count in
     let free_here : is_free (slot area n) ≡ false = used_not_free (slot area n) v.used in
     record {
       sound = below_more (λ (i : ℕ). slot_fault area last i ≡ None) n s.sound sound;
@@ -103,10 +111,13 @@ SoFar-push area last n taken seen_free entries entry s sound v =
       shown = λ i h. below_more
           (λ (k : ℕ). slice_get (entries ++ entry_of entry ∷ []) k ≡ Some (entry_in (slot area k))) n
           (λ k b. slice_get-append_left entries _ k _ (s.shown k (omega arith)))
-          (ap (slice_get (entries ++ entry_of entry ∷ [])) (sym count) ∙ slice_get-push entries (entry_of entry) ∙ ap Some v.shown) i (omega arith);
+          (ap (slice_get (entries ++ entry_of entry ∷ [])) (sym count) ∙ slice_get-push entries (entry_of entry) ∙ ap Some v.shown) i
+          (omega arith);
       free = λ i l h. absurd (omega arith);
     }
 
-pub SoFar-used : (area : List (List ℕ)) (last n taken end : ℕ) (seen_free : Bool) (entries more : List table.Entry) (entry : Entry) → SoFar area last n taken seen_free entries → slot_fault area last n ≡ None → ShowsVolume area n entry → end ≡ entry.end → more ≡ entries ++ entry_of entry ∷ [] → SoFar area last (n + 1) end seen_free more
+pub SoFar-used : (area : List (List ℕ)) (last n taken end : ℕ) (seen_free : Bool) (entries more : List table.Entry) (entry : Entry) →
+    SoFar area last n taken seen_free entries → slot_fault area last n ≡ None → ShowsVolume area n entry → end ≡ entry.end →
+    more ≡ entries ++ entry_of entry ∷ [] → SoFar area last (n + 1) end seen_free more
 SoFar-used area last n taken end seen_free entries more entry s sound v ends pushed =
     rw (ends, pushed) (SoFar-push area last n taken seen_free entries entry s sound v)

@@ -19,7 +19,8 @@ over_zeros : (front part : List ℕ) (at n left : ℕ) → length front ≡ at �
 unfolding overwritten
 over_zeros front part at n left here long =
     let zeros : length (replicate n 0) ≡ n = length-replicate {A = ℕ} n 0 in
-    ap (λ (xs : List ℕ). xs ++ part ++ drop (at + length part) (front ++ replicate (n + left) 0)) (take_at front (replicate (n + left) 0) at here)
+    ap (λ (xs : List ℕ). xs ++ part ++ drop (at + length part) (front ++ replicate (n + left) 0))
+    (take_at front (replicate (n + left) 0) at here)
     ∙ ap (λ (xs : List ℕ). front ++ part ++ drop (at + length part) xs) (more_zeros front n left)
     ∙ ap (λ (xs : List ℕ). front ++ part ++ xs)
     (drop_at (front ++ replicate n 0) (replicate left 0) (at + length part) (omega (arith, length-append front (replicate n 0), zeros)))

@@ -1,5 +1,6 @@
 -- The sets that are tried, by the places that are lost.
-use Rattle.std.proofs.Common.{◌≡◌, ◌≢◌, ℕ, zero, suc, ◌+◌, ◌^◌, ◌<◌, ◌≤◌, ◌++◌, inl, inr, refl, sym, ◌∙◌, ap, subst, arith, Bool, true, false, List, [], ◌∷◌, length, Option, Some, None, max, bit_or, nat_lt, add-one}
+use Rattle.std.proofs.Common.{◌≡◌, ◌≢◌, ℕ, zero, suc, ◌+◌, ◌^◌, ◌<◌, ◌≤◌, ◌++◌, inl, inr, refl, sym, ◌∙◌, ap, subst, arith, Bool, true}
+use Rattle.std.proofs.Common.{false, List, [], ◌∷◌, length, Option, Some, None, max, bit_or, nat_lt, add-one}
 use Rattle.std.specs.Prelude.{◌==◌, if◌then◌else◌}
 use Rattle.std.specs.Int.{bit_at}
 use Rattle.std.proofs.lemmas.Bool.{cases_eq, cases_lt, eq-eqb, ne_eqb}
@@ -38,14 +39,16 @@ unfolding set_of
 set_of_first ps p = or_comm (set_of ps) (2 ^ p)
 
 -- the bits of the set of the lost places below a number are those of the mask
-bits_of_places : (lost n i : ℕ) → ((i < n) → bit_at (set_of (lost_places lost n)) i ≡ bit_at lost i) × ((n ≤ i) → bit_at (set_of (lost_places lost n)) i ≡ 0)
+bits_of_places : (lost n i : ℕ) → ((i < n) → bit_at (set_of (lost_places lost n)) i ≡ bit_at lost i)
+    × ((n ≤ i) → bit_at (set_of (lost_places lost n)) i ≡ 0)
 unfolding lost_places set_of
 bits_of_places lost zero i = (λ below. absurd (omega arith), λ above. bit_at-zero i)
 bits_of_places lost (suc n) i =
     let rest = bits_of_places lost n i in
     elim (cases_eq (bit_at lost n) 1) [
       | inl is_lost ↦
-          let places : lost_places lost (suc n) ≡ lost_places lost n ++ n ∷ [] = ap (lost_places lost) (sym (add-one n)) ∙ lost_places-lost lost n is_lost in
+          let places : lost_places lost (suc n) ≡ lost_places lost n ++ n ∷ [] = ap (lost_places lost) (sym (add-one n))
+          ∙ lost_places-lost lost n is_lost in
           let bits : bit_at (set_of (lost_places lost (suc n))) i ≡ max (bit_at (set_of (lost_places lost n)) i) (bit_at (2 ^ n) i) =
           ap (λ (ps : List ℕ). bit_at (set_of ps) i) places
           ∙ ap (λ (s : ℕ). bit_at s i) (sym (set_of_more (lost_places lost n) n))
@@ -68,8 +71,10 @@ bits_of_places lost (suc n) i =
                 bits ∙ omega arith,
           )
       | inr kept ↦
-          let places : lost_places lost (suc n) ≡ lost_places lost n = ap (lost_places lost) (sym (add-one n)) ∙ lost_places-kept lost n kept in
-          let bits : bit_at (set_of (lost_places lost (suc n))) i ≡ bit_at (set_of (lost_places lost n)) i = ap (λ (ps : List ℕ). bit_at (set_of ps) i) places in (
+          let places : lost_places lost (suc n) ≡ lost_places lost n = ap (lost_places lost) (sym (add-one n))
+          ∙ lost_places-kept lost n kept in
+          let bits : bit_at (set_of (lost_places lost (suc n))) i ≡ bit_at (set_of (lost_places lost n)) i =
+          ap (λ (ps : List ℕ). bit_at (set_of ps) i) places in (
             λ below.
                 elim (cases_eq i n) [
                   | inl here ↦
@@ -111,8 +116,10 @@ unfolding lost_places
 places_below lost zero = tt
 places_below lost (suc n) =
     elim (cases_eq (bit_at lost n) 1) [
-      | inl is_lost ↦ subst (AllBelow (suc n)) (sym (ap (lost_places lost) (sym (add-one n)) ∙ lost_places-lost lost n is_lost)) (below_end n (lost_places lost n) (places_below lost n))
-      | inr kept ↦ subst (AllBelow (suc n)) (sym (ap (lost_places lost) (sym (add-one n)) ∙ lost_places-kept lost n kept)) (below_more n (lost_places lost n) (places_below lost n))
+      | inl is_lost ↦ subst (AllBelow (suc n)) (sym (ap (lost_places lost) (sym (add-one n)) ∙ lost_places-lost lost n is_lost))
+          (below_end n (lost_places lost n) (places_below lost n))
+      | inr kept ↦ subst (AllBelow (suc n)) (sym (ap (lost_places lost) (sym (add-one n)) ∙ lost_places-kept lost n kept))
+          (below_more n (lost_places lost n) (places_below lost n))
     ]
 
 -- what the lost places are behind those of data: one for each place of parity that is lost
@@ -137,7 +144,8 @@ some_below lost (suc n) place within is_lost =
 
 split_places : (lost : ℕ) →
     lost_places lost 32
-    ≡ ((lost_places lost 29 ++ last_places 29 (bit_at lost 29 == 1)) ++ last_places 30 (bit_at lost 30 == 1)) ++ last_places 31 (bit_at lost 31 == 1)
+    ≡ ((lost_places lost 29 ++ last_places 29 (bit_at lost 29 == 1)) ++ last_places 30 (bit_at lost 30 == 1)) ++ last_places 31
+    (bit_at lost 31 == 1)
 unfolding lost_places
 split_places lost = refl
 
@@ -152,7 +160,12 @@ IsOne places = (m : ℕ) × (places ≡ m ∷ []) × (m < 29)
 one_of : (ps : List ℕ) (a b c : Bool) → AllBelow 29 ps → 1 ≤ length ps → length (places_of ps a b c) ≡ 1 → IsOne (places_of ps a b c)
 one_of [] a b c below some one = absurd (omega arith)
 one_of (m ∷ []) false false false below some one = (m, refl, below.0)
-one_of (m ∷ []) true b c below some one = absurd (omega (arith, length-append ((m ∷ 29 ∷ []) ++ last_places 30 b) (last_places 31 c), length-append (m ∷ 29 ∷ []) (last_places 30 b)))
+one_of (m ∷ []) true b c below some one =
+    absurd (omega (
+      arith,
+      length-append ((m ∷ 29 ∷ []) ++ last_places 30 b) (last_places 31 c),
+      length-append (m ∷ 29 ∷ []) (last_places 30 b),
+    ))
 one_of (m ∷ []) false true c below some one = absurd (omega (arith, length-append (m ∷ 30 ∷ []) (last_places 31 c)))
 one_of (m ∷ []) false false true below some one = absurd (omega arith)
 one_of (m ∷ q ∷ rest) a b c below some one = absurd (omega arith)
@@ -164,15 +177,32 @@ IsTwo a b places = (m : ℕ) × (other : ℕ) × (places ≡ m ∷ other ∷ [])
 
 two_of : (ps : List ℕ) (a b c : Bool) → AllBelow 29 ps → 1 ≤ length ps → length (places_of ps a b c) ≡ 2 → IsTwo a b (places_of ps a b c)
 two_of [] a b c below some two = absurd (omega arith)
-two_of (m ∷ []) true false false below some two = (m, 29, refl, below.0, λ h. refl, λ h k. absurd (cc), λ h. absurd (cc), λ h e. absurd (omega arith))
+two_of (m ∷ []) true false false below some two =
+    (m, 29, refl, below.0, λ h. refl, λ h k. absurd (cc), λ h. absurd (cc), λ h e. absurd (omega arith))
 two_of (m ∷ []) true true c below some two = absurd (omega (arith, length-append (m ∷ 29 ∷ 30 ∷ []) (last_places 31 c)))
 two_of (m ∷ []) true false true below some two = absurd (omega arith)
-two_of (m ∷ []) false true false below some two = (m, 30, refl, below.0, λ h. absurd (cc), λ h k. refl, λ h e. absurd (omega arith), λ h. absurd (cc))
+two_of (m ∷ []) false true false below some two =
+    (m, 30, refl, below.0, λ h. absurd (cc), λ h k. refl, λ h e. absurd (omega arith), λ h. absurd (cc))
 two_of (m ∷ []) false true true below some two = absurd (omega arith)
-two_of (m ∷ []) false false true below some two = (m, 31, refl, below.0, λ h. absurd (cc), λ h k. absurd (cc), λ h e. absurd (omega arith), λ h e. absurd (omega arith))
+two_of (m ∷ []) false false true below some two =
+    (m, 31, refl, below.0, λ h. absurd (cc), λ h k. absurd (cc), λ h e. absurd (omega arith), λ h e. absurd (omega arith))
 two_of (m ∷ []) false false false below some two = absurd (omega arith)
-two_of (m ∷ q ∷ []) false false false below some two = (m, q, refl, below.0, λ h. absurd (cc), λ h k. absurd (cc), λ h e. absurd (omega (arith, below.1.0)), λ h e. absurd (omega (arith, below.1.0)))
-two_of (m ∷ q ∷ []) true b c below some two = absurd (omega (arith, length-append ((m ∷ q ∷ 29 ∷ []) ++ last_places 30 b) (last_places 31 c), length-append (m ∷ q ∷ 29 ∷ []) (last_places 30 b)))
+two_of (m ∷ q ∷ []) false false false below some two = (
+  m,
+  q,
+  refl,
+  below.0,
+  λ h. absurd (cc),
+  λ h k. absurd (cc),
+  λ h e. absurd (omega (arith, below.1.0)),
+  λ h e. absurd (omega (arith, below.1.0)),
+)
+two_of (m ∷ q ∷ []) true b c below some two =
+    absurd (omega (
+      arith,
+      length-append ((m ∷ q ∷ 29 ∷ []) ++ last_places 30 b) (last_places 31 c),
+      length-append (m ∷ q ∷ 29 ∷ []) (last_places 30 b),
+    ))
 two_of (m ∷ q ∷ []) false true c below some two = absurd (omega (arith, length-append (m ∷ q ∷ 30 ∷ []) (last_places 31 c)))
 two_of (m ∷ q ∷ []) false false true below some two = absurd (omega arith)
 two_of (m ∷ q ∷ r ∷ rest) a b c below some two = absurd (omega arith)
@@ -182,16 +212,21 @@ some_data lost loses = some_below lost 29 loses.place loses.data_sector loses.is
 
 one_place : (lost : ℕ) → LosesData lost → length (lost_places lost 32) ≡ 1 → IsOne (lost_places lost 32)
 one_place lost loses one =
-    let split : lost_places lost 32 ≡ places_of (lost_places lost 29) (bit_at lost 29 == 1) (bit_at lost 30 == 1) (bit_at lost 31 == 1) = split_places lost in
+    let split : lost_places lost 32 ≡ places_of (lost_places lost 29) (bit_at lost 29 == 1) (bit_at lost 30 == 1) (bit_at lost 31 == 1) =
+    split_places lost in
     subst IsOne (sym split)
-    (one_of (lost_places lost 29) (bit_at lost 29 == 1) (bit_at lost 30 == 1) (bit_at lost 31 == 1) (places_below lost 29) (some_data lost loses)
+    (one_of (lost_places lost 29) (bit_at lost 29 == 1) (bit_at lost 30 == 1) (bit_at lost 31 == 1) (places_below lost 29)
+    (some_data lost loses)
     (ap (λ (ps : List ℕ). length ps) (sym split) ∙ one))
 
-two_places : (lost : ℕ) → LosesData lost → length (lost_places lost 32) ≡ 2 → IsTwo (bit_at lost 29 == 1) (bit_at lost 30 == 1) (lost_places lost 32)
+two_places : (lost : ℕ) → LosesData lost → length (lost_places lost 32) ≡ 2 → IsTwo (bit_at lost 29 == 1) (bit_at lost 30 == 1)
+    (lost_places lost 32)
 two_places lost loses two =
-    let split : lost_places lost 32 ≡ places_of (lost_places lost 29) (bit_at lost 29 == 1) (bit_at lost 30 == 1) (bit_at lost 31 == 1) = split_places lost in
+    let split : lost_places lost 32 ≡ places_of (lost_places lost 29) (bit_at lost 29 == 1) (bit_at lost 30 == 1) (bit_at lost 31 == 1) =
+    split_places lost in
     subst (IsTwo (bit_at lost 29 == 1) (bit_at lost 30 == 1)) (sym split)
-    (two_of (lost_places lost 29) (bit_at lost 29 == 1) (bit_at lost 30 == 1) (bit_at lost 31 == 1) (places_below lost 29) (some_data lost loses)
+    (two_of (lost_places lost 29) (bit_at lost 29 == 1) (bit_at lost 30 == 1) (bit_at lost 31 == 1) (places_below lost 29)
+    (some_data lost loses)
     (ap (λ (ps : List ℕ). length ps) (sym split) ∙ two))
 
 -- ---- the sets
@@ -213,8 +248,10 @@ by_place used m within =
     ap (λ (b : Bool). if b then sets_by_one used m else []) is
     ∙ ap (λ (set : ℕ). set ∷ set_of (m ∷ 29 ∷ []) ∷ with_used used (m ∷ []) ++ set_of (m ∷ 30 ∷ 31 ∷ []) ∷ []) first
     ∙ ap (λ (set : ℕ). with_place (set_of (m ∷ [])) 31 ∷ set ∷ with_used used (m ∷ []) ++ set_of (m ∷ 30 ∷ 31 ∷ []) ∷ []) second
-    ∙ ap (λ (sets : List ℕ). with_place (set_of (m ∷ [])) 31 ∷ with_place (set_of (m ∷ [])) 29 ∷ sets ++ set_of (m ∷ 30 ∷ 31 ∷ []) ∷ []) (used_with used (m ∷ []))
-    ∙ ap (λ (set : ℕ). with_place (set_of (m ∷ [])) 31 ∷ with_place (set_of (m ∷ [])) 29 ∷ with_last_used (set_of (m ∷ [])) used ++ set ∷ []) last
+    ∙ ap (λ (sets : List ℕ). with_place (set_of (m ∷ [])) 31 ∷ with_place (set_of (m ∷ [])) 29 ∷ sets ++ set_of (m ∷ 30 ∷ 31 ∷ []) ∷ [])
+    (used_with used (m ∷ []))
+    ∙ ap (λ (set : ℕ). with_place (set_of (m ∷ [])) 31 ∷ with_place (set_of (m ∷ [])) 29 ∷ with_last_used
+    (set_of (m ∷ [])) used ++ set ∷ []) last
 
 pub tried_one : (lost : ℕ) (used : Option ℕ) → lost < 2 ^ 32 → LosesData lost → length (lost_places lost 32) ≡ 1 →
     tried lost used
@@ -238,7 +275,8 @@ tried_with_29 lost used within loses two has =
     (ap (sets_by used) places ∙ sets_of_two used m 29 pair.3 ∙ used_with used (m ∷ 29 ∷ [])
     ∙ sym (ap (λ (set : ℕ). with_last_used set used) is))
 
-pub tried_with_30 : (lost : ℕ) (used : Option ℕ) → lost < 2 ^ 32 → LosesData lost → length (lost_places lost 32) ≡ 2 → ¬ (IsLost lost 29) → IsLost lost 30 →
+pub tried_with_30 : (lost : ℕ) (used : Option ℕ) → lost < 2 ^ 32 → LosesData lost → length (lost_places lost 32) ≡ 2 → ¬ (IsLost lost 29) →
+    IsLost lost 30 →
     tried lost used ≡ lost ∷ with_place lost 31 ∷ []
 tried_with_30 lost used within loses two not has =
     let pair = two_places lost loses two in
@@ -251,7 +289,8 @@ tried_with_30 lost used within loses two not has =
     ∙ ap (λ (set : ℕ). set ∷ []) (sym (set_of_more (m ∷ 30 ∷ []) 31))
     ∙ sym (ap (λ (set : ℕ). with_place set 31 ∷ []) is))
 
-pub tried_no_more : (lost : ℕ) (used : Option ℕ) → LosesData lost → length (lost_places lost 32) ≡ 2 → ¬ (IsLost lost 29) → ¬ (IsLost lost 30) →
+pub tried_no_more : (lost : ℕ) (used : Option ℕ) → LosesData lost → length (lost_places lost 32) ≡ 2 → ¬ (IsLost lost 29) →
+    ¬ (IsLost lost 30) →
     tried lost used ≡ lost ∷ []
 tried_no_more lost used loses two not_29 not_30 =
     let pair = two_places lost loses two in

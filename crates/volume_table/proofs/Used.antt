@@ -1,5 +1,6 @@
 -- The last sector of data with a used slot.
-use Rattle.std.proofs.Common.{◌≡◌, ◌↔◌, ℕ, zero, suc, ◌+◌, ◌/◌, ◌%◌, ◌^◌, ◌<◌, inl, inr, refl, sym, ◌∙◌, ap, subst, arith, Bool, true, false, List, [], ◌∷◌, length, map, Option, Some, None, slice_get, unwrap_or}
+use Rattle.std.proofs.Common.{◌≡◌, ◌↔◌, ℕ, zero, suc, ◌+◌, ◌/◌, ◌%◌, ◌^◌, ◌<◌, inl, inr, refl, sym, ◌∙◌, ap, subst, arith, Bool, true}
+use Rattle.std.proofs.Common.{false, List, [], ◌∷◌, length, map, Option, Some, None, slice_get, unwrap_or}
 use Rattle.std.specs.Prelude.{◌==◌, if◌then◌else◌}
 use Rattle.std.proofs.lemmas.Bool.{cases_eq, cases_lt, cases_Bool, ne_eqb, eq-eqb, false≢true}
 use Rattle.qic_base.specs.CartridgeTerms.{IsLost}
@@ -19,7 +20,8 @@ pub none_below : (bytes : List ℕ) → some_used_below bytes 0 ≡ false
 unfolding some_used_below
 none_below bytes = refl
 
-pub none_more : (bytes : List ℕ) (n : ℕ) → some_used_below bytes n ≡ false → is_used (slot (bytes ∷ []) n) ≡ false → some_used_below bytes (suc n) ≡ false
+pub none_more : (bytes : List ℕ) (n : ℕ) → some_used_below bytes n ≡ false → is_used (slot (bytes ∷ []) n) ≡ false →
+    some_used_below bytes (suc n) ≡ false
 unfolding some_used_below
 none_more bytes n before here = rw (here, before) refl
 
@@ -27,7 +29,8 @@ none_more bytes n before here = rw (here, before) refl
 
 -- the cell at a place of the sectors of which these are lost
 cell_at : (area : List (List ℕ)) (lost place i : ℕ) → i < length area →
-    unwrap_or (slice_get (hidden_from lost place (map Holds area)) i) Lost ≡ (if lost / 2 ^ (place + i) % 2 == 1 then Lost else Holds (sector_at area i))
+    unwrap_or (slice_get (hidden_from lost place (map Holds area)) i) Lost ≡ (if lost / 2 ^ (place + i) % 2 == 1 then Lost else Holds
+    (sector_at area i))
 unfolding hidden_from
 cell_at [] lost place i within = absurd (omega arith)
 cell_at (bytes ∷ area) lost place zero within = ap (λ (k : ℕ). if lost / 2 ^ k % 2 == 1 then Lost else Holds bytes) (omega arith)
@@ -59,11 +62,13 @@ pub last_none : (cells : List SectorView) → last_used_below cells 0 ≡ None
 unfolding last_used_below
 last_none cells = refl
 
-pub last_here : (cells : List SectorView) (i : ℕ) → shows_used_slot (unwrap_or (slice_get cells i) Lost) ≡ true → last_used_below cells (suc i) ≡ Some i
+pub last_here : (cells : List SectorView) (i : ℕ) → shows_used_slot (unwrap_or (slice_get cells i) Lost) ≡ true →
+    last_used_below cells (suc i) ≡ Some i
 unfolding last_used_below
 last_here cells i shows = rw shows refl
 
-pub last_before : (cells : List SectorView) (i : ℕ) → shows_used_slot (unwrap_or (slice_get cells i) Lost) ≡ false → last_used_below cells (suc i) ≡ last_used_below cells i
+pub last_before : (cells : List SectorView) (i : ℕ) → shows_used_slot (unwrap_or (slice_get cells i) Lost) ≡ false →
+    last_used_below cells (suc i) ≡ last_used_below cells i
 unfolding last_used_below
 last_before cells i shows = rw shows refl
 
@@ -97,23 +102,27 @@ last_is cells zero = λ i within. absurd (omega arith)
 last_is cells (suc n) =
     elim (cases_Bool (Shows cells n)) [
       | inl shows ↦ subst (IsLast cells (suc n)) (sym (last_here cells n shows)) (omega arith, shows, λ i past within. absurd (omega arith))
-      | inr none ↦ subst (IsLast cells (suc n)) (sym (last_before cells n none)) (last_more cells n (last_used_below cells n) none (last_is cells n))
+      | inr none ↦ subst (IsLast cells (suc n)) (sym (last_before cells n none))
+          (last_more cells n (last_used_below cells n) none (last_is cells n))
     ]
 
 -- a sector that shows a used slot, by the cells
 cell_shows : (area : List (List ℕ)) (lost i : ℕ) → length area ≡ 29 → ShowsUsed area lost i → Shows (hidden lost (map Holds area)) i ≡ true
 cell_shows area lost i size shows = shows_kept area lost i (omega (arith, shows.data_sector)) shows.kept ∙ shows.used
 
-shown_by_cell : (area : List (List ℕ)) (lost i : ℕ) → length area ≡ 29 → i < 29 → Shows (hidden lost (map Holds area)) i ≡ true → ShowsUsed area lost i
+shown_by_cell : (area : List (List ℕ)) (lost i : ℕ) → length area ≡ 29 → i < 29 → Shows (hidden lost (map Holds area)) i ≡ true →
+    ShowsUsed area lost i
 shown_by_cell area lost i size within shows =
     let kept : ¬ (IsLost lost i) = λ is_lost. false≢true (sym (shows_lost area lost i (omega arith) is_lost) ∙ shows) in
     record { data_sector = within; kept = kept; used = sym (shows_kept area lost i (omega arith) kept) ∙ shows }
 
 -- the answer is the last one that shows a used slot
 abbrev pub IsAnswer : (area : List (List ℕ)) (lost : ℕ) → Option ℕ → Type 0
-IsAnswer area lost answer = ((k : ℕ) → (answer ≡ Some k) ↔ IsLastUsed area lost k) × ((answer ≡ None) ↔ ((i : ℕ) → ¬ (ShowsUsed area lost i)))
+IsAnswer area lost answer = ((k : ℕ) → (answer ≡ Some k) ↔ IsLastUsed area lost k)
+    × ((answer ≡ None) ↔ ((i : ℕ) → ¬ (ShowsUsed area lost i)))
 
-answer_of : (area : List (List ℕ)) (lost : ℕ) (answer : Option ℕ) → length area ≡ 29 → IsLast (hidden lost (map Holds area)) 29 answer → IsAnswer area lost answer
+answer_of : (area : List (List ℕ)) (lost : ℕ) (answer : Option ℕ) → length area ≡ 29 → IsLast (hidden lost (map Holds area)) 29 answer →
+    IsAnswer area lost answer
 answer_of area lost None size is =
     let none : (i : ℕ) → ¬ (ShowsUsed area lost i) =
     λ i shows. false≢true (sym (is i shows.data_sector) ∙ cell_shows area lost i size shows) in

@@ -12,7 +12,8 @@ use Rattle.command_laws.proofs.CommandTotals.{writable_answers, appends_answers}
 use Rattle.command_laws.proofs.CommandValues.{dated_values}
 use Rattle.command_laws.proofs.CommandUnread.{writable_unread}
 use Rattle.command_laws.proofs.CommandWhole.{append_whole, some_whole}
-use Rattle.command_laws.proofs.TextCommands.{dated_cases, two_words, three_words, dated_length, IsDateWord-value, IsRead, Reading, word_at, date_behind, named, date_value}
+use Rattle.command_laws.proofs.TextCommands.{dated_cases, two_words, three_words, dated_length, IsDateWord-value, IsRead, Reading, word_at}
+use Rattle.command_laws.proofs.TextCommands.{date_behind, named, date_value}
 use Rattle.command_laws.specs.CommandRecord.{CommandLaws}
 use Rattle.command_laws.specs.Outcomes.{Appends}
 use Rattle.command_spec.specs.Append.{AppendOutcome, append_command}
@@ -26,7 +27,8 @@ use Rattle.command_spec.specs.declared.words.Words.TheVariants as words
 abbrev pub append_reading : Reading
 append_reading = record { name = codes "append"; reads = λ behind. words.Append (filled (word_at behind 0)) (date_behind behind) }
 
-pub append_read : (name : List ℕ) (date : ℕ) (ws : List (List ℕ)) → HasForm ws (append_command name date).forms → IsRead append_reading ws (words.Append name date)
+pub append_read : (name : List ℕ) (date : ℕ) (ws : List (List ℕ)) → HasForm ws (append_command name date).forms →
+    IsRead append_reading ws (words.Append name date)
 append_read name date ws h = elim (dated_cases ws _ date h) [
   | inl full ↦
       let s = three_words ws _ _ _ full in
@@ -35,7 +37,13 @@ append_read name date ws h = elim (dated_cases ws _ date h) [
         are = named s.are s.one;
         is = ap (λ n. words.Append n (date_value s.third)) (sym s.two.1) ∙ ap (words.Append name) (IsDateWord-value s.third date s.three);
       }
-  | inr bare ↦ let s = two_words ws _ _ bare.0 in record { behind = s.second ∷ []; are = named s.are s.one; is = ap (λ n. words.Append n 0) (sym s.two.1) ∙ ap (words.Append name) (sym bare.1) }
+  | inr bare ↦ let s = two_words ws _ _ bare.0 in
+      record {
+        behind = s.second ∷ [];
+        are = named s.are s.one;
+        is = ap (λ n. words.Append n 0) (sym s.two.1)
+            ∙ ap (words.Append name) (sym bare.1);
+      }
 ]
 
 pub append_laws : (name : List ℕ) (date : ℕ) → CommandLaws (append_command name date)
@@ -48,15 +56,19 @@ append_laws name date = record {
   locked = λ is c input outcome locked plain. writable_locked (Appends name date input) c outcome locked plain;
   unformatted = λ is c input outcome free bare plain. writable_unformatted (Appends name date input) c outcome free bare plain;
   in_front = λ is c segment input outcome free first plain. absurd (cc);
-  done = λ held input outcome whole values. where_some (λ c. IsUnprotected c × CanTake c input) held (λ h. AppendOutcome name date h input outcome → outcome.status ≡ status.Done) (λ c can does. append_goes name date input c outcome can.0 can.1 does);
+  done = λ held input outcome whole values. where_some (λ c. IsUnprotected c × CanTake c input) held
+      (λ h. AppendOutcome name date h input outcome → outcome.status ≡ status.Done)
+      (λ c can does. append_goes name date input c outcome can.0 can.1 does);
   texts = plain_texts _ _ (0, (0, (0, (0, refl))));
   blind = λ is. absurd (cc);
   stands = λ c plain keeps stood input outcome left does torn.
       same_stands c plain left stood (appending_leaves (Appends name date input) (Some c) left outcome does torn keeps);
   mounts = λ c header words table entries keeps mounts input outcome left does torn.
-      some_and (λ d. Mounts d (Mounted header words table entries)) c left mounts (appending_leaves (Appends name date input) (Some c) left outcome does torn keeps);
+      some_and (λ d. Mounts d (Mounted header words table entries)) c left mounts
+      (appending_leaves (Appends name date input) (Some c) left outcome does torn keeps);
   clean = λ c area keeps is_area clean input outcome left does torn.
-      writable_leaves (Clean area is_area) (Appends name date input) (appends_leave area is_area name date input) c outcome does clean left torn;
+      writable_leaves (Clean area is_area) (Appends name date input) (appends_leave area is_area name date input) c outcome does clean left
+      torn;
   bare = λ c keeps bare input outcome left does torn. bare_writable (Appends name date input) c outcome does bare left torn;
   unread = λ c copies keeps none input outcome left does torn. writable_unread (Appends name date input) c outcome left none does torn;
   whole = λ c input outcome left values content whole does torn.

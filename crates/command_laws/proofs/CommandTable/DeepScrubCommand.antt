@@ -70,7 +70,8 @@ deep_none c header ws table entries outcome on =
     by_outcome outcome _ on.is (settled_none table c on.acts
     (subst HasNoRenew (sym (form_steps Deep e ws entries on.acts on.scrubs)) (finds_none e looked on.scrubs.findings)))
 
-deep_goes : (c : Cartridge) (plain : Plain) (outcome : CommandOutcome) → IsUnprotected c → ReadsAs c plain → DeepScrubOutcome (Some c) outcome → outcome.status ≡ status.Done
+deep_goes : (c : Cartridge) (plain : Plain) (outcome : CommandOutcome) → IsUnprotected c → ReadsAs c plain →
+    DeepScrubOutcome (Some c) outcome → outcome.status ≡ status.Done
 deep_goes c plain outcome free there does =
     let on = goes_on MendsDeep c plain outcome there (is_opened MendsDeep c outcome free does) in
     let did = on.did in ap status_of did.is
@@ -87,7 +88,8 @@ deep_scrub_laws = record {
   locked = λ is c input outcome locked plain. writable_locked MendsDeep c outcome locked plain;
   unformatted = λ is c input outcome free bare plain. writable_unformatted MendsDeep c outcome free bare plain;
   in_front = λ is c segment input outcome free first plain. absurd (cc);
-  done = λ held input outcome whole values. where_some (λ c. IsUnprotected c × CanBeMounted c) held (λ h. DeepScrubOutcome h outcome → outcome.status ≡ status.Done) (λ c can does. deep_goes c can.1.0 outcome can.0 can.1.1 does);
+  done = λ held input outcome whole values. where_some (λ c. IsUnprotected c × CanBeMounted c) held
+      (λ h. DeepScrubOutcome h outcome → outcome.status ≡ status.Done) (λ c can does. deep_goes c can.1.0 outcome can.0 can.1.1 does);
   texts = plain_texts _ _ (text_of_none Deep);
   blind = λ is. record {
     any = λ held input other outcome plain. plain;
@@ -97,7 +99,8 @@ deep_scrub_laws = record {
   };
   stands = λ c plain keeps stood input outcome left does torn.
       writable_leaves (λ d. Stands d plain) MendsDeep (deep_stands plain) c outcome does stood left torn;
-  mounts = λ c header ws table entries keeps mounts input outcome left does torn. deep_mounts c header ws table entries outcome keeps mounts does left torn;
+  mounts = λ c header ws table entries keeps mounts input outcome left does torn. deep_mounts c header ws table entries outcome keeps mounts
+      does left torn;
   clean = λ c area keeps is_area clean input outcome left does torn.
       writable_leaves (λ d. HasCleanCopies d area) MendsDeep (deep_clean area is_area) c outcome does clean left torn;
   bare = λ c keeps bare input outcome left does torn. bare_writable MendsDeep c outcome does bare left torn;

@@ -16,7 +16,8 @@ use Rattle.command_laws.proofs.CommandTotals.{defect_answers}
 use Rattle.command_laws.proofs.CommandUnread.{neither_alike}
 use Rattle.command_laws.proofs.CommandWhole.{some_whole}
 use Rattle.command_laws.proofs.WholeSteps.{spoiled_whole}
-use Rattle.command_laws.proofs.TextCommands.{only, three_words, spelled_length, IsNumber-value, IsRead, Reading, word_at, number_value, named}
+use Rattle.command_laws.proofs.TextCommands.{only, three_words, spelled_length, IsNumber-value, IsRead, Reading, word_at, number_value}
+use Rattle.command_laws.proofs.TextCommands.{named}
 use Rattle.command_laws.specs.CommandRecord.{CommandLaws}
 use Rattle.command_spec.specs.Command.{HasForm}
 use Rattle.command_spec.specs.Single.{DefectOutcome, defect_command}
@@ -32,15 +33,21 @@ use Rattle.command_spec.specs.declared.words.Words.TheVariants as words
 
 -- its words are read as it
 abbrev pub defect_reading : Reading
-defect_reading = record { name = codes "defect"; reads = λ behind. words.Defect (number_value (word_at behind 0)) (number_value (word_at behind 1)) }
+defect_reading = record {
+  name = codes "defect";
+  reads = λ behind. words.Defect (number_value (word_at behind 0))
+      (number_value (word_at behind 1));
+}
 
-pub defect_read : (segment sector : ℕ) (ws : List (List ℕ)) → HasForm ws (defect_command segment sector).forms → IsRead defect_reading ws (words.Defect segment sector)
+pub defect_read : (segment sector : ℕ) (ws : List (List ℕ)) → HasForm ws (defect_command segment sector).forms →
+    IsRead defect_reading ws (words.Defect segment sector)
 defect_read segment sector ws h =
     let s = three_words ws _ _ _ (only ws _ h) in
     record {
       behind = s.second ∷ s.third ∷ [];
       are = named s.are s.one;
-      is = ap (λ n. words.Defect n (number_value s.third)) (IsNumber-value s.second segment s.two.0) ∙ ap (words.Defect segment) (IsNumber-value s.third sector s.three.0);
+      is = ap (λ n. words.Defect n (number_value s.third)) (IsNumber-value s.second segment s.two.0)
+          ∙ ap (words.Defect segment) (IsNumber-value s.third sector s.three.0);
     }
 
 pub defect_laws : (segment sector : ℕ) → CommandLaws (defect_command segment sector)
@@ -53,7 +60,9 @@ defect_laws segment sector = record {
   locked = λ is c input outcome locked plain. absurd (cc);
   unformatted = λ is c input outcome free bare plain. absurd (cc);
   in_front = λ is c segment input outcome free first plain. absurd (cc);
-  done = λ held input outcome whole values. where_some (λ c. HasPlace c segment sector × (spoil_answer (view_at c segment sector) ≡ true)) held (λ h. DefectOutcome segment sector h outcome → outcome.status ≡ status.Done) (λ c can does. defect_done segment sector c outcome can.0 can.1 does);
+  done = λ held input outcome whole values. where_some (λ c. HasPlace c segment sector × (spoil_answer (view_at c segment sector) ≡ true))
+      held (λ h. DefectOutcome segment sector h outcome → outcome.status ≡ status.Done)
+      (λ c can does. defect_done segment sector c outcome can.0 can.1 does);
   texts = plain_texts _ _ refl;
   blind = λ is. record {
     any = λ held input other outcome plain. plain;
@@ -62,11 +71,13 @@ defect_laws segment sector = record {
     no_fault = λ input line place fault. fault;
   };
   stands = λ c plain keeps stood input outcome left does torn.
-      sector_left (λ d. Stands d plain) (Spoil segment sector) segment sector c left stood (λ place. spoiled_stands c plain segment sector stood)
+      sector_left (λ d. Stands d plain) (Spoil segment sector) segment sector c left stood
+      (λ place. spoiled_stands c plain segment sector stood)
       (defect_leaves segment sector (Some c) left outcome does torn);
   mounts = λ c header words table entries keeps mounts input outcome left does torn.
       sector_left (λ d. Mounts d (Mounted header words table entries)) (Spoil segment sector) segment sector c left mounts
-      (λ place. spoiled_mounts c segment sector header words table entries mounts) (defect_leaves segment sector (Some c) left outcome does torn);
+      (λ place. spoiled_mounts c segment sector header words table entries mounts)
+      (defect_leaves segment sector (Some c) left outcome does torn);
   clean = λ c area keeps is_area clean input outcome left does torn.
       defect_leaving (Clean area is_area) segment sector c outcome does clean
       (clean_from_less area is_area c (changed (Spoil segment sector) c) (spoiled_alike c segment sector).no_more clean) left torn;

@@ -10,7 +10,8 @@ use Rattle.command_laws.proofs.CommandTexts.{plain_texts}
 use Rattle.command_laws.proofs.CommandTotals.{format_answers}
 use Rattle.command_laws.proofs.CommandValues.{dated_values}
 use Rattle.command_laws.proofs.CommandWhole.{format_whole, some_whole}
-use Rattle.command_laws.proofs.TextCommands.{dated_cases, two_words, three_words, dated_length, IsDateWord-value, IsRead, Reading, word_at, date_behind, named, date_value}
+use Rattle.command_laws.proofs.TextCommands.{dated_cases, two_words, three_words, dated_length, IsDateWord-value, IsRead, Reading, word_at}
+use Rattle.command_laws.proofs.TextCommands.{date_behind, named, date_value}
 use Rattle.command_laws.specs.CommandRecord.{CommandLaws}
 use Rattle.command_spec.specs.Command.{HasForm, IsUnprotected}
 use Rattle.command_spec.specs.Single.{FormatOutcome, format_command}
@@ -23,7 +24,8 @@ use Rattle.command_spec.specs.declared.words.Words.TheVariants as words
 abbrev pub format_reading : Reading
 format_reading = record { name = codes "format"; reads = λ behind. words.Format (filled (word_at behind 0)) (date_behind behind) }
 
-pub format_read : (label : List ℕ) (date : ℕ) (ws : List (List ℕ)) → HasForm ws (format_command label date).forms → IsRead format_reading ws (words.Format label date)
+pub format_read : (label : List ℕ) (date : ℕ) (ws : List (List ℕ)) → HasForm ws (format_command label date).forms →
+    IsRead format_reading ws (words.Format label date)
 format_read label date ws h = elim (dated_cases ws _ date h) [
   | inl full ↦
       let s = three_words ws _ _ _ full in
@@ -32,7 +34,13 @@ format_read label date ws h = elim (dated_cases ws _ date h) [
         are = named s.are s.one;
         is = ap (λ n. words.Format n (date_value s.third)) (sym s.two.1) ∙ ap (words.Format label) (IsDateWord-value s.third date s.three);
       }
-  | inr bare ↦ let s = two_words ws _ _ bare.0 in record { behind = s.second ∷ []; are = named s.are s.one; is = ap (λ n. words.Format n 0) (sym s.two.1) ∙ ap (words.Format label) (sym bare.1) }
+  | inr bare ↦ let s = two_words ws _ _ bare.0 in
+      record {
+        behind = s.second ∷ [];
+        are = named s.are s.one;
+        is = ap (λ n. words.Format n 0) (sym s.two.1)
+            ∙ ap (words.Format label) (sym bare.1);
+      }
 ]
 
 pub format_laws : (label : List ℕ) (date : ℕ) → CommandLaws (format_command label date)
@@ -45,7 +53,9 @@ format_laws label date = record {
   locked = λ is c input outcome locked plain. format_locked label date c outcome locked plain;
   unformatted = λ is c input outcome free bare plain. absurd (cc);
   in_front = λ is c segment input outcome free first plain. format_in_front label date c segment outcome free first plain;
-  done = λ held input outcome whole values. where_some (λ c. IsUnprotected c × HasNoDefectInFront c) held (λ h. FormatOutcome label date h outcome → outcome.status ≡ status.Done) (λ c can does. format_done label date c outcome can.0 can.1 does);
+  done = λ held input outcome whole values. where_some (λ c. IsUnprotected c × HasNoDefectInFront c) held
+      (λ h. FormatOutcome label date h outcome → outcome.status ≡ status.Done)
+      (λ c can does. format_done label date c outcome can.0 can.1 does);
   texts = plain_texts _ _ (0, (0, refl));
   blind = λ is. record {
     any = λ held input other outcome plain. plain;
@@ -53,10 +63,12 @@ format_laws label date = record {
     no_lines = refl;
     no_fault = λ input line place fault. fault;
   };
-  stands = λ c plain keeps stood input outcome left does torn. format_stands label date c plain left stood keeps (format_leaves label date (Some c) left outcome does torn);
+  stands = λ c plain keeps stood input outcome left does torn. format_stands label date c plain left stood keeps
+      (format_leaves label date (Some c) left outcome does torn);
   mounts = λ c header words table entries keeps mounts input outcome left does torn.
       format_mounts c header words table entries left mounts label date keeps (format_leaves label date (Some c) left outcome does torn);
-  clean = λ c area keeps is_area clean input outcome left does torn. leaves_format (Clean area is_area) label date c outcome does keeps clean left torn;
+  clean = λ c area keeps is_area clean input outcome left does torn. leaves_format
+      (Clean area is_area) label date c outcome does keeps clean left torn;
   bare = λ c keeps bare input outcome left does torn. leaves_format HasNoHeader label date c outcome does keeps bare left torn;
   unread = λ c copies keeps none input outcome left does torn. leaves_format NeitherReads label date c outcome does copies none left torn;
   whole = λ c input outcome left values content whole does torn.

@@ -37,15 +37,20 @@ list_laws = record {
   locked = λ is c input outcome locked plain. absurd (cc);
   unformatted = λ is c input outcome free bare plain. open_unformatted (Shows listing) c outcome bare plain;
   in_front = λ is c segment input outcome free first plain. absurd (cc);
-  done = λ held input outcome whole values. where_some (CanBeMounted) held (λ h. ListOutcome h outcome → outcome.status ≡ status.Done) (λ c can does. shows_done listing c can.0 outcome can.1 does);
-  texts = plain_texts _ _ (record { format_date = 0; write_date = 0; segments_per_track = 0; label = []; label_date = 0 }, ([], ([], refl)));
+  done = λ held input outcome whole values. where_some (CanBeMounted) held (λ h. ListOutcome h outcome → outcome.status ≡ status.Done)
+      (λ c can does. shows_done listing c can.0 outcome can.1 does);
+  texts = plain_texts _ _ (
+    record { format_date = 0; write_date = 0; segments_per_track = 0; label = []; label_date = 0 },
+    ([], ([], refl)),
+  );
   blind = λ is. record {
     any = λ held input other outcome plain. plain;
     no_append = refl;
     no_lines = refl;
     no_fault = λ input line place fault. fault;
   };
-  stands = λ c plain keeps stood input outcome left does torn. open_stands c plain left stood (opening_leaves listing (Some c) left outcome does torn);
+  stands = λ c plain keeps stood input outcome left does torn. open_stands c plain left stood
+      (opening_leaves listing (Some c) left outcome does torn);
   mounts = λ c header words table entries keeps mounts input outcome left does torn.
       open_mounts c (Mounted header words table entries) left mounts (opening_leaves listing (Some c) left outcome does torn);
   clean = λ c area keeps is_area clean input outcome left does torn.

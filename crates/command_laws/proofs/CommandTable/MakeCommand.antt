@@ -10,7 +10,8 @@ use Rattle.command_laws.proofs.CommandSteps.{writable_none, making_none}
 use Rattle.command_laws.proofs.CommandTotals.{writable_answers, making_answers}
 use Rattle.command_laws.proofs.CommandUnread.{writable_unread}
 use Rattle.command_laws.proofs.CommandWhole.{making_whole, some_whole}
-use Rattle.command_laws.proofs.TextCommands.{only, three_words, spelled_length, IsNumber-value, IsRead, Reading, word_at, number_value, named}
+use Rattle.command_laws.proofs.TextCommands.{only, three_words, spelled_length, IsNumber-value, IsRead, Reading, word_at, number_value}
+use Rattle.command_laws.proofs.TextCommands.{named}
 use Rattle.command_laws.specs.CommandRecord.{CommandLaws}
 use Rattle.command_spec.specs.Command.{HasForm, IsUnprotected}
 use Rattle.command_spec.specs.Make.{Making, CanMake, make_command}
@@ -31,15 +32,21 @@ values_are (word ∷ number ∷ volumes ∷ rest) seed count (inr spelled) = abs
 
 -- its words are read as it
 abbrev pub make_reading : Reading
-make_reading = record { name = codes "make"; reads = λ behind. words.Make (number_value (word_at behind 0)) (number_value (word_at behind 1)) }
+make_reading = record {
+  name = codes "make";
+  reads = λ behind. words.Make (number_value (word_at behind 0))
+      (number_value (word_at behind 1));
+}
 
-pub make_read : (seed count : ℕ) (ws : List (List ℕ)) → HasForm ws (make_command seed count).forms → IsRead make_reading ws (words.Make seed count)
+pub make_read : (seed count : ℕ) (ws : List (List ℕ)) → HasForm ws (make_command seed count).forms →
+    IsRead make_reading ws (words.Make seed count)
 make_read seed count ws h =
     let s = three_words ws _ _ _ (only ws _ h) in
     record {
       behind = s.second ∷ s.third ∷ [];
       are = named s.are s.one;
-      is = ap (λ n. words.Make n (number_value s.third)) (IsNumber-value s.second seed s.two.0) ∙ ap (words.Make seed) (IsNumber-value s.third count s.three.0);
+      is = ap (λ n. words.Make n (number_value s.third)) (IsNumber-value s.second seed s.two.0)
+          ∙ ap (words.Make seed) (IsNumber-value s.third count s.three.0);
     }
 
 pub make_laws : (seed count : ℕ) → CommandLaws (make_command seed count)
@@ -53,7 +60,8 @@ make_laws seed count = record {
   unformatted = λ is c input outcome free bare plain. writable_unformatted (Making seed count) c outcome free bare plain;
   in_front = λ is c segment input outcome free first plain. absurd (cc);
   done = λ held input outcome whole values needs.
-      where_some (λ c. IsUnprotected c × CanMake c seed count) held (λ h. IfSome h IsCartridge → MakeOutcome seed count h outcome → outcome.status ≡ status.Done)
+      where_some (λ c. IsUnprotected c × CanMake c seed count) held
+      (λ h. IfSome h IsCartridge → MakeOutcome seed count h outcome → outcome.status ≡ status.Done)
       (λ c can known does. make_goes seed count c outcome values known can.0 can.1 does) needs whole;
   texts = record {
     none_printed = λ answer. inl refl;
@@ -68,9 +76,11 @@ make_laws seed count = record {
     no_lines = refl;
     no_fault = λ input line place fault. fault;
   };
-  stands = λ c plain keeps stood input outcome left does torn. same_stands c plain left stood (appending_leaves (Making seed count) (Some c) left outcome does torn keeps);
+  stands = λ c plain keeps stood input outcome left does torn. same_stands c plain left stood
+      (appending_leaves (Making seed count) (Some c) left outcome does torn keeps);
   mounts = λ c header words table entries keeps mounts input outcome left does torn.
-      some_and (λ d. Mounts d (Mounted header words table entries)) c left mounts (appending_leaves (Making seed count) (Some c) left outcome does torn keeps);
+      some_and (λ d. Mounts d (Mounted header words table entries)) c left mounts
+      (appending_leaves (Making seed count) (Some c) left outcome does torn keeps);
   clean = λ c area keeps is_area clean input outcome left does torn.
       writable_leaves (Clean area is_area) (Making seed count) (making_leaves area is_area seed count) c outcome does clean left torn;
   bare = λ c keeps bare input outcome left does torn. bare_writable (Making seed count) c outcome does bare left torn;

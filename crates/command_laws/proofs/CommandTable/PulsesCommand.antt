@@ -44,14 +44,16 @@ pulses_laws = record {
       fronted AreLevels (λ answer text. AreLevels text) _ (None, ([], refl)) (λ answer. (None, ([], refl)))
       (λ answer front levels. ([], subst AreLevels (sym (append-nil front)) levels));
   blind = λ is. absurd (cc);
-  stands = λ c plain keeps stood input outcome left does torn. pulses_stand c plain left stood (sent_leaves (Some c) left input outcome does torn);
+  stands = λ c plain keeps stood input outcome left does torn. pulses_stand c plain left stood
+      (sent_leaves (Some c) left input outcome does torn);
   mounts = λ c header words table entries keeps mounts input outcome left does torn.
       pulses_mount c header words table entries left mounts (sent_leaves (Some c) left input outcome does torn);
   clean = λ c area keeps is_area clean input outcome left does torn.
       sent_leaving (Clean area is_area) c input outcome does clean
       (clean_from_less area is_area c (changed SetReferenced c) (marks_read_no_more c (changed (SetReferenced) c) refl) clean) left torn;
   bare = λ c keeps bare input outcome left does torn.
-      sent_leaving HasNoHeader c input outcome does bare (no_header_less c (changed SetReferenced c) (marks_read_no_more c (changed (SetReferenced) c) refl) bare) left torn;
+      sent_leaving HasNoHeader c input outcome does bare
+      (no_header_less c (changed SetReferenced c) (marks_read_no_more c (changed (SetReferenced) c) refl) bare) left torn;
   unread = λ c copies keeps none input outcome left does torn.
       sent_leaving NeitherReads c input outcome does none (marked_neither c (changed SetReferenced c) refl none) left torn;
   whole = λ c input outcome left values content whole does torn.

@@ -30,7 +30,8 @@ may_print_nothing answer = refl
 abbrev pub restore_reading : Reading
 restore_reading = record { name = codes "restore"; reads = λ behind. words.Restore (number_value (word_at behind 0)) }
 
-pub restore_read : (number : ℕ) (ws : List (List ℕ)) → HasForm ws (restore_command number).forms → IsRead restore_reading ws (words.Restore number)
+pub restore_read : (number : ℕ) (ws : List (List ℕ)) → HasForm ws (restore_command number).forms →
+    IsRead restore_reading ws (words.Restore number)
 restore_read number ws h =
     let s = two_words ws _ _ (only ws _ h) in
     record { behind = s.second ∷ []; are = named s.are s.one; is = ap words.Restore (IsNumber-value s.second number s.two.0) }
@@ -45,7 +46,8 @@ restore_laws number = record {
   locked = λ is c input outcome locked plain. absurd (cc);
   unformatted = λ is c input outcome free bare plain. open_unformatted (Gives number) c outcome bare plain;
   in_front = λ is c segment input outcome free first plain. absurd (cc);
-  done = λ held input outcome whole values. where_some (λ c. CanGive c number) held (λ h. RestoreOutcome number h outcome → outcome.status ≡ status.Done) (λ c can does. restore_goes number c outcome can does);
+  done = λ held input outcome whole values. where_some (λ c. CanGive c number) held
+      (λ h. RestoreOutcome number h outcome → outcome.status ≡ status.Done) (λ c can does. restore_goes number c outcome can does);
   texts = fronted _ restore_refused [] tt may_print_nothing (λ answer front prints. ([], tt));
   blind = λ is. record {
     any = λ held input other outcome plain. plain;
@@ -53,7 +55,8 @@ restore_laws number = record {
     no_lines = refl;
     no_fault = λ input line place fault. fault;
   };
-  stands = λ c plain keeps stood input outcome left does torn. open_stands c plain left stood (restoring_leaves number (Some c) left outcome does torn);
+  stands = λ c plain keeps stood input outcome left does torn. open_stands c plain left stood
+      (restoring_leaves number (Some c) left outcome does torn);
   mounts = λ c header words table entries keeps mounts input outcome left does torn.
       open_mounts c (Mounted header words table entries) left mounts (restoring_leaves number (Some c) left outcome does torn);
   clean = λ c area keeps is_area clean input outcome left does torn.

@@ -44,10 +44,12 @@ abbrev none_read : Counts
 none_read = record { segments = 3; mended = 0; unreadable = 3 }
 
 -- a scrub of no volume that reads nothing prints a text, in each form
-pub text_of_none : (depth : Depth) → (words : List ℕ) × ((entries : List Entry) × ((counts : Counts) × IsTextFor depth (looked_at words entries) counts
+pub text_of_none : (depth : Depth) → (words : List ℕ)
+    × ((entries : List Entry) × ((counts : Counts) × IsTextFor depth (looked_at words entries) counts
     (lines_for (looked_at [] []) (unread ∷ unread ∷ unread ∷ []) ++ counts_line none_read)))
 text_of_none depth =
-    let is : IsTextFor depth (looked_at [] []) none_read (lines_for (looked_at [] []) (unread ∷ unread ∷ unread ∷ []) ++ counts_line none_read) = record {
+    let is : IsTextFor depth (looked_at [] []) none_read
+    (lines_for (looked_at [] []) (unread ∷ unread ∷ unread ∷ []) ++ counts_line none_read) = record {
       findings = unread ∷ unread ∷ unread ∷ [];
       may = (tt, (tt, (tt, tt)));
       lines = refl;
@@ -66,7 +68,8 @@ scrub_laws = record {
   locked = λ is c input outcome locked plain. writable_locked Mends c outcome locked plain;
   unformatted = λ is c input outcome free bare plain. writable_unformatted Mends c outcome free bare plain;
   in_front = λ is c segment input outcome free first plain. absurd (cc);
-  done = λ held input outcome whole values. where_some (λ c. IsUnprotected c × CanBeMounted c) held (λ h. ScrubOutcome h outcome → outcome.status ≡ status.Done) (λ c can does. scrub_goes c can.1.0 outcome can.0 can.1.1 does);
+  done = λ held input outcome whole values. where_some (λ c. IsUnprotected c × CanBeMounted c) held
+      (λ h. ScrubOutcome h outcome → outcome.status ≡ status.Done) (λ c can does. scrub_goes c can.1.0 outcome can.0 can.1.1 does);
   texts = plain_texts _ _ (text_of_none Shallow);
   blind = λ is. record {
     any = λ held input other outcome plain. plain;
@@ -74,7 +77,8 @@ scrub_laws = record {
     no_lines = refl;
     no_fault = λ input line place fault. fault;
   };
-  stands = λ c plain keeps stood input outcome left does torn. scrub_stands c plain left stood (scrubbing_leaves (Some c) left outcome does torn);
+  stands = λ c plain keeps stood input outcome left does torn. scrub_stands c plain left stood
+      (scrubbing_leaves (Some c) left outcome does torn);
   mounts = λ c header words table entries keeps mounts input outcome left does torn.
       scrub_mounts c (Mounted header words table entries) left mounts (scrubbing_leaves (Some c) left outcome does torn);
   clean = λ c area keeps is_area clean input outcome left does torn.

@@ -7,7 +7,8 @@ use Rattle.cartridge_spec.specs.Mounting.{Mounted, Mounts}
 use Rattle.cartridge_spec.specs.Table.{Entry}
 use Rattle.cartridge_spec.specs.Volumes.{Plain, Stands, VolumeStands}
 use Rattle.command_laws.proofs.CommandComplete.{status_of, where_some}
-use Rattle.command_laws.proofs.CommandStep.{KeepsAll, step_leaves, step_answers, step_is_one, step_no_renew, step_stands, step_mounts, step_clean, step_bare}
+use Rattle.command_laws.proofs.CommandStep.{KeepsAll, step_leaves, step_answers, step_is_one, step_no_renew, step_stands, step_mounts}
+use Rattle.command_laws.proofs.CommandStep.{step_clean, step_bare}
 use Rattle.command_laws.proofs.CommandTexts.{plain_texts}
 use Rattle.command_laws.proofs.CommandUnread.{marked_neither}
 use Rattle.command_laws.proofs.CommandWhole.{some_whole, step_whole}
@@ -94,7 +95,8 @@ upgrade_laws = record {
   locked = λ is c input outcome locked plain. absurd (cc);
   unformatted = λ is c input outcome free bare plain. absurd (cc);
   in_front = λ is c segment input outcome free first plain. absurd (cc);
-  done = λ held input outcome whole values. where_some (λ c. Unit {0}) held (λ h. UpgradeOutcome h outcome → outcome.status ≡ status.Done) (λ c can does. ap status_of does);
+  done = λ held input outcome whole values. where_some (λ c. Unit {0}) held (λ h. UpgradeOutcome h outcome → outcome.status ≡ status.Done)
+      (λ c can does. ap status_of does);
   texts = plain_texts _ (upgraded_line 2) (2, omega arith, omega arith, refl);
   blind = λ is. record {
     any = λ held input other outcome plain. plain;

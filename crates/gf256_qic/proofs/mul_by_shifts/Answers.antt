@@ -4,7 +4,8 @@ use Rattle.std.specs.Int.Bits.{xor_zero_r}
 use Rattle.std.proofs.lemmas.Bool.{cases_eq}
 use Rattle.cartridge_spec.specs.Code.{product, power}
 use Rattle.gf256_qic.proofs.Products.{product_one_right}
-use Rattle.gf256_qic.proofs.Powers.{power_none, product_of_low_bits_none, product_of_low_bits_set, product_of_low_bits_clear, product_shifted}
+use Rattle.gf256_qic.proofs.Powers.{power_none, product_of_low_bits_none, product_of_low_bits_set, product_of_low_bits_clear}
+use Rattle.gf256_qic.proofs.Powers.{product_shifted}
 use Rattle.gf256_qic.proofs.Exponents.{masked_set, masked_clear}
 use Rattle.gf256_qic.proofs.mul_by_shifts.Goals as goal
 

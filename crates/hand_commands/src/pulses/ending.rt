@@ -1,6 +1,6 @@
 //! The line behind the last that may be a train.
 
-ghost use Rattle.std.specs.Prelude.{◌≤◌, ◌≡◌, is_some};
+ghost use Rattle.std.specs.Prelude.{◌≤◌, ◌≡◌, ◌≢◌, Err, is_some};
 ghost use Rattle.hand_commands.specs.PulseLines.{HearsEnd};
 
 use crate::pulses::fault::PulseFault;
@@ -19,6 +19,8 @@ pub fn end_input<S: Source>(
     ensures source_tells { is_some (S.means.left source.new) ≡
         is_some (S.means.left source.old) }
     ensures later { S.means.faults source.old ≤ S.means.faults source.new }
+    ensures stood { result ≢ Err PulseFault.Source →
+        S.means.faults source.new ≡ S.means.faults source.old }
 {
     match Train::read(source, buffer) {
         Ok(TrainRead::End | TrainRead::Stop) => Ok(()),

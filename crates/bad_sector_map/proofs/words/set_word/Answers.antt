@@ -7,4 +7,5 @@ pub returns-clause-others : goal.returns-clause-others
 returns-clause-others c k outside =
     let there : 2 + c.args.segment / 256 < length c.args.area.now = omega (arith, c.requires.sectors, c.requires.within) in
     let long : length (get_or c.args.area.now (2 + c.args.segment / 256) []) ≡ 1024 = c.told-area (2 + c.args.segment / 256) there in
-    byte_in-other_word c.args.area.now c.write_u32.new.bytes (get_or c.args.area.now (2 + c.args.segment / 256) []) c.args.segment c.args.word k there refl (omega (arith, long)) c.write_u32.ensures.whole outside
+    byte_in-other_word c.args.area.now c.write_u32.new.bytes (get_or c.args.area.now (2 + c.args.segment / 256) []) c.args.segment
+    c.args.word k there refl (omega (arith, long)) c.write_u32.ensures.whole outside

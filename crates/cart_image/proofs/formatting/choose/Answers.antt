@@ -9,13 +9,16 @@ loop-i-preserved c = record {
   long_unformed = length-set _ _ _ ∙ c.loop-i.invariant.long_unformed;
   usable = below_more _ _
       (λ k h. let ne : k ≢ c.loop-i.i = omega arith in rw get_or-set_other (c.loop-i.invariant.usable k h))
-      (let lt : c.loop-i.i < length c.loop-i.usable = omega (arith, c.loop-i.invariant.long_usable) in rw get_or-set_same c.is_usable.ensures);
+      (let lt : c.loop-i.i < length c.loop-i.usable = omega (arith, c.loop-i.invariant.long_usable) in
+      rw get_or-set_same c.is_usable.ensures);
   readable = below_more _ _
       (λ k h. let ne : k ≢ c.loop-i.i = omega arith in rw get_or-set_other (c.loop-i.invariant.readable k h))
-      (let lt : c.loop-i.i < length c.loop-i.readable = omega (arith, c.loop-i.invariant.long_readable) in rw get_or-set_same c.is_readable.ensures);
+      (let lt : c.loop-i.i < length c.loop-i.readable = omega (arith, c.loop-i.invariant.long_readable) in
+      rw get_or-set_same c.is_readable.ensures);
   unformed = below_more _ _
       (λ k h. let ne : k ≢ c.loop-i.i = omega arith in rw get_or-set_other (c.loop-i.invariant.unformed k h))
-      (let lt : c.loop-i.i < length c.loop-i.unformed = omega (arith, c.loop-i.invariant.long_unformed) in rw get_or-set_same c.is_unformed.ensures);
+      (let lt : c.loop-i.i < length c.loop-i.unformed = omega (arith, c.loop-i.invariant.long_unformed) in
+      rw get_or-set_same c.is_unformed.ensures);
 }
 
 pub returns-clause-usable : goal.returns-clause-usable

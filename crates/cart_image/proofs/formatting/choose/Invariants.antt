@@ -9,6 +9,8 @@ invariant-loop-i l = record {
   long_readable : length l.readable ≡ 32;
   long_unformed : length l.unformed ≡ 32;
   usable : (k : ℕ) → k < l.i → get_or l.usable k false ≡ not (get_or l.marks.defects k 0 == defect_byte);
-  readable : (k : ℕ) → k < l.i → get_or l.readable k false ≡ (not (get_or l.marks.defects k 0 == defect_byte) && (get_or l.marks.gates k 0 == open_gate));
-  unformed : (k : ℕ) → k < l.i → get_or l.unformed k false ≡ (not (get_or l.marks.defects k 0 == defect_byte) && not (get_or l.marks.formed k 0 == formed_byte));
+  readable : (k : ℕ) → k < l.i → get_or l.readable k false ≡ (not (get_or l.marks.defects k 0 == defect_byte) &&
+      (get_or l.marks.gates k 0 == open_gate));
+  unformed : (k : ℕ) → k < l.i → get_or l.unformed k false ≡ (not (get_or l.marks.defects k 0 == defect_byte) && not
+      (get_or l.marks.formed k 0 == formed_byte));
 }

@@ -13,10 +13,13 @@ returns-in_err-marks-clause-carried g c =
 
 pub returns-clause-carried : goal.returns-clause-carried
 returns-clause-carried g c =
-    Carried-runs g.D.Disk.means _ _ _ _ (format_segment_steps c.args.layout c.args.segment c.choose.result.readable c.choose.result.usable c.choose.result.unformed) _
+    Carried-runs g.D.Disk.means _ _ _ _ (format_segment_steps c.args.layout c.args.segment c.choose.result.readable c.choose.result.usable
+    c.choose.result.unformed) _
     c.in_ok-marks.ensures.looked c.write_formatted.ensures.ran
     (λ bytes told.
     let right = g.met.D.Disk.told_right c.args.disk.now in
     let seen = right.seen bytes told in
-    chosen-planned (g.D.Disk.means.told c.args.disk.now) c.args.layout c.args.segment c.in_ok-marks.marks c.choose.result.readable c.choose.result.usable c.choose.result.unformed bytes told (omega arith) c.in_ok-marks.ensures.marks (omega arith) (omega arith) (omega arith)
+    chosen-planned (g.D.Disk.means.told c.args.disk.now) c.args.layout c.args.segment c.in_ok-marks.marks c.choose.result.readable
+    c.choose.result.usable c.choose.result.unformed bytes told (omega arith) c.in_ok-marks.ensures.marks (omega arith) (omega arith)
+    (omega arith)
     c.choose.ensures.usable c.choose.ensures.readable c.choose.ensures.unformed)

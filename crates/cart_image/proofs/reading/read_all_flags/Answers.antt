@@ -24,7 +24,8 @@ pub loop-i-preserved : goal.loop-i-preserved
 loop-i-preserved g c = record {
   looks = Looks-Looks c.loop-i.invariant.looks c.in_ok-flags.ensures.looked;
   seen = c.in_ok-flags.ensures.seen ∙ c.loop-i.invariant.seen;
-  so = read-more _ _ _ _ _ _ _ _ _ _ c.loop-i.invariant.looks.told c.requires.cells c.requires.place (omega arith) c.place.ensures c.in_ok-flags.ensures.bytes c.loop-i.invariant.so;
+  so = read-more _ _ _ _ _ _ _ _ _ _ c.loop-i.invariant.looks.told c.requires.cells c.requires.place
+      (omega arith) c.place.ensures c.in_ok-flags.ensures.bytes c.loop-i.invariant.so;
 }
 
 pub returns-clause-marks : goal.returns-clause-marks

@@ -7,7 +7,8 @@ loop-i-preserved c = record {
   long = length-set _ _ _ ∙ c.loop-i.invariant.long;
   each = below_more _ _
       (λ k h. λ bytes. let ne : k ≢ c.loop-i.i = omega arith in rw get_or-set_other (c.loop-i.invariant.each k h bytes))
-      (λ bytes. let lt : c.loop-i.i < length c.loop-i.states = omega (arith, c.loop-i.invariant.long) in rw get_or-set_same (c.state_by.ensures bytes));
+      (λ bytes. let lt : c.loop-i.i < length c.loop-i.states = omega (arith, c.loop-i.invariant.long) in
+      rw get_or-set_same (c.state_by.ensures bytes));
 }
 
 pub returns : goal.returns

@@ -8,5 +8,6 @@ use Rattle.cart_image.proofs.reading.states_by.Given as goal
 abbrev pub invariant-loop-i : goal.invariant-loop-i
 invariant-loop-i l = record {
   long : length l.states ≡ 32;
-  each : (k : ℕ) → k < l.i → (bytes : List ℕ) → slice_index_or l.states k state.Blank ≡ state_of (view_by (slice_index l.marks.defects k) (slice_index l.marks.formed k) (slice_index l.marks.gates k) bytes);
+  each : (k : ℕ) → k < l.i → (bytes : List ℕ) → slice_index_or l.states k state.Blank ≡ state_of
+      (view_by (slice_index l.marks.defects k) (slice_index l.marks.formed k) (slice_index l.marks.gates k) bytes);
 }

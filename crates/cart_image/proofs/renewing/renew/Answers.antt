@@ -13,5 +13,7 @@ returns-in_err-first-clause-carried g c =
 
 pub returns-clause-carried : goal.returns-clause-carried
 returns-clause-carried g c =
-    Carried-runs g.D.Disk.means _ _ _ _ (renew_steps c.args.segments_per_track c.in_ok-first.first) _ c.in_ok-first.ensures.looked c.write_new.ensures.ran
-    (planned-by (g.D.Disk.means.told c.args.disk.now) c.in_ok-first.first (λ b. slice_index b 0) _ _ c.in_ok-first.ensures.byte (λ bytes e. ap (renew_steps c.args.segments_per_track) e))
+    Carried-runs g.D.Disk.means _ _ _ _ (renew_steps c.args.segments_per_track c.in_ok-first.first) _ c.in_ok-first.ensures.looked
+    c.write_new.ensures.ran
+    (planned-by (g.D.Disk.means.told c.args.disk.now) c.in_ok-first.first (λ b. slice_index b 0) _ _ c.in_ok-first.ensures.byte
+    (λ bytes e. ap (renew_steps c.args.segments_per_track) e))

@@ -10,14 +10,17 @@ pub returns-in_err-copy_segment-clause-planned : goal.returns-in_err-copy_segmen
 returns-in_err-copy_segment-clause-planned g c =
     let p = err_from_is_err_and c.from_residual.result c.from_residual.ensures.1 in
     copying-failed g.D.Disk.means _ _ _ c.args.segments_per_track c.loop-segment.segment c.loop-segment.invariant.copying
-    (λ bytes told. let right = g.met.D.Disk.told_right c.args.disk.now in let seen = right.seen bytes told in let covers = c.requires in omega arith) (omega arith) _ _ _ p.0 refl p.1 c.in_err-copy_segment.ensures.planned
+    (λ bytes told. let right = g.met.D.Disk.told_right c.args.disk.now in let seen = right.seen bytes told in let covers = c.requires in
+    omega arith) (omega arith) _ _ _ p.0 refl p.1 c.in_err-copy_segment.ensures.planned
 
 pub loop-segment-preserved : goal.loop-segment-preserved
 loop-segment-preserved g c = record {
   copying = copying-more g.D.Disk.means _ _ _ c.args.segments_per_track c.loop-segment.segment c.loop-segment.invariant.copying
-      (λ bytes told. let right = g.met.D.Disk.told_right c.args.disk.now in let seen = right.seen bytes told in let covers = c.requires in omega arith) (omega arith) _ _ refl c.in_ok-copy_segment.ensures.planned;
+      (λ bytes told. let right = g.met.D.Disk.told_right c.args.disk.now in let seen = right.seen bytes told in let covers = c.requires in
+      omega arith) (omega arith) _ _ refl c.in_ok-copy_segment.ensures.planned;
   seen = c.in_ok-copy_segment.ensures.seen ∙ c.loop-segment.invariant.seen;
 }
 
 pub returns-clause-planned : goal.returns-clause-planned
-returns-clause-planned g c = copying-all g.D.Disk.means _ _ c.args.segments_per_track c.loop-segment.segment _ _ refl (omega arith) c.loop-segment.invariant.copying
+returns-clause-planned g c = copying-all g.D.Disk.means _ _ c.args.segments_per_track c.loop-segment.segment _ _ refl
+    (omega arith) c.loop-segment.invariant.copying

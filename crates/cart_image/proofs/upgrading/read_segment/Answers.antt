@@ -10,4 +10,5 @@ returns-in_err-block-clause-looked g c =
 
 pub returns-clause-cells : goal.returns-clause-cells
 returns-clause-cells g c =
-    segment-cells (g.D.Disk.means.told c.args.disk.now) _ c.args.segments_per_track c.args.segment _ c.in_ok-marks.marks c.in_ok-block.block c.in_ok-marks.ensures.looked.told c.plane_place.ensures c.requires c.in_ok-marks.ensures.marks c.in_ok-block.ensures.bytes
+    segment-cells (g.D.Disk.means.told c.args.disk.now) _ c.args.segments_per_track c.args.segment _ c.in_ok-marks.marks c.in_ok-block.block
+    c.in_ok-marks.ensures.looked.told c.plane_place.ensures c.requires c.in_ok-marks.ensures.marks c.in_ok-block.ensures.bytes

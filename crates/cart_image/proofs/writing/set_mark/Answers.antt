@@ -15,11 +15,15 @@ returns-in_err-stands-clause-carried g c =
 pub returns-in-true-false-clause-carried : goal.returns-in-true-false-clause-carried
 returns-in-true-false-clause-carried g c =
     Carried-runs g.D.Disk.means _ _ _ _ (put c.args.place (mark_byte ∷ [])) _ c.in_ok-stands.ensures.looked c.put.ensures.ran
-    (planned-by (g.D.Disk.means.told c.args.disk.now) c.in_ok-stands.field-0 (λ b. slice_index b c.args.place) _ _ c.in_ok-stands.ensures.byte
-    (λ bytes e. mark-set c.args.place (slice_index bytes c.args.place) c.args.on c.in-true-false.is-0 (sym (ap (λ b. b == mark_byte) e) ∙ c.in-true-false.is-1)))
+    (planned-by (g.D.Disk.means.told c.args.disk.now) c.in_ok-stands.field-0
+    (λ b. slice_index b c.args.place) _ _ c.in_ok-stands.ensures.byte
+    (λ bytes e. mark-set c.args.place (slice_index bytes c.args.place) c.args.on c.in-true-false.is-0
+    (sym (ap (λ b. b == mark_byte) e) ∙ c.in-true-false.is-1)))
 
 pub returns-in-false-true-clause-carried : goal.returns-in-false-true-clause-carried
 returns-in-false-true-clause-carried g c =
     Carried-runs g.D.Disk.means _ _ _ _ (put c.args.place (0 ∷ [])) _ c.in_ok-stands.ensures.looked c.put-in-false-true.ensures.ran
-    (planned-by (g.D.Disk.means.told c.args.disk.now) c.in_ok-stands.field-0 (λ b. slice_index b c.args.place) _ _ c.in_ok-stands.ensures.byte
-    (λ bytes e. mark-cleared c.args.place (slice_index bytes c.args.place) c.args.on c.in-false-true.is-0 (sym (ap (λ b. b == mark_byte) e) ∙ c.in-false-true.is-1)))
+    (planned-by (g.D.Disk.means.told c.args.disk.now) c.in_ok-stands.field-0
+    (λ b. slice_index b c.args.place) _ _ c.in_ok-stands.ensures.byte
+    (λ bytes e. mark-cleared c.args.place (slice_index bytes c.args.place) c.args.on c.in-false-true.is-0
+    (sym (ap (λ b. b == mark_byte) e) ∙ c.in-false-true.is-1)))

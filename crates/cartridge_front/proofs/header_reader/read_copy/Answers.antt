@@ -20,7 +20,8 @@ returns-in-Ok-clause-found g c = λ sound.
     let taken : TakesHeader (take 29 sectors) n words c.decode_copy.result =
     takes_at c.data_sectors.result.now (take 29 sectors) c.segments_per_track-segments_per_track.result n words c.decode_copy.result
     c.data_sectors.ensures.value (c.segments_per_track-segments_per_track.ensures.value ∙ c.geometry.ensures) c.decode_copy.ensures.taken in
-    Tells-map g.T.Tape.means c.args.unit.now.tape (λ c'. HasSolved (copy_cells c' copy) sectors) (λ c'. FindsCopy c' copy n words c.decode_copy.result)
+    Tells-map g.T.Tape.means c.args.unit.now.tape (λ c'. HasSolved (copy_cells c' copy) sectors)
+    (λ c'. FindsCopy c' copy n words c.decode_copy.result)
     (λ c' solved. finds_copy c' copy n words sectors c.decode_copy.result c.in-Ok.ensures.room solved taken)
     (c.in-Ok.ensures.solves (λ same. cc))
 

@@ -18,7 +18,8 @@ returns-else-is_shown_by-clause-found g c = λ sound.
     let sectors : List (List ℕ) = c.read_table.new.work in
     let entries : List Entry = c.args.table.now in
     let none : ¬ (Shows (take 29 sectors) entries) =
-    λ shown. let e = c.if-is_shown_by.ensures.1 (subst (λ (area : List (List ℕ)). Shows area entries) (sym c.data_sectors.ensures.value) shown) in cc in
+    λ shown. let e = c.if-is_shown_by.ensures.1
+    (subst (λ (area : List (List ℕ)). Shows area entries) (sym c.data_sectors.ensures.value) shown) in cc in
     Tells-map g.T.Tape.means c.args.unit.now.tape (λ c'. TableIs c' (take 29 sectors)) (λ c'. ¬ (HasList c' entries))
     (λ c' table. list_missing c' (take 29 sectors) entries none table) (c.in-Ok.ensures.found (λ same. cc))
 
@@ -30,7 +31,8 @@ returns-in-Err-clause-found g c = λ sound.
     let fault : SegFault = c.in-Err.fault in
     let apart : fault ≢ seg.Tape = λ same. sound (ap Err (c.table_fault.ensures ∙ ap refusal_of same)) in
     subst (λ (f : StoreFault). Tells m c.args.unit.now.tape (λ c'. FindsList c' sectors entries (Err f))) (sym c.table_fault.ensures)
-    (Tells-map m c.args.unit.now.tape (λ c'. FindsTable {A = Unread} c' sectors (Err fault)) (λ c'. FindsList c' sectors entries (Err (refusal_of fault)))
+    (Tells-map m c.args.unit.now.tape (λ c'. FindsTable {A = Unread} c' sectors (Err fault))
+    (λ c'. FindsList c' sectors entries (Err (refusal_of fault)))
     (λ c' found. finds_fault c' sectors entries fault found) (c.in-Err.ensures.found (λ same. apart (cc))))
 
 pub returns-else-is_shown_by-clause-shown : goal.returns-else-is_shown_by-clause-shown

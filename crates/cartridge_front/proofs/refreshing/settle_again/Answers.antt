@@ -17,8 +17,10 @@ returns-clause-did g c =
     settled_by m c.args.unit.now.tape c.read_list.new.unit.tape c.settle.new.unit.tape c.args.table.now (take 29 sectors) c.settle.new.work
     (mending_steps (is_protected c.read_list.new.unit.drive.deck) c.in_ok-unread.unread sectors) c.settle.result
     c.in_ok-unread.ensures.did c.settle.ensures.did c.settle.ensures.fault c.in_ok-unread.ensures.shown c.settle.ensures.data
-    (told_mending m c.read_list.new.host c.args.unit.now.tape c.read_list.new.unit sectors c.in_ok-unread.unread c.in_ok-unread.ensures.keeps.ready.fits
-    (c.in_ok-unread.ensures.keeps.agrees c.requires.agrees) c.in_ok-unread.ensures.did c.in_ok-unread.ensures.room (c.in_ok-unread.ensures.found (λ same. cc)))
+    (told_mending m c.read_list.new.host c.args.unit.now.tape c.read_list.new.unit sectors c.in_ok-unread.unread
+    c.in_ok-unread.ensures.keeps.ready.fits
+    (c.in_ok-unread.ensures.keeps.agrees c.requires.agrees) c.in_ok-unread.ensures.did c.in_ok-unread.ensures.room
+    (c.in_ok-unread.ensures.found (λ same. cc)))
 
 pub returns-clause-kind : goal.returns-clause-kind
 returns-clause-kind g c = reads_unless c.settle.result c.settle.ensures.fault
@@ -27,7 +29,8 @@ pub returns-in_err-unread-clause-did : goal.returns-in_err-unread-clause-did
 returns-in_err-unread-clause-did g c =
     let fault : StoreFault = c.in_err-unread.field-0.0 in
     let is : c.from_residual.result ≡ Err fault = passed c.from_residual.result fault c.from_residual.ensures.1 in
-    settles_refused g.T.Tape.means c.args.unit.now.tape c.read_list.new.unit.tape c.args.table.now c.read_list.new.work c.read_list.new.work fault c.from_residual.result is
+    settles_refused g.T.Tape.means c.args.unit.now.tape c.read_list.new.unit.tape c.args.table.now c.read_list.new.work c.read_list.new.work
+    fault c.from_residual.result is
     c.in_err-unread.ensures.did (λ apart. c.in_err-unread.ensures.found (λ same. apart (cc))) c.in_err-unread.ensures.kind
 
 pub returns-in_err-unread-clause-kind : goal.returns-in_err-unread-clause-kind
@@ -41,7 +44,8 @@ returns-clause-unread g c =
     let m = g.T.Tape.means in
     let sectors : List (List ℕ) = c.read_list.new.work in
     fault_unread m c.args.unit.now.tape c.settle.new.unit.tape c.settle.result
-    (λ failed. inr (Tells-map m c.args.unit.now.tape (λ c'. HasTable c' sectors c.in_ok-unread.unread) (λ c'. (area : List (List ℕ)) × TableIs c' area)
+    (λ failed. inr (Tells-map m c.args.unit.now.tape (λ c'. HasTable c' sectors c.in_ok-unread.unread)
+    (λ c'. (area : List (List ℕ)) × TableIs c' area)
     (λ c' has. (take 29 sectors, has.table)) (c.in_ok-unread.ensures.found (λ same. cc))))
 
 pub returns-in_err-unread-clause-unread : goal.returns-in_err-unread-clause-unread
@@ -49,4 +53,5 @@ returns-in_err-unread-clause-unread g c =
     let fault : StoreFault = c.in_err-unread.field-0.0 in
     let is : c.from_residual.result ≡ Err fault = passed c.from_residual.result fault c.from_residual.ensures.1 in
     fault_unread g.T.Tape.means c.args.unit.now.tape c.read_list.new.unit.tape c.from_residual.result
-    (broke_reading g.T.Tape.means c.args.unit.now.tape c.read_list.new.unit.tape fault c.from_residual.result is c.in_err-unread.ensures.did)
+    (broke_reading g.T.Tape.means c.args.unit.now.tape c.read_list.new.unit.tape fault c.from_residual.result is
+    c.in_err-unread.ensures.did)

@@ -6,7 +6,8 @@ use Rattle.qic_base.specs.CartridgeTerms.{is_lost}
 use Rattle.cartridge_front.proofs.settling.renew_parity.Goals as goal
 
 -- the sectors that were lent are those of the block
-put_in : (old lent parity new left : List (List ℕ)) → lent ≡ old → parity ≡ parity_sectors (take 29 old) → new ≡ take 29 lent ++ parity → length new ≡ 32 →
+put_in : (old lent parity new left : List (List ℕ)) → lent ≡ old → parity ≡ parity_sectors (take 29 old) → new ≡ take 29 lent ++ parity →
+    length new ≡ 32 →
     take 32 (new ++ left) ≡ collected_block old
 put_in old lent parity new left was is put long =
     take_at new left 32 long ∙ put
@@ -15,8 +16,10 @@ put_in old lent parity new left was is put long =
 
 pub returns-clause-block : goal.returns-clause-block
 returns-clause-block c =
-    put_in c.args.work.now c.sectors_mut.result.now c.parity_of-parity.result c.replace_parity-stale.new.sectors (drop (length c.replace_parity-stale.new.sectors) c.args.work.now)
-    c.sectors_mut.ensures.value (c.parity_of-parity.ensures.parity ∙ ap parity_sectors c.data_sectors.ensures.value) c.replace_parity-stale.ensures.sectors
+    put_in c.args.work.now c.sectors_mut.result.now c.parity_of-parity.result c.replace_parity-stale.new.sectors
+    (drop (length c.replace_parity-stale.new.sectors) c.args.work.now)
+    c.sectors_mut.ensures.value (c.parity_of-parity.ensures.parity ∙ ap parity_sectors c.data_sectors.ensures.value)
+    c.replace_parity-stale.ensures.sectors
     (omega (arith, c.sectors_mut.ensures.size))
 
 pub returns-clause-stale : goal.returns-clause-stale
@@ -28,5 +31,6 @@ returns-clause-stale c = λ i within.
     ap (λ (m : ℕ). is_lost m i) c.from_mask.ensures
     ∙ c.replace_parity-stale.ensures.stale i within
     ∙ ap (λ (m : ℕ). is_stale m c.sectors_mut.result.now (take 29 c.sectors_mut.result.now ++ parity) i) c.mask.ensures
-    ∙ ap (λ (block : List (List ℕ)). is_stale c.args.lost c.sectors_mut.result.now block i) (sym c.replace_parity-stale.ensures.sectors ∙ sym (take_at new left 32 long))
+    ∙ ap (λ (block : List (List ℕ)). is_stale c.args.lost c.sectors_mut.result.now block i)
+    (sym c.replace_parity-stale.ensures.sectors ∙ sym (take_at new left 32 long))
     ∙ ap (λ (old : List (List ℕ)). is_stale c.args.lost old (take 32 (new ++ left)) i) c.sectors_mut.ensures.value

@@ -10,5 +10,6 @@ returns-clause-sectors c =
 
 pub returns-clause-stale : goal.returns-clause-stale
 returns-clause-stale c =
-    put_stale_in c.args.lost c.with_stale-stale.result c.with_stale-stale-2.result c.with_stale-stale-3.result c.args.sectors.now c.args.parity.now
+    put_stale_in c.args.lost c.with_stale-stale.result c.with_stale-stale-2.result c.with_stale-stale-3.result c.args.sectors.now
+    c.args.parity.now
     c.requires c.with_stale-stale.ensures c.with_stale-stale-2.ensures c.with_stale-stale-3.ensures

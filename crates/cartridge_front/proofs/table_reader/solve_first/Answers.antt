@@ -16,7 +16,8 @@ returns-in-Ok-clause-solved c =
     let set : ℕ = get_or sets index c.index-tried-index.result in
     record {
       place = index;
-      there = get_first count sets index c.index-tried-index.result (omega (arith, c.loop-index-test.true)) (omega (arith, c.requires.few, c.loop-index-test.true));
+      there = get_first count sets index c.index-tried-index.result (omega (arith, c.loop-index-test.true))
+          (omega (arith, c.requires.few, c.loop-index-test.true));
       before = λ i other lt at. subst (Unsolved other) c.loop-index.invariant.kept (c.loop-index.invariant.none i other lt at);
       code = block_answer c.solve_collected.new.work c.in-Ok.ensures.room c.in-Ok.ensures.block;
       solved = subst (λ (old : List (List ℕ)). IsSolved set old c.solve_collected.new.work) c.loop-index.invariant.kept
@@ -34,7 +35,8 @@ loop-index-preserved c =
       kept = kept ∙ c.loop-index.invariant.kept;
       none = subst (NoneBelow (take count sets) (index + 1)) (sym kept)
           (none_so_far (take count sets) index set c.loop-index.work c.loop-index.invariant.none
-          (get_first count sets index c.index-tried-index.result (omega (arith, c.loop-index-test.true)) (omega (arith, c.requires.few, c.loop-index-test.true)))
+          (get_first count sets index c.index-tried-index.result (omega (arith, c.loop-index-test.true))
+          (omega (arith, c.requires.few, c.loop-index-test.true)))
           (unsolved_fault set c.loop-index.work c.solve_collected.new.work c.in-Err.field-0 c.in-Err.ensures.solves));
     }
 

@@ -15,4 +15,5 @@ returns-clause-block c =
     take_at new (drop (length new) c.args.work.now) 32 long
     ∙ parity_put c.put_slot-changed.new.sectors new slotted c.put_parity.ensures.parity
     ∙ ap with_parity (c.put_slot-changed.ensures.data
-    ∙ ap (λ (l : List (List ℕ)). with_slot (take 29 l) (length c.args.table.now) (slot_bytes (entry_of c.args.entry.now))) c.sectors_mut-sectors.ensures.value)
+    ∙ ap (λ (l : List (List ℕ)). with_slot (take 29 l) (length c.args.table.now) (slot_bytes (entry_of c.args.entry.now)))
+    c.sectors_mut-sectors.ensures.value)

@@ -22,15 +22,20 @@ returns-clause-did g c =
     let sector : ℕ = c.put_entry-changed.result in
     let within : sector < 32 = omega (arith, c.put_entry-changed.ensures.sector, c.requires.free) in
     let one : block_writes block (sectors_of c.from_mask.result) ≡ block_writes (with_parity area) (sector ∷ []) =
-    ap (λ (places : ℕ). block_writes block (sectors_of places)) c.from_mask.ensures ∙ slot_writes block area sector c.put_entry-changed.ensures.block within in
+    ap (λ (places : ℕ). block_writes block (sectors_of places)) c.from_mask.ensures
+    ∙ slot_writes block area sector c.put_entry-changed.ensures.block within in
     let rest : block_writes block (sectors_of c.from_mask-2.result) ≡ block_writes (with_parity area) (29 ∷ 30 ∷ 31 ∷ []) =
-    ap (λ (places : ℕ). block_writes block (sectors_of places)) c.from_mask-2.ensures ∙ parity_writes block area c.put_entry-changed.ensures.block in
+    ap (λ (places : ℕ). block_writes block (sectors_of places)) c.from_mask-2.ensures
+    ∙ parity_writes block area c.put_entry-changed.ensures.block in
     let first : Done m c.args.unit.now.tape c.write_places.new.unit.tape (block_writes (with_parity area) (sector ∷ [])) =
     subst (Done m c.args.unit.now.tape c.write_places.new.unit.tape) one c.in_ok-write_places.ensures.did in
-    let next : Does m c.write_places.new.unit.tape c.write_places-2.new.unit.tape (block_writes (with_parity area) (29 ∷ 30 ∷ 31 ∷ [])) c.write_places-2.result =
-    subst (λ (steps : List Step). Does m c.write_places.new.unit.tape c.write_places-2.new.unit.tape steps c.write_places-2.result) rest c.write_places-2.ensures.did in
+    let next : Does m c.write_places.new.unit.tape c.write_places-2.new.unit.tape
+    (block_writes (with_parity area) (29 ∷ 30 ∷ 31 ∷ [])) c.write_places-2.result =
+    subst (λ (steps : List Step). Does m c.write_places.new.unit.tape c.write_places-2.new.unit.tape steps c.write_places-2.result) rest
+    c.write_places-2.ensures.did in
     does_after m c.args.unit.now.tape c.write_places.new.unit.tape c.write_places-2.new.unit.tape
-    (block_writes (with_parity area) (sector ∷ [])) (block_writes (with_parity area) (29 ∷ 30 ∷ 31 ∷ [])) (table_writes (slot_sector (length c.args.table.now)) area) c.write_places-2.result
+    (block_writes (with_parity area) (sector ∷ [])) (block_writes (with_parity area) (29 ∷ 30 ∷ 31 ∷ []))
+    (table_writes (slot_sector (length c.args.table.now)) area) c.write_places-2.result
     (both_writes area sector ∙ ap (λ (k : ℕ). table_writes k area) c.put_entry-changed.ensures.sector) first next
 
 pub returns-in_err-write_places-clause-did : goal.returns-in_err-write_places-clause-did
@@ -41,10 +46,12 @@ returns-in_err-write_places-clause-did g c =
     let sector : ℕ = c.put_entry-changed.result in
     let within : sector < 32 = omega (arith, c.put_entry-changed.ensures.sector, c.requires.free) in
     let one : block_writes block (sectors_of c.from_mask.result) ≡ block_writes (with_parity area) (sector ∷ []) =
-    ap (λ (places : ℕ). block_writes block (sectors_of places)) c.from_mask.ensures ∙ slot_writes block area sector c.put_entry-changed.ensures.block within in
+    ap (λ (places : ℕ). block_writes block (sectors_of places)) c.from_mask.ensures
+    ∙ slot_writes block area sector c.put_entry-changed.ensures.block within in
     let fault : StoreFault = c.in_err-write_places.field-0.0 in
     let is : c.from_residual.result ≡ Err fault = passed c.from_residual.result fault c.from_residual.ensures.1 in
     broke_front m c.args.unit.now.tape c.write_places.new.unit.tape
-    (block_writes (with_parity area) (sector ∷ [])) (block_writes (with_parity area) (29 ∷ 30 ∷ 31 ∷ [])) (table_writes (slot_sector (length c.args.table.now)) area)
+    (block_writes (with_parity area) (sector ∷ [])) (block_writes (with_parity area) (29 ∷ 30 ∷ 31 ∷ []))
+    (table_writes (slot_sector (length c.args.table.now)) area)
     fault c.from_residual.result is (both_writes area sector ∙ ap (λ (k : ℕ). table_writes k area) c.put_entry-changed.ensures.sector)
     (subst (Broke m c.args.unit.now.tape c.write_places.new.unit.tape) one c.in_err-write_places.ensures.did)

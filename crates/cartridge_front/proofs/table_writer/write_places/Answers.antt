@@ -17,11 +17,13 @@ write_sectors-requires-clause-within g c = subst (λ (n : ℕ). c.args.places < 
 
 pub returns-in-Ok-clause-did : goal.returns-in-Ok-clause-did
 returns-in-Ok-clause-did g c =
-    subst (Done g.T.Tape.means c.args.unit.now.tape c.write_sectors.new.unit.tape) (named_places c.args.places c.args.work.now) c.in-Ok.ensures.did
+    subst (Done g.T.Tape.means c.args.unit.now.tape c.write_sectors.new.unit.tape)
+    (named_places c.args.places c.args.work.now) c.in-Ok.ensures.did
 
 pub returns-in-Err-Tape-clause-did : goal.returns-in-Err-Tape-clause-did
 returns-in-Err-Tape-clause-did g c =
-    subst (Broke g.T.Tape.means c.args.unit.now.tape c.write_sectors.new.unit.tape) (named_places c.args.places c.args.work.now) c.in-Err-Tape.ensures.did
+    subst (Broke g.T.Tape.means c.args.unit.now.tape c.write_sectors.new.unit.tape)
+    (named_places c.args.places c.args.work.now) c.in-Err-Tape.ensures.did
 
 pub returns-then-mask-eq0-clause-did : goal.returns-then-mask-eq0-clause-did
 returns-then-mask-eq0-clause-did g c =

@@ -24,5 +24,6 @@ returns-in_err-decode_table-in-Ok-clause-found g c = λ sound.
     ap (λ (n : ℕ). 28 * n - 1) (c.from.ensures ∙ c.segments_per_track.ensures.value ∙ c.geometry.ensures) in
     Tells-map g.T.Tape.means c.args.unit.now.tape (λ c'. TableIs c' (take 29 sectors))
     (λ c'. FindsVolumes c' (28 * segments_of c.args.host.now - 1) sectors c.decode_table.new.table c.from_residual.result)
-    (λ c' table. finds_bad c' (28 * segments_of c.args.host.now - 1) (28 * c.from.result - 1) sectors c.data_sectors.result.now c.decode_table.new.table fault c.from_residual.result is last
+    (λ c' table. finds_bad c' (28 * segments_of c.args.host.now - 1) (28 * c.from.result - 1) sectors c.data_sectors.result.now
+    c.decode_table.new.table fault c.from_residual.result is last
     c.data_sectors.ensures.value table c.in_err-decode_table-in-Ok.ensures.shown) (c.in-Ok.ensures.found (λ same. cc))

@@ -1,4 +1,5 @@
-use Rattle.cartridge_laws.proofs.ChangeClean.{worn_is_clean, worn_is_bare, spoiled_is_clean, spoiled_is_bare, protected_is_clean, protected_is_bare, referenced_is_clean, referenced_is_bare}
+use Rattle.cartridge_laws.proofs.ChangeClean.{worn_is_clean, worn_is_bare, spoiled_is_clean, spoiled_is_bare, protected_is_clean}
+use Rattle.cartridge_laws.proofs.ChangeClean.{protected_is_bare, referenced_is_clean, referenced_is_bare}
 use Rattle.cartridge_laws.proofs.changes.header_copies.Goals as goal
 
 pub returns-clause-worn_is_clean : goal.returns-clause-worn_is_clean

@@ -1,5 +1,6 @@
 use Rattle.cartridge_laws.proofs.MountWhole.{settled_is_cartridge}
-use Rattle.cartridge_laws.proofs.MountSettled.{settled_keeps_table, settled_mounts, settled_stands, settled_is_clean, settled_is_written, settled_reads_plainly, settled_twice, settled_is_whole, settled_needs_no_steps}
+use Rattle.cartridge_laws.proofs.MountSettled.{settled_keeps_table, settled_mounts, settled_stands, settled_is_clean, settled_is_written}
+use Rattle.cartridge_laws.proofs.MountSettled.{settled_reads_plainly, settled_twice, settled_is_whole, settled_needs_no_steps}
 use Rattle.cartridge_laws.proofs.mounting.settled_table.Goals as goal
 
 pub returns-clause-table : goal.returns-clause-table

@@ -5,7 +5,16 @@ pub returns-clause-noon : goal.returns-clause-noon
 returns-clause-noon c = refl
 
 pub returns-clause-read : goal.returns-clause-read
-returns-clause-read c = record { a_date = omega arith; same_year = refl; same_month = refl; same_day = refl; same_hour = refl; same_minute = refl; same_second = refl }
+returns-clause-read c = record {
+  a_date = omega arith;
+  same_year = refl;
+  same_month = refl;
+  same_day = refl;
+  same_hour = refl;
+  same_minute =
+      refl;
+  same_second = refl;
+}
 
 pub returns-clause-last : goal.returns-clause-last
 returns-clause-last c = refl

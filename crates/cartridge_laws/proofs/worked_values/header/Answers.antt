@@ -8,11 +8,13 @@ use Rattle.cartridge_laws.proofs.worked_values.header.Goals as goal
 
 pub returns-clause-fields : goal.returns-clause-fields
 unfolding number_at filled
-returns-clause-fields c = each (Holds (header_bytes 2)) (profile_fields 3) (refl, (refl, (refl, (refl, (refl, (refl, (refl, (refl, (refl, (refl, (refl, (refl, tt))))))))))))
+returns-clause-fields c = each (Holds (header_bytes 2)) (profile_fields 3)
+    (refl, (refl, (refl, (refl, (refl, (refl, (refl, (refl, (refl, (refl, (refl, (refl, tt))))))))))))
 
 pub returns-clause-told : goal.returns-clause-told
 unfolding number_at filled
-returns-clause-told c = each (Holds (header_bytes 2)) (header_fields (fresh_header 3 (filled (codes "L")) 0x305265C0)) (refl, (refl, (refl, (refl, (refl, tt)))))
+returns-clause-told c = each (Holds (header_bytes 2)) (header_fields (fresh_header 3 (filled (codes "L")) 0x305265C0))
+    (refl, (refl, (refl, (refl, (refl, tt)))))
 
 pub returns-clause-sound : goal.returns-clause-sound
 unfolding number_at filled

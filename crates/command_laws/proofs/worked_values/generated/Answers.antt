@@ -1,5 +1,6 @@
 use Rattle.std.proofs.Common.{refl}
-use Rattle.command_spec.specs.Lines.{appended_line, count_lines, date_form, date_text, label_lines, list_text, name_text, number_line, place_line, trimmed, volume_line, volume_lines}
+use Rattle.command_spec.specs.Lines.{appended_line, count_lines, date_form, date_text, label_lines, list_text, name_text, number_line}
+use Rattle.command_spec.specs.Lines.{place_line, trimmed, volume_line, volume_lines}
 use Rattle.command_spec.specs.Make.{sum_line}
 use Rattle.qic_base.specs.Cartridge.{lost_places}
 use Rattle.qic_base.specs.Field.{filled}
@@ -16,7 +17,8 @@ pub returns-clause-byte : goal.returns-clause-byte
 returns-clause-byte c = refl
 
 pub returns-clause-name : goal.returns-clause-name
-unfolding digits number_line place_line date_form date_text trimmed name_text appended_line volume_line volume_lines list_text label_lines count_lines filled lost_places
+unfolding digits number_line place_line date_form date_text trimmed name_text appended_line volume_line volume_lines list_text label_lines
+    count_lines filled lost_places
 returns-clause-name c = refl
 
 pub returns-clause-first_segments : goal.returns-clause-first_segments

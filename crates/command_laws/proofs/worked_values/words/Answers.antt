@@ -24,11 +24,66 @@ returns-clause-new c = inl (refl, ((record { digits = refl; nine = omega arith }
 
 pub returns-clause-append : goal.returns-clause-append
 unfolding filled date_form
-returns-clause-append c = inl (refl, ((record { some = omega arith; fits = omega arith; printable = each IsPrintable (codes "a") ((omega arith, omega arith), tt); begins = λ e. cc; ends = λ e. cc }, refl), (record { year = 1994; month = 3; day = 1; hour = 12; minute = 0; second = 0; a_date = record { first_year = omega arith; last_year = omega arith; first_month = omega arith; last_month = omega arith; first_day = omega arith; last_day = omega arith; last_hour = omega arith; last_minute = omega arith; last_second = omega arith }; written = refl; stamped = refl }, tt)))
+returns-clause-append c = inl (
+  refl,
+  (
+    (
+      record {
+        some = omega arith;
+        fits = omega arith;
+        printable = each IsPrintable (codes "a")
+            ((omega arith, omega arith), tt);
+        begins = λ e. cc;
+        ends = λ e. cc;
+      },
+      refl,
+    ),
+    (
+      record {
+        year = 1994;
+        month = 3;
+        day = 1;
+        hour = 12;
+        minute = 0;
+        second = 0;
+        a_date = record {
+          first_year = omega arith;
+          last_year = omega arith;
+          first_month = omega arith;
+          last_month = omega arith;
+          first_day =
+              omega arith;
+          last_day = omega arith;
+          last_hour = omega arith;
+          last_minute = omega arith;
+          last_second = omega arith;
+        };
+        written = refl;
+        stamped = refl;
+      },
+      tt,
+    ),
+  ),
+)
 
 pub returns-clause-without_date : goal.returns-clause-without_date
 unfolding filled
-returns-clause-without_date c = inr (inl (refl, ((record { some = omega arith; fits = omega arith; printable = each IsPrintable (codes "a") ((omega arith, omega arith), tt); begins = λ e. cc; ends = λ e. cc }, refl), tt)))
+returns-clause-without_date c = inr (inl (
+  refl,
+  (
+    (
+      record {
+        some = omega arith;
+        fits = omega arith;
+        printable = each IsPrintable (codes "a") ((omega arith, omega arith), tt);
+        begins = λ e. cc;
+        ends = λ e. cc;
+      },
+      refl,
+    ),
+    tt,
+  ),
+))
 
 pub returns-clause-list_now : goal.returns-clause-list_now
 returns-clause-list_now c = λ h. elim h [ inl form ↦ absurd form.1 | inr none ↦ absurd none ]

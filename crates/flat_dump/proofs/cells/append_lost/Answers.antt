@@ -24,9 +24,11 @@ loop-segment-preserved g c =
       goes = λ first file more long whole u.
           let k : ℕ = c.loop-segment.segment - c.args.from in
           let next : more ≡ k + 1 = omega arith in
-          let at : length (file ++ lost_cells k) ≡ 64 + 32864 * c.loop-segment.segment = omega (arith, length-append file (lost_cells k), length-lost_cells k, long) in
+          let at : length (file ++ lost_cells k) ≡ 64 + 32864 * c.loop-segment.segment =
+          omega (arith, length-append file (lost_cells k), length-lost_cells k, long) in
           let size : length c.as_flattened.result.now ≡ 32864 = ap (λ (xs : List ℕ). length xs) cells ∙ length-lost in
-          let done = append_ran m g.met.D.Disk.left_now g.met.D.Disk.told_right first c.loop-segment.disk c.append.new.disk c.loop-segment.segment (file ++ lost_cells k) c.as_flattened.result.now at size
+          let done = append_ran m g.met.D.Disk.left_now g.met.D.Disk.told_right first c.loop-segment.disk c.append.new.disk
+          c.loop-segment.segment (file ++ lost_cells k) c.as_flattened.result.now at size
           (before.goes first file k long (omega arith) u) c.in_ok-append.ensures.ran in
           let same : (file ++ lost_cells k) ++ c.as_flattened.result.now ≡ file ++ lost_cells more =
           ap (λ (xs : List ℕ). (file ++ lost_cells k) ++ xs) cells
@@ -44,11 +46,14 @@ returns-in_err-append-clause-goes g c = λ first file more long whole u.
     let k : ℕ = c.loop-segment.segment - c.args.from in
     let cells = c.as_flattened.ensures.value ∙ ap joined before.cells in
     let p = err_from_is_err_and c.from_residual.result c.from_residual.ensures.1 in
-    let at : length (file ++ lost_cells k) ≡ 64 + 32864 * c.loop-segment.segment = omega (arith, length-append file (lost_cells k), length-lost_cells k, long) in
+    let at : length (file ++ lost_cells k) ≡ 64 + 32864 * c.loop-segment.segment =
+    omega (arith, length-append file (lost_cells k), length-lost_cells k, long) in
     let size : length c.as_flattened.result.now ≡ 32864 = ap (λ (xs : List ℕ). length xs) cells ∙ length-lost in
     goes_err m first c.append.new.disk (file ++ lost_cells more) c.from_residual.result p.0 p.1
-    (append_fails m g.met.D.Disk.left_now g.met.D.Disk.told_right first c.loop-segment.disk c.append.new.disk c.loop-segment.segment (file ++ lost_cells k) c.as_flattened.result.now at size
+    (append_fails m g.met.D.Disk.left_now g.met.D.Disk.told_right first c.loop-segment.disk c.append.new.disk c.loop-segment.segment
+    (file ++ lost_cells k) c.as_flattened.result.now at size
     (before.goes first file k long (omega arith) u) c.in_err-append.ensures.ran)
 
 pub returns-clause-goes : goal.returns-clause-goes
-returns-clause-goes g c = λ first file more long whole u. let before = c.loop-segment.invariant in let order = before.order in before.goes first file more long (omega arith) u
+returns-clause-goes g c = λ first file more long whole u. let before = c.loop-segment.invariant in let order = before.order in
+    before.goes first file more long (omega arith) u

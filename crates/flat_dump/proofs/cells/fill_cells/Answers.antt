@@ -1,4 +1,5 @@
-use Rattle.std.proofs.Common.{◌≡◌, ℕ, ◌+◌, ◌++◌, ◌∷◌, [], Bool, true, false, List, map, take, if◌then◌else◌, sym, ap, ap₂, ◌∙◌, arith, rules}
+use Rattle.std.proofs.Common.{◌≡◌, ℕ, ◌+◌, ◌++◌, ◌∷◌, [], Bool, true, false, List, map, take, if◌then◌else◌, sym, ap, ap₂, ◌∙◌, arith}
+use Rattle.std.proofs.Common.{rules}
 use Rattle.std.specs.List.{range_with_len}
 use Rattle.std.proofs.lemmas.List.{length-set, take_all, take_more_set}
 use Rattle.std.proofs.lemmas.List.FromFn.{map-range_with_len_more, sum_by-map-range_with_len_more}
@@ -16,17 +17,22 @@ loop-index-preserved c =
     let i : ℕ = c.loop-index.index in
     let few = before.few in
     let size = before.size in
-    let next : c.if-not-held.lost ≡ (if c.is_held-held.result then c.loop-index.lost else c.loop-index.lost + 1) = elim c.if-not-held.branch [
-      | then-not-held w ↦ (let e : c.is_held-held.result ≡ false = search rules in w.lost-is ∙ sym (ap (λ (h : Bool). if h then c.loop-index.lost else c.loop-index.lost + 1) e))
-      | else-not-held w ↦ (let e : c.is_held-held.result ≡ true = search rules in w.lost-is ∙ sym (ap (λ (h : Bool). if h then c.loop-index.lost else c.loop-index.lost + 1) e))
+    let next : c.if-not-held.lost ≡ (if c.is_held-held.result then c.loop-index.lost else c.loop-index.lost + 1) =
+    elim c.if-not-held.branch [
+      | then-not-held w ↦ (let e : c.is_held-held.result ≡ false = search rules in
+          w.lost-is ∙ sym (ap (λ (h : Bool). if h then c.loop-index.lost else c.loop-index.lost + 1) e))
+      | else-not-held w ↦ (let e : c.is_held-held.result ≡ true = search rules in
+          w.lost-is ∙ sym (ap (λ (h : Bool). if h then c.loop-index.lost else c.loop-index.lost + 1) e))
     ] in
     record {
       size = length-set c.loop-index.cells i c.cell_of.result ∙ before.size;
       cells = take_more_set c.loop-index.cells i c.cell_of.result (omega arith)
-          ∙ ap₂ (λ (xs : List (List ℕ)) (x : List ℕ). xs ++ x ∷ []) before.cells (c.cell_of.ensures ∙ ap (λ (h : Bool). cell_bytes h (slice_index_or c.args.sectors.now i [])) c.is_held-held.ensures)
+          ∙ ap₂ (λ (xs : List (List ℕ)) (x : List ℕ). xs ++ x ∷ []) before.cells
+          (c.cell_of.ensures ∙ ap (λ (h : Bool). cell_bytes h (slice_index_or c.args.sectors.now i [])) c.is_held-held.ensures)
           ∙ sym (map-range_with_len_more (cell_in c.args.word c.args.len c.args.sectors.now) 0 i i (omega arith));
       lost = lost_next c.is_held-held.result (slice_index_or c.args.sectors.now i []) c.loop-index.lost c.if-not-held.lost next
-          ∙ ap₂ (λ (a : ℕ) (h : Bool). a + lost_bit (if h then Holds (slice_index_or c.args.sectors.now i []) else Lost)) before.lost c.is_held-held.ensures
+          ∙ ap₂ (λ (a : ℕ) (h : Bool). a + lost_bit (if h then Holds (slice_index_or c.args.sectors.now i []) else Lost)) before.lost
+          c.is_held-held.ensures
           ∙ sym (sum_by-map-range_with_len_more lost_bit (view_in c.args.word c.args.len c.args.sectors.now) 0 i i (omega arith));
       few = elim c.if-not-held.branch [ then-not-held w ↦ omega arith | else-not-held w ↦ omega arith ];
     }
@@ -37,7 +43,8 @@ returns-clause-cells c =
     let size = before.size in
     let e : c.loop-index.index ≡ 32 = omega arith in
     sym (take_all 32 c.loop-index.cells (omega arith)) ∙ ap (λ (n : ℕ). take n c.loop-index.cells) (sym e)
-    ∙ before.cells ∙ ap (λ (n : ℕ). map (cell_in c.args.word c.args.len c.args.sectors.now) (range_with_len 0 n)) e ∙ sym (cells_of-is c.args.word c.args.len c.args.sectors.now)
+    ∙ before.cells ∙ ap (λ (n : ℕ). map (cell_in c.args.word c.args.len c.args.sectors.now) (range_with_len 0 n)) e
+    ∙ sym (cells_of-is c.args.word c.args.len c.args.sectors.now)
 
 pub returns-clause-lost : goal.returns-clause-lost
 returns-clause-lost c =

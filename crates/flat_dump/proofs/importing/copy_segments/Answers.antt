@@ -6,7 +6,8 @@ use Rattle.qic_base.proofs.Steps.{Rose-after}
 use Rattle.sector_fill.specs.Filling.{AreFilled}
 use Rattle.flat_dump.specs.Cells.{cells_of, joined}
 use Rattle.flat_dump.specs.Import.{counted}
-use Rattle.flat_dump.proofs.Copying.{CopiedSoFar, copied_ended, copied_more, copied_to_end, copied_to_limit, filled_ended, filled_whole, filled_within, length-segment, no_image_yet, none_copied}
+use Rattle.flat_dump.proofs.Copying.{CopiedSoFar, copied_ended, copied_more, copied_to_end, copied_to_limit, filled_ended, filled_whole}
+use Rattle.flat_dump.proofs.Copying.{filled_within, length-segment, no_image_yet, none_copied}
 use Rattle.flat_dump.proofs.Laying.{length-laid}
 use Rattle.flat_dump.proofs.Passing.{append_fails, append_ran}
 use Rattle.flat_dump.proofs.importing.copy_segments.Goals as goal
@@ -15,12 +16,13 @@ pub loop-segment-init : goal.loop-segment-init
 loop-segment-init g c = record {
   seen = c.requires.seen;
   kept = g.met.S.Source.keeps_itself c.args.source.now;
-  later = omega arith;
+  stood = refl;
   room = length-replicate {A = List ℕ} 32 (replicate 1024 0);
   segments = refl;
   bytes = refl;
   few = omega arith;
-  so_far = none_copied g.S.Source.means g.D.Disk.means c.args.source.now c.args.disk.now c.args.mask.now (Gave-nothing g.S.Source.means c.args.source.now c.args.source.now refl);
+  so_far = none_copied g.S.Source.means g.D.Disk.means c.args.source.now c.args.disk.now c.args.mask.now
+      (Gave-nothing g.S.Source.means c.args.source.now c.args.source.now refl);
 }
 
 pub returns-in-Ok-eq0-clause-copies : goal.returns-in-Ok-eq0-clause-copies
@@ -31,19 +33,25 @@ returns-in-Ok-eq0-clause-copies g c =
     let room = before.room in
     let size = c.in-Ok-eq0.ensures.size in
     let filled : AreFilled s c.loop-segment.source c.fill_sectors.new.source 32 32768 c.fill_sectors.new.sectors c.in-Ok-eq0.field-0 =
-    subst (λ (xs : List (List ℕ)). AreFilled s c.loop-segment.source c.fill_sectors.new.source 32 32768 xs c.in-Ok-eq0.field-0) (take_all 32 c.fill_sectors.new.sectors (omega arith)) c.in-Ok-eq0.ensures.filled in
-    let none = subst (λ (n : ℕ). AreFilled s c.loop-segment.source c.fill_sectors.new.source 32 32768 c.fill_sectors.new.sectors n) c.in-Ok-eq0.field-0-test filled in
-    let ended = copied_ended s m c.args.source.now c.loop-segment.source c.fill_sectors.new.source c.args.disk.now c.loop-segment.disk c.args.mask.now c.loop-segment.segment c.loop-segment.copied.lost
+    subst (λ (xs : List (List ℕ)). AreFilled s c.loop-segment.source c.fill_sectors.new.source 32 32768 xs c.in-Ok-eq0.field-0)
+    (take_all 32 c.fill_sectors.new.sectors (omega arith)) c.in-Ok-eq0.ensures.filled in
+    let none = subst (λ (n : ℕ). AreFilled s c.loop-segment.source c.fill_sectors.new.source 32 32768 c.fill_sectors.new.sectors n)
+    c.in-Ok-eq0.field-0-test filled in
+    let ended = copied_ended s m c.args.source.now c.loop-segment.source c.fill_sectors.new.source c.args.disk.now c.loop-segment.disk
+    c.args.mask.now c.loop-segment.segment c.loop-segment.copied.lost
     (32768 * c.loop-segment.segment) c.fill_sectors.new.sectors before.so_far none in
-    copied_to_end s m c.args.source.now c.fill_sectors.new.source c.args.disk.now c.loop-segment.disk c.args.mask.now c.args.most c.loop-segment.segment c.loop-segment.copied.lost
-    (32768 * c.loop-segment.segment) c.loop-segment.copied ended.0 ended.1 before.segments refl before.bytes (omega arith) c.requires.few (omega arith) (omega arith)
+    copied_to_end s m c.args.source.now c.fill_sectors.new.source c.args.disk.now c.loop-segment.disk c.args.mask.now c.args.most
+    c.loop-segment.segment c.loop-segment.copied.lost
+    (32768 * c.loop-segment.segment) c.loop-segment.copied ended.0 ended.1 before.segments refl before.bytes (omega arith) c.requires.few
+    (omega arith) (omega arith)
 
 pub returns-in-Err-clause-copies : goal.returns-in-Err-clause-copies
 returns-in-Err-clause-copies g c =
     let before = c.loop-segment.invariant in
     let so_far = before.so_far in
     let cause = c.in-Err.ensures.cause in (
-      Rose-after (g.S.Source.means.faults c.args.source.now) (g.S.Source.means.faults c.loop-segment.source) (g.S.Source.means.faults c.fill_sectors.new.source) before.later cause.failed,
+      Rose-after (g.S.Source.means.faults c.args.source.now) (g.S.Source.means.faults c.loop-segment.source)
+          (g.S.Source.means.faults c.fill_sectors.new.source) before.stood cause.failed,
       λ first u. no_image_yet g.D.Disk.means first c.loop-segment.disk so_far.file (so_far.goes first u),
     )
 
@@ -54,7 +62,8 @@ write_segment-requires-clause-whole g c =
     let room = before.room in
     let size = c.in-Ok.ensures.size in
     let filled : AreFilled s c.loop-segment.source c.fill_sectors.new.source 32 32768 c.fill_sectors.new.sectors c.in-Ok.len =
-    subst (λ (xs : List (List ℕ)). AreFilled s c.loop-segment.source c.fill_sectors.new.source 32 32768 xs c.in-Ok.len) (take_all 32 c.fill_sectors.new.sectors (omega arith)) c.in-Ok.ensures.filled in
+    subst (λ (xs : List (List ℕ)). AreFilled s c.loop-segment.source c.fill_sectors.new.source 32 32768 xs c.in-Ok.len)
+    (take_all 32 c.fill_sectors.new.sectors (omega arith)) c.in-Ok.ensures.filled in
     filled_whole s c.loop-segment.source c.fill_sectors.new.source c.fill_sectors.new.sectors c.in-Ok.len filled
 
 pub returns-in-Err-write_segment-clause-copies : goal.returns-in-Err-write_segment-clause-copies
@@ -67,11 +76,15 @@ returns-in-Err-write_segment-clause-copies g c = λ first u.
     let size = c.in-Ok.ensures.size in
     let word : ℕ = slice_index c.args.mask.now c.loop-segment.segment in
     let filled : AreFilled s c.loop-segment.source c.fill_sectors.new.source 32 32768 c.fill_sectors.new.sectors c.in-Ok.len =
-    subst (λ (xs : List (List ℕ)). AreFilled s c.loop-segment.source c.fill_sectors.new.source 32 32768 xs c.in-Ok.len) (take_all 32 c.fill_sectors.new.sectors (omega arith)) c.in-Ok.ensures.filled in
-    let long : length so_far.file ≡ 64 + 32864 * c.loop-segment.segment = let v = so_far.size in length-laid so_far.file so_far.views so_far.laid ∙ (omega arith) in
-    append_fails m g.met.D.Disk.left_now g.met.D.Disk.told_right first c.loop-segment.disk c.write_segment.new.disk c.loop-segment.segment so_far.file
+    subst (λ (xs : List (List ℕ)). AreFilled s c.loop-segment.source c.fill_sectors.new.source 32 32768 xs c.in-Ok.len)
+    (take_all 32 c.fill_sectors.new.sectors (omega arith)) c.in-Ok.ensures.filled in
+    let long : length so_far.file ≡ 64 + 32864 * c.loop-segment.segment = let v = so_far.size in
+    length-laid so_far.file so_far.views so_far.laid ∙ (omega arith) in
+    append_fails m g.met.D.Disk.left_now g.met.D.Disk.told_right first c.loop-segment.disk c.write_segment.new.disk c.loop-segment.segment
+    so_far.file
     (joined (cells_of word c.in-Ok.len c.fill_sectors.new.sectors)) long
-    (length-segment word c.in-Ok.len c.fill_sectors.new.sectors (filled_whole s c.loop-segment.source c.fill_sectors.new.source c.fill_sectors.new.sectors c.in-Ok.len filled))
+    (length-segment word c.in-Ok.len c.fill_sectors.new.sectors
+    (filled_whole s c.loop-segment.source c.fill_sectors.new.source c.fill_sectors.new.sectors c.in-Ok.len filled))
     (so_far.goes first u) c.in-Err-write_segment.ensures.ran
 
 pub returns-then-len-lt-SEGMENT_LEN-clause-copies :
@@ -84,18 +97,25 @@ returns-then-len-lt-SEGMENT_LEN-clause-copies g c =
     let size = c.in-Ok.ensures.size in
     let word : ℕ = slice_index c.args.mask.now c.loop-segment.segment in
     let filled : AreFilled s c.loop-segment.source c.fill_sectors.new.source 32 32768 c.fill_sectors.new.sectors c.in-Ok.len =
-    subst (λ (xs : List (List ℕ)). AreFilled s c.loop-segment.source c.fill_sectors.new.source 32 32768 xs c.in-Ok.len) (take_all 32 c.fill_sectors.new.sectors (omega arith)) c.in-Ok.ensures.filled in
+    subst (λ (xs : List (List ℕ)). AreFilled s c.loop-segment.source c.fill_sectors.new.source 32 32768 xs c.in-Ok.len)
+    (take_all 32 c.fill_sectors.new.sectors (omega arith)) c.in-Ok.ensures.filled in
     let within = filled_within s c.loop-segment.source c.fill_sectors.new.source c.fill_sectors.new.sectors c.in-Ok.len filled in
     let some : 0 < c.in-Ok.len = search rules in
-    let more = copied_more s m c.args.source.now c.loop-segment.source c.fill_sectors.new.source c.args.disk.now c.loop-segment.disk c.write_segment.new.disk c.args.mask.now c.loop-segment.segment
-    c.loop-segment.copied.lost c.in-Ok.len c.in-Ok-write_segment.lost c.fill_sectors.new.sectors before.so_far filled c.in-Ok-write_segment.ensures.lost
-    (λ disk file long u. append_ran m g.met.D.Disk.left_now g.met.D.Disk.told_right disk c.loop-segment.disk c.write_segment.new.disk c.loop-segment.segment file
+    let more = copied_more s m c.args.source.now c.loop-segment.source c.fill_sectors.new.source c.args.disk.now c.loop-segment.disk
+    c.write_segment.new.disk c.args.mask.now c.loop-segment.segment
+    c.loop-segment.copied.lost c.in-Ok.len c.in-Ok-write_segment.lost c.fill_sectors.new.sectors before.so_far filled
+    c.in-Ok-write_segment.ensures.lost
+    (λ disk file long u. append_ran m g.met.D.Disk.left_now g.met.D.Disk.told_right disk c.loop-segment.disk c.write_segment.new.disk
+    c.loop-segment.segment file
     (joined (cells_of word c.in-Ok.len c.fill_sectors.new.sectors)) long
-    (length-segment word c.in-Ok.len c.fill_sectors.new.sectors (filled_whole s c.loop-segment.source c.fill_sectors.new.source c.fill_sectors.new.sectors c.in-Ok.len filled)) u
+    (length-segment word c.in-Ok.len c.fill_sectors.new.sectors
+    (filled_whole s c.loop-segment.source c.fill_sectors.new.source c.fill_sectors.new.sectors c.in-Ok.len filled)) u
     c.in-Ok-write_segment.ensures.ran) in
-    copied_to_end s m c.args.source.now c.fill_sectors.new.source c.args.disk.now c.write_segment.new.disk c.args.mask.now c.args.most (c.loop-segment.segment + 1)
+    copied_to_end s m c.args.source.now c.fill_sectors.new.source c.args.disk.now c.write_segment.new.disk c.args.mask.now c.args.most
+    (c.loop-segment.segment + 1)
     (c.loop-segment.copied.lost + c.in-Ok-write_segment.lost) (32768 * c.loop-segment.segment + c.in-Ok.len) _ more
-    (filled_ended s c.loop-segment.source c.fill_sectors.new.source c.fill_sectors.new.sectors c.in-Ok.len filled (omega arith)) refl refl (ap₂ (λ (a b : ℕ). a + b) before.bytes c.from.ensures)
+    (filled_ended s c.loop-segment.source c.fill_sectors.new.source c.fill_sectors.new.sectors c.in-Ok.len filled (omega arith)) refl refl
+    (ap₂ (λ (a b : ℕ). a + b) before.bytes c.from.ensures)
     (omega arith) c.requires.few (omega arith) (omega arith)
 
 pub loop-segment-preserved : goal.loop-segment-preserved
@@ -106,30 +126,34 @@ loop-segment-preserved g c =
     let room = before.room in
     let bytes = before.bytes in
     let few = before.few in
-    let first = before.later in
     let size = c.in-Ok.ensures.size in
-    let cause = c.in-Ok.ensures.cause.later in
     let lost = c.in-Ok-write_segment.ensures.few in
     let word : ℕ = slice_index c.args.mask.now c.loop-segment.segment in
     let filled : AreFilled s c.loop-segment.source c.fill_sectors.new.source 32 32768 c.fill_sectors.new.sectors c.in-Ok.len =
-    subst (λ (xs : List (List ℕ)). AreFilled s c.loop-segment.source c.fill_sectors.new.source 32 32768 xs c.in-Ok.len) (take_all 32 c.fill_sectors.new.sectors (omega arith)) c.in-Ok.ensures.filled in
+    subst (λ (xs : List (List ℕ)). AreFilled s c.loop-segment.source c.fill_sectors.new.source 32 32768 xs c.in-Ok.len)
+    (take_all 32 c.fill_sectors.new.sectors (omega arith)) c.in-Ok.ensures.filled in
     let within = filled_within s c.loop-segment.source c.fill_sectors.new.source c.fill_sectors.new.sectors c.in-Ok.len filled in
     let all : 32768 * c.loop-segment.segment + c.in-Ok.len ≡ 32768 * (c.loop-segment.segment + 1) = omega arith in
-    let more = copied_more s m c.args.source.now c.loop-segment.source c.fill_sectors.new.source c.args.disk.now c.loop-segment.disk c.write_segment.new.disk c.args.mask.now c.loop-segment.segment
-    c.loop-segment.copied.lost c.in-Ok.len c.in-Ok-write_segment.lost c.fill_sectors.new.sectors before.so_far filled c.in-Ok-write_segment.ensures.lost
-    (λ disk file long u. append_ran m g.met.D.Disk.left_now g.met.D.Disk.told_right disk c.loop-segment.disk c.write_segment.new.disk c.loop-segment.segment file
+    let more = copied_more s m c.args.source.now c.loop-segment.source c.fill_sectors.new.source c.args.disk.now c.loop-segment.disk
+    c.write_segment.new.disk c.args.mask.now c.loop-segment.segment
+    c.loop-segment.copied.lost c.in-Ok.len c.in-Ok-write_segment.lost c.fill_sectors.new.sectors before.so_far filled
+    c.in-Ok-write_segment.ensures.lost
+    (λ disk file long u. append_ran m g.met.D.Disk.left_now g.met.D.Disk.told_right disk c.loop-segment.disk c.write_segment.new.disk
+    c.loop-segment.segment file
     (joined (cells_of word c.in-Ok.len c.fill_sectors.new.sectors)) long
-    (length-segment word c.in-Ok.len c.fill_sectors.new.sectors (filled_whole s c.loop-segment.source c.fill_sectors.new.source c.fill_sectors.new.sectors c.in-Ok.len filled)) u
+    (length-segment word c.in-Ok.len c.fill_sectors.new.sectors
+    (filled_whole s c.loop-segment.source c.fill_sectors.new.source c.fill_sectors.new.sectors c.in-Ok.len filled)) u
     c.in-Ok-write_segment.ensures.ran) in
     record {
       seen = c.in-Ok-write_segment.ensures.seen;
       kept = g.met.S.Source.keeps_on _ _ _ before.kept c.in-Ok.ensures.kept;
-      later = omega arith;
+      stood = c.in-Ok.ensures.cause.stood ∙ before.stood;
       room = c.in-Ok.ensures.size ∙ before.room;
       segments = refl;
       bytes = omega arith;
       few = omega arith;
-      so_far = subst (λ (n : ℕ). CopiedSoFar s m c.args.source.now c.fill_sectors.new.source c.args.disk.now c.write_segment.new.disk c.args.mask.now (c.loop-segment.segment + 1)
+      so_far = subst (λ (n : ℕ). CopiedSoFar s m c.args.source.now c.fill_sectors.new.source c.args.disk.now c.write_segment.new.disk
+          c.args.mask.now (c.loop-segment.segment + 1)
           (c.loop-segment.copied.lost + c.in-Ok-write_segment.lost) n) all more;
     }
 
@@ -141,8 +165,10 @@ returns-in-Ok-count_rest-clause-copies g c =
     let at : c.loop-segment.segment ≡ c.args.most = omega arith in
     let counts = c.in-Ok-count_rest.ensures.counts in
     let bytes : c.loop-segment.copied.bytes ≡ 32768 * c.args.most = before.bytes ∙ ap (λ (n : ℕ). 32768 * n) at in
-    let so_far = subst (λ (n : ℕ). CopiedSoFar s m c.args.source.now c.loop-segment.source c.args.disk.now c.loop-segment.disk c.args.mask.now n c.loop-segment.copied.lost (32768 * n)) at before.so_far in
-    copied_to_limit s m c.args.source.now c.loop-segment.source c.args.disk.now c.loop-segment.disk c.args.mask.now c.args.most c.loop-segment.copied.lost c.in-Ok-count_rest.bytes _ so_far
+    let so_far = subst (λ (n : ℕ). CopiedSoFar s m c.args.source.now c.loop-segment.source c.args.disk.now c.loop-segment.disk
+    c.args.mask.now n c.loop-segment.copied.lost (32768 * n)) at before.so_far in
+    copied_to_limit s m c.args.source.now c.loop-segment.source c.args.disk.now c.loop-segment.disk c.args.mask.now c.args.most
+    c.loop-segment.copied.lost c.in-Ok-count_rest.bytes _ so_far
     (counts.0, counts.1, counts.2 ∙ ap (λ (b : ℕ). counted (b + length counts.0)) bytes) (before.segments ∙ at) refl refl
 
 pub returns-in-Err-count_rest-clause-copies : goal.returns-in-Err-count_rest-clause-copies
@@ -150,12 +176,41 @@ returns-in-Err-count_rest-clause-copies g c =
     let before = c.loop-segment.invariant in
     let so_far = before.so_far in
     let cause = c.in-Err-count_rest.ensures.cause in (
-      Rose-after (g.S.Source.means.faults c.args.source.now) (g.S.Source.means.faults c.loop-segment.source) (g.S.Source.means.faults c.count_rest.new.source) before.later cause.failed,
+      Rose-after (g.S.Source.means.faults c.args.source.now) (g.S.Source.means.faults c.loop-segment.source)
+          (g.S.Source.means.faults c.count_rest.new.source) before.stood cause.failed,
       λ first u. no_image_yet g.D.Disk.means first c.loop-segment.disk so_far.file (so_far.goes first u),
     )
 
 pub returns-in-Err-write_segment-clause-kept : goal.returns-in-Err-write_segment-clause-kept
-returns-in-Err-write_segment-clause-kept g c = let before = c.loop-segment.invariant in g.met.S.Source.keeps_on _ _ _ before.kept c.in-Ok.ensures.kept
+returns-in-Err-write_segment-clause-kept g c = let before = c.loop-segment.invariant in
+    g.met.S.Source.keeps_on _ _ _ before.kept c.in-Ok.ensures.kept
 
 pub returns-then-len-lt-SEGMENT_LEN-clause-kept : goal.returns-then-len-lt-SEGMENT_LEN-clause-kept
-returns-then-len-lt-SEGMENT_LEN-clause-kept g c = let before = c.loop-segment.invariant in g.met.S.Source.keeps_on _ _ _ before.kept c.in-Ok.ensures.kept
+returns-then-len-lt-SEGMENT_LEN-clause-kept g c = let before = c.loop-segment.invariant in
+    g.met.S.Source.keeps_on _ _ _ before.kept c.in-Ok.ensures.kept
+
+pub returns-in-Err-write_segment-clause-counts : goal.returns-in-Err-write_segment-clause-counts
+returns-in-Err-write_segment-clause-counts g c = let before = c.loop-segment.invariant in c.in-Ok.ensures.cause.stood ∙ before.stood
+
+pub returns-in-Ok-eq0-clause-stood : goal.returns-in-Ok-eq0-clause-stood
+returns-in-Ok-eq0-clause-stood g c = let before = c.loop-segment.invariant in c.in-Ok-eq0.ensures.cause.stood ∙ before.stood
+
+pub returns-then-len-lt-SEGMENT_LEN-clause-stood : goal.returns-then-len-lt-SEGMENT_LEN-clause-stood
+returns-then-len-lt-SEGMENT_LEN-clause-stood g c = let before = c.loop-segment.invariant in c.in-Ok.ensures.cause.stood ∙ before.stood
+
+pub returns-in-Ok-count_rest-clause-stood : goal.returns-in-Ok-count_rest-clause-stood
+returns-in-Ok-count_rest-clause-stood g c = let before = c.loop-segment.invariant in c.in-Ok-count_rest.ensures.cause.stood ∙ before.stood
+
+pub returns-in-Err-clause-counts : goal.returns-in-Err-clause-counts
+returns-in-Err-clause-counts g c =
+    let before = c.loop-segment.invariant in
+    let cause = c.in-Err.ensures.cause in
+    Rose-after (g.S.Source.means.faults c.args.source.now) (g.S.Source.means.faults c.loop-segment.source)
+    (g.S.Source.means.faults c.fill_sectors.new.source) before.stood cause.failed
+
+pub returns-in-Err-count_rest-clause-counts : goal.returns-in-Err-count_rest-clause-counts
+returns-in-Err-count_rest-clause-counts g c =
+    let before = c.loop-segment.invariant in
+    let cause = c.in-Err-count_rest.ensures.cause in
+    Rose-after (g.S.Source.means.faults c.args.source.now) (g.S.Source.means.faults c.loop-segment.source)
+    (g.S.Source.means.faults c.count_rest.new.source) before.stood cause.failed

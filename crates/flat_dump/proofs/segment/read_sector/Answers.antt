@@ -12,5 +12,6 @@ returns-then-eq-clause-seen g c =
 pub returns-clause-seen : goal.returns-clause-seen
 returns-clause-seen g c =
     let other : c.in_ok-answer.answer ≢ Good = search rules in
-    other_seen g.T.Tape.means c.args.tape.now c.args.segment c.args.sector c.args.into.now c.read_sector.new.into c.clear.new.sector c.in_ok-answer.answer
+    other_seen g.T.Tape.means c.args.tape.now c.args.segment c.args.sector c.args.into.now c.read_sector.new.into c.clear.new.sector
+    c.in_ok-answer.answer
     other c.in_ok-answer.ensures.view c.clear.ensures

@@ -12,9 +12,12 @@ use Rattle.formatter.proofs.clearing.clear.Goals as goal
 pub returns-in_err-reference-clause-did : goal.returns-in_err-reference-clause-did
 returns-in_err-reference-clause-did g c =
     let same : c.enter.new.unit.tape ≡ c.args.unit.now.tape = c.enter.ensures.tape ∙ c.halt.ensures.tape in
-    let whole : Broke g.T.Tape.means c.args.unit.now.tape c.reference.new.unit.tape (SetReferenced ∷ segment_formats (28 * segments_per_track c.args.unit.now.drive.deck)) =
-    subst (λ (t : _). Broke g.T.Tape.means t c.reference.new.unit.tape (SetReferenced ∷ segment_formats (28 * segments_per_track c.args.unit.now.drive.deck))) same
-    (Broke-front {xs = SetReferenced ∷ []} (segment_formats (28 * segments_per_track c.args.unit.now.drive.deck)) c.in_err-reference.ensures.did) in
+    let whole : Broke g.T.Tape.means c.args.unit.now.tape c.reference.new.unit.tape
+    (SetReferenced ∷ segment_formats (28 * segments_per_track c.args.unit.now.drive.deck)) =
+    subst (λ (t : _). Broke g.T.Tape.means t c.reference.new.unit.tape
+    (SetReferenced ∷ segment_formats (28 * segments_per_track c.args.unit.now.drive.deck))) same
+    (Broke-front {xs = SetReferenced ∷ []} (segment_formats (28 * segments_per_track c.args.unit.now.drive.deck))
+    c.in_err-reference.ensures.did) in
     let p = err_from_is_err_and c.from_residual-in_err-reference.result c.from_residual-in_err-reference.ensures.1 in
     rw (p.1, p.2) whole
 
@@ -25,11 +28,16 @@ returns-in_err-clear_tracks-clause-did g c =
     length_referenced c.enter.new.unit.drive.deck c.reference.new.unit.drive.deck c.in_ok-reference.ensures.marks
     ∙ length_kept c.halt.new.unit.drive.deck c.enter.new.unit.drive.deck c.enter.ensures.cartridge
     ∙ ap (λ (d : Deck). segments_per_track d) c.halt.ensures.deck in
-    let both : Broke g.T.Tape.means c.enter.new.unit.tape c.clear_tracks.new.unit.tape (SetReferenced ∷ segment_formats (28 * segments_per_track c.reference.new.unit.drive.deck)) =
-    Done-Broke {xs = SetReferenced ∷ []} {ys = segment_formats (28 * segments_per_track c.reference.new.unit.drive.deck)} c.in_ok-reference.ensures.did c.in_err-clear_tracks.ensures.did in
-    let whole : Broke g.T.Tape.means c.args.unit.now.tape c.clear_tracks.new.unit.tape (SetReferenced ∷ segment_formats (28 * segments_per_track c.args.unit.now.drive.deck)) =
-    subst (λ (t : _). Broke g.T.Tape.means t c.clear_tracks.new.unit.tape (SetReferenced ∷ segment_formats (28 * segments_per_track c.args.unit.now.drive.deck))) same
-    (subst (λ (n : ℕ). Broke g.T.Tape.means c.enter.new.unit.tape c.clear_tracks.new.unit.tape (SetReferenced ∷ segment_formats (28 * n))) length both) in
+    let both : Broke g.T.Tape.means c.enter.new.unit.tape c.clear_tracks.new.unit.tape
+    (SetReferenced ∷ segment_formats (28 * segments_per_track c.reference.new.unit.drive.deck)) =
+    Done-Broke {xs = SetReferenced ∷ []} {ys = segment_formats (28 * segments_per_track c.reference.new.unit.drive.deck)}
+    c.in_ok-reference.ensures.did c.in_err-clear_tracks.ensures.did in
+    let whole : Broke g.T.Tape.means c.args.unit.now.tape c.clear_tracks.new.unit.tape
+    (SetReferenced ∷ segment_formats (28 * segments_per_track c.args.unit.now.drive.deck)) =
+    subst (λ (t : _). Broke g.T.Tape.means t c.clear_tracks.new.unit.tape
+    (SetReferenced ∷ segment_formats (28 * segments_per_track c.args.unit.now.drive.deck))) same
+    (subst (λ (n : ℕ). Broke g.T.Tape.means c.enter.new.unit.tape c.clear_tracks.new.unit.tape (SetReferenced ∷ segment_formats (28 * n)))
+    length both) in
     let p = err_from_is_err_and c.from_residual-in_err-clear_tracks.result c.from_residual-in_err-clear_tracks.ensures.1 in
     rw (p.1, p.2) whole
 
@@ -40,7 +48,11 @@ returns-clause-did g c =
     length_referenced c.enter.new.unit.drive.deck c.reference.new.unit.drive.deck c.in_ok-reference.ensures.marks
     ∙ length_kept c.halt.new.unit.drive.deck c.enter.new.unit.drive.deck c.enter.ensures.cartridge
     ∙ ap (λ (d : Deck). segments_per_track d) c.halt.ensures.deck in
-    let both : Done g.T.Tape.means c.enter.new.unit.tape c.clear_tracks.new.unit.tape (SetReferenced ∷ segment_formats (28 * segments_per_track c.reference.new.unit.drive.deck)) =
-    Done-Done {xs = SetReferenced ∷ []} {ys = segment_formats (28 * segments_per_track c.reference.new.unit.drive.deck)} c.in_ok-reference.ensures.did c.in_ok-clear_tracks.ensures.did in
-    subst (λ (t : _). Done g.T.Tape.means t c.clear_tracks.new.unit.tape (SetReferenced ∷ segment_formats (28 * segments_per_track c.args.unit.now.drive.deck))) same
-    (subst (λ (n : ℕ). Done g.T.Tape.means c.enter.new.unit.tape c.clear_tracks.new.unit.tape (SetReferenced ∷ segment_formats (28 * n))) length both)
+    let both : Done g.T.Tape.means c.enter.new.unit.tape c.clear_tracks.new.unit.tape
+    (SetReferenced ∷ segment_formats (28 * segments_per_track c.reference.new.unit.drive.deck)) =
+    Done-Done {xs = SetReferenced ∷ []} {ys = segment_formats (28 * segments_per_track c.reference.new.unit.drive.deck)}
+    c.in_ok-reference.ensures.did c.in_ok-clear_tracks.ensures.did in
+    subst (λ (t : _). Done g.T.Tape.means t c.clear_tracks.new.unit.tape
+    (SetReferenced ∷ segment_formats (28 * segments_per_track c.args.unit.now.drive.deck))) same
+    (subst (λ (n : ℕ). Done g.T.Tape.means c.enter.new.unit.tape c.clear_tracks.new.unit.tape (SetReferenced ∷ segment_formats (28 * n)))
+    length both)

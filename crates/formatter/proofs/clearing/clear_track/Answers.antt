@@ -24,7 +24,8 @@ loop-preserved g c =
     let at = before.before.streams within in
     record {
       formatted = done_one (c.args.track * n) c.loop.counter before.formatted
-          (subst (λ (s : ℕ). Done g.T.Tape.means c.loop.unit.tape c.format_here.new.unit.tape (FormatSegment s ∷ [])) (sym at.here) more.did);
+          (subst (λ (s : ℕ). Done g.T.Tape.means c.loop.unit.tape c.format_here.new.unit.tape (FormatSegment s ∷ []))
+          (sym at.here) more.did);
       before = before_next n c.args.track c.loop.counter c.loop.unit.drive.deck c.format_here.new.unit.drive.deck
           (length_kept c.args.unit.now.drive.deck c.loop.unit.drive.deck before.keeps.same.cartridge ∙ sym count)
           before.keeps.ready.fits.sound.drive.deck within (ap is_streaming at.motion) at.here more.next;
@@ -43,8 +44,10 @@ returns-in_err-format_here-clause-did g c =
     let at = before.before.streams within in
     let broke : Broke g.T.Tape.means c.args.unit.now.tape c.format_here.new.unit.tape (track_formats n c.args.track) =
     broke_one (c.args.track * n) c.loop.counter n (omega arith) before.formatted
-    (subst (λ (s : ℕ). Broke g.T.Tape.means c.loop.unit.tape c.format_here.new.unit.tape (FormatSegment s ∷ [])) (sym at.here) c.in_err-format_here.ensures.did) in
-    let whole : Broke g.T.Tape.means c.args.unit.now.tape c.format_here.new.unit.tape (track_formats (segments_per_track c.args.unit.now.drive.deck) c.args.track) =
+    (subst (λ (s : ℕ). Broke g.T.Tape.means c.loop.unit.tape c.format_here.new.unit.tape (FormatSegment s ∷ []))
+    (sym at.here) c.in_err-format_here.ensures.did) in
+    let whole : Broke g.T.Tape.means c.args.unit.now.tape c.format_here.new.unit.tape
+    (track_formats (segments_per_track c.args.unit.now.drive.deck) c.args.track) =
     subst (λ (k : ℕ). Broke g.T.Tape.means c.args.unit.now.tape c.format_here.new.unit.tape (track_formats k c.args.track)) count broke in
     let p = err_from_is_err_and c.from_residual-in_err-format_here.result c.from_residual-in_err-format_here.ensures.1 in
     rw p.1 whole
@@ -59,8 +62,10 @@ loop-init g c =
     let some : 0 < n = omega (arith, count, c.in_ok-count.ensures.some) in
     record {
       formatted = done_moved g.T.Tape.means c.args.unit.now.tape c.go_to_track.new.unit.tape c.in_ok-count.ensures.tape;
-      before = before_first n (c.args.track * n) c.go_to_track.new.unit.drive.deck some (subst (λ (k : ℕ). StreamsAt (c.args.track * k) 0 c.go_to_track.new.unit.drive.deck) (sym count) c.in_ok-count.ensures.place);
-      mode = mode_kept is_format true c.args.unit.now.drive.deck c.go_to_track.new.unit.drive.deck c.in_ok-count.ensures.keeps.same c.requires.format;
+      before = before_first n (c.args.track * n) c.go_to_track.new.unit.drive.deck some
+          (subst (λ (k : ℕ). StreamsAt (c.args.track * k) 0 c.go_to_track.new.unit.drive.deck) (sym count) c.in_ok-count.ensures.place);
+      mode = mode_kept is_format true c.args.unit.now.drive.deck c.go_to_track.new.unit.drive.deck c.in_ok-count.ensures.keeps.same
+          c.requires.format;
       keeps = c.in_ok-count.ensures.keeps;
     }
 
@@ -93,7 +98,8 @@ returns-clause-did g c =
     c.in_ok-count.ensures.count in
     let all : c.loop.counter ≡ n = omega arith in
     subst (λ (k : ℕ). Done g.T.Tape.means c.args.unit.now.tape c.loop.unit.tape (track_formats k c.args.track)) count
-    (subst (λ (k : ℕ). Done g.T.Tape.means c.args.unit.now.tape c.loop.unit.tape (formats_from (c.args.track * n) k)) all c.loop.invariant.formatted)
+    (subst (λ (k : ℕ). Done g.T.Tape.means c.args.unit.now.tape c.loop.unit.tape (formats_from (c.args.track * n) k)) all
+    c.loop.invariant.formatted)
 
 pub returns-clause-stopped : goal.returns-clause-stopped
 returns-clause-stopped g c = c.loop.invariant.before.stops c.loop-test.false

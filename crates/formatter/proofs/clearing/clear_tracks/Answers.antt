@@ -16,10 +16,12 @@ loop-track-preserved g c =
     let before = c.loop-track.invariant in
     let more = c.in_ok-clear_track.ensures in
     let n : ℕ = segments_per_track c.args.unit.now.drive.deck in
-    let length : segments_per_track c.loop-track.unit.drive.deck ≡ n = length_kept c.args.unit.now.drive.deck c.loop-track.unit.drive.deck before.keeps.same.cartridge in
+    let length : segments_per_track c.loop-track.unit.drive.deck ≡ n =
+    length_kept c.args.unit.now.drive.deck c.loop-track.unit.drive.deck before.keeps.same.cartridge in
     record {
       formatted = done_track n c.loop-track.track before.formatted
-          (subst (λ (k : ℕ). Done g.T.Tape.means c.loop-track.unit.tape c.clear_track.new.unit.tape (track_formats k c.loop-track.track)) length more.did);
+          (subst (λ (k : ℕ). Done g.T.Tape.means c.loop-track.unit.tape c.clear_track.new.unit.tape (track_formats k c.loop-track.track))
+          length more.did);
       stopped = more.stopped;
       mode = mode_kept is_format true c.loop-track.unit.drive.deck c.clear_track.new.unit.drive.deck more.keeps.same before.mode;
       keeps = keeps_both before.keeps more.keeps;
@@ -30,11 +32,13 @@ pub returns-in_err-clear_track-clause-did : goal.returns-in_err-clear_track-clau
 returns-in_err-clear_track-clause-did g c =
     let before = c.loop-track.invariant in
     let n : ℕ = segments_per_track c.args.unit.now.drive.deck in
-    let length : segments_per_track c.loop-track.unit.drive.deck ≡ n = length_kept c.args.unit.now.drive.deck c.loop-track.unit.drive.deck before.keeps.same.cartridge in
+    let length : segments_per_track c.loop-track.unit.drive.deck ≡ n =
+    length_kept c.args.unit.now.drive.deck c.loop-track.unit.drive.deck before.keeps.same.cartridge in
     let track : c.loop-track.track + 1 ≤ 28 = omega arith in
     let within : (c.loop-track.track + 1) * n ≤ 28 * n = mul-le-mul_right n track in
     let whole : Broke g.T.Tape.means c.args.unit.now.tape c.clear_track.new.unit.tape (formats_from 0 (28 * n)) =
     broke_track n c.loop-track.track (28 * n) within before.formatted
-    (subst (λ (k : ℕ). Broke g.T.Tape.means c.loop-track.unit.tape c.clear_track.new.unit.tape (track_formats k c.loop-track.track)) length c.in_err-clear_track.ensures.did) in
+    (subst (λ (k : ℕ). Broke g.T.Tape.means c.loop-track.unit.tape c.clear_track.new.unit.tape (track_formats k c.loop-track.track)) length
+    c.in_err-clear_track.ensures.did) in
     let p = err_from_is_err_and c.from_residual.result c.from_residual.ensures.1 in
     rw p.1 whole

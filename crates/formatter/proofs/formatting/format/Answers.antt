@@ -13,7 +13,8 @@ use Rattle.formatter.proofs.formatting.format.Goals as goal
 -- broken off in the verify pass
 pub returns-in_err-mark_all-clause-did : goal.returns-in_err-mark_all-clause-did
 returns-in_err-mark_all-clause-did g c =
-    let broke : Broke g.T.Tape.means c.args.unit.now.tape c.mark_all.new.unit.tape (clearing_steps (segments_per_track c.args.unit.now.drive.deck)) =
+    let broke : Broke g.T.Tape.means c.args.unit.now.tape c.mark_all.new.unit.tape
+    (clearing_steps (segments_per_track c.args.unit.now.drive.deck)) =
     Broke-before_reads c.in_ok-clear.ensures.did c.in_err-mark_all.ensures.did in
     let p = err_from_is_err_and c.from_residual-in_err-mark_all.result c.from_residual-in_err-mark_all.ensures.1 in
     rw (p.1, p.2) (inl broke)
@@ -23,7 +24,8 @@ pub returns-in-Some-clause-did : goal.returns-in-Some-clause-did
 returns-in-Some-clause-did g c =
     let n : ℕ = segments_per_track c.args.unit.now.drive.deck in
     let long : length c.mark_all.new.map ≡ 28 * n =
-    c.in_ok-mark_all.ensures.words ∙ ap (λ (k : ℕ). 28 * k) (length_referenced c.args.unit.now.drive.deck c.clear.new.unit.drive.deck c.in_ok-clear.ensures.marks) in
+    c.in_ok-mark_all.ensures.words ∙ ap (λ (k : ℕ). 28 * k)
+    (length_referenced c.args.unit.now.drive.deck c.clear.new.unit.drive.deck c.in_ok-clear.ensures.marks) in
     record {
       in_front = c.in-Some.ensures.in_front;
       did = Done-before_reads c.in_ok-clear.ensures.did c.in_ok-mark_all.ensures.did;
@@ -36,7 +38,8 @@ returns-in-Some-clause-did g c =
 pub returns-in_err-write_header-clause-did : goal.returns-in_err-write_header-clause-did
 returns-in_err-write_header-clause-did g c =
     let n : ℕ = segments_per_track c.args.unit.now.drive.deck in
-    let length_is : segments_per_track c.clear.new.unit.drive.deck ≡ n = length_referenced c.args.unit.now.drive.deck c.clear.new.unit.drive.deck c.in_ok-clear.ensures.marks in
+    let length_is : segments_per_track c.clear.new.unit.drive.deck ≡ n =
+    length_referenced c.args.unit.now.drive.deck c.clear.new.unit.drive.deck c.in_ok-clear.ensures.marks in
     let long : length c.mark_all.new.map ≡ 28 * n = c.in_ok-mark_all.ensures.words ∙ ap (λ (k : ℕ). 28 * k) length_is in
     let cleared : Done g.T.Tape.means c.args.unit.now.tape c.mark_all.new.unit.tape (clearing_steps n) =
     Done-before_reads c.in_ok-clear.ensures.did c.in_ok-mark_all.ensures.did in
@@ -48,7 +51,8 @@ returns-in_err-write_header-clause-did g c =
     (inr (record {
       area = written.area;
       fresh = subst (λ (k : ℕ). IsFreshArea k c.args.label.now c.args.date c.mark_all.new.map written.area) same written.fresh;
-      broke = all_broken g.T.Tape.means c.args.unit.now.tape c.mark_all.new.unit.tape c.write_header.new.unit.tape n written.area cleared written.did;
+      broke = all_broken g.T.Tape.means c.args.unit.now.tape c.mark_all.new.unit.tape c.write_header.new.unit.tape n written.area cleared
+          written.did;
       marks = marks_formattable g.T.Tape.means c.args.unit.now.tape c.clear.new.unit.tape n c.mark_all.new.map
           (g.met.T.Tape.told_right c.args.unit.now.tape) (size_known c.requires.ready.fits) long
           c.in_ok-clear.ensures.did c.in_ok-mark_all.ensures.marks c.in_default.ensures;
@@ -57,7 +61,8 @@ returns-in_err-write_header-clause-did g c =
 pub returns-clause-did : goal.returns-clause-did
 returns-clause-did g c =
     let n : ℕ = segments_per_track c.args.unit.now.drive.deck in
-    let length_is : segments_per_track c.clear.new.unit.drive.deck ≡ n = length_referenced c.args.unit.now.drive.deck c.clear.new.unit.drive.deck c.in_ok-clear.ensures.marks in
+    let length_is : segments_per_track c.clear.new.unit.drive.deck ≡ n =
+    length_referenced c.args.unit.now.drive.deck c.clear.new.unit.drive.deck c.in_ok-clear.ensures.marks in
     let long : length c.mark_all.new.map ≡ 28 * n = c.in_ok-mark_all.ensures.words ∙ ap (λ (k : ℕ). 28 * k) length_is in
     let cleared : Done g.T.Tape.means c.args.unit.now.tape c.mark_all.new.unit.tape (clearing_steps n) =
     Done-before_reads c.in_ok-clear.ensures.did c.in_ok-mark_all.ensures.did in
@@ -69,11 +74,13 @@ returns-clause-did g c =
     record {
       area = written.area;
       fresh = subst (λ (k : ℕ). IsFreshArea k c.args.label.now c.args.date c.mark_all.new.map written.area) same written.fresh;
-      did = all_done g.T.Tape.means c.args.unit.now.tape c.mark_all.new.unit.tape c.write_header.new.unit.tape n written.area cleared written.did;
+      did = all_done g.T.Tape.means c.args.unit.now.tape c.mark_all.new.unit.tape c.write_header.new.unit.tape n written.area cleared
+          written.did;
       marks = marks_formattable g.T.Tape.means c.args.unit.now.tape c.clear.new.unit.tape n c.mark_all.new.map
           (g.met.T.Tape.told_right c.args.unit.now.tape) (size_known c.requires.ready.fits) long
           c.in_ok-clear.ensures.did c.in_ok-mark_all.ensures.marks c.in_default.ensures;
-      segments = c.segments.ensures.value ∙ ap (λ (k : ℕ). 28 * k) (c.geometry.ensures ∙ length_known c.write_header.ensures.ready.fits ∙ whole);
+      segments = c.segments.ensures.value
+          ∙ ap (λ (k : ℕ). 28 * k) (c.geometry.ensures ∙ length_known c.write_header.ensures.ready.fits ∙ whole);
       bad = c.marked.ensures;
     }
 
@@ -84,7 +91,8 @@ pub mark_all-requires-clause-stopped : goal.mark_all-requires-clause-stopped
 mark_all-requires-clause-stopped g c = c.in_ok-clear.ensures.stopped
 
 pub mark_all-requires-clause-referenced : goal.mark_all-requires-clause-referenced
-mark_all-requires-clause-referenced g c = referenced_by c.args.host.now c.args.unit.now.drive.deck c.clear.new.unit.drive.deck c.requires.ready.fits.cartridge c.in_ok-clear.ensures.marks
+mark_all-requires-clause-referenced g c = referenced_by c.args.host.now c.args.unit.now.drive.deck c.clear.new.unit.drive.deck
+    c.requires.ready.fits.cartridge c.in_ok-clear.ensures.marks
 
 pub mark_all-requires-clause-room : goal.mark_all-requires-clause-room
 mark_all-requires-clause-room g c = omega (arith, c.sectors_mut-sectors.ensures.size)
@@ -98,16 +106,19 @@ write_header-requires-clause-stopped g c = c.in_ok-mark_all.ensures.stopped
 pub write_header-requires-clause-words : goal.write_header-requires-clause-words
 write_header-requires-clause-words g c =
     c.in_ok-mark_all.ensures.words
-    ∙ ap (λ (n : ℕ). 28 * n) (sym (length_kept c.clear.new.unit.drive.deck c.mark_all.new.unit.drive.deck c.in_ok-mark_all.ensures.cartridge))
+    ∙ ap (λ (n : ℕ). 28 * n) (sym (length_kept c.clear.new.unit.drive.deck c.mark_all.new.unit.drive.deck
+    c.in_ok-mark_all.ensures.cartridge))
 
 pub write_header-requires-clause-referenced : goal.write_header-requires-clause-referenced
 write_header-requires-clause-referenced g c =
     mark_kept c.clear.new.unit.drive.deck c.mark_all.new.unit.drive.deck c.in_ok-mark_all.ensures.cartridge
-    (referenced_by c.args.host.now c.args.unit.now.drive.deck c.clear.new.unit.drive.deck c.requires.ready.fits.cartridge c.in_ok-clear.ensures.marks)
+    (referenced_by c.args.host.now c.args.unit.now.drive.deck c.clear.new.unit.drive.deck c.requires.ready.fits.cartridge
+    c.in_ok-clear.ensures.marks)
 
 pub write_header-requires-clause-writable : goal.write_header-requires-clause-writable
 write_header-requires-clause-writable g c =
-    unmarked c.args.unit.now.drive.deck c.clear.new.unit.drive.deck c.mark_all.new.unit.drive.deck c.in_ok-clear.ensures.marks c.in_ok-mark_all.ensures.cartridge
+    unmarked c.args.unit.now.drive.deck c.clear.new.unit.drive.deck c.mark_all.new.unit.drive.deck c.in_ok-clear.ensures.marks
+    c.in_ok-mark_all.ensures.cartridge
     (λ marked. let no = c.in_ok-clear.ensures.protected.1 marked in absurd (cc))
 
 pub returns-in_err-clear-clause-fits : goal.returns-in_err-clear-clause-fits
@@ -142,7 +153,8 @@ pub returns-in_err-mark_all-clause-agrees : goal.returns-in_err-mark_all-clause-
 returns-in_err-mark_all-clause-agrees g c = λ other was. c.in_err-mark_all.ensures.agrees (c.in_ok-clear.ensures.agrees (λ is. cc) was)
 
 pub returns-in_err-mark_all-clause-room : goal.returns-in_err-mark_all-clause-room
-returns-in_err-mark_all-clause-room g c = lent_room c.mark_all.new.sectors c.args.work.now (c.mark_all.auto.sectors ∙ c.sectors_mut-sectors.ensures.size)
+returns-in_err-mark_all-clause-room g c = lent_room c.mark_all.new.sectors c.args.work.now
+    (c.mark_all.auto.sectors ∙ c.sectors_mut-sectors.ensures.size)
 
 pub returns-in-Some-clause-protected : goal.returns-in-Some-clause-protected
 returns-in-Some-clause-protected g c = (λ is. absurd (cc), λ marked. let no = c.in_ok-clear.ensures.protected.1 marked in absurd (cc))
@@ -163,12 +175,17 @@ pub returns-in-Some-clause-agrees : goal.returns-in-Some-clause-agrees
 returns-in-Some-clause-agrees g c = λ other was. c.in_ok-mark_all.ensures.agrees (c.in_ok-clear.ensures.agrees (λ is. cc) was)
 
 pub returns-in-Some-clause-room : goal.returns-in-Some-clause-room
-returns-in-Some-clause-room g c = lent_room c.mark_all.new.sectors c.args.work.now (c.mark_all.auto.sectors ∙ c.sectors_mut-sectors.ensures.size)
+returns-in-Some-clause-room g c = lent_room c.mark_all.new.sectors c.args.work.now
+    (c.mark_all.auto.sectors ∙ c.sectors_mut-sectors.ensures.size)
 
 pub returns-in_err-write_header-clause-protected : goal.returns-in_err-write_header-clause-protected
 returns-in_err-write_header-clause-protected g c =
     let p = err_from_is_err_and c.from_residual-in_err-write_header.result c.from_residual-in_err-write_header.ensures.1 in
-    rw (p.1, p.2, c.in_err-write_header.ensures.fault) (λ is. absurd (cc), λ marked. let no = c.in_ok-clear.ensures.protected.1 marked in absurd (cc))
+    rw (p.1, p.2, c.in_err-write_header.ensures.fault) (
+      λ is. absurd (cc),
+      λ marked. let no = c.in_ok-clear.ensures.protected.1 marked in
+          absurd (cc),
+    )
 
 pub returns-in_err-write_header-clause-untouched : goal.returns-in_err-write_header-clause-untouched
 returns-in_err-write_header-clause-untouched g c =
@@ -185,7 +202,8 @@ pub returns-in_err-write_header-clause-size : goal.returns-in_err-write_header-c
 returns-in_err-write_header-clause-size g c = c.in_err-write_header.ensures.size ∙ c.in_ok-mark_all.ensures.size ∙ c.clear.ensures.size
 
 pub returns-in_err-write_header-clause-agrees : goal.returns-in_err-write_header-clause-agrees
-returns-in_err-write_header-clause-agrees g c = λ other was. c.in_err-write_header.ensures.agrees (c.in_ok-mark_all.ensures.agrees (c.in_ok-clear.ensures.agrees (λ is. cc) was))
+returns-in_err-write_header-clause-agrees g c = λ other was. c.in_err-write_header.ensures.agrees
+    (c.in_ok-mark_all.ensures.agrees (c.in_ok-clear.ensures.agrees (λ is. cc) was))
 
 pub returns-in_err-write_header-clause-room : goal.returns-in_err-write_header-clause-room
 returns-in_err-write_header-clause-room g c = c.in_err-write_header.ensures.room
@@ -206,7 +224,8 @@ pub returns-clause-size : goal.returns-clause-size
 returns-clause-size g c = c.in_ok-write_header.ensures.size ∙ c.in_ok-mark_all.ensures.size ∙ c.clear.ensures.size
 
 pub returns-clause-agrees : goal.returns-clause-agrees
-returns-clause-agrees g c = λ other was. c.in_ok-write_header.ensures.agrees (c.in_ok-mark_all.ensures.agrees (c.in_ok-clear.ensures.agrees (λ is. cc) was))
+returns-clause-agrees g c = λ other was. c.in_ok-write_header.ensures.agrees
+    (c.in_ok-mark_all.ensures.agrees (c.in_ok-clear.ensures.agrees (λ is. cc) was))
 
 pub returns-clause-room : goal.returns-clause-room
 returns-clause-room g c = c.in_ok-write_header.ensures.room

@@ -21,9 +21,11 @@ returns-clause-fresh c =
     let long : length c.put_header.new.sectors ≡ 32 = c.put_header.auto.sectors ∙ c.requires.room in
     let size : length (take 29 c.put_header.new.sectors) ≡ 29 = length-take-le 29 c.put_header.new.sectors (omega arith) in
     let data_sectors : take 29 c.put_parity.new.sectors ≡ take 29 c.put_header.new.sectors =
-    ap (take 29) (parity_put c.put_header.new.sectors c.put_parity.new.sectors long c.put_parity.ensures.parity) ∙ block_data (take 29 c.put_header.new.sectors) size in
+    ap (take 29) (parity_put c.put_header.new.sectors c.put_parity.new.sectors long c.put_parity.ensures.parity)
+    ∙ block_data (take 29 c.put_header.new.sectors) size in
     subst (λ (area : List (List ℕ)). IsFreshArea c.args.geometry c.args.label.now c.args.date c.args.map.now area) (sym data_sectors)
     (record {
       size = record { size = size; sectors = c.put_parity.ensures.data };
-      spells = subst (λ (n : ℕ). SpellsHeader (fresh_header n c.args.label.now c.args.date) c.args.map.now (take 29 c.put_header.new.sectors)) c.segments_per_track.ensures.value c.put_header.ensures;
+      spells = subst (λ (n : ℕ). SpellsHeader (fresh_header n c.args.label.now c.args.date) c.args.map.now
+          (take 29 c.put_header.new.sectors)) c.segments_per_track.ensures.value c.put_header.ensures;
     })

@@ -18,7 +18,8 @@ pub write_sectors-requires-2-clause-segment : goal.write_sectors-requires-2-clau
 write_sectors-requires-2-clause-segment g c =
     let kept = c.write_sectors.ensures.keeps in
     front_segment c.args.copy kept.ready.fits
-    (cartridge_kept (λ info. info.referenced) true c.args.unit.now.drive.deck c.write_sectors.new.unit.drive.deck kept.same c.requires.referenced) (omega arith)
+    (cartridge_kept (λ info. info.referenced) true c.args.unit.now.drive.deck c.write_sectors.new.unit.drive.deck kept.same
+    c.requires.referenced) (omega arith)
 
 pub write_sectors-requires-clause-within : goal.write_sectors-requires-clause-within
 write_sectors-requires-clause-within g c =
@@ -35,21 +36,29 @@ pub returns-in_err-write_sectors-clause-did : goal.returns-in_err-write_sectors-
 returns-in_err-write_sectors-clause-did g c =
     let B : List Step → Type 0 = λ steps. Broke g.T.Tape.means c.args.unit.now.tape c.write_sectors.new.unit.tape steps in
     let first : B (named_writes c.args.copy 4294967295 4294967294 c.args.work.now) =
-    subst (λ (mask : ℕ). B (named_writes c.args.copy 4294967295 mask c.args.work.now)) c.from_mask-others.ensures c.in_err-write_sectors.ensures.did in
+    subst (λ (mask : ℕ). B (named_writes c.args.copy 4294967295 mask c.args.work.now)) c.from_mask-others.ensures
+    c.in_err-write_sectors.ensures.did in
     let whole : B (copy_writes c.args.copy c.args.work.now) =
     subst B (copy_is c.args.copy c.args.work.now c.requires.room)
-    (Broke-front {xs = named_writes c.args.copy 4294967295 4294967294 c.args.work.now} (named_writes c.args.copy 4294967295 1 c.args.work.now) first) in
+    (Broke-front {xs = named_writes c.args.copy 4294967295 4294967294 c.args.work.now}
+    (named_writes c.args.copy 4294967295 1 c.args.work.now) first) in
     let p = err_from_is_err_and c.from_residual.result c.from_residual.ensures.1 in
     rw p.1 whole
 
 pub returns-clause-did : goal.returns-clause-did
 returns-clause-did g c =
-    let first : Done g.T.Tape.means c.args.unit.now.tape c.write_sectors.new.unit.tape (named_writes c.args.copy 4294967295 4294967294 c.args.work.now) =
-    subst (λ (mask : ℕ). Done g.T.Tape.means c.args.unit.now.tape c.write_sectors.new.unit.tape (named_writes c.args.copy 4294967295 mask c.args.work.now)) c.from_mask-others.ensures
+    let first : Done g.T.Tape.means c.args.unit.now.tape c.write_sectors.new.unit.tape
+    (named_writes c.args.copy 4294967295 4294967294 c.args.work.now) =
+    subst (λ (mask : ℕ). Done g.T.Tape.means c.args.unit.now.tape c.write_sectors.new.unit.tape
+    (named_writes c.args.copy 4294967295 mask c.args.work.now)) c.from_mask-others.ensures
     c.in_ok-write_sectors.ensures.did in
-    let next : Does g.T.Tape.means c.write_sectors.new.unit.tape c.write_sectors-2.new.unit.tape (named_writes c.args.copy 4294967295 1 c.args.work.now) c.write_sectors-2.result =
-    subst (λ (mask : ℕ). Does g.T.Tape.means c.write_sectors.new.unit.tape c.write_sectors-2.new.unit.tape (named_writes c.args.copy 4294967295 mask c.args.work.now) c.write_sectors-2.result) c.from_mask-last.ensures
+    let next : Does g.T.Tape.means c.write_sectors.new.unit.tape c.write_sectors-2.new.unit.tape
+    (named_writes c.args.copy 4294967295 1 c.args.work.now) c.write_sectors-2.result =
+    subst (λ (mask : ℕ). Does g.T.Tape.means c.write_sectors.new.unit.tape c.write_sectors-2.new.unit.tape
+    (named_writes c.args.copy 4294967295 mask c.args.work.now) c.write_sectors-2.result) c.from_mask-last.ensures
     c.write_sectors-2.ensures.did in
     subst (λ (steps : List Step). Does g.T.Tape.means c.args.unit.now.tape c.write_sectors-2.new.unit.tape steps c.write_sectors-2.result)
     (copy_is c.args.copy c.args.work.now c.requires.room)
-    (Done-Does g.T.Tape.means c.args.unit.now.tape c.write_sectors.new.unit.tape c.write_sectors-2.new.unit.tape (named_writes c.args.copy 4294967295 4294967294 c.args.work.now) (named_writes c.args.copy 4294967295 1 c.args.work.now) c.write_sectors-2.result first next)
+    (Done-Does g.T.Tape.means c.args.unit.now.tape c.write_sectors.new.unit.tape c.write_sectors-2.new.unit.tape
+    (named_writes c.args.copy 4294967295 4294967294 c.args.work.now)
+    (named_writes c.args.copy 4294967295 1 c.args.work.now) c.write_sectors-2.result first next)

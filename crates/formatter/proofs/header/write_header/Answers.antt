@@ -23,14 +23,16 @@ returns-in_err-write_copy-clause-did g c =
     let block : take 32 (c.spell.new.sectors ++ drop (length c.spell.new.sectors) c.args.work.now) ≡ with_parity area =
     lent c.spell.new.sectors c.args.work.now size ∙ c.spell.ensures.parity in
     let first : Broke g.T.Tape.means c.enter.new.unit.tape c.write_copy.new.unit.tape (copy_writes 0 (with_parity area)) =
-    subst (λ (l : List (List ℕ)). Broke g.T.Tape.means c.enter.new.unit.tape c.write_copy.new.unit.tape (copy_writes 0 l)) block c.in_err-write_copy.ensures.did in
+    subst (λ (l : List (List ℕ)). Broke g.T.Tape.means c.enter.new.unit.tape c.write_copy.new.unit.tape (copy_writes 0 l)) block
+    c.in_err-write_copy.ensures.did in
     let whole : Broke g.T.Tape.means c.args.unit.now.tape c.write_copy.new.unit.tape (header_writes area) =
     subst (λ (t : _). Broke g.T.Tape.means t c.write_copy.new.unit.tape (header_writes area)) c.enter.ensures.tape
     (Broke-front {xs = copy_writes 0 (with_parity area)} (copy_writes 1 (with_parity area)) first) in
     let p = err_from_is_err_and c.from_residual-in_err-write_copy.result c.from_residual-in_err-write_copy.ensures.1 in
     record {
       area = area;
-      fresh = subst (λ (n : ℕ). IsFreshArea n c.args.label.now c.args.date c.args.map.now area) (c.geometry.ensures ∙ length_known c.requires.ready.fits) c.spell.ensures.fresh;
+      fresh = subst (λ (n : ℕ). IsFreshArea n c.args.label.now c.args.date c.args.map.now area)
+          (c.geometry.ensures ∙ length_known c.requires.ready.fits) c.spell.ensures.fresh;
       did = rw p.1 whole;
     }
 
@@ -42,16 +44,19 @@ returns-in_err-write_copy-2-clause-did g c =
     let block : take 32 (c.spell.new.sectors ++ drop (length c.spell.new.sectors) c.args.work.now) ≡ with_parity area =
     lent c.spell.new.sectors c.args.work.now size ∙ c.spell.ensures.parity in
     let first : Done g.T.Tape.means c.enter.new.unit.tape c.write_copy.new.unit.tape (copy_writes 0 (with_parity area)) =
-    subst (λ (l : List (List ℕ)). Done g.T.Tape.means c.enter.new.unit.tape c.write_copy.new.unit.tape (copy_writes 0 l)) block c.in_ok-write_copy.ensures.did in
+    subst (λ (l : List (List ℕ)). Done g.T.Tape.means c.enter.new.unit.tape c.write_copy.new.unit.tape (copy_writes 0 l)) block
+    c.in_ok-write_copy.ensures.did in
     let next : Broke g.T.Tape.means c.write_copy.new.unit.tape c.write_copy-2.new.unit.tape (copy_writes 1 (with_parity area)) =
-    subst (λ (l : List (List ℕ)). Broke g.T.Tape.means c.write_copy.new.unit.tape c.write_copy-2.new.unit.tape (copy_writes 1 l)) block c.in_err-write_copy-2.ensures.did in
+    subst (λ (l : List (List ℕ)). Broke g.T.Tape.means c.write_copy.new.unit.tape c.write_copy-2.new.unit.tape (copy_writes 1 l)) block
+    c.in_err-write_copy-2.ensures.did in
     let whole : Broke g.T.Tape.means c.args.unit.now.tape c.write_copy-2.new.unit.tape (header_writes area) =
     subst (λ (t : _). Broke g.T.Tape.means t c.write_copy-2.new.unit.tape (header_writes area)) c.enter.ensures.tape
     (Done-Broke {xs = copy_writes 0 (with_parity area)} {ys = copy_writes 1 (with_parity area)} first next) in
     let p = err_from_is_err_and c.from_residual-in_err-write_copy-2.result c.from_residual-in_err-write_copy-2.ensures.1 in
     record {
       area = area;
-      fresh = subst (λ (n : ℕ). IsFreshArea n c.args.label.now c.args.date c.args.map.now area) (c.geometry.ensures ∙ length_known c.requires.ready.fits) c.spell.ensures.fresh;
+      fresh = subst (λ (n : ℕ). IsFreshArea n c.args.label.now c.args.date c.args.map.now area)
+          (c.geometry.ensures ∙ length_known c.requires.ready.fits) c.spell.ensures.fresh;
       did = rw p.1 whole;
     }
 
@@ -62,15 +67,18 @@ returns-clause-did g c =
     let block : take 32 (c.spell.new.sectors ++ drop (length c.spell.new.sectors) c.args.work.now) ≡ with_parity area =
     lent c.spell.new.sectors c.args.work.now size ∙ c.spell.ensures.parity in
     let first : Done g.T.Tape.means c.enter.new.unit.tape c.write_copy.new.unit.tape (copy_writes 0 (with_parity area)) =
-    subst (λ (l : List (List ℕ)). Done g.T.Tape.means c.enter.new.unit.tape c.write_copy.new.unit.tape (copy_writes 0 l)) block c.in_ok-write_copy.ensures.did in
+    subst (λ (l : List (List ℕ)). Done g.T.Tape.means c.enter.new.unit.tape c.write_copy.new.unit.tape (copy_writes 0 l)) block
+    c.in_ok-write_copy.ensures.did in
     let next : Done g.T.Tape.means c.write_copy.new.unit.tape c.write_copy-2.new.unit.tape (copy_writes 1 (with_parity area)) =
-    subst (λ (l : List (List ℕ)). Done g.T.Tape.means c.write_copy.new.unit.tape c.write_copy-2.new.unit.tape (copy_writes 1 l)) block c.in_ok-write_copy-2.ensures.did in
+    subst (λ (l : List (List ℕ)). Done g.T.Tape.means c.write_copy.new.unit.tape c.write_copy-2.new.unit.tape (copy_writes 1 l)) block
+    c.in_ok-write_copy-2.ensures.did in
     let whole : Done g.T.Tape.means c.args.unit.now.tape c.write_copy-2.new.unit.tape (header_writes area) =
     subst (λ (t : _). Done g.T.Tape.means t c.write_copy-2.new.unit.tape (header_writes area)) c.enter.ensures.tape
     (Done-Done {xs = copy_writes 0 (with_parity area)} {ys = copy_writes 1 (with_parity area)} first next) in
     record {
       area = area;
-      fresh = subst (λ (n : ℕ). IsFreshArea n c.args.label.now c.args.date c.args.map.now area) (c.geometry.ensures ∙ length_known c.requires.ready.fits) c.spell.ensures.fresh;
+      fresh = subst (λ (n : ℕ). IsFreshArea n c.args.label.now c.args.date c.args.map.now area)
+          (c.geometry.ensures ∙ length_known c.requires.ready.fits) c.spell.ensures.fresh;
       did = whole;
     }
 
@@ -87,11 +95,14 @@ pub write_copy-requires-clause-writable : goal.write_copy-requires-clause-writab
 write_copy-requires-clause-writable g c =
     record {
       mode = ap is_primary c.in_ok-enter.ensures.mode;
-      writable = ap (λ (cartridge : Option TapeInfo). option_map_or (λ (info : TapeInfo). info.protected) cartridge false) c.enter.ensures.cartridge ∙ c.requires.writable;
+      writable = ap (λ (cartridge : Option TapeInfo). option_map_or (λ (info : TapeInfo). info.protected) cartridge false)
+          c.enter.ensures.cartridge ∙ c.requires.writable;
     }
 
 pub write_copy-requires-clause-referenced : goal.write_copy-requires-clause-referenced
-write_copy-requires-clause-referenced g c = ap (λ (cartridge : Option TapeInfo). option_map_or (λ (info : TapeInfo). info.referenced) cartridge false) c.enter.ensures.cartridge ∙ c.requires.referenced
+write_copy-requires-clause-referenced g c =
+    ap (λ (cartridge : Option TapeInfo). option_map_or (λ (info : TapeInfo). info.referenced) cartridge false) c.enter.ensures.cartridge
+    ∙ c.requires.referenced
 
 pub write_copy-requires-clause-room : goal.write_copy-requires-clause-room
 write_copy-requires-clause-room g c =
@@ -105,13 +116,16 @@ pub write_copy-requires-2-clause-writable : goal.write_copy-requires-2-clause-wr
 write_copy-requires-2-clause-writable g c =
     may_write_kept c.enter.new.unit.drive.deck c.write_copy.new.unit.drive.deck c.in_ok-write_copy.ensures.keeps.same (record {
       mode = ap is_primary c.in_ok-enter.ensures.mode;
-      writable = ap (λ (cartridge : Option TapeInfo). option_map_or (λ (info : TapeInfo). info.protected) cartridge false) c.enter.ensures.cartridge ∙ c.requires.writable;
+      writable = ap (λ (cartridge : Option TapeInfo). option_map_or (λ (info : TapeInfo). info.protected) cartridge false)
+          c.enter.ensures.cartridge ∙ c.requires.writable;
     })
 
 pub write_copy-requires-2-clause-referenced : goal.write_copy-requires-2-clause-referenced
 write_copy-requires-2-clause-referenced g c =
-    cartridge_kept (λ info. info.referenced) true c.enter.new.unit.drive.deck c.write_copy.new.unit.drive.deck c.in_ok-write_copy.ensures.keeps.same
-    (ap (λ (cartridge : Option TapeInfo). option_map_or (λ (info : TapeInfo). info.referenced) cartridge false) c.enter.ensures.cartridge ∙ c.requires.referenced)
+    cartridge_kept (λ info. info.referenced) true c.enter.new.unit.drive.deck c.write_copy.new.unit.drive.deck
+    c.in_ok-write_copy.ensures.keeps.same
+    (ap (λ (cartridge : Option TapeInfo). option_map_or (λ (info : TapeInfo). info.referenced) cartridge false) c.enter.ensures.cartridge
+    ∙ c.requires.referenced)
 
 pub write_copy-requires-2-clause-room : goal.write_copy-requires-2-clause-room
 write_copy-requires-2-clause-room g c =
@@ -132,7 +146,8 @@ pub returns-in_err-write_copy-clause-cartridge : goal.returns-in_err-write_copy-
 returns-in_err-write_copy-clause-cartridge g c = c.in_err-write_copy.ensures.keeps.same.cartridge ∙ c.enter.ensures.cartridge
 
 pub returns-in_err-write_copy-clause-agrees : goal.returns-in_err-write_copy-clause-agrees
-returns-in_err-write_copy-clause-agrees g c = λ was. c.in_err-write_copy.ensures.keeps.agrees (agrees_tape g.T.Tape.means c.args.unit.now c.enter.new.unit c.enter.ensures.cartridge c.enter.ensures.tape was)
+returns-in_err-write_copy-clause-agrees g c = λ was. c.in_err-write_copy.ensures.keeps.agrees
+    (agrees_tape g.T.Tape.means c.args.unit.now c.enter.new.unit c.enter.ensures.cartridge c.enter.ensures.tape was)
 
 pub returns-in_err-write_copy-clause-size : goal.returns-in_err-write_copy-clause-size
 returns-in_err-write_copy-clause-size g c = c.in_err-write_copy.ensures.keeps.size ∙ ap g.T.Tape.means.size c.enter.ensures.tape
@@ -151,13 +166,17 @@ returns-in_err-write_copy-2-clause-room g c =
     lent_room c.spell.new.sectors c.args.work.now size
 
 pub returns-in_err-write_copy-2-clause-cartridge : goal.returns-in_err-write_copy-2-clause-cartridge
-returns-in_err-write_copy-2-clause-cartridge g c = c.in_err-write_copy-2.ensures.keeps.same.cartridge ∙ c.in_ok-write_copy.ensures.keeps.same.cartridge ∙ c.enter.ensures.cartridge
+returns-in_err-write_copy-2-clause-cartridge g c = c.in_err-write_copy-2.ensures.keeps.same.cartridge
+    ∙ c.in_ok-write_copy.ensures.keeps.same.cartridge ∙ c.enter.ensures.cartridge
 
 pub returns-in_err-write_copy-2-clause-agrees : goal.returns-in_err-write_copy-2-clause-agrees
-returns-in_err-write_copy-2-clause-agrees g c = λ was. c.in_err-write_copy-2.ensures.keeps.agrees (c.in_ok-write_copy.ensures.keeps.agrees (agrees_tape g.T.Tape.means c.args.unit.now c.enter.new.unit c.enter.ensures.cartridge c.enter.ensures.tape was))
+returns-in_err-write_copy-2-clause-agrees g c = λ was. c.in_err-write_copy-2.ensures.keeps.agrees
+    (c.in_ok-write_copy.ensures.keeps.agrees
+    (agrees_tape g.T.Tape.means c.args.unit.now c.enter.new.unit c.enter.ensures.cartridge c.enter.ensures.tape was))
 
 pub returns-in_err-write_copy-2-clause-size : goal.returns-in_err-write_copy-2-clause-size
-returns-in_err-write_copy-2-clause-size g c = c.in_err-write_copy-2.ensures.keeps.size ∙ c.in_ok-write_copy.ensures.keeps.size ∙ ap g.T.Tape.means.size c.enter.ensures.tape
+returns-in_err-write_copy-2-clause-size g c = c.in_err-write_copy-2.ensures.keeps.size ∙ c.in_ok-write_copy.ensures.keeps.size
+    ∙ ap g.T.Tape.means.size c.enter.ensures.tape
 
 pub returns-in_err-write_copy-2-clause-ready : goal.returns-in_err-write_copy-2-clause-ready
 returns-in_err-write_copy-2-clause-ready g c = c.in_err-write_copy-2.ensures.keeps.ready
@@ -168,13 +187,17 @@ returns-clause-room g c =
     lent_room c.spell.new.sectors c.args.work.now size
 
 pub returns-clause-cartridge : goal.returns-clause-cartridge
-returns-clause-cartridge g c = c.in_ok-write_copy-2.ensures.keeps.same.cartridge ∙ c.in_ok-write_copy.ensures.keeps.same.cartridge ∙ c.enter.ensures.cartridge
+returns-clause-cartridge g c = c.in_ok-write_copy-2.ensures.keeps.same.cartridge ∙ c.in_ok-write_copy.ensures.keeps.same.cartridge
+    ∙ c.enter.ensures.cartridge
 
 pub returns-clause-agrees : goal.returns-clause-agrees
-returns-clause-agrees g c = λ was. c.in_ok-write_copy-2.ensures.keeps.agrees (c.in_ok-write_copy.ensures.keeps.agrees (agrees_tape g.T.Tape.means c.args.unit.now c.enter.new.unit c.enter.ensures.cartridge c.enter.ensures.tape was))
+returns-clause-agrees g c = λ was. c.in_ok-write_copy-2.ensures.keeps.agrees
+    (c.in_ok-write_copy.ensures.keeps.agrees
+    (agrees_tape g.T.Tape.means c.args.unit.now c.enter.new.unit c.enter.ensures.cartridge c.enter.ensures.tape was))
 
 pub returns-clause-size : goal.returns-clause-size
-returns-clause-size g c = c.in_ok-write_copy-2.ensures.keeps.size ∙ c.in_ok-write_copy.ensures.keeps.size ∙ ap g.T.Tape.means.size c.enter.ensures.tape
+returns-clause-size g c = c.in_ok-write_copy-2.ensures.keeps.size ∙ c.in_ok-write_copy.ensures.keeps.size
+    ∙ ap g.T.Tape.means.size c.enter.ensures.tape
 
 pub returns-clause-ready : goal.returns-clause-ready
 returns-clause-ready g c = c.in_ok-write_copy-2.ensures.keeps.ready

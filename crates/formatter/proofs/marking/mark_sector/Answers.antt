@@ -17,10 +17,12 @@ returns-in-Lost-clause-marks g c =
     elim c.in-Lost.is [ inl lost ↦ λ good. cc (lost, good) | inr blank ↦ λ good. cc (blank, good) ] in
     Tells-map g.T.Tape.means c.args.unit.now.tape
     (λ d. Reads (view_at d c.args.segment c.args.index) (get_or c.args.sectors.now 0 []) c.read_sector.new.into c.in_ok-read_sector.field-0)
-    (λ d. MarksBelow d c.args.map.now (place_of c.args.segment c.args.index) → MarksBelow d c.mark.new.self (place_of c.args.segment c.args.index + 1))
+    (λ d. MarksBelow d c.args.map.now (place_of c.args.segment c.args.index) →
+    MarksBelow d c.mark.new.self (place_of c.args.segment c.args.index + 1))
     (λ d reads before. subst (λ (after : List ℕ). MarksBelow d after (place_of c.args.segment c.args.index + 1)) (sym c.mark.ensures)
     (marks_bad d c.args.map.now c.args.segment c.args.index c.requires.segment c.requires.index
-    (read_bad (view_at d c.args.segment c.args.index) (get_or c.args.sectors.now 0 []) c.read_sector.new.into c.in_ok-read_sector.field-0 bad reads) before))
+    (read_bad (view_at d c.args.segment c.args.index) (get_or c.args.sectors.now 0 []) c.read_sector.new.into c.in_ok-read_sector.field-0
+    bad reads) before))
     c.in_ok-read_sector.ensures.view
 
 -- it can
@@ -28,10 +30,12 @@ pub returns-in-Good-clause-marks : goal.returns-in-Good-clause-marks
 returns-in-Good-clause-marks g c =
     Tells-map g.T.Tape.means c.args.unit.now.tape
     (λ d. Reads (view_at d c.args.segment c.args.index) (get_or c.args.sectors.now 0 []) c.read_sector.new.into c.in_ok-read_sector.field-0)
-    (λ d. MarksBelow d c.args.map.now (place_of c.args.segment c.args.index) → MarksBelow d c.args.map.now (place_of c.args.segment c.args.index + 1))
+    (λ d. MarksBelow d c.args.map.now (place_of c.args.segment c.args.index) →
+    MarksBelow d c.args.map.now (place_of c.args.segment c.args.index + 1))
     (λ d reads before.
     marks_good d c.args.map.now c.args.segment c.args.index c.requires.index
-    (read_good (view_at d c.args.segment c.args.index) (get_or c.args.sectors.now 0 []) c.read_sector.new.into c.in_ok-read_sector.field-0 c.in-Good.is reads) before)
+    (read_good (view_at d c.args.segment c.args.index) (get_or c.args.sectors.now 0 []) c.read_sector.new.into c.in_ok-read_sector.field-0
+    c.in-Good.is reads) before)
     c.in_ok-read_sector.ensures.view
 
 pub returns-in_err-read_sector-clause-did : goal.returns-in_err-read_sector-clause-did

@@ -14,7 +14,8 @@ pub loop-index-init : goal.loop-index-init
 loop-index-init g c = record {
   read = Done-nothing g.T.Tape.means c.args.unit.now.tape;
   marks = tells_always g.T.Tape.means c.args.unit.now.tape
-      (λ d. MarksBelow d c.args.map.now (place_of c.args.segment 0) → MarksBelow d c.args.map.now (place_of c.args.segment 0)) (λ d marks. marks);
+      (λ d. MarksBelow d c.args.map.now (place_of c.args.segment 0) → MarksBelow d c.args.map.now (place_of c.args.segment 0))
+      (λ d marks. marks);
   words = refl;
   room = refl;
   under = c.requires.under;
@@ -34,8 +35,10 @@ loop-index-preserved g c =
           (λ d. MarksBelow d c.mark_sector.new.map (place_of c.args.segment (c.loop-index.index + 1)))
           before.marks
           (let next : place_of c.args.segment c.loop-index.index + 1 ≡ place_of c.args.segment (c.loop-index.index + 1) = omega arith in
-          subst (λ (k : ℕ). Tells g.T.Tape.means c.args.unit.now.tape (λ d. MarksBelow d c.loop-index.map (place_of c.args.segment c.loop-index.index) → MarksBelow d c.mark_sector.new.map k)) next
-          (Tells-read (λ d. MarksBelow d c.loop-index.map (place_of c.args.segment c.loop-index.index) → MarksBelow d c.mark_sector.new.map (place_of c.args.segment c.loop-index.index + 1)) before.read more.marks));
+          subst (λ (k : ℕ). Tells g.T.Tape.means c.args.unit.now.tape
+          (λ d. MarksBelow d c.loop-index.map (place_of c.args.segment c.loop-index.index) → MarksBelow d c.mark_sector.new.map k)) next
+          (Tells-read (λ d. MarksBelow d c.loop-index.map (place_of c.args.segment c.loop-index.index) →
+          MarksBelow d c.mark_sector.new.map (place_of c.args.segment c.loop-index.index + 1)) before.read more.marks));
       words = more.words ∙ before.words;
       room = omega arith;
       under = more.under;
@@ -92,8 +95,10 @@ returns-clause-marks g c =
     let all : c.loop-index.index ≡ 32 = omega arith in
     let first : place_of c.args.segment 0 ≡ 32 * c.args.segment = omega arith in
     let last : place_of c.args.segment c.loop-index.index ≡ 32 * (c.args.segment + 1) = omega arith in
-    subst (λ (k : ℕ). Tells g.T.Tape.means c.args.unit.now.tape (λ d. MarksBelow d c.args.map.now k → MarksBelow d c.loop-index.map (32 * (c.args.segment + 1)))) first
-    (subst (λ (k : ℕ). Tells g.T.Tape.means c.args.unit.now.tape (λ d. MarksBelow d c.args.map.now (place_of c.args.segment 0) → MarksBelow d c.loop-index.map k)) last
+    subst (λ (k : ℕ). Tells g.T.Tape.means c.args.unit.now.tape
+    (λ d. MarksBelow d c.args.map.now k → MarksBelow d c.loop-index.map (32 * (c.args.segment + 1)))) first
+    (subst (λ (k : ℕ). Tells g.T.Tape.means c.args.unit.now.tape
+    (λ d. MarksBelow d c.args.map.now (place_of c.args.segment 0) → MarksBelow d c.loop-index.map k)) last
     c.loop-index.invariant.marks)
 
 pub returns-clause-words : goal.returns-clause-words

@@ -22,11 +22,14 @@ loop-offset-init g c =
       read = done_moved g.T.Tape.means c.args.unit.now.tape c.go_to_track.new.unit.tape c.in_ok-count.ensures.tape;
       marks = tells_always g.T.Tape.means c.args.unit.now.tape
           (λ d. MarksBelow d c.args.map.now (32 * (c.args.track * n)) → MarksBelow d c.args.map.now (32 * (c.args.track * n + 0)))
-          (λ d marks. let same : 32 * (c.args.track * n) ≡ 32 * (c.args.track * n + 0) = omega arith in subst (MarksBelow d c.args.map.now) same marks);
+          (λ d marks. let same : 32 * (c.args.track * n) ≡ 32 * (c.args.track * n + 0) = omega arith in
+          subst (MarksBelow d c.args.map.now) same marks);
       words = refl;
       room = refl;
-      before = before_first n (c.args.track * n) c.go_to_track.new.unit.drive.deck some (subst (λ (k : ℕ). StreamsAt (c.args.track * k) 0 c.go_to_track.new.unit.drive.deck) (sym count) c.in_ok-count.ensures.place);
-      mode = mode_kept reads_in true c.args.unit.now.drive.deck c.go_to_track.new.unit.drive.deck c.in_ok-count.ensures.keeps.same c.requires.mode;
+      before = before_first n (c.args.track * n) c.go_to_track.new.unit.drive.deck some
+          (subst (λ (k : ℕ). StreamsAt (c.args.track * k) 0 c.go_to_track.new.unit.drive.deck) (sym count) c.in_ok-count.ensures.place);
+      mode = mode_kept reads_in true c.args.unit.now.drive.deck c.go_to_track.new.unit.drive.deck c.in_ok-count.ensures.keeps.same
+          c.requires.mode;
       keeps = c.in_ok-count.ensures.keeps;
     }
 
@@ -39,7 +42,8 @@ loop-offset-preserved g c =
     let count : n ≡ segments_per_track c.args.unit.now.drive.deck =
     c.in_ok-count.ensures.count in
     let within : c.loop-offset.offset < n = c.loop-offset-test.true in
-    let streams : is_streaming c.mark_segment.new.unit.drive.deck.motion ≡ true = streaming_under _ 32 c.mark_segment.new.unit.drive.deck more.under in
+    let streams : is_streaming c.mark_segment.new.unit.drive.deck.motion ≡ true =
+    streaming_under _ 32 c.mark_segment.new.unit.drive.deck more.under in
     let here : c.args.track * n + c.loop-offset.offset ≡ segment_of c.mark_segment.new.unit.drive.deck = more.under.here in
     let read : Done g.T.Tape.means c.args.unit.now.tape c.mark_segment.new.unit.tape [] = Done-after_reads before.read more.did in
     let both = keeps_both before.keeps more.keeps in
@@ -50,15 +54,20 @@ loop-offset-preserved g c =
           (λ d. MarksBelow d c.loop-offset.map (32 * (c.args.track * n + c.loop-offset.offset)))
           (λ d. MarksBelow d c.mark_segment.new.map (32 * (c.args.track * n + (c.loop-offset.offset + 1))))
           before.marks
-          (let next : 32 * (c.args.track * n + c.loop-offset.offset + 1) ≡ 32 * (c.args.track * n + (c.loop-offset.offset + 1)) = omega arith in
-          subst (λ (k : ℕ). Tells g.T.Tape.means c.args.unit.now.tape (λ d. MarksBelow d c.loop-offset.map (32 * (c.args.track * n + c.loop-offset.offset)) → MarksBelow d c.mark_segment.new.map k)) next
-          (Tells-read (λ d. MarksBelow d c.loop-offset.map (32 * (c.args.track * n + c.loop-offset.offset)) → MarksBelow d c.mark_segment.new.map (32 * (c.args.track * n + c.loop-offset.offset + 1))) before.read more.marks));
+          (let next : 32 * (c.args.track * n + c.loop-offset.offset + 1) ≡ 32 * (c.args.track * n + (c.loop-offset.offset + 1)) =
+          omega arith in
+          subst (λ (k : ℕ). Tells g.T.Tape.means c.args.unit.now.tape
+          (λ d. MarksBelow d c.loop-offset.map (32 * (c.args.track * n + c.loop-offset.offset)) →
+          MarksBelow d c.mark_segment.new.map k)) next
+          (Tells-read (λ d. MarksBelow d c.loop-offset.map (32 * (c.args.track * n + c.loop-offset.offset)) →
+          MarksBelow d c.mark_segment.new.map (32 * (c.args.track * n + c.loop-offset.offset + 1))) before.read more.marks));
       words = more.words ∙ before.words;
       room = omega arith;
       before = before_next n c.args.track c.loop-offset.offset c.mark_segment.new.unit.drive.deck c.next_segment.new.unit.drive.deck
           (length_kept c.args.unit.now.drive.deck c.mark_segment.new.unit.drive.deck both.same.cartridge ∙ sym count)
           more.keeps.ready.fits.sound.drive.deck within streams here (idle.next streams);
-      mode = mode_kept reads_in true c.args.unit.now.drive.deck c.next_segment.new.unit.drive.deck (keeps_both both idle.keeps).same c.requires.mode;
+      mode = mode_kept reads_in true c.args.unit.now.drive.deck c.next_segment.new.unit.drive.deck
+          (keeps_both both idle.keeps).same c.requires.mode;
       keeps = keeps_both both idle.keeps;
     }
 
@@ -80,7 +89,8 @@ pub mark_segment-requires-clause-segment : goal.mark_segment-requires-clause-seg
 mark_segment-requires-clause-segment g c =
     let count : c.in_ok-count.count ≡ segments_per_track c.args.unit.now.drive.deck =
     c.in_ok-count.ensures.count in
-    segment_within c.args.track c.loop-offset.offset c.in_ok-count.count (length c.loop-offset.map) (segments_per_track c.args.unit.now.drive.deck)
+    segment_within c.args.track c.loop-offset.offset c.in_ok-count.count (length c.loop-offset.map)
+    (segments_per_track c.args.unit.now.drive.deck)
     count c.loop-offset-test.true c.requires.track (c.loop-offset.invariant.words ∙ c.requires.words)
 
 pub mark_segment-requires-clause-room : goal.mark_segment-requires-clause-room
@@ -125,8 +135,10 @@ returns-clause-marks g c =
     c.in_ok-count.ensures.count in
     let all : c.loop-offset.offset ≡ n = omega arith in
     let next : 32 * (c.args.track * n + c.loop-offset.offset) ≡ 32 * ((c.args.track + 1) * n) = omega arith in
-    subst (λ (k : ℕ). Tells g.T.Tape.means c.args.unit.now.tape (λ d. MarksBelow d c.args.map.now (32 * (c.args.track * k)) → MarksBelow d c.loop-offset.map (32 * ((c.args.track + 1) * k)))) count
-    (subst (λ (k : ℕ). Tells g.T.Tape.means c.args.unit.now.tape (λ d. MarksBelow d c.args.map.now (32 * (c.args.track * n)) → MarksBelow d c.loop-offset.map k)) next
+    subst (λ (k : ℕ). Tells g.T.Tape.means c.args.unit.now.tape
+    (λ d. MarksBelow d c.args.map.now (32 * (c.args.track * k)) → MarksBelow d c.loop-offset.map (32 * ((c.args.track + 1) * k)))) count
+    (subst (λ (k : ℕ). Tells g.T.Tape.means c.args.unit.now.tape
+    (λ d. MarksBelow d c.args.map.now (32 * (c.args.track * n)) → MarksBelow d c.loop-offset.map k)) next
     c.loop-offset.invariant.marks)
 
 pub returns-clause-words : goal.returns-clause-words

@@ -16,7 +16,8 @@ loop-track-init g c = record {
   read = Done-nothing g.T.Tape.means c.args.unit.now.tape;
   marks = tells_always g.T.Tape.means c.args.unit.now.tape
       (λ d. MarksBelow d c.args.map.now 0 → MarksBelow d c.args.map.now (32 * (0 * segments_per_track c.args.unit.now.drive.deck)))
-      (λ d marks. let same : 0 ≡ 32 * (0 * segments_per_track c.args.unit.now.drive.deck) = omega arith in subst (MarksBelow d c.args.map.now) same marks);
+      (λ d marks. let same : 0 ≡ 32 * (0 * segments_per_track c.args.unit.now.drive.deck) = omega arith in
+      subst (MarksBelow d c.args.map.now) same marks);
   words = refl;
   room = refl;
   stopped = c.requires.stopped;
@@ -29,7 +30,8 @@ loop-track-preserved g c =
     let before = c.loop-track.invariant in
     let more = c.in_ok-mark_track.ensures in
     let n : ℕ = segments_per_track c.args.unit.now.drive.deck in
-    let length : segments_per_track c.loop-track.unit.drive.deck ≡ n = length_kept c.args.unit.now.drive.deck c.loop-track.unit.drive.deck before.keeps.same.cartridge in
+    let length : segments_per_track c.loop-track.unit.drive.deck ≡ n =
+    length_kept c.args.unit.now.drive.deck c.loop-track.unit.drive.deck before.keeps.same.cartridge in
     record {
       read = Done-after_reads before.read more.did;
       marks = tells_chain g.T.Tape.means c.args.unit.now.tape
@@ -37,8 +39,12 @@ loop-track-preserved g c =
           (λ d. MarksBelow d c.loop-track.map (32 * (c.loop-track.track * n)))
           (λ d. MarksBelow d c.mark_track.new.map (32 * ((c.loop-track.track + 1) * n)))
           before.marks
-          (subst (λ (k : ℕ). Tells g.T.Tape.means c.args.unit.now.tape (λ d. MarksBelow d c.loop-track.map (32 * (c.loop-track.track * k)) → MarksBelow d c.mark_track.new.map (32 * ((c.loop-track.track + 1) * k)))) length
-          (Tells-read (λ d. MarksBelow d c.loop-track.map (32 * (c.loop-track.track * segments_per_track c.loop-track.unit.drive.deck)) → MarksBelow d c.mark_track.new.map (32 * ((c.loop-track.track + 1) * segments_per_track c.loop-track.unit.drive.deck))) before.read more.marks));
+          (subst (λ (k : ℕ). Tells g.T.Tape.means c.args.unit.now.tape
+          (λ d. MarksBelow d c.loop-track.map (32 * (c.loop-track.track * k)) →
+          MarksBelow d c.mark_track.new.map (32 * ((c.loop-track.track + 1) * k)))) length
+          (Tells-read (λ d. MarksBelow d c.loop-track.map (32 * (c.loop-track.track * segments_per_track c.loop-track.unit.drive.deck)) →
+          MarksBelow d c.mark_track.new.map (32 * ((c.loop-track.track + 1) * segments_per_track c.loop-track.unit.drive.deck)))
+          before.read more.marks));
       words = more.words ∙ before.words;
       room = omega arith;
       stopped = more.stopped;
@@ -54,12 +60,14 @@ mark_track-requires-clause-mode g c = c.loop-track.invariant.mode
 
 pub mark_track-requires-clause-referenced : goal.mark_track-requires-clause-referenced
 mark_track-requires-clause-referenced g c =
-    cartridge_kept (λ info. info.referenced) true c.args.unit.now.drive.deck c.loop-track.unit.drive.deck c.loop-track.invariant.keeps.same c.requires.referenced
+    cartridge_kept (λ info. info.referenced) true c.args.unit.now.drive.deck c.loop-track.unit.drive.deck c.loop-track.invariant.keeps.same
+    c.requires.referenced
 
 pub mark_track-requires-clause-words : goal.mark_track-requires-clause-words
 mark_track-requires-clause-words g c =
     c.loop-track.invariant.words ∙ c.requires.words
-    ∙ ap (λ (k : ℕ). 28 * k) (sym (length_kept c.args.unit.now.drive.deck c.loop-track.unit.drive.deck c.loop-track.invariant.keeps.same.cartridge))
+    ∙ ap (λ (k : ℕ). 28 * k) (sym (length_kept c.args.unit.now.drive.deck c.loop-track.unit.drive.deck
+    c.loop-track.invariant.keeps.same.cartridge))
 
 pub mark_track-requires-clause-room : goal.mark_track-requires-clause-room
 mark_track-requires-clause-room g c = omega (arith, c.loop-track.invariant.room, c.requires.room)
@@ -99,7 +107,8 @@ returns-clause-marks g c =
     let all : c.loop-track.track ≡ 28 = omega arith in
     let whole : 32 * (c.loop-track.track * n) ≡ 32 * length c.args.map.now =
     ap (λ (k : ℕ). 32 * (k * n)) all ∙ ap (λ (k : ℕ). 32 * k) (sym c.requires.words) in
-    subst (λ (k : ℕ). Tells g.T.Tape.means c.args.unit.now.tape (λ d. MarksBelow d c.args.map.now 0 → MarksBelow d c.loop-track.map k)) whole
+    subst (λ (k : ℕ). Tells g.T.Tape.means c.args.unit.now.tape (λ d. MarksBelow d c.args.map.now 0 → MarksBelow d c.loop-track.map k))
+    whole
     c.loop-track.invariant.marks
 
 pub returns-clause-words : goal.returns-clause-words

@@ -22,7 +22,8 @@ pub returns-in_err-go_to : goal.returns-in_err-go_to
 returns-in_err-go_to g c = let no = c.in_err-go_to.ensures.ok in absurd (cc)
 
 pub returns-clause-count : goal.returns-clause-count
-returns-clause-count g c = c.from-count.ensures ∙ c.segments_per_track.ensures.value ∙ c.geometry.ensures ∙ length_known c.requires.ready.fits
+returns-clause-count g c = c.from-count.ensures ∙ c.segments_per_track.ensures.value ∙ c.geometry.ensures
+    ∙ length_known c.requires.ready.fits
 
 pub returns-clause-some : goal.returns-clause-some
 returns-clause-some g c =

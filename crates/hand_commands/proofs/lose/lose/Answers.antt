@@ -10,7 +10,8 @@ use Rattle.command_spec.specs.declared.status.Status.TheVariants as status
 use Rattle.command_spec.specs.Lines.{lost_line}
 use Rattle.command_spec.specs.Outcome.{CommandOutcome, carried_out, refused}
 use Rattle.hand_commands.specs.Outcome.{first_steps}
-use Rattle.hand_commands.proofs.Endings.{IsBlind, told_map, told_back, printed, turned_down, cut_off, cut_off_first, lose_absent, lose_misplaced, lose_placed, lose_front}
+use Rattle.hand_commands.proofs.Endings.{IsBlind, told_map, told_back, printed, turned_down, cut_off, cut_off_first, lose_absent}
+use Rattle.hand_commands.proofs.Endings.{lose_misplaced, lose_placed, lose_front}
 use Rattle.command_laws.proofs.CommandEndings.{Rules}
 use Rattle.hand_commands.proofs.Hands.{reached, unknown, no_place}
 use Rattle.qic_base.specs.CartridgeTerms.{IsInfoOf}
@@ -21,47 +22,71 @@ is_blind = record { reads = refl }
 
 pub returns-in-Ok : goal.returns-in-Ok
 returns-in-Ok g c =
-    let came = reached _ c.args.segment c.args.sector c.wear.result (Wears g.T.Tape.means c.insert.new.self c.wear.new.self c.args.segment c.args.sector)
-    c.wear.ensures.absent c.wear.ensures.misplaced c.wear.ensures.placed (λ is. let other = c.in-Ok.is in cc) (λ is. let other = c.in-Ok.is in cc) in
-    let before = told_back g.T.Tape.means c.args.unit.now.tape c.insert.new.self.tape (IsInfoOf _) c.in_default.ensures.did c.in_default.ensures.inserted.known.told in
-    rw c.printed.ensures (printed g.T.Tape.means g.K.Sink.means (Lose c.args.segment c.args.sector) is_blind c.args.unit.now.tape c.wear.new.self.tape c.args.sink.now c.write_text.new.sink
+    let came = reached _ c.args.segment c.args.sector c.wear.result
+    (Wears g.T.Tape.means c.insert.new.self c.wear.new.self c.args.segment c.args.sector)
+    c.wear.ensures.absent c.wear.ensures.misplaced c.wear.ensures.placed (λ is. let other = c.in-Ok.is in cc)
+    (λ is. let other = c.in-Ok.is in cc) in
+    let before = told_back g.T.Tape.means c.args.unit.now.tape c.insert.new.self.tape
+    (IsInfoOf _) c.in_default.ensures.did c.in_default.ensures.inserted.known.told in
+    rw c.printed.ensures (printed g.T.Tape.means g.K.Sink.means (Lose c.args.segment c.args.sector) is_blind c.args.unit.now.tape
+    c.wear.new.self.tape c.args.sink.now c.write_text.new.sink
     (carried_out (Wear c.args.segment c.args.sector) (lost_line c.args.segment c.args.sector)) c.write_text.result refl refl refl
-    (told_map _ (IsInfoOf _) (λ h. Rules (Lose c.args.segment c.args.sector) h (carried_out (Wear c.args.segment c.args.sector) (lost_line c.args.segment c.args.sector))) before (λ held known. λ input. lose_placed c.args.segment c.args.sector came.info held (sym came.known ∙ known) came.place))
+    (told_map _ (IsInfoOf _) (λ h. Rules (Lose c.args.segment c.args.sector) h
+    (carried_out (Wear c.args.segment c.args.sector) (lost_line c.args.segment c.args.sector))) before
+    (λ held known. λ input. lose_placed c.args.segment c.args.sector came.info held (sym came.known ∙ known) came.place))
     (Done-after_reads c.in_default.ensures.did (rw c.in-Ok.is at came.fact))
     (rw (c.bytes.ensures, c.place_text.ensures, c.from.ensures, c.from-in-Ok.ensures) at c.write_text.ensures))
 
 pub returns-in-Err-NoCartridge : goal.returns-in-Err-NoCartridge
 returns-in-Err-NoCartridge g c =
     let is : c.wear.result ≡ Err hand.NoCartridge = c.in-Err-NoCartridge.is ∙ ap Err c.in-Err-NoCartridge.field-0-is in
-    let none = unknown _ c.args.segment c.args.sector c.wear.result (Wears g.T.Tape.means c.insert.new.self c.wear.new.self c.args.segment c.args.sector)
+    let none = unknown _ c.args.segment c.args.sector c.wear.result
+    (Wears g.T.Tape.means c.insert.new.self c.wear.new.self c.args.segment c.args.sector)
     c.wear.ensures.misplaced c.wear.ensures.placed is (λ never. never) in
-    let before = told_back g.T.Tape.means c.args.unit.now.tape c.insert.new.self.tape (IsInfoOf _) c.in_default.ensures.did c.in_default.ensures.inserted.known.told in
+    let before = told_back g.T.Tape.means c.args.unit.now.tape c.insert.new.self.tape
+    (IsInfoOf _) c.in_default.ensures.did c.in_default.ensures.inserted.known.told in
     let same = c.wear.ensures.untouched (inl is) in
-    turned_down g.T.Tape.means g.K.Sink.means (Lose c.args.segment c.args.sector) is_blind c.args.unit.now.tape c.wear.new.self.tape c.args.sink.now status.NoCartridge g.met.K.Sink.took_nothing refl (λ other. cc)
-    (told_map _ (IsInfoOf _) (λ h. Rules (Lose c.args.segment c.args.sector) h (refused status.NoCartridge)) before (λ held known. λ input. lose_absent c.args.segment c.args.sector held (sym none ∙ known)))
+    turned_down g.T.Tape.means g.K.Sink.means (Lose c.args.segment c.args.sector) is_blind c.args.unit.now.tape c.wear.new.self.tape
+    c.args.sink.now status.NoCartridge g.met.K.Sink.took_nothing refl (λ other. cc)
+    (told_map _ (IsInfoOf _) (λ h. Rules (Lose c.args.segment c.args.sector) h (refused status.NoCartridge)) before
+    (λ held known. λ input. lose_absent c.args.segment c.args.sector held (sym none ∙ known)))
     (subst (λ (u : UnitView _). tapes.Done g.T.Tape.means c.args.unit.now.tape u.tape []) (sym same) c.in_default.ensures.did)
 
 pub returns-in-Err-BadPlace : goal.returns-in-Err-BadPlace
 returns-in-Err-BadPlace g c =
     let is : c.wear.result ≡ Err hand.BadPlace = c.in-Err-BadPlace.is ∙ ap Err c.in-Err-BadPlace.field-0-is in
-    let out = no_place _ c.args.segment c.args.sector c.wear.result (Wears g.T.Tape.means c.insert.new.self c.wear.new.self c.args.segment c.args.sector)
+    let out = no_place _ c.args.segment c.args.sector c.wear.result
+    (Wears g.T.Tape.means c.insert.new.self c.wear.new.self c.args.segment c.args.sector)
     c.wear.ensures.absent c.wear.ensures.placed is (λ never. never) in
-    let before = told_back g.T.Tape.means c.args.unit.now.tape c.insert.new.self.tape (IsInfoOf _) c.in_default.ensures.did c.in_default.ensures.inserted.known.told in
+    let before = told_back g.T.Tape.means c.args.unit.now.tape c.insert.new.self.tape
+    (IsInfoOf _) c.in_default.ensures.did c.in_default.ensures.inserted.known.told in
     let same = c.wear.ensures.untouched (inr is) in
-    turned_down g.T.Tape.means g.K.Sink.means (Lose c.args.segment c.args.sector) is_blind c.args.unit.now.tape c.wear.new.self.tape c.args.sink.now status.BadPlace g.met.K.Sink.took_nothing refl (λ other. cc)
-    (told_map _ (IsInfoOf _) (λ h. Rules (Lose c.args.segment c.args.sector) h (refused status.BadPlace)) before (λ held known. λ input. lose_misplaced c.args.segment c.args.sector out.info held (sym out.known ∙ known) out.none))
+    turned_down g.T.Tape.means g.K.Sink.means (Lose c.args.segment c.args.sector) is_blind c.args.unit.now.tape c.wear.new.self.tape
+    c.args.sink.now status.BadPlace g.met.K.Sink.took_nothing refl (λ other. cc)
+    (told_map _ (IsInfoOf _) (λ h. Rules (Lose c.args.segment c.args.sector) h (refused status.BadPlace)) before
+    (λ held known. λ input. lose_misplaced c.args.segment c.args.sector out.info held (sym out.known ∙ known) out.none))
     (subst (λ (u : UnitView _). tapes.Done g.T.Tape.means c.args.unit.now.tape u.tape []) (sym same) c.in_default.ensures.did)
 
 pub returns-in-Err-Tape : goal.returns-in-Err-Tape
 returns-in-Err-Tape g c =
     let is : c.wear.result ≡ Err hand.Tape = c.in-Err-Tape.is ∙ ap Err c.in-Err-Tape.field-0-is in
-    let came = reached _ c.args.segment c.args.sector c.wear.result (Wears g.T.Tape.means c.insert.new.self c.wear.new.self c.args.segment c.args.sector)
+    let came = reached _ c.args.segment c.args.sector c.wear.result
+    (Wears g.T.Tape.means c.insert.new.self c.wear.new.self c.args.segment c.args.sector)
     c.wear.ensures.absent c.wear.ensures.misplaced c.wear.ensures.placed (λ is. let other = is in cc) (λ is. let other = is in cc) in
-    let before = told_back g.T.Tape.means c.args.unit.now.tape c.insert.new.self.tape (IsInfoOf _) c.in_default.ensures.did c.in_default.ensures.inserted.known.told in
-    cut_off g.T.Tape.means g.K.Sink.means (Lose c.args.segment c.args.sector) is_blind c.args.unit.now.tape c.wear.new.self.tape c.args.sink.now (Wear c.args.segment c.args.sector ∷ []) g.met.K.Sink.took_nothing
-    (told_map _ (IsInfoOf _) (λ h. (outcome : CommandOutcome) → Rules (Lose c.args.segment c.args.sector) h outcome → (rest : List TapeStep) × ((Wear c.args.segment c.args.sector ∷ []) ++ rest ≡ first_steps outcome)) before (λ held known. λ outcome rules. ([], lose_front c.args.segment c.args.sector came.info held outcome (sym came.known ∙ known) came.place (rules []))))
+    let before = told_back g.T.Tape.means c.args.unit.now.tape c.insert.new.self.tape
+    (IsInfoOf _) c.in_default.ensures.did c.in_default.ensures.inserted.known.told in
+    cut_off g.T.Tape.means g.K.Sink.means (Lose c.args.segment c.args.sector) is_blind c.args.unit.now.tape c.wear.new.self.tape
+    c.args.sink.now (Wear c.args.segment c.args.sector ∷ []) g.met.K.Sink.took_nothing
+    (told_map _ (IsInfoOf _) (λ h. (outcome : CommandOutcome) → Rules (Lose c.args.segment c.args.sector) h outcome → (rest : List TapeStep)
+    × ((Wear c.args.segment c.args.sector ∷ []) ++ rest ≡ first_steps outcome)) before
+    (λ held known. λ outcome rules. (
+      [],
+      lose_front c.args.segment c.args.sector came.info held outcome
+          (sym came.known ∙ known) came.place (rules []),
+    )))
     (Broke-after_reads c.in_default.ensures.did (rw is at came.fact))
 
 pub returns-in-Err : goal.returns-in-Err
 returns-in-Err g c =
-    cut_off_first g.T.Tape.means g.K.Sink.means (Lose c.args.segment c.args.sector) is_blind c.args.unit.now.tape c.insert.new.self.tape c.args.sink.now g.met.K.Sink.took_nothing c.in-Err.ensures.did
+    cut_off_first g.T.Tape.means g.K.Sink.means (Lose c.args.segment c.args.sector) is_blind c.args.unit.now.tape c.insert.new.self.tape
+    c.args.sink.now g.met.K.Sink.took_nothing c.in-Err.ensures.did

@@ -13,22 +13,28 @@ is_blind : {segments : _} → IsBlind (New segments)
 is_blind = record { reads = refl }
 
 -- a new cartridge is put in whatever is told
-always : (segments : _) (held : Option (Option Cartridge)) → IfSome held (λ h. Rules (New segments) h (carried_out (Renew segments) (blank_line segments)))
+always : (segments : _) (held : Option (Option Cartridge)) →
+    IfSome held (λ h. Rules (New segments) h (carried_out (Renew segments) (blank_line segments)))
 always segments None = tt
 always segments (Some h) = λ input. refl
 
-front : (segments : _) (held : Option (Option Cartridge)) → IfSome held (λ h. (outcome : CommandOutcome) → Rules (New segments) h outcome → (rest : List _) × ((Renew segments ∷ []) ++ rest ≡ first_steps outcome))
+front : (segments : _) (held : Option (Option Cartridge)) →
+    IfSome held (λ h. (outcome : CommandOutcome) → Rules (New segments) h outcome → (rest : List _)
+    × ((Renew segments ∷ []) ++ rest ≡ first_steps outcome))
 front segments None = tt
 front segments (Some h) = λ outcome rules. ([], sym (ap (λ (o : CommandOutcome). first_steps o) (rules [])))
 
 pub returns-in-Ok : goal.returns-in-Ok
 returns-in-Ok g c =
-    rw c.printed.ensures (printed g.T.Tape.means g.K.Sink.means (New c.args.segments) is_blind c.args.unit.now.tape c.load_blank.new.self.tape c.args.sink.now c.write_text.new.sink
-    (carried_out (Renew c.args.segments) (blank_line c.args.segments)) c.write_text.result refl refl refl (always c.args.segments _) c.in-Ok.ensures.1
+    rw c.printed.ensures (printed g.T.Tape.means g.K.Sink.means
+    (New c.args.segments) is_blind c.args.unit.now.tape c.load_blank.new.self.tape c.args.sink.now c.write_text.new.sink
+    (carried_out (Renew c.args.segments) (blank_line c.args.segments)) c.write_text.result refl refl refl
+    (always c.args.segments _) c.in-Ok.ensures.1
     (rw (c.bytes.ensures, c.number_text.ensures, c.from.ensures) at c.write_text.ensures))
 
 pub returns-in-Err-Tape : goal.returns-in-Err-Tape
 returns-in-Err-Tape g c =
     let broke = rw c.in-Err-Tape.field-0-is at c.in-Err-Tape.ensures in
-    cut_off g.T.Tape.means g.K.Sink.means (New c.args.segments) is_blind c.args.unit.now.tape c.load_blank.new.self.tape c.args.sink.now (Renew c.args.segments ∷ []) g.met.K.Sink.took_nothing
+    cut_off g.T.Tape.means g.K.Sink.means (New c.args.segments) is_blind c.args.unit.now.tape c.load_blank.new.self.tape c.args.sink.now
+    (Renew c.args.segments ∷ []) g.met.K.Sink.took_nothing
     (front c.args.segments _) broke.1

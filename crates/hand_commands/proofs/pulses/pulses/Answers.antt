@@ -17,7 +17,8 @@ returns-in-Err-Script-clause-ends g c =
     record { tape = c.args.unit.now.tape; source = c.args.source.now; sink = c.args.sink.now }
     record { tape = c.run_pulses.new.unit.tape; source = c.run_pulses.new.source; sink = c.run_pulses.new.sink }
     c.run_pulses.new.unit.drive
-    c.in-Err-Script.field-0 (fault.Script c.in-Err-Script.line c.in-Err-Script.place) c.in-Err-Script.field-0-is c.in-Err-Script.ensures.ends c.in-Err-Script.ensures.source_tells
+    c.in-Err-Script.field-0 (fault.Script c.in-Err-Script.line c.in-Err-Script.place) c.in-Err-Script.field-0-is
+    c.in-Err-Script.ensures.ends c.in-Err-Script.ensures.source_tells
 
 pub returns-in-Err-Source-clause-ends : goal.returns-in-Err-Source-clause-ends
 returns-in-Err-Source-clause-ends g c =

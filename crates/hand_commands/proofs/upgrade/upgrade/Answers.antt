@@ -10,7 +10,8 @@ use Rattle.command_spec.specs.declared.status.Status.TheVariants as status
 use Rattle.command_spec.specs.Lines.{upgraded_line}
 use Rattle.command_spec.specs.Outcome.{CommandOutcome, carried_out, refused}
 use Rattle.hand_commands.specs.Outcome.{first_steps}
-use Rattle.hand_commands.proofs.Endings.{IsBlind, told_map, told_both, told_back, printed, turned_down, cut_off, cut_off_first, upgrade_absent, upgrade_present, upgrade_front}
+use Rattle.hand_commands.proofs.Endings.{IsBlind, told_map, told_both, told_back, printed, turned_down, cut_off, cut_off_first}
+use Rattle.hand_commands.proofs.Endings.{upgrade_absent, upgrade_present, upgrade_front}
 use Rattle.command_laws.proofs.CommandEndings.{Rules}
 use Rattle.hand_commands.proofs.Hands.{switched, no_switch}
 use Rattle.qic_base.specs.CartridgeTerms.{IsInfoOf}
@@ -21,13 +22,18 @@ is_blind = record { reads = refl }
 
 pub returns-in-Ok : goal.returns-in-Ok
 returns-in-Ok g c =
-    let came = switched _ c.upgrade.result (Upgrades g.T.Tape.means c.insert.new.self c.upgrade.new.self) _ c.upgrade.ensures.absent c.upgrade.ensures.present (λ is. let other = c.in-Ok.is in cc) in
-    let before = told_back g.T.Tape.means c.args.unit.now.tape c.insert.new.self.tape (IsInfoOf _) c.in_default.ensures.did c.in_default.ensures.inserted.known.told in
+    let came = switched _ c.upgrade.result (Upgrades g.T.Tape.means c.insert.new.self c.upgrade.new.self) _ c.upgrade.ensures.absent
+    c.upgrade.ensures.present (λ is. let other = c.in-Ok.is in cc) in
+    let before = told_back g.T.Tape.means c.args.unit.now.tape c.insert.new.self.tape
+    (IsInfoOf _) c.in_default.ensures.did c.in_default.ensures.inserted.known.told in
     let done = (rw c.in-Ok.is at came.fact).1 in
-    rw c.printed.ensures (printed g.T.Tape.means g.K.Sink.means Upgrade is_blind c.args.unit.now.tape c.upgrade.new.self.tape c.args.sink.now c.write_text.new.sink
-    (carried_out Upgrading (upgraded_line c.in-Ok.version)) c.write_text.result refl refl (c.in-Ok.version, done.layout.oldest, done.layout.newest, refl)
+    rw c.printed.ensures (printed g.T.Tape.means g.K.Sink.means Upgrade is_blind c.args.unit.now.tape c.upgrade.new.self.tape
+    c.args.sink.now c.write_text.new.sink
+    (carried_out Upgrading (upgraded_line c.in-Ok.version)) c.write_text.result refl refl
+    (c.in-Ok.version, done.layout.oldest, done.layout.newest, refl)
     (told_map _ _ (λ h. Rules Upgrade h (carried_out Upgrading (upgraded_line c.in-Ok.version)))
-    (told_both _ (IsInfoOf _) (λ h. IfSome h (λ d. c.in-Ok.version ≡ d.version)) before (Tells-read (λ d. c.in-Ok.version ≡ d.version) c.in_default.ensures.did done.told))
+    (told_both _ (IsInfoOf _) (λ h. IfSome h (λ d. c.in-Ok.version ≡ d.version)) before
+    (Tells-read (λ d. c.in-Ok.version ≡ d.version) c.in_default.ensures.did done.told))
     (λ held is input. upgrade_present came.info c.in-Ok.version held (sym came.known ∙ is.0) is.1))
     (Done-after_reads c.in_default.ensures.did done.done)
     (rw (c.bytes.ensures, c.number_text.ensures, c.from.ensures) at c.write_text.ensures))
@@ -35,21 +41,31 @@ returns-in-Ok g c =
 pub returns-in-Err-NoCartridge : goal.returns-in-Err-NoCartridge
 returns-in-Err-NoCartridge g c =
     let is : c.upgrade.result ≡ Err hand.NoCartridge = c.in-Err-NoCartridge.is ∙ ap Err c.in-Err-NoCartridge.field-0-is in
-    let none = no_switch _ c.upgrade.result (Upgrades g.T.Tape.means c.insert.new.self c.upgrade.new.self) _ c.upgrade.ensures.absent c.upgrade.ensures.present is (λ never. never) in
-    let before = told_back g.T.Tape.means c.args.unit.now.tape c.insert.new.self.tape (IsInfoOf _) c.in_default.ensures.did c.in_default.ensures.inserted.known.told in
-    turned_down g.T.Tape.means g.K.Sink.means Upgrade is_blind c.args.unit.now.tape c.upgrade.new.self.tape c.args.sink.now status.NoCartridge g.met.K.Sink.took_nothing refl (λ other. cc)
-    (told_map _ (IsInfoOf _) (λ h. Rules Upgrade h (refused status.NoCartridge)) before (λ held known. λ input. upgrade_absent held (sym none.known ∙ known)))
+    let none = no_switch _ c.upgrade.result (Upgrades g.T.Tape.means c.insert.new.self c.upgrade.new.self) _ c.upgrade.ensures.absent
+    c.upgrade.ensures.present is (λ never. never) in
+    let before = told_back g.T.Tape.means c.args.unit.now.tape c.insert.new.self.tape
+    (IsInfoOf _) c.in_default.ensures.did c.in_default.ensures.inserted.known.told in
+    turned_down g.T.Tape.means g.K.Sink.means Upgrade is_blind c.args.unit.now.tape c.upgrade.new.self.tape c.args.sink.now
+    status.NoCartridge g.met.K.Sink.took_nothing refl (λ other. cc)
+    (told_map _ (IsInfoOf _) (λ h. Rules Upgrade h (refused status.NoCartridge)) before
+    (λ held known. λ input. upgrade_absent held (sym none.known ∙ known)))
     (subst (λ (u : UnitView _). tapes.Done g.T.Tape.means c.args.unit.now.tape u.tape []) (sym none.same) c.in_default.ensures.did)
 
 pub returns-in-Err-Tape : goal.returns-in-Err-Tape
 returns-in-Err-Tape g c =
     let is : c.upgrade.result ≡ Err hand.Tape = c.in-Err-Tape.is ∙ ap Err c.in-Err-Tape.field-0-is in
-    let came = switched _ c.upgrade.result (Upgrades g.T.Tape.means c.insert.new.self c.upgrade.new.self) _ c.upgrade.ensures.absent c.upgrade.ensures.present (λ no. cc) in
-    let before = told_back g.T.Tape.means c.args.unit.now.tape c.insert.new.self.tape (IsInfoOf _) c.in_default.ensures.did c.in_default.ensures.inserted.known.told in
-    cut_off g.T.Tape.means g.K.Sink.means Upgrade is_blind c.args.unit.now.tape c.upgrade.new.self.tape c.args.sink.now (Upgrading ∷ []) g.met.K.Sink.took_nothing
-    (told_map _ (IsInfoOf _) (λ h. (outcome : CommandOutcome) → Rules Upgrade h outcome → (rest : List TapeStep) × ((Upgrading ∷ []) ++ rest ≡ first_steps outcome)) before (λ held known. λ outcome rules. ([], upgrade_front came.info held outcome (sym came.known ∙ known) (rules []))))
+    let came = switched _ c.upgrade.result (Upgrades g.T.Tape.means c.insert.new.self c.upgrade.new.self) _ c.upgrade.ensures.absent
+    c.upgrade.ensures.present (λ no. cc) in
+    let before = told_back g.T.Tape.means c.args.unit.now.tape c.insert.new.self.tape
+    (IsInfoOf _) c.in_default.ensures.did c.in_default.ensures.inserted.known.told in
+    cut_off g.T.Tape.means g.K.Sink.means Upgrade is_blind c.args.unit.now.tape c.upgrade.new.self.tape c.args.sink.now
+    (Upgrading ∷ []) g.met.K.Sink.took_nothing
+    (told_map _ (IsInfoOf _) (λ h. (outcome : CommandOutcome) → Rules Upgrade h outcome → (rest : List TapeStep)
+    × ((Upgrading ∷ []) ++ rest ≡ first_steps outcome)) before
+    (λ held known. λ outcome rules. ([], upgrade_front came.info held outcome (sym came.known ∙ known) (rules []))))
     (Broke-after_reads c.in_default.ensures.did (rw is at came.fact).1.broke)
 
 pub returns-in-Err : goal.returns-in-Err
 returns-in-Err g c =
-    cut_off_first g.T.Tape.means g.K.Sink.means Upgrade is_blind c.args.unit.now.tape c.insert.new.self.tape c.args.sink.now g.met.K.Sink.took_nothing c.in-Err.ensures.did
+    cut_off_first g.T.Tape.means g.K.Sink.means Upgrade is_blind c.args.unit.now.tape c.insert.new.self.tape c.args.sink.now
+    g.met.K.Sink.took_nothing c.in-Err.ensures.did

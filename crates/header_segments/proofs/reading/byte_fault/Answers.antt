@@ -10,4 +10,5 @@ returns-then-found-value c =
 pub returns : goal.returns
 returns c =
     tested-other c.args.area.now c.args.field c.args.at 1 c.args.value c.from.result
-    (c.from.ensures ∙ sym (number_in-byte c.args.area.now c.args.at c.requires.within)) (λ e. c.if-found-value.false (sym c.from.ensures ∙ e))
+    (c.from.ensures ∙ sym (number_in-byte c.args.area.now c.args.at c.requires.within))
+    (λ e. c.if-found-value.false (sym c.from.ensures ∙ e))

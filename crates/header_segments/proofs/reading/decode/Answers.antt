@@ -8,7 +8,8 @@ pub returns-in-None-clause-shown : goal.returns-in-None-clause-shown
 returns-in-None-clause-shown c =
     let drive : number_in c.args.area.now 24 2 ≡ c.args.drive_segments =
     refusal-segments c.args.area.now c.args.drive_segments (sym c.in-None.ensures) in
-    let read : number_in c.args.area.now 24 2 ≡ c.fields_of.result.segments_per_track = c.fields_of.ensures 2 (number 0 0 0) (omega arith) in
+    let read : number_in c.args.area.now 24 2 ≡ c.fields_of.result.segments_per_track = c.fields_of.ensures 2 (number 0 0 0)
+    (omega arith) in
     record {
       header = c.fields_of.ensures;
       map = c.read.ensures ∙ ap (λ (n : ℕ). words_in c.args.area.now (28 * n)) (c.from.ensures ∙ sym drive ∙ read);

@@ -9,7 +9,8 @@ pub returns-then-usable : goal.returns-then-usable
 returns-then-usable c area segments is =
     let count : length c.args.map.now ≡ segments = length-words_in area c.args.map.now segments is in
     let below : c.loop-segment.segment < 3 = omega arith in
-    let here : get_or c.args.map.now c.loop-segment.segment 0 ≡ _ = word_in-read area c.args.map.now segments c.loop-segment.segment is (omega arith) in
+    let here : get_or c.args.map.now c.loop-segment.segment 0 ≡ _ = word_in-read area c.args.map.now segments c.loop-segment.segment is
+    (omega arith) in
     sym (ap (option_map foreign)
     (map_fault-first area c.loop-segment.segment below
     (λ j before. sym (word_in-read area c.args.map.now segments j is (omega arith)) ∙ c.loop-segment.invariant j before)

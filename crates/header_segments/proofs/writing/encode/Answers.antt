@@ -8,7 +8,8 @@ use Rattle.header_segments.proofs.writing.encode.Goals as goal
 pub returns : goal.returns
 returns c =
     let long : length (get_or c.write.new.area 0 []) ≡ 1024 =
-    profile_whole c.args.header.now.segments_per_track _ c.requires.long (ap length (sym c.write_profile.ensures) ∙ c.write_profile.array_long) in
+    profile_whole c.args.header.now.segments_per_track _ c.requires.long
+    (ap length (sym c.write_profile.ensures) ∙ c.write_profile.array_long) in
     encoded_spells (header_of c.args.header.now) c.args.map.now c.write_told.new.sector c.clear.new.area c.write.new.area
     (record {
       tracks = c.requires.long;

@@ -10,6 +10,8 @@ pub returns : goal.returns
 returns g c =
     let first : Wrote g.K.Sink.means c.args.sink.now c.write_text.new.sink (label_lines (header_of c.args.header.now)) =
     rw (c.bytes.ensures, c.label_text.ensures) at c.in_default.ensures in
-    let next : Writes g.K.Sink.means c.write_text.new.sink c.write_text-2.new.sink (count_lines (28 * c.args.header.now.segments_per_track) c.args.bad c.args.volumes) c.write_text-2.result =
+    let next : Writes g.K.Sink.means c.write_text.new.sink c.write_text-2.new.sink
+    (count_lines (28 * c.args.header.now.segments_per_track) c.args.bad c.args.volumes) c.write_text-2.result =
     rw (c.bytes-2.ensures, c.count_text.ensures, c.from-segments.ensures) at c.write_text-2.ensures in
-    Writes-after c.write_text-2.new.sink (count_lines (28 * c.args.header.now.segments_per_track) c.args.bad c.args.volumes) c.write_text-2.result g.met.K.Sink.took_both first next
+    Writes-after c.write_text-2.new.sink (count_lines (28 * c.args.header.now.segments_per_track) c.args.bad c.args.volumes)
+    c.write_text-2.result g.met.K.Sink.took_both first next

@@ -14,7 +14,8 @@ pub returns-in-Ok-mount : goal.returns-in-Ok-mount
 returns-in-Ok-mount g c =
     let there = there_of c.in-Ok.ensures in
     let free : there.info.protected ≡ false =
-    sym (ap (λ i. option_map_or (λ c. c.protected) i false) there.is) ∙ ap is_protected c.in-Ok.ensures.ready.fits.deck ∙ sym c.protected.ensures ∙ c.if-protected.false in (
+    sym (ap (λ i. option_map_or (λ c. c.protected) i false) there.is) ∙ ap is_protected c.in-Ok.ensures.ready.fits.deck
+    ∙ sym c.protected.ensures ∙ c.if-protected.false in (
       unlocked_known g.T.Tape.means c.args.unit.now.tape c.start.new.unit.tape there.info (present c.in-Ok.ensures) free,
       open_shown g.T.Tape.means c.args.unit.now.tape c.start.new.unit.tape c.mount.new.unit there.info c.in-Ok-mount.store
           (present c.in-Ok.ensures) c.in-Ok-mount.ensures.did c.in-Ok-mount.ensures.fits,
@@ -24,7 +25,8 @@ pub returns-in-Err-mount : goal.returns-in-Err-mount
 returns-in-Err-mount g c =
     let there = there_of c.in-Ok.ensures in
     let free : there.info.protected ≡ false =
-    sym (ap (λ i. option_map_or (λ c. c.protected) i false) there.is) ∙ ap is_protected c.in-Ok.ensures.ready.fits.deck ∙ sym c.protected.ensures ∙ c.if-protected.false in
+    sym (ap (λ i. option_map_or (λ c. c.protected) i false) there.is) ∙ ap is_protected c.in-Ok.ensures.ready.fits.deck
+    ∙ sym c.protected.ensures ∙ c.if-protected.false in
     rw c.store_status.ensures (writable_failed g.T.Tape.means c.args.unit.now.tape c.mount.new.unit _
     (unlocked_known g.T.Tape.means c.args.unit.now.tape c.start.new.unit.tape there.info (present c.in-Ok.ensures) free)
     (open_failed g.T.Tape.means c.args.unit.now.tape c.mount.new.unit (Refused c.in-Err-mount.fault)

@@ -8,4 +8,5 @@ open_status-requires g c =
     (open_unstarted g.T.Tape.means c.args.unit.now.tape c.start.new.unit.tape c.in-Err.fault c.in-Err.ensures)
 
 pub returns-in-Err : goal.returns-in-Err
-returns-in-Err g c = rw c.open_status.ensures (start_failed g.T.Tape.means c.args.unit.now.tape c.start.new.unit.tape c.in-Err.fault c.in-Err.ensures)
+returns-in-Err g c = rw c.open_status.ensures
+    (start_failed g.T.Tape.means c.args.unit.now.tape c.start.new.unit.tape c.in-Err.fault c.in-Err.ensures)

@@ -6,7 +6,8 @@ use Rattle.drive_spec.specs.Record.{Record}
 use Rattle.drive_states.specs.Unit.{UnitView}
 use Rattle.host_driver.specs.Reports.{command_of, width_of, reported_word}
 use Rattle.host_driver.specs.Train.{TakesTrain}
-use Rattle.host_driver.proofs.Reporting.{reporting, reporting-none, reporting-next, reporting-all, takes-command, takes-next, reads-command, reads-next, reported-small, collected, collected-all, taken-room, next-level, length-levels_of}
+use Rattle.host_driver.proofs.Reporting.{reporting, reporting-none, reporting-next, reporting-all, takes-command, takes-next, reads-command}
+use Rattle.host_driver.proofs.Reporting.{reads-next, reported-small, collected, collected-all, taken-room, next-level, length-levels_of}
 use Rattle.drive_spec.specs.Row.{pulsed_row}
 use Rattle.drive_spec.specs.Steps.{train_changes}
 use Rattle.host_driver.proofs.dialogue.read_report.Goals as goal
@@ -15,7 +16,8 @@ pub sample-requires-clause-taken : goal.sample-requires-clause-taken
 sample-requires-clause-taken g c =
     let number : c.number.result ≡ number_of (command_of c.args.kind) = c.number.ensures ∙ ap number_of c.command.ensures in
     subst (λ (pulses : ℕ). TakesTrain c.args.unit.now.drive pulses) (sym number)
-    (takes-command c.args.kind c.args.unit.now.drive c.requires.no_pulse c.requires.idle c.requires.taken c.requires.no_error c.requires.generates)
+    (takes-command c.args.kind c.args.unit.now.drive c.requires.no_pulse c.requires.idle c.requires.taken c.requires.no_error
+    c.requires.generates)
 
 pub sample-requires-clause-reads : goal.sample-requires-clause-reads
 sample-requires-clause-reads g c =
@@ -28,7 +30,8 @@ loop-level-init g c =
     let width : c.width-width.result ≡ width_of c.args.kind = c.width-width.ensures in
     record {
       unit = c.sample.ensures.row ∙ ap (λ (r : Record). record c.args.unit.now { drive = r })
-          (ap (pulsed_row c.args.unit.now.drive) number ∙ reporting-none c.args.kind c.args.unit.now.drive c.requires.no_pulse c.requires.idle c.requires.taken);
+          (ap (pulsed_row c.args.unit.now.drive) number
+          ∙ reporting-none c.args.kind c.args.unit.now.drive c.requires.no_pulse c.requires.idle c.requires.taken);
       sound = c.sample.ensures.sound;
       width = ap (λ (k : Collected). k.width) c.new-collector.ensures ∙ width;
       taken = ap (λ (k : Collected). k.levels) c.new-collector.ensures;
@@ -54,7 +57,8 @@ loop-level-preserved g c =
     let long = length-levels_of (width_of c.args.kind) word in
     let more : c.loop-level._level < width_of c.args.kind + 1 = omega arith in
     let some : c.loop-level._level < length levels = omega (arith, long) in
-    let shown : c.sample-in-loop-level.new.unit ≡ record c.args.unit.now { drive = reporting c.args.kind c.args.unit.now.drive (c.loop-level._level + 1) } =
+    let shown : c.sample-in-loop-level.new.unit ≡ record c.args.unit.now
+    { drive = reporting c.args.kind c.args.unit.now.drive (c.loop-level._level + 1) } =
     c.sample-in-loop-level.ensures.row
     ∙ ap (λ (n : ℕ). record c.loop-level.unit { drive = pulsed_row c.loop-level.unit.drive n }) c.number-in-loop-level.ensures
     ∙ ap (λ (u : UnitView _). record u { drive = pulsed_row u.drive (number_of ReportNextBit) }) c.loop-level.invariant.unit
@@ -63,7 +67,8 @@ loop-level-preserved g c =
     let line : c.sample-in-loop-level.new.unit.drive.line ≡ get_or levels c.loop-level._level false =
     ap (λ (u : UnitView _). u.drive.line) shown ∙ next-level (width_of c.args.kind) word c.loop-level._level in
     let level : c.sample-in-loop-level.result ≡ get_or levels c.loop-level._level false = c.sample-in-loop-level.ensures.level ∙ line in
-    let room = taken-room c.loop-level.collector levels c.loop-level._level (width_of c.args.kind) long some c.loop-level.invariant.width c.loop-level.invariant.taken in
+    let room = taken-room c.loop-level.collector levels c.loop-level._level (width_of c.args.kind) long some c.loop-level.invariant.width
+    c.loop-level.invariant.taken in
     record {
       unit = shown;
       sound = c.sample-in-loop-level.ensures.sound;
@@ -77,8 +82,10 @@ pub unreachable-requires : goal.unreachable-requires
 unreachable-requires g c =
     let width : c.width-width.result ≡ width_of c.args.kind = c.width-width.ensures in
     let all : c.loop-level._level ≡ width_of c.args.kind + 1 = omega arith in
-    let whole = collected-all c.loop-level.collector (width_of c.args.kind) (reported_word c.args.kind c.args.unit.now.drive) c.loop-level._level
-    (reported-small c.args.kind c.args.unit.now.drive c.requires.sound.drive.deck c.requires.no_error) c.loop-level.invariant.width all c.loop-level.invariant.taken in
+    let whole = collected-all c.loop-level.collector (width_of c.args.kind)
+    (reported_word c.args.kind c.args.unit.now.drive) c.loop-level._level
+    (reported-small c.args.kind c.args.unit.now.drive c.requires.sound.drive.deck c.requires.no_error) c.loop-level.invariant.width all
+    c.loop-level.invariant.taken in
     let got = c.in-None.ensures.word in
     cc
 
@@ -86,8 +93,10 @@ pub returns-clause-word : goal.returns-clause-word
 returns-clause-word g c =
     let width : c.width-width.result ≡ width_of c.args.kind = c.width-width.ensures in
     let all : c.loop-level._level ≡ width_of c.args.kind + 1 = omega arith in
-    let whole = collected-all c.loop-level.collector (width_of c.args.kind) (reported_word c.args.kind c.args.unit.now.drive) c.loop-level._level
-    (reported-small c.args.kind c.args.unit.now.drive c.requires.sound.drive.deck c.requires.no_error) c.loop-level.invariant.width all c.loop-level.invariant.taken in
+    let whole = collected-all c.loop-level.collector (width_of c.args.kind)
+    (reported_word c.args.kind c.args.unit.now.drive) c.loop-level._level
+    (reported-small c.args.kind c.args.unit.now.drive c.requires.sound.drive.deck c.requires.no_error) c.loop-level.invariant.width all
+    c.loop-level.invariant.taken in
     let got = c.in-Some.ensures.word in
     cc
 

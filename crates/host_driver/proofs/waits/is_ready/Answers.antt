@@ -14,9 +14,11 @@ read_report-status-requires-clause-taken g c = status_taken (view_of (ticked c.a
 pub overflow_cast-status : goal.overflow_cast-status
 overflow_cast-status g c =
     let word : c.read_report-status.result ≡ reported_word Status c.args.unit.now.drive = c.read_report-status.ensures.word in
-    let small : reported_word Status c.args.unit.now.drive < 256 = reported-small Status c.args.unit.now.drive c.requires.sound.drive.deck c.requires.no_error in
+    let small : reported_word Status c.args.unit.now.drive < 256 =
+    reported-small Status c.args.unit.now.drive c.requires.sound.drive.deck c.requires.no_error in
     omega arith
 
 pub returns-clause-ready : goal.returns-clause-ready
 returns-clause-ready g c =
-    c.contains.ensures tt ∙ ap (λ (n : ℕ). bit_and n 1 == 1) (c.from_bits_retain.ensures tt ∙ c.read_report-status.ensures.word) ∙ status_word-stopped (ticked c.args.unit.now.drive.deck)
+    c.contains.ensures tt ∙ ap (λ (n : ℕ). bit_and n 1 == 1) (c.from_bits_retain.ensures tt ∙ c.read_report-status.ensures.word)
+    ∙ status_word-stopped (ticked c.args.unit.now.drive.deck)

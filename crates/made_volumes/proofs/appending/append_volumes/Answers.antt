@@ -13,7 +13,8 @@ returns-in_err-append_volume-clause-ends g c =
     let before = c.loop-volume.invariant in
     rw is (append_failed g.T.Tape.means c.args.seed c.args.store.now.words c.args.store.now.entries c.loop-volume.volume before.from
     c.loop-volume.store.words c.loop-volume.store.entries before.format.words before.list
-    c.args.unit.now.tape c.loop-volume.unit.tape c.append_volume.new.unit.tape c.args.count (omega arith) fault before.ran c.in_err-append_volume.ensures.ends)
+    c.args.unit.now.tape c.loop-volume.unit.tape c.append_volume.new.unit.tape c.args.count
+    (omega arith) fault before.ran c.in_err-append_volume.ensures.ends)
 
 pub returns-in_err-append_volume-clause-list : goal.returns-in_err-append_volume-clause-list
 returns-in_err-append_volume-clause-list g c =
@@ -22,7 +23,8 @@ returns-in_err-append_volume-clause-list g c =
     let before = c.loop-volume.invariant in
     rw is (listed_loop g.T.Tape.means c.args.seed c.args.count c.loop-volume.volume before.from (omega arith) c.args.store.now
     c.loop-volume.store.words c.loop-volume.store.entries c.append_volume.new.store before.format.words before.list
-    (around c.loop-volume.unit.tape tt) (around c.append_volume.new.unit.tape tt) fault _ c.in_err-append_volume.ensures.ends c.in_err-append_volume.ensures.list)
+    (around c.loop-volume.unit.tape tt) (around c.append_volume.new.unit.tape tt) fault _ c.in_err-append_volume.ensures.ends
+    c.in_err-append_volume.ensures.list)
 
 pub loop-volume-preserved : goal.loop-volume-preserved
 loop-volume-preserved g c =
@@ -34,7 +36,8 @@ loop-volume-preserved g c =
           c.args.unit.now.tape c.loop-volume.unit.tape c.append_volume.new.unit.tape (Ok tt) before.ran c.in_ok-append_volume.ensures.ends;
       list = append_listed g.T.Tape.means c.args.seed c.args.store.now.words c.args.store.now.entries c.loop-volume.volume before.from
           c.loop-volume.store.words c.loop-volume.store.entries before.format.words before.list
-          c.args.unit.now.tape c.loop-volume.unit.tape c.append_volume.new.unit.tape c.append_volume.new.store.entries c.in_ok-append_volume.ensures.list;
+          c.args.unit.now.tape c.loop-volume.unit.tape c.append_volume.new.unit.tape c.append_volume.new.store.entries
+          c.in_ok-append_volume.ensures.list;
       format = record {
         header = c.in_ok-append_volume.ensures.format.header ∙ before.format.header;
         words = c.in_ok-append_volume.ensures.format.words ∙ before.format.words;

@@ -8,7 +8,8 @@ unfolding filled
 returns c =
     let text : c.bytes-text.result.now ≡ codes "made-" ++ decimal c.args.volume =
     c.bytes-text.ensures ∙ c.push_number.ensures.number
-    ∙ ap (λ (front : List ℕ). front ++ decimal c.from.result) (c.push_text.ensures ∙ ap (λ (front : List ℕ). front ++ codes "made-") c.new-line.ensures)
+    ∙ ap (λ (front : List ℕ). front ++ decimal c.from.result)
+    (c.push_text.ensures ∙ ap (λ (front : List ℕ). front ++ codes "made-") c.new-line.ensures)
     ∙ ap (λ (n : ℕ). codes "made-" ++ decimal n) c.from.ensures in
     rw c.from_bytes.ensures (rw c.copy_from_slice.ensures.after
     (ap (λ (pads : List ℕ). c.bytes-text.result.now ++ pads) (drop-replicate (length c.bytes-text.result.now) 44 0x20)

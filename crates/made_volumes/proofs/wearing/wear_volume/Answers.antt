@@ -19,7 +19,8 @@ loop-segment-init g c = record {
   ran = λ seed. subst (λ (s : ℕ). HasRun g.T.Tape.means no_sink seed c.args.store.now.words c.args.store.now.entries
       (wearing_in c.args.store.now.words (carrying_below c.args.store.now.words c.entry-entry.result.now.start s))
       (around c.args.unit.now.tape tt) (around c.args.unit.now.tape tt) status.Done) (sym c.from-segment.ensures)
-      (segments_begun g.T.Tape.means c.args.store.now.words c.args.store.now.entries c.entry-entry.result.now.start c.entry-entry.result.now.start (omega arith)
+      (segments_begun g.T.Tape.means c.args.store.now.words c.args.store.now.entries c.entry-entry.result.now.start
+      c.entry-entry.result.now.start (omega arith)
       c.args.unit.now.tape c.args.unit.now.tape c.args.unit.now.tape seed);
   store = refl;
   fits = c.requires.fits;
@@ -27,8 +28,10 @@ loop-segment-init g c = record {
 
 pub wear_if_due-requires-clause-segment : goal.wear_if_due-requires-clause-segment
 wear_if_due-requires-clause-segment g c =
-    let on = lies g.T.Tape.means c.args.store.now c.args.unit.now c.requires.fits c.args.index (entry_of c.entry-entry.result.now) c.entry-entry.ensures in
-    let same : length c.loop-segment.store.words ≡ length c.args.store.now.words = ap (λ (s : StoreView). length s.words) c.loop-segment.invariant.store in
+    let on = lies g.T.Tape.means c.args.store.now c.args.unit.now c.requires.fits c.args.index
+    (entry_of c.entry-entry.result.now) c.entry-entry.ensures in
+    let same : length c.loop-segment.store.words ≡ length c.args.store.now.words =
+    ap (λ (s : StoreView). length s.words) c.loop-segment.invariant.store in
     let within = on.within in
     let behind = on.behind in
     let forwards = on.forwards in
@@ -42,19 +45,23 @@ returns-in_err-wear_if_due-clause-ends g c = λ seed.
     let start : ℕ = c.entry-entry.result.now.start in
     let last : ℕ = c.entry-entry.result.now.end + 1 in
     rw is (of_entry c.args.store.now.entries c.args.index (entry_of c.entry-entry.result.now) c.entry-entry.ensures
-    (λ e. RunEnds g.T.Tape.means no_sink seed c.args.store.now.words c.args.store.now.entries (wearing_in c.args.store.now.words (carrying_segments c.args.store.now.words e))
+    (λ e. RunEnds g.T.Tape.means no_sink seed c.args.store.now.words c.args.store.now.entries
+    (wearing_in c.args.store.now.words (carrying_segments c.args.store.now.words e))
     (around c.args.unit.now.tape tt) (around c.wear_if_due.new.unit.tape tt) (Err fault))
     (segments_failed g.T.Tape.means c.args.store.now.words c.args.store.now.entries start c.loop-segment.segment before.from
     c.args.unit.now.tape c.loop-segment.unit.tape c.wear_if_due.new.unit.tape seed last fault (omega arith) (before.ran seed)
-    (subst (λ (s : StoreView). RunEnds g.T.Tape.means no_sink seed s.words s.entries (wearing_in s.words (carrying s.words c.loop-segment.segment c.loop-segment.segment))
-    (around c.loop-segment.unit.tape tt) (around c.wear_if_due.new.unit.tape tt) (Err fault)) before.store (c.in_err-wear_if_due.ensures.ends seed))))
+    (subst (λ (s : StoreView). RunEnds g.T.Tape.means no_sink seed s.words s.entries
+    (wearing_in s.words (carrying s.words c.loop-segment.segment c.loop-segment.segment))
+    (around c.loop-segment.unit.tape tt) (around c.wear_if_due.new.unit.tape tt) (Err fault)) before.store
+    (c.in_err-wear_if_due.ensures.ends seed))))
 
 pub loop-segment-preserved : goal.loop-segment-preserved
 loop-segment-preserved g c =
     let before = c.loop-segment.invariant in
     record {
       from = (let low = before.from in omega arith);
-      ran = λ seed. segments_next g.T.Tape.means c.args.store.now.words c.args.store.now.entries c.entry-entry.result.now.start c.loop-segment.segment before.from
+      ran = λ seed. segments_next g.T.Tape.means c.args.store.now.words c.args.store.now.entries c.entry-entry.result.now.start
+          c.loop-segment.segment before.from
           c.args.unit.now.tape c.loop-segment.unit.tape c.wear_if_due.new.unit.tape seed (Ok tt) (before.ran seed)
           (rw before.store at (c.in_ok-wear_if_due.ensures.ends seed));
       store = c.in_ok-wear_if_due.ensures.store ∙ before.store;
@@ -63,11 +70,14 @@ loop-segment-preserved g c =
 
 pub returns-clause-ends : goal.returns-clause-ends
 returns-clause-ends g c = λ seed.
-    let on = lies g.T.Tape.means c.args.store.now c.args.unit.now c.requires.fits c.args.index (entry_of c.entry-entry.result.now) c.entry-entry.ensures in
+    let on = lies g.T.Tape.means c.args.store.now c.args.unit.now c.requires.fits c.args.index
+    (entry_of c.entry-entry.result.now) c.entry-entry.ensures in
     let forwards = on.forwards in
-    let all : c.loop-segment.segment ≡ c.entry-entry.result.now.end + 1 = omega (arith, c.from-segment.ensures, c.from-segment-end.ensures, forwards) in
+    let all : c.loop-segment.segment ≡ c.entry-entry.result.now.end + 1 =
+    omega (arith, c.from-segment.ensures, c.from-segment-end.ensures, forwards) in
     of_entry c.args.store.now.entries c.args.index (entry_of c.entry-entry.result.now) c.entry-entry.ensures
-    (λ e. HasRun g.T.Tape.means no_sink seed c.args.store.now.words c.args.store.now.entries (wearing_in c.args.store.now.words (carrying_segments c.args.store.now.words e))
+    (λ e. HasRun g.T.Tape.means no_sink seed c.args.store.now.words c.args.store.now.entries
+    (wearing_in c.args.store.now.words (carrying_segments c.args.store.now.words e))
     (around c.args.unit.now.tape tt) (around c.loop-segment.unit.tape tt) status.Done)
     (subst (λ (s : ℕ). HasRun g.T.Tape.means no_sink seed c.args.store.now.words c.args.store.now.entries
     (wearing_in c.args.store.now.words (carrying_below c.args.store.now.words c.entry-entry.result.now.start s))

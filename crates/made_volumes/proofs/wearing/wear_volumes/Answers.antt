@@ -27,11 +27,15 @@ returns-in_err-wear_volume-clause-ends g c = λ seed.
     let before = c.loop-index.invariant in
     let within : c.loop-index.index < length c.args.store.now.entries = omega (arith, c.count-index-end.ensures.count) in
     let there = volume_there c.args.store.now.entries c.loop-index.index within
-    (λ e. RunEnds g.T.Tape.means no_sink seed c.args.store.now.words c.args.store.now.entries (wearing_in c.args.store.now.words (carrying_segments c.args.store.now.words e))
+    (λ e. RunEnds g.T.Tape.means no_sink seed c.args.store.now.words c.args.store.now.entries
+    (wearing_in c.args.store.now.words (carrying_segments c.args.store.now.words e))
     (around c.loop-index.unit.tape tt) (around c.wear_volume.new.unit.tape tt) (Err fault))
-    (subst (λ (s : StoreView). IfSome (slice_get s.entries c.loop-index.index) (λ e. RunEnds g.T.Tape.means no_sink seed s.words s.entries (wearing_in s.words (carrying_segments s.words e))
-    (around c.loop-index.unit.tape tt) (around c.wear_volume.new.unit.tape tt) (Err fault))) before.store (c.in_err-wear_volume.ensures.ends seed)) in
-    rw is (volumes_failed g.T.Tape.means c.args.store.now.words c.args.store.now.entries c.args.first c.loop-index.index before.from there.0 there.1
+    (subst (λ (s : StoreView). IfSome (slice_get s.entries c.loop-index.index)
+    (λ e. RunEnds g.T.Tape.means no_sink seed s.words s.entries (wearing_in s.words (carrying_segments s.words e))
+    (around c.loop-index.unit.tape tt) (around c.wear_volume.new.unit.tape tt) (Err fault))) before.store
+    (c.in_err-wear_volume.ensures.ends seed)) in
+    rw is (volumes_failed g.T.Tape.means c.args.store.now.words c.args.store.now.entries c.args.first c.loop-index.index before.from there.0
+    there.1
     c.args.unit.now.tape c.loop-index.unit.tape c.wear_volume.new.unit.tape seed fault (before.ran seed) there.2)
 
 pub loop-index-preserved : goal.loop-index-preserved
@@ -41,8 +45,10 @@ loop-index-preserved g c =
     record {
       from = (let low = before.from in omega arith);
       ran = λ seed.
-          (let there = volume_there c.args.store.now.entries c.loop-index.index within _ (rw before.store at (c.in_ok-wear_volume.ensures.ends seed)) in
-          volumes_go_on g.T.Tape.means c.args.store.now.words c.args.store.now.entries c.args.first c.loop-index.index before.from there.0 there.1
+          (let there = volume_there c.args.store.now.entries c.loop-index.index within _
+          (rw before.store at (c.in_ok-wear_volume.ensures.ends seed)) in
+          volumes_go_on g.T.Tape.means c.args.store.now.words c.args.store.now.entries c.args.first c.loop-index.index before.from there.0
+          there.1
           c.args.unit.now.tape c.loop-index.unit.tape c.wear_volume.new.unit.tape seed (Ok tt) (before.ran seed) there.2);
       store = c.in_ok-wear_volume.ensures.store ∙ before.store;
       fits = c.in_ok-wear_volume.ensures.fits (λ is. cc);
@@ -53,6 +59,8 @@ returns-clause-ends g c = λ seed.
     let entries : List Entry = c.args.store.now.entries in
     let rest : List Entry = drop c.args.first entries in
     let size : length rest ≡ length entries - c.args.first = length-drop c.args.first entries in
-    let all : take (c.loop-index.index - c.args.first) rest ≡ rest = take_all (c.loop-index.index - c.args.first) rest (omega (arith, size, c.count-index-end.ensures.count)) in
-    subst (λ (es : List Entry). HasRun g.T.Tape.means no_sink seed c.args.store.now.words entries (wearing_volumes c.args.store.now.words es)
+    let all : take (c.loop-index.index - c.args.first) rest ≡ rest = take_all (c.loop-index.index - c.args.first) rest
+    (omega (arith, size, c.count-index-end.ensures.count)) in
+    subst (λ (es : List Entry). HasRun g.T.Tape.means no_sink seed c.args.store.now.words entries
+    (wearing_volumes c.args.store.now.words es)
     (around c.args.unit.now.tape tt) (around c.loop-index.unit.tape tt) status.Done) all (c.loop-index.invariant.ran seed)

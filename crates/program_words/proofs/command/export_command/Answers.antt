@@ -8,7 +8,13 @@ returns c =
       option = c.map_option-map.result;
       between = c.in_ok-with_map.with_map;
       image = c.image_argument.result;
-      empty = record { app = c.new.ensures.app; args = c.new.ensures.empty.0; groups = c.new.ensures.empty.1; local = c.new.ensures.local; negates = c.new.ensures.negates };
+      empty = record {
+        app = c.new.ensures.app;
+        args = c.new.ensures.empty.0;
+        groups = c.new.ensures.empty.1;
+        local = c.new.ensures.local;
+        negates = c.new.ensures.negates;
+      };
       is_option = c.map_option-map.ensures;
       is_image = c.image_argument.ensures;
       adds_option = c.in_ok-with_map.ensures;

@@ -10,7 +10,13 @@ returns c =
       segments = c.segments_option.result;
       with_segments = c.in_ok-with_segments.with_segments;
       image = c.image_argument.result;
-      empty = record { app = c.new.ensures.app; args = c.new.ensures.empty.0; groups = c.new.ensures.empty.1; local = c.new.ensures.local; negates = c.new.ensures.negates };
+      empty = record {
+        app = c.new.ensures.app;
+        args = c.new.ensures.empty.0;
+        groups = c.new.ensures.empty.1;
+        local = c.new.ensures.local;
+        negates = c.new.ensures.negates;
+      };
       is_option = c.map_option-map.ensures;
       is_segments = c.segments_option.ensures;
       is_image = c.image_argument.ensures;

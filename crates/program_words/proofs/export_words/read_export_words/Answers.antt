@@ -10,7 +10,8 @@ use Rattle.program_words.proofs.export_words.read_export_words.Goals as goal
 pub unreachable-requires : goal.unreachable-requires
 unreachable-requires c =
     let there = exported_image c.in_ok-command.command c.in-Ok.matches c.in_ok-command.ensures c.in-Ok.ensures.parsed in
-    let some = some_of_text (λ (s : Bor (List ℕ)). s.now) c.get_str.result (first_value (found_of c.in-Ok.matches) (codes "image")) c.get_str.ensures there in
+    let some = some_of_text (λ (s : Bor (List ℕ)). s.now) c.get_str.result
+    (first_value (found_of c.in-Ok.matches) (codes "image")) c.get_str.ensures there in
     none_is_not c.get_str.result c.in-None.is some
 
 pub returns-in-Some : goal.returns-in-Some
@@ -19,11 +20,15 @@ returns-in-Some c =
     let m = c.in-Ok.matches in
     let words = map (string_bytes {Z = Global}) c.args.words.now.items in
     let taken = words_taken export_app export_plain c.in_ok-command.command m (map (string_bytes {Z = Global}) c.as_slice.result.now) words
-    (export_is c.in_ok-command.command c.in_ok-command.ensures) (ap (map (string_bytes {Z = Global})) c.as_slice.ensures.value) parse.matches parse.kinds in
-    let shown : Some c.in-Some.image.now ≡ first_value (found_of m) (codes "image") = ap (option_map (λ (s : Bor (List ℕ)). s.now)) (sym c.in-Some.is) ∙ c.get_str.ensures in
+    (export_is c.in_ok-command.command c.in_ok-command.ensures) (ap (map (string_bytes {Z = Global})) c.as_slice.ensures.value)
+    parse.matches parse.kinds in
+    let shown : Some c.in-Some.image.now ≡ first_value (found_of m) (codes "image") = ap (option_map (λ (s : Bor (List ℕ)). s.now))
+    (sym c.in-Some.is) ∙ c.get_str.ensures in
     ask_export words m (record { image = c.in-Some.image; map = c.get_str-in-Some.result }) taken (sym shown) c.get_str-in-Some.ensures
 
 pub returns-in-Err : goal.returns-in-Err
 returns-in-Err c =
-    is_refused export_app export_plain c.in_ok-command.command c.in-Err.error (map (string_bytes {Z = Global}) c.as_slice.result.now) (map (string_bytes {Z = Global}) c.args.words.now.items)
-    (export_is c.in_ok-command.command c.in_ok-command.ensures) (ap (map (string_bytes {Z = Global})) c.as_slice.ensures.value) c.in-Err.ensures.kinds c.in-Err.ensures.passes
+    is_refused export_app export_plain c.in_ok-command.command c.in-Err.error (map (string_bytes {Z = Global}) c.as_slice.result.now)
+    (map (string_bytes {Z = Global}) c.args.words.now.items)
+    (export_is c.in_ok-command.command c.in_ok-command.ensures) (ap (map (string_bytes {Z = Global})) c.as_slice.ensures.value)
+    c.in-Err.ensures.kinds c.in-Err.ensures.passes

@@ -1,4 +1,4 @@
-use Rattle.std.proofs.Common.{ℕ, Err, sym, subst, arith}
+use Rattle.std.proofs.Common.{ℕ, Err, sym, subst, arith, ◌∙◌}
 use Rattle.pulse_dialogue.specs.declared.teller.Teller.{Teller}
 use Rattle.pulse_dialogue.specs.Steps.{Told}
 use Rattle.pulse_dialogue.proofs.Running.{SoFar, begin, has_room, next, over, line_failed, end_came, sink_rose, sink_later}
@@ -6,7 +6,10 @@ use Rattle.pulse_dialogue.proofs.run.tell_recording.Goals as goal
 
 pub loop-line-init : goal.loop-line-init
 loop-line-init g c = record {
-  far = subst (λ (t : Teller). SoFar g.S.Source.means g.K.Sink.means c.args.gap record { source = c.args.source.now; sink = c.args.sink.now }
+  far = subst (λ (t : Teller). SoFar g.S.Source.means g.K.Sink.means c.args.gap record {
+    source = c.args.source.now;
+    sink = c.args.sink.now;
+  }
       record { teller = t; source = c.args.source.now; sink = c.args.sink.now } 0 0)
       (sym c.new-teller.ensures)
       (begin g.S.Source.means g.K.Sink.means c.args.gap c.args.source.now c.args.sink.now
@@ -54,10 +57,12 @@ loop-line-preserved g c =
           c.loop-line.line c.loop-line.place c.loop-line.invariant.far c.from-place.result g.met.K.Sink.took_both
           (subst (λ (n : ℕ). Told g.S.Source.means g.K.Sink.means
           record { teller = c.loop-line.teller; source = c.loop-line.source; sink = c.loop-line.sink }
-          record { teller = c.tell_line.new.teller; source = c.tell_line.new.source; sink = c.tell_line.new.sink } n) (sym c.from-place.ensures) hears);
+          record { teller = c.tell_line.new.teller; source = c.tell_line.new.source; sink = c.tell_line.new.sink } n)
+          (sym c.from-place.ensures) hears);
       bound = let short = hears.read.short in let long = hears.long in let value = c.from-place.ensures in omega arith;
-      kept = g.met.S.Source.keeps_on c.args.source.now c.loop-line.source c.tell_line.new.source c.loop-line.invariant.kept c.in-Ok-Some.ensures.kept;
-      later = omega arith;
+      kept = g.met.S.Source.keeps_on c.args.source.now c.loop-line.source c.tell_line.new.source c.loop-line.invariant.kept
+          c.in-Ok-Some.ensures.kept;
+      later = c.in-Ok-Some.ensures.stood (λ e. cc) ∙ c.loop-line.invariant.later;
     }
 
 pub returns-clause-tells : goal.returns-clause-tells
@@ -66,7 +71,8 @@ returns-clause-tells g c =
     record { source = c.args.source.now; sink = c.args.sink.now }
     record { teller = c.loop-line.teller; source = c.loop-line.source; sink = c.loop-line.sink }
     record { teller = c.tell_end.new.teller; source = c.tell_end.new.source; sink = c.tell_end.new.sink }
-    c.loop-line.line c.loop-line.place c.loop-line.invariant.far g.met.K.Sink.took_both (omega arith) c.tell_end.result c.tell_end.ensures.hears
+    c.loop-line.line c.loop-line.place c.loop-line.invariant.far g.met.K.Sink.took_both
+    (omega arith) c.tell_end.result c.tell_end.ensures.hears
 
 pub returns-in-Err-clause-sink_fault : goal.returns-in-Err-clause-sink_fault
 returns-in-Err-clause-sink_fault g c e =

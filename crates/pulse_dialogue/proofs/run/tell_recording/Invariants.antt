@@ -1,5 +1,5 @@
 -- The lines so far were read, and what they say was written.
-use Rattle.std.proofs.Common.{◌≤◌, ◌*◌}
+use Rattle.std.proofs.Common.{◌≡◌, ◌≤◌, ◌*◌}
 use Rattle.pulse_dialogue.proofs.Running.{SoFar}
 use Rattle.pulse_dialogue.proofs.run.tell_recording.Given as goal
 
@@ -9,5 +9,5 @@ invariant-loop-line g l = record {
       record { teller = l.teller; source = l.source; sink = l.sink } l.line l.place;
   bound : l.place ≤ 128 * l.line;
   kept : g.S.Source.means.keeps l.fn.source l.source;
-  later : g.S.Source.means.faults l.fn.source ≤ g.S.Source.means.faults l.source;
+  later : g.S.Source.means.faults l.source ≡ g.S.Source.means.faults l.fn.source;
 }

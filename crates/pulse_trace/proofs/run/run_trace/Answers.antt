@@ -4,7 +4,8 @@ use Rattle.pulse_trace.proofs.run.run_trace.Goals as goal
 
 pub returns-in-Ok-clause-runs : goal.returns-in-Ok-clause-runs
 returns-in-Ok-clause-runs g c =
-    rw c.told.ensures (Runs-told g.S.Source.means g.K.Sink.means _ _ _ c.in-Ok.gap c.tell_recording.result c.in-Ok.ensures c.tell_recording.ensures.tells)
+    rw c.told.ensures (Runs-told g.S.Source.means g.K.Sink.means _ _ _ c.in-Ok.gap c.tell_recording.result c.in-Ok.ensures
+    c.tell_recording.ensures.tells)
 
 pub returns-in-Ok-clause-source_fault : goal.returns-in-Ok-clause-source_fault
 returns-in-Ok-clause-source_fault g c fault = c.tell_recording.ensures.source_fault (told_source _ (sym c.told.ensures ∙ fault))

@@ -13,10 +13,12 @@ loop-sector-preserved c = record {
 
 pub returns : goal.returns
 returns c = λ q within.
-    mark_until c.args.mask.now c.loop-sector.mask c.args.first c.loop-sector.sector c.args.end c.loop-sector.invariant.within c.loop-sector-test.false q
+    mark_until c.args.mask.now c.loop-sector.mask c.args.first c.loop-sector.sector c.args.end c.loop-sector.invariant.within
+    c.loop-sector-test.false q
     (c.loop-sector.invariant.marked q (omega arith))
 
 pub returns-then-word-mask : goal.returns-then-word-mask
 returns-then-word-mask c = λ q within.
-    mark_end c.args.mask.now c.loop-sector.mask c.args.first c.loop-sector.sector c.args.end c.loop-sector-test.true c.if-word-mask.true q (omega arith)
+    mark_end c.args.mask.now c.loop-sector.mask c.args.first c.loop-sector.sector c.args.end c.loop-sector-test.true c.if-word-mask.true q
+    (omega arith)
     (c.loop-sector.invariant.marked q (omega arith))

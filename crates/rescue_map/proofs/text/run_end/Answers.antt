@@ -15,5 +15,6 @@ loop-end-preserved c =
       run = c.loop-end.invariant.run
           ∙ ap (λ (n : ℕ). joined (run_block first end (is_marked mask first)) (runs_from mask end n)) next
           ∙ run-sector mask first end (32 * length mask - (end + 1)) c.loop-end.invariant.some
-          (sym c.is_marked.ensures ∙ beq_same c.is_marked.result c.is_marked-marked.result c.if-is_marked-marked.false ∙ c.is_marked-marked.ensures);
+          (sym c.is_marked.ensures ∙ beq_same c.is_marked.result c.is_marked-marked.result c.if-is_marked-marked.false
+          ∙ c.is_marked-marked.ensures);
     }

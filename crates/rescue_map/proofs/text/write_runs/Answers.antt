@@ -10,7 +10,8 @@ loop-first-preserved g c =
     record {
       within = c.run_end-end.ensures.within;
       written = write_next c.block_line.result (blocks_text (runs_from mask end (32 * length mask - end))) g.met.K.Sink.took_both
-          (run_parts mask c.block_line.result c.run_block-block.result c.loop-first.first end (32 * length mask - c.loop-first.first) (32 * length mask - end)
+          (run_parts mask c.block_line.result c.run_block-block.result c.loop-first.first end (32 * length mask - c.loop-first.first)
+          (32 * length mask - end)
           c.is_marked.result c.block_line.ensures c.run_block-block.ensures c.is_marked.ensures c.run_end-end.ensures.run)
           c.loop-first.invariant.written c.in-Ok.ensures;
     }
@@ -20,6 +21,7 @@ returns-in-Err g c =
     let mask = c.args.mask.now in
     let end = c.run_end-end.result in
     write_broke c.block_line.result (blocks_text (runs_from mask end (32 * length mask - end))) g.met.K.Sink.took_both
-    (run_parts mask c.block_line.result c.run_block-block.result c.loop-first.first end (32 * length mask - c.loop-first.first) (32 * length mask - end)
+    (run_parts mask c.block_line.result c.run_block-block.result c.loop-first.first end (32 * length mask - c.loop-first.first)
+    (32 * length mask - end)
     c.is_marked.result c.block_line.ensures c.run_block-block.ensures c.is_marked.ensures c.run_end-end.ensures.run)
     c.loop-first.invariant.written c.in-Err.ensures

@@ -27,5 +27,5 @@ loop-len-preserved g c =
           (Gave-read g.S.Source.means c.loop-len.source c.read.new.self c.read.new.into c.in-Ok.count
           c.in-Ok.ensures.gives c.in-Ok.ensures.left));
       kept = g.met.S.Source.keeps_on _ _ _ before.kept c.in-Ok.ensures.kept;
-      later = let f = c.in-Ok.ensures.cause.later in omega (arith, before.later);
+      later = let f = c.in-Ok.ensures.cause.stood in omega (arith, before.later);
     }

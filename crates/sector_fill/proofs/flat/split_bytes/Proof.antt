@@ -1,6 +1,7 @@
 -- `split_bytes` lends the bytes of the first sectors, and the other sectors: a walk of its code by hand, since it goes
 -- through a raw pointer.
-use Rattle.std.proofs.Common.{◌≡◌, ℕ, ◌+◌, ◌-◌, ◌*◌, ◌^◌, ◌<◌, ◌≤◌, List, [], ◌∷◌, ◌++◌, length, take, drop as rest_of, sym, refl, ap, arith, MutBor}
+use Rattle.std.proofs.Common.{◌≡◌, ℕ, ◌+◌, ◌-◌, ◌*◌, ◌^◌, ◌<◌, ◌≤◌, List, [], ◌∷◌, ◌++◌, length, take, drop as rest_of, sym, refl, ap}
+use Rattle.std.proofs.Common.{arith, MutBor}
 use Rattle.std.specs.Prelude.{flat_map}
 use Rattle.std.proofs.lemmas.List.{take-append-drop, length-take-le, length-drop}
 use seplogic.Ra.Ura.{Ura}
@@ -15,7 +16,8 @@ use types.Logic.{Logic}
 use contract.Monad.{Fun}
 use contract.Running.{tables, tables_of}
 use sound.WpLaws.{WpFn-mono}
-use types.Kit.{Item, ‵, ◌⊛◌, some, later, at_ret, ◌$◌, ◌∵◌, !, qed, move, keep, split, split3, join, learn, fsplit, fjoin, fpack, feq_i, use2, await, pick, suffices, frame, done}
+use types.Kit.{Item, ‵, ◌⊛◌, some, later, at_ret, ◌$◌, ◌∵◌, !, qed, move, keep, split, split3, join, learn, fsplit, fjoin, fpack, feq_i}
+use types.Kit.{use2, await, pick, suffices, frame, done}
 use types.Part.{whole, sub, agg}
 use types.Run.{Opd, stop, fld, hop, from, addr, bin, and_then, no_more, of_opd, first, blocks, exec, returns, enter}
 use types.ByLocal.{alloc_all, pass_all, free_all, look_at, look_in_at, get, get_in, sets, sets_last, env}
@@ -83,10 +85,14 @@ module _ {M : Type 1} {𝓤 : Ura M} (𝓛 : Logic 𝓤) (at_mem : Memory → SP
 
     -- the size of a sector, as the code has it
     size : {K : Type 0} {Γ : List (Item 𝓤)} {E : Env 𝓤 H} → Opd K 𝓛 Γ E (int_big w64 1024) (vint w64 1024)
-    size = record { go = λ Kt h. via 𝓤 (Kt (vint w64 1024)) h (guard_i 𝓤 (Fits w64 1024) (Kt (vint w64 1024)) (record { fits = omega arith })) }
+    size = record {
+      go = λ Kt h. via 𝓤 (Kt (vint w64 1024)) h
+          (guard_i 𝓤 (Fits w64 1024) (Kt (vint w64 1024)) (record { fits = omega arith }));
+    }
 
     walk : Room Sector (length xs) → m < 2 ^ 64 → m ≤ length xs
-        → ent 𝓤 (on_entry 𝓛 F.signature (κ, tt) (q, tt) (self, (m, tt)) words) (WpFn 𝓤 H C Λ code.function (slice_val (b, o) (length xs) ∷ vint w64 m ∷ []) Post)
+        → ent 𝓤 (on_entry 𝓛 F.signature (κ, tt) (q, tt) (self, (m, tt)) words)
+        (WpFn 𝓤 H C Λ code.function (slice_val (b, o) (length xs) ∷ vint w64 m ∷ []) Post)
     unfolding both_by
     walk room fm le =
         let count : length xs < 2 ^ 64 = room.0 in
@@ -125,19 +131,22 @@ module _ {M : Type 1} {𝓤 : Ura M} (𝓛 : Logic 𝓤) (at_mem : Memory → SP
         sets ! (bin ! (get ! refl) size (record { fits = bytes })) refl (tt, record { fits = bytes }) $
         sets ! (bin ! (get ! refl) (get ! refl) tt) refl (tt, tt) $
         sets ! (agg ! (and_then ! (get ! refl) (and_then ! (get ! refl) (no_more !)))) refl (tt, (tt, (record { fits = others }, tt))) $
-        sets_last ! (agg ! (and_then ! (get ! refl) (and_then ! (get ! refl) (no_more !)))) refl (tt, ((tt, (record { fits = bytes }, tt)), ((tt, (record { fits = others }, tt)), tt))) $
+        sets_last ! (agg ! (and_then ! (get ! refl) (and_then ! (get ! refl) (no_more !)))) refl
+        (tt, ((tt, (record { fits = bytes }, tt)), ((tt, (record { fits = others }, tt)), tt))) $
         exec ! C Λ En after_block (at_ret En Post) $
         sets ! (of_opd ! (get ! refl)) refl (tt, ((tt, (record { fits = bytes }, tt)), ((tt, (record { fits = others }, tt)), tt))) $
         -- the sectors are lent on in two parts
         split ! $ move ! (2 ∷ []) $ fsplit ! $ move ! (0 ∷ 2 ∷ []) $
         use2 𝓛 (later (some (parts_lent 𝓛 (named 0) κ q b o γ u8 tt 1024 xs front back (sym (take-append-drop m xs)) m lf p on roomy rest)))
-        (lends_parts 𝓛 (named 0) κ q b o γ u8 tt 1024 xs front back (sym (take-append-drop m xs)) m lf p on roomy rest (mut_slice_vals self)) $
+        (lends_parts 𝓛 (named 0) κ q b o γ u8 tt 1024 xs front back (sym (take-append-drop m xs)) m lf p on roomy rest
+        (mut_slice_vals self)) $
         await ! tt $ pick ! (λ δ. learn ! (λ all.
         let same : m * 1024 ≡ length ys = sym all in
         split3 ! $ nothing ! $ move ! (2 ∷ 0 ∷ []) $ fjoin ! $ move ! (1 ∷ 0 ∷ []) $ fjoin ! $
         feq_i ! (List Val) (v ∷ []) (vstruct (vcons (slice_val (b, o) (length ys)) (vcons (slice_val (b, p) (length back)) vnil)) ∷ [])
         (λ k. vstruct (vcons (slice_val (b, o) (same k)) (vcons (slice_val (b, p) (sym lb k)) vnil)) ∷ []) $ fjoin ! $
-        fpack ! (Valss halves) (laid_within (shape (tuple_type halves)) (one δ, (two δ, tt)) (v ∷ [])) (slice_val (b, o) (length ys) ∷ [], (slice_val (b, p) (length back) ∷ [], tt)) $
+        fpack ! (Valss halves) (laid_within (shape (tuple_type halves)) (one δ, (two δ, tt)) (v ∷ []))
+        (slice_val (b, o) (length ys) ∷ [], (slice_val (b, p) (length back) ∷ [], tt)) $
         move ! (1 ∷ []) $ split ! $ move ! (2 ∷ 0 ∷ 1 ∷ []) $
         returns ! (look_at ! 0 refl) $ free_all ! refl $ keep ! (0 ∷ 1 ∷ 2 ∷ 4 ∷ []) $
         suffices ! _ (ends_at 𝓛 F.ended stayed clauses bound v (one δ, two δ) (tt, (tt, tt)) (tt, (tt, tt))) $

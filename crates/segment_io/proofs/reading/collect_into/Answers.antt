@@ -34,7 +34,8 @@ loop-index-preserved g c =
       places = more.places;
       size = omega arith;
       read = Done-after_reads before.read more.did;
-      gathered = tells_later (λ d. Gathered (cells_below d c.args.segment c.args.usable (c.loop-index.index + 1)) c.read.new.self.lost c.read.new.sectors)
+      gathered = tells_later (λ d. Gathered (cells_below d c.args.segment c.args.usable (c.loop-index.index + 1)) c.read.new.self.lost
+          c.read.new.sectors)
           more.did
           (tells_then g.T.Tape.means c.loop-index.unit.tape
           (λ d. Gathered (cells_below d c.args.segment c.args.usable c.loop-index.index) c.loop-index.found.lost c.loop-index.sectors)

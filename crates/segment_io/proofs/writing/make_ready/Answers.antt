@@ -15,7 +15,8 @@ returns-then-place-count-2-clause-register c =
     let low : c.args.place ≤ n = omega arith in
     let held : Holds c.args.parity.now (take n old) =
     subst (λ (k : ℕ). Holds c.args.parity.now (take k old)) here (c.requires.register.held low) in
-    let put : c.copy_from_slice.new.self ≡ parity_sectors (take n old) = c.copy_from_slice.ensures.after ∙ c.so_far.ensures.parity (take n old) held in
+    let put : c.copy_from_slice.new.self ≡ parity_sectors (take n old) = c.copy_from_slice.ensures.after
+    ∙ c.so_far.ensures.parity (take n old) held in
     let shown : take n old ++ c.copy_from_slice.new.self ++ drop (n + 3) old ≡ completed n old =
     ap (λ (ps : List (List ℕ)). take n old ++ ps ++ drop (n + 3) old) put in
     let room : n ≤ 32 = omega arith in

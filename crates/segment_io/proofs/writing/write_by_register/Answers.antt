@@ -25,7 +25,8 @@ loop-index-init g c = record {
   };
   same = refl;
   written = subst (λ (steps : List Step). Done g.T.Tape.means c.args.unit.now.tape c.go_to.new.unit.tape steps)
-      (sym (writes_below_none c.args.segment c.args.usable (2 ^ usable_count c.args.usable - 1) (completed c.args.count c.args.sectors.now)))
+      (sym (writes_below_none c.args.segment c.args.usable (2 ^ usable_count c.args.usable - 1)
+      (completed c.args.count c.args.sectors.now)))
       (done_moved g.T.Tape.means c.args.unit.now.tape c.go_to.new.unit.tape c.go_to.ensures.tape);
   under = under_first c.args.segment c.go_to.new.unit.drive.deck c.go_to.ensures.place;
   writable = may_write_kept c.args.unit.now.drive.deck c.go_to.new.unit.drive.deck c.go_to.ensures.keeps.same c.requires.writable;
@@ -45,7 +46,8 @@ loop-index-preserved g c =
     ap (next_write c.args.segment c.args.usable c.loop-index.index c.loop-index.place) before.same
     ∙ next_is_of_all c.args.segment c.args.usable c.loop-index.index c.loop-index.place whole low before.places in
     let next : writes_below c.args.segment c.args.usable all whole c.write_next.new.place
-    ≡ written ++ next_write c.args.segment c.args.usable c.loop-index.index c.loop-index.place (completed c.args.count c.loop-index.sectors) =
+    ≡ written ++ next_write c.args.segment c.args.usable c.loop-index.index c.loop-index.place
+    (completed c.args.count c.loop-index.sectors) =
     ap (writes_below c.args.segment c.args.usable all whole) more.place
     ∙ writes_below_next c.args.segment c.args.usable all whole c.loop-index.index c.loop-index.place low before.places
     ∙ ap (λ (steps : List Step). written ++ steps) (sym here) in
@@ -76,16 +78,19 @@ returns-in_err-write_next-clause-did g c =
     ap (next_write c.args.segment c.args.usable c.loop-index.index c.loop-index.place) before.same
     ∙ next_is_of_all c.args.segment c.args.usable c.loop-index.index c.loop-index.place whole low before.places in
     let next : writes_below c.args.segment c.args.usable all whole k
-    ≡ written ++ next_write c.args.segment c.args.usable c.loop-index.index c.loop-index.place (completed c.args.count c.loop-index.sectors) =
+    ≡ written ++ next_write c.args.segment c.args.usable c.loop-index.index c.loop-index.place
+    (completed c.args.count c.loop-index.sectors) =
     writes_below_next c.args.segment c.args.usable all whole c.loop-index.index c.loop-index.place low before.places
     ∙ ap (λ (steps : List Step). written ++ steps) (sym here) in
     let front : Front (writes_below c.args.segment c.args.usable all whole k) (named_writes c.args.segment c.args.usable all whole) =
     front_of_writes c.args.segment c.args.usable all whole k few in
     let B : List Step → Type 0 = λ steps. Broke g.T.Tape.means c.args.unit.now.tape c.write_next.new.unit.tape steps in
     let broke : B (writes_below c.args.segment c.args.usable all whole k) =
-    subst B (sym next) (Done-Broke {xs = written} {ys = next_write c.args.segment c.args.usable c.loop-index.index c.loop-index.place (completed c.args.count c.loop-index.sectors)} before.written c.in_err-write_next.ensures.did) in
+    subst B (sym next) (Done-Broke {xs = written} {ys = next_write c.args.segment c.args.usable c.loop-index.index c.loop-index.place
+    (completed c.args.count c.loop-index.sectors)} before.written c.in_err-write_next.ensures.did) in
     let done : B (segment_writes c.args.segment c.args.usable c.args.sectors.now) =
-    subst B (completed_writes c.args.segment c.args.usable c.args.count c.args.sectors.now c.requires.count c.requires.segment.carries c.requires.room)
+    subst B (completed_writes c.args.segment c.args.usable c.args.count c.args.sectors.now c.requires.count c.requires.segment.carries
+    c.requires.room)
     (subst B (sym front.parts) (Broke-front {xs = writes_below c.args.segment c.args.usable all whole k} front.rest broke)) in
     let p = err_from_is_err_and c.from_residual-in_err-write_next.result c.from_residual-in_err-write_next.ensures.1 in
     rw p.1 done
@@ -98,10 +103,12 @@ returns-clause-did g c =
     let last : c.loop-index.index ≡ 32 = omega arith in
     let end : c.loop-index.place ≡ usable_count c.args.usable =
     before.places ∙ ap (λ (n : ℕ). length (lost_places c.args.usable n)) last in
-    let steps : writes_below c.args.segment c.args.usable all whole c.loop-index.place ≡ segment_writes c.args.segment c.args.usable c.args.sectors.now =
+    let steps : writes_below c.args.segment c.args.usable all whole c.loop-index.place ≡ segment_writes c.args.segment c.args.usable
+    c.args.sectors.now =
     ap (writes_below c.args.segment c.args.usable all whole) end
     ∙ writes_below_all c.args.segment c.args.usable all whole (all_within c.args.usable)
-    ∙ completed_writes c.args.segment c.args.usable c.args.count c.args.sectors.now c.requires.count c.requires.segment.carries c.requires.room in
+    ∙ completed_writes c.args.segment c.args.usable c.args.count c.args.sectors.now c.requires.count c.requires.segment.carries
+    c.requires.room in
     subst (λ (ss : List Step). Done g.T.Tape.means c.args.unit.now.tape c.loop-index.unit.tape ss) steps before.written
 
 pub returns-clause-parity : goal.returns-clause-parity

@@ -25,9 +25,11 @@ returns-clause-did g c =
     let room : c.args.count ≤ length c.make_ready.new.sectors = omega (arith, c.make_ready.ensures.room, count_below c.args.usable 32) in
     let next : next_write c.args.segment c.args.usable c.args.index c.args.place.now (completed c.args.count c.args.sectors.now)
     ≡ WriteSector c.args.segment c.args.index (sector_at c.make_ready.new.sectors c.args.place.now) ∷ [] =
-    next_is_written c.args.segment c.args.usable c.args.index c.args.count c.args.place.now c.args.sectors.now c.make_ready.new.sectors c.make_ready.new.parity
+    next_is_written c.args.segment c.args.usable c.args.index c.args.count c.args.place.now c.args.sectors.now c.make_ready.new.sectors
+    c.make_ready.new.parity
     is c.make_ready.ensures.register c.make_ready.ensures.same room in
-    subst (λ (steps : List Step). Does g.T.Tape.means c.args.unit.now.tape c.write_at.new.unit.tape steps c.write_at.result) (sym next) c.write_at.ensures.did
+    subst (λ (steps : List Step). Does g.T.Tape.means c.args.unit.now.tape c.write_at.new.unit.tape steps c.write_at.result)
+    (sym next) c.write_at.ensures.did
 
 pub returns-clause-place : goal.returns-clause-place
 returns-clause-place g c =

@@ -58,7 +58,8 @@ returns-in_err-write_usable-clause-did g c =
     let next : writes_below c.args.segment c.args.usable c.args.places sectors k ≡ written ++ here =
     writes_below_next c.args.segment c.args.usable c.args.places sectors c.loop-index.index c.loop-index.place
     (omega arith) before.places in
-    let front : Front (writes_below c.args.segment c.args.usable c.args.places sectors k) (named_writes c.args.segment c.args.usable c.args.places sectors) =
+    let front : Front (writes_below c.args.segment c.args.usable c.args.places sectors k)
+    (named_writes c.args.segment c.args.usable c.args.places sectors) =
     front_of_writes c.args.segment c.args.usable c.args.places sectors k low in
     let B : List Step → Type 0 = λ steps. Broke g.T.Tape.means c.args.unit.now.tape c.write_usable.new.unit.tape steps in
     let broke : B (writes_below c.args.segment c.args.usable c.args.places sectors k) =

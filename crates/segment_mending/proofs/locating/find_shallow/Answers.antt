@@ -23,7 +23,8 @@ returns-in-Ok-clause-found g c =
     (λ c' solved names. c.found_block.ensures.found depths.Shallow c' names (record {
       few = solved.says.0;
       code = c.in-Ok.ensures.block;
-      agrees = subst (λ (k : ℕ). Agrees (cells_of c' c.args.segment c.args.usable) (take k work)) (count_of_cells c' c.args.segment c.args.usable) solved.agrees;
+      agrees = subst (λ (k : ℕ). Agrees (cells_of c' c.args.segment c.args.usable) (take k work))
+          (count_of_cells c' c.args.segment c.args.usable) solved.agrees;
     }))
     (c.in-Ok.ensures.solves (λ same. cc)))
     c.in-Ok.ensures.unreadable

@@ -29,8 +29,10 @@ returns-clause-found c =
     record {
       finds = subst (λ (sector : ℕ). HasFound depths.Deep c' l (data_in l c.args.work.now) (Some sector)) (sym c.index_at.ensures)
           (finding.found_wrong depths.Deep c' l c.args.place block c.requires.searched c.requires.place deep can);
-      places = subst (λ (sector : ℕ). NamesUnreadable (cells_at (worn c.args.segment sector c') l) c.with_place.result) (sym c.index_at.ensures)
-          (finding.names_with_wrong c' l c.args.place c.args.lost c.with_place.result c.requires.place names c.with_place.ensures.more c.with_place.ensures.others);
+      places = subst (λ (sector : ℕ). NamesUnreadable (cells_at (worn c.args.segment sector c') l) c.with_place.result)
+          (sym c.index_at.ensures)
+          (finding.names_with_wrong c' l c.args.place c.args.lost c.with_place.result c.requires.place names c.with_place.ensures.more
+          c.with_place.ensures.others);
     }
 
 pub returns-clause-may : goal.returns-clause-may

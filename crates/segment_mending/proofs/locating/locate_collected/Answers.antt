@@ -28,7 +28,8 @@ returns-in-Ok-Wrong-clause-found c =
     λ c' gathered.
     c.found_wrong.ensures.found c' gathered.unreadable
     (gathered_locates (cells_of c' c.args.segment c.args.usable) c.args.lost c.args.usable c.args.work.now
-    (take (usable_count c.args.usable) c.locate_in.new.work) (Ok (Wrong c.in-Ok-Wrong.place)) (count_of_cells c' c.args.segment c.args.usable)
+    (take (usable_count c.args.usable) c.locate_in.new.work) (Ok (Wrong c.in-Ok-Wrong.place))
+    (count_of_cells c' c.args.segment c.args.usable)
     c.in-Ok-Wrong.ensures.old gathered (rw c.in-Ok-Wrong.field-0-is at c.in-Ok-Wrong.ensures.locates))
 
 pub returns-in-Err-TooMany-clause-found : goal.returns-in-Err-TooMany-clause-found
@@ -37,7 +38,8 @@ returns-in-Err-TooMany-clause-found c =
     let l : Looked = record { segment = c.args.segment; mask = c.args.usable } in
     let many = gathered_locates (cells_of c' c.args.segment c.args.usable) c.args.lost c.args.usable c.args.work.now
     (take (usable_count c.args.usable) c.locate_in.new.work) (Err (TooMany c.in-Err-TooMany.lost))
-    (count_of_cells c' c.args.segment c.args.usable) c.in-Err-TooMany.ensures.old gathered (rw c.in-Err-TooMany.field-0-is at c.in-Err-TooMany.ensures.locates) in
+    (count_of_cells c' c.args.segment c.args.usable) c.in-Err-TooMany.ensures.old gathered
+    (rw c.in-Err-TooMany.field-0-is at c.in-Err-TooMany.ensures.locates) in
     rw c.in-Err-TooMany.field-0-is (record { finds = found_many depths.Deep c' l c.in-Err-TooMany.lost many; places = tt })
 
 pub returns-in-Err-Mismatch-clause-found : goal.returns-in-Err-Mismatch-clause-found

@@ -18,10 +18,12 @@ returns-clause-locates c =
     let old : List (List ℕ) = c.args.work.now in
     let size : length left ≡ 32 = c.locate_first.ensures.size ∙ c.sectors_mut.ensures.size in
     let all : c.count-count.result ≡ usable_count c.args.usable = c.count-count.ensures ∙ ap usable_count c.from_mask.ensures in
-    subst (λ (now : List (List ℕ)). Locates (cells_without c.args.lost (take (usable_count c.args.usable) old)) (take (usable_count c.args.usable) now) c.locate_first.result)
+    subst (λ (now : List (List ℕ)). Locates (cells_without c.args.lost (take (usable_count c.args.usable) old))
+    (take (usable_count c.args.usable) now) c.locate_first.result)
     (sym (lent left old size))
     (subst (λ (k : ℕ). Locates (cells_without c.args.lost (take k old)) (take k left) c.locate_first.result) all
-    (subst (λ (sectors : List (List ℕ)). Locates (cells_without c.args.lost (take c.count-count.result sectors)) (take c.count-count.result left) c.locate_first.result)
+    (subst (λ (sectors : List (List ℕ)). Locates (cells_without c.args.lost (take c.count-count.result sectors))
+    (take c.count-count.result left) c.locate_first.result)
     c.sectors_mut.ensures.value c.locate_first.ensures.locates))
 
 pub returns-clause-old : goal.returns-clause-old

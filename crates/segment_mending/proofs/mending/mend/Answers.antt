@@ -12,10 +12,12 @@ returns-in_err-write_lost-clause-goes g c =
     let why : ScrubFault = c.in_err-write_lost.field-0.0 in
     let is : c.from_residual.result ≡ Err why = passed c.from_residual.result why c.from_residual.ensures.1 in
     goes_failed g.T.Tape.means g.K.Sink.means g.met.K.Sink.took_nothing c.args.unit.now.tape c.write_lost.new.unit.tape c.args.sink.now
-    (mending l c.args.lost c.args.wrong c.args.work.now) c.from_residual.result why is c.in_err-write_lost.ensures.fault c.in_err-write_lost.ensures.did
+    (mending l c.args.lost c.args.wrong c.args.work.now) c.from_residual.result why is c.in_err-write_lost.ensures.fault
+    c.in_err-write_lost.ensures.did
 
 pub returns-clause-goes : goal.returns-clause-goes
 returns-clause-goes g c =
     let l : Looked = record { segment = c.args.segment; mask = c.args.usable } in
     goes_on g.T.Tape.means g.K.Sink.means c.args.unit.now.tape c.write_lost.new.unit.tape c.args.sink.now c.tell_wrong.new.sink
-    (mending l c.args.lost c.args.wrong c.args.work.now) c.tell_wrong.result c.in_ok-write_lost.ensures.did c.tell_wrong.ensures.wrote c.tell_wrong.ensures.fault
+    (mending l c.args.lost c.args.wrong c.args.work.now) c.tell_wrong.result c.in_ok-write_lost.ensures.did c.tell_wrong.ensures.wrote
+    c.tell_wrong.ensures.fault

@@ -15,5 +15,7 @@ pub returns-then-mask-eq0-clause-did : goal.returns-then-mask-eq0-clause-did
 returns-then-mask-eq0-clause-did g c =
     let none : c.args.lost ≡ 0 = sym c.mask.ensures ∙ c.if-mask-eq0.true in
     let steps : [] ≡ named_writes c.args.segment c.args.usable c.args.lost c.args.work.now =
-    sym (ap (λ (places : ℕ). named_writes c.args.segment c.args.usable places c.args.work.now) none ∙ no_writes c.args.segment c.args.usable c.args.work.now) in
-    subst (λ (ss : List Step). Done g.T.Tape.means c.args.unit.now.tape c.args.unit.now.tape ss) steps (Done-nothing g.T.Tape.means c.args.unit.now.tape)
+    sym (ap (λ (places : ℕ). named_writes c.args.segment c.args.usable places c.args.work.now) none
+    ∙ no_writes c.args.segment c.args.usable c.args.work.now) in
+    subst (λ (ss : List Step). Done g.T.Tape.means c.args.unit.now.tape c.args.unit.now.tape ss) steps
+    (Done-nothing g.T.Tape.means c.args.unit.now.tape)

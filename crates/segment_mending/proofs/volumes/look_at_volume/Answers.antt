@@ -17,12 +17,15 @@ pub loop-segment-init : goal.loop-segment-init
 loop-segment-init g c =
     let words : List ℕ = c.args.map.now in
     let none : looked_segments words [] ≡ looked_segments words (carrying_below words c.args.entry.now.start c.from-segment.result) =
-    ap (looked_segments words) (sym (below_none words c.args.entry.now.start) ∙ ap (carrying_below words c.args.entry.now.start) (sym c.from-segment.ensures)) in
+    ap (looked_segments words) (sym (below_none words c.args.entry.now.start) ∙ ap (carrying_below words c.args.entry.now.start)
+    (sym c.from-segment.ensures)) in
     record {
       from = omega arith;
-      looked = subst (λ (ls : List Looked). HasLooked g.T.Tape.means g.K.Sink.means c.args.progress.now.depth ls (around c.args.unit.now.tape c.args.sink.now)
+      looked = subst (λ (ls : List Looked). HasLooked g.T.Tape.means g.K.Sink.means c.args.progress.now.depth ls
+          (around c.args.unit.now.tape c.args.sink.now)
           (around c.args.unit.now.tape c.args.sink.now) (reported c.args.progress.now.report) (reported c.args.progress.now.report)) none
-          (looked_none c.args.progress.now.depth g.met.K.Sink.took_nothing (around c.args.unit.now.tape c.args.sink.now) (reported c.args.progress.now.report));
+          (looked_none c.args.progress.now.depth g.met.K.Sink.took_nothing (around c.args.unit.now.tape c.args.sink.now)
+          (reported c.args.progress.now.report));
       depth = refl;
       keeps = keeps_none c.requires.ready;
     }
@@ -32,9 +35,11 @@ look_if_carrying-requires-clause-few g c =
     let words : List ℕ = c.args.map.now in
     let before = c.loop-segment.invariant.looked in
     let looked : List Looked = looked_segments words (carrying_below words c.args.entry.now.start c.loop-segment.segment) in
-    let most : length looked ≤ c.loop-segment.segment - c.args.entry.now.start = length-below words c.args.entry.now.start c.loop-segment.segment in
+    let most : length looked ≤ c.loop-segment.segment - c.args.entry.now.start =
+    length-below words c.args.entry.now.start c.loop-segment.segment in
     few_more (33554432 + length looked) 67108864 (reported c.loop-segment.progress.report) (omega arith)
-    (few_after looked before.findings before.acts 33554432 (reported c.args.progress.now.report) (reported c.loop-segment.progress.report) before.counted c.requires.few)
+    (few_after looked before.findings before.acts 33554432 (reported c.args.progress.now.report)
+    (reported c.loop-segment.progress.report) before.counted c.requires.few)
 
 -- a fault in one of the segments
 pub returns-in_err-look_if_carrying-clause-looks : goal.returns-in_err-look_if_carrying-clause-looks
@@ -55,13 +60,19 @@ returns-in_err-look_if_carrying-clause-looks g c =
     let whole : (xs ++ ys) ++ zs ≡ looked_segments words (carrying words start c.args.entry.now.end) =
     ap (λ (ls : List Looked). ls ++ zs) (segments_next words start segment c.loop-segment.invariant.from)
     ∙ segments_whole words start (segment + 1) last (omega arith) (omega arith) in
-    let front : Looks g.T.Tape.means g.K.Sink.means c.args.progress.now.depth (xs ++ ys) a d (reported c.args.progress.now.report) after (Err fault) =
-    looks_then g.T.Tape.means g.K.Sink.means c.args.progress.now.depth g.met.K.Sink.took_both xs ys a b d (reported c.args.progress.now.report) (reported c.loop-segment.progress.report) after (Err fault)
-    c.loop-segment.invariant.looked (subst (λ (form : Depth). Looks g.T.Tape.means g.K.Sink.means form ys b d (reported c.loop-segment.progress.report) after (Err fault))
+    let front : Looks g.T.Tape.means g.K.Sink.means c.args.progress.now.depth (xs ++ ys) a d (reported c.args.progress.now.report) after
+    (Err fault) =
+    looks_then g.T.Tape.means g.K.Sink.means c.args.progress.now.depth g.met.K.Sink.took_both xs ys a b d
+    (reported c.args.progress.now.report) (reported c.loop-segment.progress.report) after (Err fault)
+    c.loop-segment.invariant.looked (subst (λ (form : Depth). Looks g.T.Tape.means g.K.Sink.means form ys b d
+    (reported c.loop-segment.progress.report) after (Err fault))
     c.loop-segment.invariant.depth c.in_err-look_if_carrying.ensures.looks) in
-    let all : Looks g.T.Tape.means g.K.Sink.means c.args.progress.now.depth ((xs ++ ys) ++ zs) a d (reported c.args.progress.now.report) after (Err fault) =
-    looks_longer g.T.Tape.means g.K.Sink.means c.args.progress.now.depth (xs ++ ys) zs a d (reported c.args.progress.now.report) after after fault front in
-    rw is (subst (λ (ls : List Looked). Looks g.T.Tape.means g.K.Sink.means c.args.progress.now.depth ls a d (reported c.args.progress.now.report) after (Err fault)) whole all)
+    let all : Looks g.T.Tape.means g.K.Sink.means c.args.progress.now.depth ((xs ++ ys) ++ zs) a d
+    (reported c.args.progress.now.report) after (Err fault) =
+    looks_longer g.T.Tape.means g.K.Sink.means c.args.progress.now.depth (xs ++ ys) zs a d
+    (reported c.args.progress.now.report) after after fault front in
+    rw is (subst (λ (ls : List Looked). Looks g.T.Tape.means g.K.Sink.means c.args.progress.now.depth ls a d
+    (reported c.args.progress.now.report) after (Err fault)) whole all)
 
 pub loop-segment-preserved : goal.loop-segment-preserved
 loop-segment-preserved g c =
@@ -75,12 +86,14 @@ loop-segment-preserved g c =
     let xs : List Looked = looked_segments words (carrying_below words start segment) in
     let ys : List Looked = looked_segments words (carrying words segment segment) in
     let all : HasLooked g.T.Tape.means g.K.Sink.means c.args.progress.now.depth (xs ++ ys) a d (reported c.args.progress.now.report) after =
-    looked_both c.args.progress.now.depth g.met.K.Sink.took_both xs ys a b d (reported c.args.progress.now.report) (reported c.loop-segment.progress.report) after c.loop-segment.invariant.looked
+    looked_both c.args.progress.now.depth g.met.K.Sink.took_both xs ys a b d (reported c.args.progress.now.report)
+    (reported c.loop-segment.progress.report) after c.loop-segment.invariant.looked
     (subst (λ (form : Depth). HasLooked g.T.Tape.means g.K.Sink.means form ys b d (reported c.loop-segment.progress.report) after)
     c.loop-segment.invariant.depth c.in_ok-look_if_carrying.ensures.looks) in
     record {
       from = (let low = c.loop-segment.invariant.from in omega arith);
-      looked = subst (λ (ls : List Looked). HasLooked g.T.Tape.means g.K.Sink.means c.args.progress.now.depth ls a d (reported c.args.progress.now.report) after)
+      looked = subst (λ (ls : List Looked). HasLooked g.T.Tape.means g.K.Sink.means c.args.progress.now.depth ls a d
+          (reported c.args.progress.now.report) after)
           (segments_next words start segment c.loop-segment.invariant.from) all;
       depth = c.in_ok-look_if_carrying.ensures.depth ∙ c.loop-segment.invariant.depth;
       keeps = keeps_both c.loop-segment.invariant.keeps c.in_ok-look_if_carrying.ensures.keeps;
@@ -90,6 +103,7 @@ pub returns-clause-few : goal.returns-clause-few
 returns-clause-few g c =
     let words : List ℕ = c.args.map.now in
     let looked : List Looked = looked_segments words (carrying_below words c.args.entry.now.start c.loop-segment.segment) in
-    let most : length looked ≤ c.loop-segment.segment - c.args.entry.now.start = length-below words c.args.entry.now.start c.loop-segment.segment in
+    let most : length looked ≤ c.loop-segment.segment - c.args.entry.now.start =
+    length-below words c.args.entry.now.start c.loop-segment.segment in
     let counted = c.loop-segment.invariant.looked.counted.segments in
     omega arith

@@ -11,7 +11,8 @@ use Rattle.segment_mending.proofs.volumes.look_at_volume.Given as goal
 abbrev pub invariant-loop-segment : goal.invariant-loop-segment
 invariant-loop-segment g l = record {
   from : l.fn.entry.start ≤ l.segment;
-  looked : HasLooked g.T.Tape.means g.K.Sink.means l.fn.progress.depth (looked_segments l.map (carrying_below l.map l.fn.entry.start l.segment))
+  looked : HasLooked g.T.Tape.means g.K.Sink.means l.fn.progress.depth
+      (looked_segments l.map (carrying_below l.map l.fn.entry.start l.segment))
       (around l.fn.unit.tape l.fn.sink) (around l.unit.tape l.sink) (reported l.fn.progress.report) (reported l.progress.report);
   depth : l.progress.depth ≡ l.fn.progress.depth;
   keeps : Keeps g.T.Tape.means l.host l.fn.unit l.unit;

@@ -17,7 +17,8 @@ use Rattle.segment_mending.proofs.volumes.look_at_volumes.Goals as goal
 
 pub loop-index-init : goal.loop-index-init
 loop-index-init g c = record {
-  looked = looked_none c.args.progress.now.depth g.met.K.Sink.took_nothing (around c.args.unit.now.tape c.args.sink.now) (reported c.args.progress.now.report);
+  looked = looked_none c.args.progress.now.depth g.met.K.Sink.took_nothing (around c.args.unit.now.tape c.args.sink.now)
+      (reported c.args.progress.now.report);
   few = c.requires.few.segments;
   depth = refl;
   keeps = keeps_none c.requires.ready;
@@ -25,16 +26,19 @@ loop-index-init g c = record {
 
 pub look_at_volume-requires-clause-behind : goal.look_at_volume-requires-clause-behind
 look_at_volume-requires-clause-behind g c =
-    (lies_on (length c.args.map.now - 1) c.args.table.now c.loop-index.index (entry_of c.entry-entry.result.now) c.requires.list c.entry-entry.ensures).behind
+    (lies_on (length c.args.map.now - 1) c.args.table.now c.loop-index.index
+    (entry_of c.entry-entry.result.now) c.requires.list c.entry-entry.ensures).behind
 
 pub look_at_volume-requires-clause-forwards : goal.look_at_volume-requires-clause-forwards
 look_at_volume-requires-clause-forwards g c =
-    (lies_on (length c.args.map.now - 1) c.args.table.now c.loop-index.index (entry_of c.entry-entry.result.now) c.requires.list c.entry-entry.ensures).forwards
+    (lies_on (length c.args.map.now - 1) c.args.table.now c.loop-index.index
+    (entry_of c.entry-entry.result.now) c.requires.list c.entry-entry.ensures).forwards
 
 pub look_at_volume-requires-clause-on_tape : goal.look_at_volume-requires-clause-on_tape
 look_at_volume-requires-clause-on_tape g c =
     let lies : LiesOn (length c.args.map.now - 1) (entry_of c.entry-entry.result.now) =
-    lies_on (length c.args.map.now - 1) c.args.table.now c.loop-index.index (entry_of c.entry-entry.result.now) c.requires.list c.entry-entry.ensures in
+    lies_on (length c.args.map.now - 1) c.args.table.now c.loop-index.index
+    (entry_of c.entry-entry.result.now) c.requires.list c.entry-entry.ensures in
     let behind = lies.behind in let forwards = lies.forwards in let within = lies.within in omega arith
 
 pub look_at_volume-requires-clause-few : goal.look_at_volume-requires-clause-few
@@ -42,7 +46,8 @@ look_at_volume-requires-clause-few g c =
     let before = c.loop-index.invariant.looked in
     let looked : List Looked = looked_volumes c.args.map.now (take c.loop-index.index c.args.table.now) in
     let few : HasFew (3 + length looked) (reported c.loop-index.progress.report) =
-    few_after looked before.findings before.acts 3 (reported c.args.progress.now.report) (reported c.loop-index.progress.report) before.counted c.requires.few in
+    few_after looked before.findings before.acts 3 (reported c.args.progress.now.report)
+    (reported c.loop-index.progress.report) before.counted c.requires.few in
     record {
       segments = (let most = c.loop-index.invariant.few in omega arith);
       mended = few.mended;
@@ -67,13 +72,19 @@ returns-in_err-look_at_volume-clause-looks g c =
     let zs : List Looked = looked_volumes words (drop (i + 1) entries) in
     let whole : (xs ++ ys) ++ zs ≡ looked_volumes words entries =
     ap (λ (ls : List Looked). ls ++ zs) (sym (volumes_more words entries i e c.entry-entry.ensures)) ∙ volumes_part words entries (i + 1) in
-    let front : Looks g.T.Tape.means g.K.Sink.means c.args.progress.now.depth (xs ++ ys) a d (reported c.args.progress.now.report) after (Err fault) =
-    looks_then g.T.Tape.means g.K.Sink.means c.args.progress.now.depth g.met.K.Sink.took_both xs ys a b d (reported c.args.progress.now.report) (reported c.loop-index.progress.report) after (Err fault)
-    c.loop-index.invariant.looked (subst (λ (form : Depth). Looks g.T.Tape.means g.K.Sink.means form ys b d (reported c.loop-index.progress.report) after (Err fault))
+    let front : Looks g.T.Tape.means g.K.Sink.means c.args.progress.now.depth (xs ++ ys) a d (reported c.args.progress.now.report) after
+    (Err fault) =
+    looks_then g.T.Tape.means g.K.Sink.means c.args.progress.now.depth g.met.K.Sink.took_both xs ys a b d
+    (reported c.args.progress.now.report) (reported c.loop-index.progress.report) after (Err fault)
+    c.loop-index.invariant.looked (subst (λ (form : Depth). Looks g.T.Tape.means g.K.Sink.means form ys b d
+    (reported c.loop-index.progress.report) after (Err fault))
     c.loop-index.invariant.depth c.in_err-look_at_volume.ensures.looks) in
-    let all : Looks g.T.Tape.means g.K.Sink.means c.args.progress.now.depth ((xs ++ ys) ++ zs) a d (reported c.args.progress.now.report) after (Err fault) =
-    looks_longer g.T.Tape.means g.K.Sink.means c.args.progress.now.depth (xs ++ ys) zs a d (reported c.args.progress.now.report) after after fault front in
-    rw is (subst (λ (ls : List Looked). Looks g.T.Tape.means g.K.Sink.means c.args.progress.now.depth ls a d (reported c.args.progress.now.report) after (Err fault)) whole all)
+    let all : Looks g.T.Tape.means g.K.Sink.means c.args.progress.now.depth ((xs ++ ys) ++ zs) a d
+    (reported c.args.progress.now.report) after (Err fault) =
+    looks_longer g.T.Tape.means g.K.Sink.means c.args.progress.now.depth (xs ++ ys) zs a d
+    (reported c.args.progress.now.report) after after fault front in
+    rw is (subst (λ (ls : List Looked). Looks g.T.Tape.means g.K.Sink.means c.args.progress.now.depth ls a d
+    (reported c.args.progress.now.report) after (Err fault)) whole all)
 
 pub loop-index-preserved : goal.loop-index-preserved
 loop-index-preserved g c =
@@ -88,11 +99,13 @@ loop-index-preserved g c =
     let xs : List Looked = looked_volumes words (take i entries) in
     let ys : List Looked = looked_segments words (carrying_segments words e) in
     let all : HasLooked g.T.Tape.means g.K.Sink.means c.args.progress.now.depth (xs ++ ys) a d (reported c.args.progress.now.report) after =
-    looked_both c.args.progress.now.depth g.met.K.Sink.took_both xs ys a b d (reported c.args.progress.now.report) (reported c.loop-index.progress.report) after c.loop-index.invariant.looked
+    looked_both c.args.progress.now.depth g.met.K.Sink.took_both xs ys a b d (reported c.args.progress.now.report)
+    (reported c.loop-index.progress.report) after c.loop-index.invariant.looked
     (subst (λ (form : Depth). HasLooked g.T.Tape.means g.K.Sink.means form ys b d (reported c.loop-index.progress.report) after)
     c.loop-index.invariant.depth c.in_ok-look_at_volume.ensures.looks) in
     record {
-      looked = subst (λ (ls : List Looked). HasLooked g.T.Tape.means g.K.Sink.means c.args.progress.now.depth ls a d (reported c.args.progress.now.report) after)
+      looked = subst (λ (ls : List Looked). HasLooked g.T.Tape.means g.K.Sink.means c.args.progress.now.depth ls a d
+          (reported c.args.progress.now.report) after)
           (sym (volumes_more words entries i e c.entry-entry.ensures)) all;
       few = (let most = c.loop-index.invariant.few in let more = c.in_ok-look_at_volume.ensures.few in omega arith);
       depth = c.in_ok-look_at_volume.ensures.depth ∙ c.loop-index.invariant.depth;

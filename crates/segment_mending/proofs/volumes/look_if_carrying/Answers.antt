@@ -18,6 +18,8 @@ returns-then-count-lt-FEWEST-clause-looks g c =
     c.count.ensures ∙ ap (λ (m : ℕ). length (sectors_of m)) (c.from_mask.ensures ∙ c.usable-usable.ensures) in
     let none : looked_segments words [] ≡ looked_segments words (carrying words c.args.segment c.args.segment) =
     sym (ap (looked_segments words) (none_carries words c.args.segment (omega arith))) in
-    subst (λ (ls : List Looked). HasLooked g.T.Tape.means g.K.Sink.means c.args.progress.now.depth ls (around c.args.unit.now.tape c.args.sink.now)
+    subst (λ (ls : List Looked). HasLooked g.T.Tape.means g.K.Sink.means c.args.progress.now.depth ls
+    (around c.args.unit.now.tape c.args.sink.now)
     (around c.args.unit.now.tape c.args.sink.now) (reported c.args.progress.now.report) (reported c.args.progress.now.report)) none
-    (looked_none c.args.progress.now.depth g.met.K.Sink.took_nothing (around c.args.unit.now.tape c.args.sink.now) (reported c.args.progress.now.report))
+    (looked_none c.args.progress.now.depth g.met.K.Sink.took_nothing (around c.args.unit.now.tape c.args.sink.now)
+    (reported c.args.progress.now.report))

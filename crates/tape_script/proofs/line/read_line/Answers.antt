@@ -11,7 +11,8 @@ returns-in-Ok-Open-clause-read g c =
     let m = g.S.Source.means in
     let took = rw c.in-Ok-Open.field-0-is at c.in-Ok-Open.ensures.took in
     let bytes = took.2 in
-    let all : (length bytes.0 ≡ 128) ⊎ HasEnded m c.take_line.new.source = elim took.3 [ inl full ↦ inl (bytes.1 ∙ full) | inr ended ↦ inr ended ] in (
+    let all : (length bytes.0 ≡ 128) ⊎ HasEnded m c.take_line.new.source =
+    elim took.3 [ inl full ↦ inl (bytes.1 ∙ full) | inr ended ↦ inr ended ] in (
       took.0,
       took.1,
       (bytes.0, bytes.1, bytes.3, All-take (λ b. b ≢ 0x0A) (c.in-Ok-Open.read - 1) bytes.0 bytes.2, inr all),
@@ -22,7 +23,8 @@ pub returns-in-None-clause-read : goal.returns-in-None-clause-read
 returns-in-None-clause-read g c =
     let took = rw c.in-Ok-Line.field-0-is at c.in-Ok-Line.ensures.took in
     let before : List ℕ = take c.in-Ok-Line.len c.take_line.new.buffer in
-    let long : length before ≡ c.in-Ok-Line.len = length-take-le c.in-Ok-Line.len c.take_line.new.buffer (let l = c.take_line.array_long in omega arith) in
+    let long : length before ≡ c.in-Ok-Line.len = length-take-le c.in-Ok-Line.len c.take_line.new.buffer
+    (let l = c.take_line.array_long in omega arith) in
     let none = rw c.from.ensures at c.in-None.ensures in (
       omega arith,
       omega arith,
@@ -33,5 +35,6 @@ returns-in-None-clause-read g c =
         one_newline before (c.in-Ok-Line.len + 1) (omega arith) took.1,
         inl (before, refl),
       ),
-      (λ line. BeginsWithNo-line g.S.Source.means (λ text. IsLine text line) c.args.source.now c.take_line.new.source before took.1 took.2 (none line)),
+      (λ line. BeginsWithNo-line g.S.Source.means (λ text. IsLine text line) c.args.source.now c.take_line.new.source before took.1 took.2
+          (none line)),
     )

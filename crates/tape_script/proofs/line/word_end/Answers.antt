@@ -14,7 +14,8 @@ pub loop-at-preserved : goal.loop-at-preserved
 loop-at-preserved c =
     let other : (get_or c.args.text.now c.loop-at.at 0 == 0x20) ≡ false = grind (arith, nat_tests) in
     rw (take_more c.args.text.now c.loop-at.at 0 c.loop-at-test.true)
-    (All-push (λ b. (b == 0x20) ≡ false) (take c.loop-at.at c.args.text.now) (get_or c.args.text.now c.loop-at.at 0) c.loop-at.invariant other)
+    (All-push (λ b. (b == 0x20) ≡ false) (take c.loop-at.at c.args.text.now) (get_or c.args.text.now c.loop-at.at 0) c.loop-at.invariant
+    other)
 
 pub returns-clause-words : goal.returns-clause-words
 returns-clause-words c =

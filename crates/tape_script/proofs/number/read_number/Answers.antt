@@ -21,18 +21,21 @@ returns-then-value-eq0 c n number =
 
 pub overflow_mul-value : goal.overflow_mul-value
 overflow_mul-value c =
-    let few = small c.args.word.now c.loop-at.at c.loop-at.value (omega arith) c.loop-at-test.true c.if-word-gt-MOST_DIGITS.false c.loop-at.invariant.none c.loop-at.invariant.so_far in
+    let few = small c.args.word.now c.loop-at.at c.loop-at.value (omega arith) c.loop-at-test.true c.if-word-gt-MOST_DIGITS.false
+    c.loop-at.invariant.none c.loop-at.invariant.so_far in
     omega arith
 
 pub overflow_add-value : goal.overflow_add-value
 overflow_add-value c =
-    let few = small c.args.word.now c.loop-at.at c.loop-at.value (omega arith) c.loop-at-test.true c.if-word-gt-MOST_DIGITS.false c.loop-at.invariant.none c.loop-at.invariant.so_far in
+    let few = small c.args.word.now c.loop-at.at c.loop-at.value (omega arith) c.loop-at-test.true c.if-word-gt-MOST_DIGITS.false
+    c.loop-at.invariant.none c.loop-at.invariant.so_far in
     let cases = c.if-not-is_ascii_digit.ensures.cases in
     let digit = c.from.ensures in omega arith
 
 pub loop-at-preserved : goal.loop-at-preserved
 loop-at-preserved c =
-    let few = small c.args.word.now c.loop-at.at c.loop-at.value (omega arith) c.loop-at-test.true c.if-word-gt-MOST_DIGITS.false c.loop-at.invariant.none c.loop-at.invariant.so_far in
+    let few = small c.args.word.now c.loop-at.at c.loop-at.value (omega arith) c.loop-at-test.true c.if-word-gt-MOST_DIGITS.false
+    c.loop-at.invariant.none c.loop-at.invariant.so_far in
     let cases = c.if-not-is_ascii_digit.ensures.cases in
     record {
       none = λ e. absurd (omega arith);

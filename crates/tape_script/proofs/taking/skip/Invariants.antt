@@ -1,4 +1,4 @@
-use Rattle.std.proofs.Common.{◌≤◌, ◌-◌}
+use Rattle.std.proofs.Common.{◌≡◌, ◌≤◌, ◌-◌}
 use Rattle.qic_base.specs.SourceCalls.{GaveSome}
 use Rattle.tape_script.proofs.taking.skip.Given as goal
 
@@ -7,7 +7,7 @@ invariant-loop-left g l = record {
   within : l.left ≤ l.bytes;
   gave : GaveSome g.S.Source.means l.initial.source l.source (l.bytes - l.left);
   kept : g.S.Source.means.keeps l.initial.source l.source;
-  later : g.S.Source.means.faults l.initial.source ≤ g.S.Source.means.faults l.source;
+  later : g.S.Source.means.faults l.source ≡ g.S.Source.means.faults l.initial.source;
 }
 
 abbrev pub decreases-loop-left : goal.decreases-loop-left

@@ -8,19 +8,22 @@ pub loop-len-preserved : goal.loop-len-preserved
 loop-len-preserved g c =
     let full = c.loop-len.invariant.full in
     let here : c.loop-len.len < length c.loop-len.buffer = omega arith in
-    let stored : take (c.loop-len.len + 1) (set c.loop-len.buffer c.loop-len.len c.in-Ok-Some.byte) ≡ take c.loop-len.len c.loop-len.buffer ++ c.in-Ok-Some.byte ∷ [] =
+    let stored : take (c.loop-len.len + 1) (set c.loop-len.buffer c.loop-len.len c.in-Ok-Some.byte) ≡ take c.loop-len.len
+    c.loop-len.buffer ++ c.in-Ok-Some.byte ∷ [] =
     take_more_set c.loop-len.buffer c.loop-len.len c.in-Ok-Some.byte here in
     let took = rw c.in-Ok-Some.field-0-is at c.in-Ok-Some.ensures.took in
     record {
       within = omega arith;
       full = rw length-set full;
       one_line = rw (c.from.ensures, stored)
-          (All-push (λ b. b ≢ 0x0A) (take c.loop-len.len c.loop-len.buffer) c.in-Ok-Some.byte c.loop-len.invariant.one_line c.in-Ok-Some.byte-test.1);
+          (All-push (λ b. b ≢ 0x0A) (take c.loop-len.len c.loop-len.buffer) c.in-Ok-Some.byte c.loop-len.invariant.one_line
+          c.in-Ok-Some.byte-test.1);
       gave = rw (c.from.ensures, stored)
-          (Gave-Gave g.S.Source.means c.args.source.now c.loop-len.source c.take_byte.new.source (take c.loop-len.len c.loop-len.buffer) (c.in-Ok-Some.byte ∷ [])
+          (Gave-Gave g.S.Source.means c.args.source.now c.loop-len.source c.take_byte.new.source (take c.loop-len.len c.loop-len.buffer)
+          (c.in-Ok-Some.byte ∷ [])
           c.loop-len.invariant.gave took);
       kept = g.met.S.Source.keeps_on _ _ _ c.loop-len.invariant.kept c.take_byte.ensures.kept;
-      later = let e = c.loop-len.invariant.later in let f = c.take_byte.ensures.cause.later in omega arith;
+      later = let e = c.loop-len.invariant.later in let f = c.in-Ok-Some.ensures.cause.stood in omega arith;
     }
 
 pub returns-in-Ok-None-2-clause-took : goal.returns-in-Ok-None-2-clause-took
@@ -32,7 +35,8 @@ returns-in-Ok-None-2-clause-took g c =
         take c.loop-len.len c.loop-len.buffer,
         length-take-le c.loop-len.len c.loop-len.buffer (let f = c.loop-len.invariant.full in omega arith),
         c.loop-len.invariant.one_line,
-        Gave-end g.S.Source.means c.args.source.now c.loop-len.source c.take_byte.new.source (take c.loop-len.len c.loop-len.buffer) c.loop-len.invariant.gave took.1,
+        Gave-end g.S.Source.means c.args.source.now c.loop-len.source c.take_byte.new.source
+            (take c.loop-len.len c.loop-len.buffer) c.loop-len.invariant.gave took.1,
       ),
       inr (HasEnded-Gave g.S.Source.means c.loop-len.source c.take_byte.new.source took.0 took.1),
     )
@@ -43,7 +47,8 @@ returns-in-Err-clause-took g c =
       take c.loop-len.len c.loop-len.buffer,
       omega arith,
       c.loop-len.invariant.one_line,
-      Gave-end g.S.Source.means c.args.source.now c.loop-len.source c.take_byte.new.source (take c.loop-len.len c.loop-len.buffer) c.loop-len.invariant.gave c.in-Err.ensures.took,
+      Gave-end g.S.Source.means c.args.source.now c.loop-len.source c.take_byte.new.source
+          (take c.loop-len.len c.loop-len.buffer) c.loop-len.invariant.gave c.in-Err.ensures.took,
     )
 
 pub returns-clause-took : goal.returns-clause-took

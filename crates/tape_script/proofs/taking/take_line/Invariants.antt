@@ -10,7 +10,7 @@ invariant-loop-len g l = record {
   one_line : NoNewline (take l.len l.buffer);
   gave : Gave g.S.Source.means l.initial.source l.source (take l.len l.buffer);
   kept : g.S.Source.means.keeps l.initial.source l.source;
-  later : g.S.Source.means.faults l.initial.source ≤ g.S.Source.means.faults l.source;
+  later : g.S.Source.means.faults l.source ≡ g.S.Source.means.faults l.initial.source;
 }
 
 abbrev pub decreases-loop-len : goal.decreases-loop-len

@@ -6,7 +6,8 @@ use Rattle.tape_script.proofs.text_line.trimmed_len.Goals as goal
 pub loop-len-preserved : goal.loop-len-preserved
 loop-len-preserved c = record {
   within = let w = c.loop-len.invariant.within in omega arith;
-  trimmed_so_far = trimmed-take-filler c.args.bytes.now c.loop-len.len (let t = c.loop-len-test.true in omega arith) c.loop-len.invariant.within
+  trimmed_so_far = trimmed-take-filler c.args.bytes.now c.loop-len.len
+      (let t = c.loop-len-test.true in omega arith) c.loop-len.invariant.within
       (sym c.is_filler.ensures ∙ c.if-is_filler.true) ∙ c.loop-len.invariant.trimmed_so_far;
 }
 

@@ -8,7 +8,8 @@ use Rattle.tape_script.proofs.write.write_text.Goals as goal
 
 pub loop-at-preserved : goal.loop-at-preserved
 loop-at-preserved g c =
-    let next : Wrote g.K.Sink.means c.loop-at.sink c.write.new.self _ = record { took = c.in-Ok.ensures.takes.2; later = c.in-Ok.ensures.cause.later } in
+    let next : Wrote g.K.Sink.means c.loop-at.sink c.write.new.self _ =
+    record { took = c.in-Ok.ensures.takes.2; later = c.in-Ok.ensures.cause.stood } in
     record {
       within = front_within c.args.text.now c.loop-at.at c.in-Ok.written c.loop-at.invariant.within c.in-Ok.ensures.takes.1;
       wrote = rw (← front_more c.args.text.now c.loop-at.at c.in-Ok.written c.in-Ok.ensures.takes.1)

@@ -12,11 +12,13 @@ use Rattle.volume_input.proofs.Places.{capacity_carries}
 use Rattle.volume_input.proofs.Running.{SoFar, begin, next, last, none_came, failed}
 use Rattle.volume_input.proofs.Volume.{here_next, skipped, not_over, written_within}
 use Rattle.volume_input.proofs.input.take_volume.Goals as goal
-use Rattle.volume_input.proofs.input.take_volume.Goals.{then-read-capacity-via-then-read-capacity, then-read-capacity-via-else-read-capacity+then-written-wanted}
+use Rattle.volume_input.proofs.input.take_volume.Goals.{then-read-capacity-via-then-read-capacity}
+use Rattle.volume_input.proofs.input.take_volume.Goals.{then-read-capacity-via-else-read-capacity+then-written-wanted}
 
 pub loop-segment-init : goal.loop-segment-init
 loop-segment-init g c = record {
-  far = begin c.args.map.now (carrying c.args.map.now c.args.first (length c.args.map.now - 1)) c.args.wanted.most (reading c.args.unit.now.tape c.args.source.now);
+  far = begin c.args.map.now (carrying c.args.map.now c.args.first (length c.args.map.now - 1)) c.args.wanted.most
+      (reading c.args.unit.now.tape c.args.source.now);
   kept = g.met.S.Source.keeps_itself c.args.source.now;
   keeps = keeps_none c.requires.ready;
 }
@@ -40,14 +42,18 @@ returns-then-read-capacity-clause-ends g c =
     let start = reading c.args.unit.now.tape c.args.source.now in
     let now = reading c.loop-segment.unit.tape c.loop-segment.source in
     let new = reading c.write_next.new.unit.tape c.write_next.new.source in
-    let far = here_next words c.args.first segment c.args.wanted.most start now c.loop-segment.written c.loop-segment.invariant.far (omega arith) carry in
-    let sum : c.with-written.result.bytes ≡ c.loop-segment.written.bytes + c.in-Ok-Some.read = ap (λ (w : Written). w.bytes) c.with-written.ensures in
-    let ends : (c.in-Ok-Some.read < capacity (mask_at words segment)) ⊎ (c.loop-segment.written.bytes + c.in-Ok-Some.read ≡ c.args.wanted.most) =
+    let far = here_next words c.args.first segment c.args.wanted.most start now c.loop-segment.written c.loop-segment.invariant.far
+    (omega arith) carry in
+    let sum : c.with-written.result.bytes ≡ c.loop-segment.written.bytes + c.in-Ok-Some.read =
+    ap (λ (w : Written). w.bytes) c.with-written.ensures in
+    let ends : (c.in-Ok-Some.read < capacity (mask_at words segment))
+    ⊎ (c.loop-segment.written.bytes + c.in-Ok-Some.read ≡ c.args.wanted.most) =
     elim c.then-read-capacity.branch [
       | then-read-capacity-via-then-read-capacity w ↦ inl (omega arith)
       | then-read-capacity-via-else-read-capacity+then-written-wanted w ↦ inr (omega arith)
     ] in
-    subst (λ (w : Written). HasWritten g.T.Tape.means g.S.Source.means words (carrying words c.args.first (length words - 1)) c.args.wanted.most (is_exact c.args.wanted.length) start new w)
+    subst (λ (w : Written). HasWritten g.T.Tape.means g.S.Source.means words
+    (carrying words c.args.first (length words - 1)) c.args.wanted.most (is_exact c.args.wanted.length) start new w)
     (sym c.with-written.ensures)
     (last words (carrying words c.args.first (length words - 1)) segment c.args.wanted.most (is_exact c.args.wanted.length) start now new
     (carrying words (segment + 1) (length words - 1)) c.loop-segment.written carry far c.in-Ok-Some.read
@@ -62,8 +68,10 @@ returns-in-Ok-None-clause-ends g c =
     let start = reading c.args.unit.now.tape c.args.source.now in
     let now = reading c.loop-segment.unit.tape c.loop-segment.source in
     let new = reading c.write_next.new.unit.tape c.write_next.new.source in
-    let far = here_next words c.args.first segment c.args.wanted.most start now c.loop-segment.written c.loop-segment.invariant.far (omega arith) carry in
-    none_came words (carrying words c.args.first (length words - 1)) segment c.args.wanted.most (is_exact c.args.wanted.length) start now new
+    let far = here_next words c.args.first segment c.args.wanted.most start now c.loop-segment.written c.loop-segment.invariant.far
+    (omega arith) carry in
+    none_came words (carrying words c.args.first (length words - 1)) segment c.args.wanted.most
+    (is_exact c.args.wanted.length) start now new
     (carrying words (segment + 1) (length words - 1)) c.loop-segment.written carry far
     (rw c.in-Ok-None.field-0-is at c.in-Ok-None.ensures.ends)
 
@@ -76,7 +84,8 @@ returns-in-Err-clause-ends g c =
     let start = reading c.args.unit.now.tape c.args.source.now in
     let now = reading c.loop-segment.unit.tape c.loop-segment.source in
     let new = reading c.write_next.new.unit.tape c.write_next.new.source in
-    let far = here_next words c.args.first segment c.args.wanted.most start now c.loop-segment.written c.loop-segment.invariant.far (omega arith) carry in
+    let far = here_next words c.args.first segment c.args.wanted.most start now c.loop-segment.written c.loop-segment.invariant.far
+    (omega arith) carry in
     failed words (carrying words c.args.first (length words - 1)) segment c.args.wanted.most (is_exact c.args.wanted.length) start now new
     (carrying words (segment + 1) (length words - 1)) c.loop-segment.written carry far
     c.in-Err.fault c.in-Err.ensures.ends
@@ -90,21 +99,28 @@ loop-segment-preserved g c =
     let start = reading c.args.unit.now.tape c.args.source.now in
     let now = reading c.loop-segment.unit.tape c.loop-segment.source in
     let new = reading c.write_next.new.unit.tape c.write_next.new.source in
-    let far = here_next words c.args.first segment c.args.wanted.most start now c.loop-segment.written c.loop-segment.invariant.far (omega arith) carry in
-    let sum : c.with-written.result.bytes ≡ c.loop-segment.written.bytes + c.in-Ok-Some.read = ap (λ (w : Written). w.bytes) c.with-written.ensures in
+    let far = here_next words c.args.first segment c.args.wanted.most start now c.loop-segment.written c.loop-segment.invariant.far
+    (omega arith) carry in
+    let sum : c.with-written.result.bytes ≡ c.loop-segment.written.bytes + c.in-Ok-Some.read =
+    ap (λ (w : Written). w.bytes) c.with-written.ensures in
     let before : c.loop-segment.written.bytes ≤ c.args.wanted.most =
     written_within words c.args.first segment c.args.wanted.most start now c.loop-segment.written c.loop-segment.invariant.far in
-    let come : NextWritten g.T.Tape.means g.S.Source.means words segment c.loop-segment.written.bytes c.args.wanted.most (is_exact c.args.wanted.length) now new c.in-Ok-Some.read =
+    let come : NextWritten g.T.Tape.means g.S.Source.means words segment c.loop-segment.written.bytes c.args.wanted.most
+    (is_exact c.args.wanted.length) now new c.in-Ok-Some.read =
     rw c.in-Ok-Some.field-0-is at c.in-Ok-Some.ensures.ends in
     let few : length come.bytes ≤ c.args.wanted.most - c.loop-segment.written.bytes = come.came.took.within in
     let count : c.in-Ok-Some.read ≡ length come.bytes = come.count in
     record {
-      far = subst (λ (w : Written). SoFar g.T.Tape.means g.S.Source.means words (carrying words c.args.first (length words - 1)) c.args.wanted.most start new
+      far = subst (λ (w : Written). SoFar g.T.Tape.means g.S.Source.means words
+          (carrying words c.args.first (length words - 1)) c.args.wanted.most start new
           (carrying words (segment + 1) (length words - 1)) w)
           (sym c.with-written.ensures)
-          (next words (carrying words c.args.first (length words - 1)) segment c.args.wanted.most (is_exact c.args.wanted.length) start now new
-          (carrying words (segment + 1) (length words - 1)) c.loop-segment.written carry far c.in-Ok-Some.read come (omega arith) (omega arith));
-      kept = g.met.S.Source.keeps_on c.args.source.now c.loop-segment.source c.write_next.new.source c.loop-segment.invariant.kept c.in-Ok-Some.ensures.kept;
+          (next words (carrying words c.args.first (length words - 1)) segment c.args.wanted.most
+          (is_exact c.args.wanted.length) start now new
+          (carrying words (segment + 1) (length words - 1)) c.loop-segment.written carry far c.in-Ok-Some.read come (omega arith)
+          (omega arith));
+      kept = g.met.S.Source.keeps_on c.args.source.now c.loop-segment.source c.write_next.new.source c.loop-segment.invariant.kept
+          c.in-Ok-Some.ensures.kept;
       keeps = keeps_both c.loop-segment.invariant.keeps c.in-Ok-Some.ensures.keeps;
     }
 
@@ -113,4 +129,5 @@ pub unreachable-requires : goal.unreachable-requires
 unreachable-requires g c =
     let least = c.requires.ready.fits.sound.drive.deck.long in
     not_over c.args.map.now c.args.first c.loop-segment.segment c.args.wanted.most (reading c.args.unit.now.tape c.args.source.now)
-    (reading c.loop-segment.unit.tape c.loop-segment.source) c.loop-segment.written c.loop-segment.invariant.far (omega arith) (omega arith) c.requires.room c.requires.within
+    (reading c.loop-segment.unit.tape c.loop-segment.source) c.loop-segment.written c.loop-segment.invariant.far (omega arith)
+    (omega arith) c.requires.room c.requires.within

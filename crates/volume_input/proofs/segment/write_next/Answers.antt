@@ -6,7 +6,8 @@ use Rattle.volume_input.specs.declared.length.Length.TheVariants.{AtMost, Exact}
 use Rattle.volume_input.proofs.Next.{data_sectors, source_fault, came_short, next_written, next_broken}
 use Rattle.volume_input.proofs.Places.{data_most}
 use Rattle.volume_input.proofs.segment.write_next.Goals as goal
-use Rattle.volume_input.proofs.segment.write_next.Goals.{else-eq-via-then-eq+else-read-min, else-eq-via-else-eq, else-read-eq0-via-then-read-eq0+else-before-gt0, else-read-eq0-via-else-read-eq0}
+use Rattle.volume_input.proofs.segment.write_next.Goals.{else-eq-via-then-eq+else-read-min, else-eq-via-else-eq}
+use Rattle.volume_input.proofs.segment.write_next.Goals.{else-read-eq0-via-then-read-eq0+else-before-gt0, else-read-eq0-via-else-read-eq0}
 
 only_exact : (asked : Length) → is_exact asked ≡ true → asked ≡ Exact
 only_exact AtMost is = absurd (cc)
@@ -14,40 +15,79 @@ only_exact Exact is = refl
 
 pub overflow_cast-capacity : goal.overflow_cast-capacity
 overflow_cast-capacity g c =
-    omega (arith, data_sectors c.args.map.now c.args.segment c.capacity-capacity.result c.requires.segment.carries c.capacity-capacity.ensures, data_most c.args.map.now c.args.segment)
+    omega (
+      arith,
+      data_sectors c.args.map.now c.args.segment c.capacity-capacity.result c.requires.segment.carries
+          c.capacity-capacity.ensures,
+      data_most c.args.map.now c.args.segment,
+    )
 
 pub fill_work-requires : goal.fill_work-requires
 fill_work-requires g c =
-    omega (arith, data_sectors c.args.map.now c.args.segment c.capacity-capacity.result c.requires.segment.carries c.capacity-capacity.ensures, data_most c.args.map.now c.args.segment)
+    omega (
+      arith,
+      data_sectors c.args.map.now c.args.segment c.capacity-capacity.result c.requires.segment.carries
+          c.capacity-capacity.ensures,
+      data_most c.args.map.now c.args.segment,
+    )
 
 pub returns-in-Err-clause-ends : goal.returns-in-Err-clause-ends
 returns-in-Err-clause-ends g c =
-    source_fault g.T.Tape.means g.S.Source.means c.args.unit.now.tape c.args.unit.now.tape c.args.source.now c.fill_work.new.source c.in-Err.ensures.cause.later
-    c.args.map.now c.args.segment c.args.before c.args.wanted.most c.capacity-capacity.result (is_exact c.args.wanted.length) c.requires.segment.carries c.capacity-capacity.ensures
+    source_fault g.T.Tape.means g.S.Source.means c.args.unit.now.tape c.args.unit.now.tape c.args.source.now c.fill_work.new.source
+    c.in-Err.ensures.cause.later
+    c.args.map.now c.args.segment c.args.before c.args.wanted.most c.capacity-capacity.result
+    (is_exact c.args.wanted.length) c.requires.segment.carries c.capacity-capacity.ensures
     c.in-Err.ensures.cause.failed c.in-Err.ensures.filled
 
 pub returns-in-Err-Tape-clause-ends : goal.returns-in-Err-Tape-clause-ends
 returns-in-Err-Tape-clause-ends g c =
-    let enough : (is_exact c.args.wanted.length) ≡ true → min c.capacity-capacity.result (c.args.wanted.most - c.args.before) ≤ c.in-Ok.read =
-    elim c.else-eq.branch [ else-eq-via-then-eq+else-read-min w ↦ λ asked. omega arith | else-eq-via-else-eq w ↦ λ asked. absurd (let other : c.args.wanted.length ≢ Exact = search rules in other (only_exact c.args.wanted.length asked)) ] in
+    let enough : (is_exact c.args.wanted.length) ≡ true →
+    min c.capacity-capacity.result (c.args.wanted.most - c.args.before) ≤ c.in-Ok.read =
+    elim c.else-eq.branch [
+      | else-eq-via-then-eq+else-read-min w ↦ λ asked. omega arith
+      | else-eq-via-else-eq w ↦ λ asked. absurd
+          (let other : c.args.wanted.length ≢ Exact = search rules in other (only_exact c.args.wanted.length asked))
+    ] in
     let some : (c.args.before ≡ 0) ⊎ (1 ≤ c.in-Ok.read) =
-    elim c.else-read-eq0.branch [ else-read-eq0-via-then-read-eq0+else-before-gt0 w ↦ inl (omega arith) | else-read-eq0-via-else-read-eq0 w ↦ inr (omega arith) ] in
-    next_broken g.T.Tape.means g.S.Source.means c.args.unit.now.tape c.write_segment.new.unit.tape c.args.source.now c.fill_work.new.source c.in-Ok.ensures.cause.later
-    c.args.map.now c.args.segment c.args.before c.args.wanted.most c.capacity-capacity.result (is_exact c.args.wanted.length) c.requires.segment.carries c.capacity-capacity.ensures
-    c.in-Ok.read c.fill_work.new.work (subst (All IsSector) c.sectors.ensures.value c.are_sectors.ensures) c.in-Ok.ensures.filled enough c.usable.result c.usable.ensures some c.in-Err-Tape.ensures.did
+    elim c.else-read-eq0.branch [
+      | else-read-eq0-via-then-read-eq0+else-before-gt0 w ↦ inl
+          (omega arith)
+      | else-read-eq0-via-else-read-eq0 w ↦ inr (omega arith)
+    ] in
+    next_broken g.T.Tape.means g.S.Source.means c.args.unit.now.tape c.write_segment.new.unit.tape c.args.source.now c.fill_work.new.source
+    c.fill_work.ensures.cause.later
+    c.args.map.now c.args.segment c.args.before c.args.wanted.most c.capacity-capacity.result
+    (is_exact c.args.wanted.length) c.requires.segment.carries c.capacity-capacity.ensures
+    c.in-Ok.ensures.cause.stood c.in-Ok.read c.fill_work.new.work (subst (All IsSector) c.sectors.ensures.value c.are_sectors.ensures)
+    c.in-Ok.ensures.filled enough c.usable.result c.usable.ensures some c.in-Err-Tape.ensures.did
 
 pub returns-in-Ok-write_segment-clause-ends : goal.returns-in-Ok-write_segment-clause-ends
 returns-in-Ok-write_segment-clause-ends g c =
-    let enough : (is_exact c.args.wanted.length) ≡ true → min c.capacity-capacity.result (c.args.wanted.most - c.args.before) ≤ c.in-Ok.read =
-    elim c.else-eq.branch [ else-eq-via-then-eq+else-read-min w ↦ λ asked. omega arith | else-eq-via-else-eq w ↦ λ asked. absurd (let other : c.args.wanted.length ≢ Exact = search rules in other (only_exact c.args.wanted.length asked)) ] in
+    let enough : (is_exact c.args.wanted.length) ≡ true →
+    min c.capacity-capacity.result (c.args.wanted.most - c.args.before) ≤ c.in-Ok.read =
+    elim c.else-eq.branch [
+      | else-eq-via-then-eq+else-read-min w ↦ λ asked. omega arith
+      | else-eq-via-else-eq w ↦ λ asked. absurd
+          (let other : c.args.wanted.length ≢ Exact = search rules in other (only_exact c.args.wanted.length asked))
+    ] in
     let some : (c.args.before ≡ 0) ⊎ (1 ≤ c.in-Ok.read) =
-    elim c.else-read-eq0.branch [ else-read-eq0-via-then-read-eq0+else-before-gt0 w ↦ inl (omega arith) | else-read-eq0-via-else-read-eq0 w ↦ inr (omega arith) ] in
-    next_written g.T.Tape.means g.S.Source.means c.args.unit.now.tape c.write_segment.new.unit.tape c.args.source.now c.fill_work.new.source c.in-Ok.ensures.cause.later
-    c.args.map.now c.args.segment c.args.before c.args.wanted.most c.capacity-capacity.result (is_exact c.args.wanted.length) c.requires.segment.carries c.capacity-capacity.ensures
-    c.in-Ok.read c.fill_work.new.work (subst (All IsSector) c.sectors.ensures.value c.are_sectors.ensures) c.in-Ok.ensures.filled enough c.usable.result c.usable.ensures some c.in-Ok-write_segment.ensures.did
+    elim c.else-read-eq0.branch [
+      | else-read-eq0-via-then-read-eq0+else-before-gt0 w ↦ inl
+          (omega arith)
+      | else-read-eq0-via-else-read-eq0 w ↦ inr (omega arith)
+    ] in
+    next_written g.T.Tape.means g.S.Source.means c.args.unit.now.tape c.write_segment.new.unit.tape c.args.source.now c.fill_work.new.source
+    c.fill_work.ensures.cause.later
+    c.args.map.now c.args.segment c.args.before c.args.wanted.most c.capacity-capacity.result
+    (is_exact c.args.wanted.length) c.requires.segment.carries c.capacity-capacity.ensures
+    c.in-Ok.ensures.cause.stood c.in-Ok.read c.fill_work.new.work (subst (All IsSector) c.sectors.ensures.value c.are_sectors.ensures)
+    c.in-Ok.ensures.filled enough c.usable.result c.usable.ensures some c.in-Ok-write_segment.ensures.did
 
 pub returns-then-read-min-clause-ends : goal.returns-then-read-min-clause-ends
 returns-then-read-min-clause-ends g c =
-    came_short g.T.Tape.means g.S.Source.means c.args.unit.now.tape c.args.unit.now.tape c.args.source.now c.fill_work.new.source c.in-Ok.ensures.cause.later
-    c.args.map.now c.args.segment c.args.before c.args.wanted.most c.capacity-capacity.result (is_exact c.args.wanted.length) c.requires.segment.carries c.capacity-capacity.ensures
-    c.in-Ok.read c.fill_work.new.work (subst (All IsSector) c.sectors.ensures.value c.are_sectors.ensures) c.in-Ok.ensures.filled (let exact : c.args.wanted.length ≡ Exact = search rules in ap is_exact exact) (omega arith)
+    came_short g.T.Tape.means g.S.Source.means c.args.unit.now.tape c.args.unit.now.tape c.args.source.now c.fill_work.new.source
+    c.fill_work.ensures.cause.later
+    c.args.map.now c.args.segment c.args.before c.args.wanted.most c.capacity-capacity.result
+    (is_exact c.args.wanted.length) c.requires.segment.carries c.capacity-capacity.ensures
+    c.in-Ok.ensures.cause.stood c.in-Ok.read c.fill_work.new.work (subst (All IsSector) c.sectors.ensures.value c.are_sectors.ensures)
+    c.in-Ok.ensures.filled (let exact : c.args.wanted.length ≡ Exact = search rules in ap is_exact exact) (omega arith)

@@ -17,7 +17,8 @@ loop-segment-preserved c =
     let last = c.from-segment-end.ensures in
     let within : s ≤ a.volume.end = omega arith in
     let is : count ≡ min left (capacity (mask_at a.map.now s)) =
-    count_is left count c.from.result c.capacity.result (capacity (mask_at a.map.now s)) c.min-count.ensures c.from.ensures c.capacity.ensures in
+    count_is left count c.from.result c.capacity.result (capacity (mask_at a.map.now s)) c.min-count.ensures c.from.ensures
+    c.capacity.ensures in
     let counted = c.loop-segment.invariant.counted in
     elim c.if-count-gt0.branch [
       | then-count-gt0+else-before-eq0 w ↦
@@ -25,13 +26,15 @@ loop-segment-preserved c =
           let other = w.if-before-eq0.false in
           let more : 0 < before = omega arith in
           rw w.left-is (rw w.before-is (rw w.from-left.ensures (record {
-            among = piece_behind a.map.now a.volume.start a.volume.end a.volume.bytes a.number s left before c.loop-segment.invariant.among within count is some more;
+            among = piece_behind a.map.now a.volume.start a.volume.end a.volume.bytes a.number s left before c.loop-segment.invariant.among
+                within count is some more;
             counted = omega arith;
           })))
       | else-count-gt0 w ↦
           let none : count ≤ 0 = w.if-count-gt0.false in
           rw w.left-is (rw w.before-is (record {
-            among = segment_skipped a.map.now a.volume.start a.volume.end a.volume.bytes a.number s left before c.loop-segment.invariant.among within (omega arith);
+            among = segment_skipped a.map.now a.volume.start a.volume.end a.volume.bytes a.number s left before
+                c.loop-segment.invariant.among within (omega arith);
             counted = omega arith;
           }))
     ]
@@ -46,8 +49,10 @@ returns-then-before-eq0-clause-is c =
     let last = c.from-segment-end.ensures in
     let within : s ≤ a.volume.end = omega arith in
     let is : count ≡ min left (capacity (mask_at a.map.now s)) =
-    count_is left count c.from.result c.capacity.result (capacity (mask_at a.map.now s)) c.min-count.ensures c.from.ensures c.capacity.ensures in
-    sym (piece_here a.map.now a.volume.start a.volume.end a.volume.bytes a.number s left c.loop-segment.before c.loop-segment.invariant.among within count is
+    count_is left count c.from.result c.capacity.result (capacity (mask_at a.map.now s)) c.min-count.ensures c.from.ensures
+    c.capacity.ensures in
+    sym (piece_here a.map.now a.volume.start a.volume.end a.volume.bytes a.number s left c.loop-segment.before
+    c.loop-segment.invariant.among within count is
     c.if-count-gt0.true c.if-before-eq0.true)
 
 pub returns-clause-is : goal.returns-clause-is
@@ -55,5 +60,6 @@ returns-clause-is c =
     let a = c.args in
     let over = c.loop-segment-test.false in
     let last = c.from-segment-end.ensures in
-    sym (none_left a.map.now a.volume.start a.volume.end a.volume.bytes a.number c.loop-segment.segment c.loop-segment.left c.loop-segment.before
+    sym (none_left a.map.now a.volume.start a.volume.end a.volume.bytes a.number c.loop-segment.segment c.loop-segment.left
+    c.loop-segment.before
     c.loop-segment.invariant.among (omega arith))

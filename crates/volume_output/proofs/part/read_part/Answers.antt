@@ -12,7 +12,9 @@ returns-in-Ok-clause-ends g c =
     let held : c.capacity.result ≡ capacity usable = rw c.usable-usable.ensures c.capacity.ensures in (
       piece_of place.segment place.count,
       sym c.in-Some.ensures.is,
-      piece_read g.T.Tape.means c.args.map.now place.segment place.count usable c.usable-usable.ensures c.args.unit.now.tape c.read_segment.new.unit.tape
-          c.in-Ok.ensures.did c.in-Some.ensures.some within c.read_segment.new.work c.in-Ok.ensures.room c.in-Ok.ensures.block c.capacity.result held
+      piece_read g.T.Tape.means c.args.map.now place.segment place.count usable c.usable-usable.ensures c.args.unit.now.tape
+          c.read_segment.new.unit.tape
+          c.in-Ok.ensures.did c.in-Some.ensures.some within c.read_segment.new.work c.in-Ok.ensures.room c.in-Ok.ensures.block
+          c.capacity.result held
           (c.in-Ok.ensures.solves (λ same. cc)),
     )

@@ -7,20 +7,25 @@ use Rattle.volume_output.proofs.piece.write_piece.Goals as goal
 pub returns-in-Err-Lost-clause-ends : goal.returns-in-Err-Lost-clause-ends
 returns-in-Err-Lost-clause-ends g c = λ words is.
     let named = c.in-Err-Lost.ensures.many c.in-Err-Lost.segment c.in-Err-Lost.lost (ap Err c.in-Err-Lost.field-0-is) in
-    rw c.in-Err-Lost.field-0-is (lost g.T.Tape.means g.K.Sink.means words c.args.place.segment c.args.place.count c.args.usable is (is_lined c.args.form) c.args.unit.now.tape c.read_segment.new.unit.tape
-    c.args.sink.now g.met.K.Sink.took_nothing (rw c.in-Err-Lost.field-0-is at c.in-Err-Lost.ensures.did) c.in-Err-Lost.segment c.in-Err-Lost.lost
+    rw c.in-Err-Lost.field-0-is (lost g.T.Tape.means g.K.Sink.means words c.args.place.segment c.args.place.count c.args.usable is
+    (is_lined c.args.form) c.args.unit.now.tape c.read_segment.new.unit.tape
+    c.args.sink.now g.met.K.Sink.took_nothing (rw c.in-Err-Lost.field-0-is at c.in-Err-Lost.ensures.did) c.in-Err-Lost.segment
+    c.in-Err-Lost.lost
     named.0 named.1 ((rw c.in-Err-Lost.field-0-is at c.in-Err-Lost.ensures.solves) (λ same. cc)))
 
 pub returns-in-Err-Mismatch-clause-ends : goal.returns-in-Err-Mismatch-clause-ends
 returns-in-Err-Mismatch-clause-ends g c = λ words is.
-    rw c.in-Err-Mismatch.field-0-is (mismatch g.T.Tape.means g.K.Sink.means words c.args.place.segment c.args.place.count c.args.usable is (is_lined c.args.form) c.args.unit.now.tape
-    c.read_segment.new.unit.tape c.args.sink.now g.met.K.Sink.took_nothing (rw c.in-Err-Mismatch.field-0-is at c.in-Err-Mismatch.ensures.did)
+    rw c.in-Err-Mismatch.field-0-is (mismatch g.T.Tape.means g.K.Sink.means words c.args.place.segment c.args.place.count c.args.usable is
+    (is_lined c.args.form) c.args.unit.now.tape
+    c.read_segment.new.unit.tape c.args.sink.now g.met.K.Sink.took_nothing
+    (rw c.in-Err-Mismatch.field-0-is at c.in-Err-Mismatch.ensures.did)
     c.in-Err-Mismatch.segment (c.in-Err-Mismatch.ensures.mismatch c.in-Err-Mismatch.segment (ap Err c.in-Err-Mismatch.field-0-is))
     ((rw c.in-Err-Mismatch.field-0-is at c.in-Err-Mismatch.ensures.solves) (λ same. cc)))
 
 pub returns-in-Err-Tape-clause-ends : goal.returns-in-Err-Tape-clause-ends
 returns-in-Err-Tape-clause-ends g c = λ words is.
-    unread g.T.Tape.means g.K.Sink.means words c.args.place.segment c.args.place.count c.args.usable is (is_lined c.args.form) c.args.unit.now.tape
+    unread g.T.Tape.means g.K.Sink.means words c.args.place.segment c.args.place.count c.args.usable is
+    (is_lined c.args.form) c.args.unit.now.tape
     c.read_segment.new.unit.tape c.args.sink.now g.met.K.Sink.took_nothing (rw c.in-Err-Tape.field-0-is at c.in-Err-Tape.ensures.did)
 
 pub write_part-requires : goal.write_part-requires
@@ -34,7 +39,8 @@ returns-in-Ok-write_part-clause-ends g c = λ words is.
       room = c.in-Ok.ensures.room;
       block = c.in-Ok.ensures.block;
     } in
-    gave g.T.Tape.means g.K.Sink.means words c.args.place.segment c.args.place.count c.args.usable is (is_lined c.args.form) c.args.unit.now.tape
+    gave g.T.Tape.means g.K.Sink.means words c.args.place.segment c.args.place.count c.args.usable is
+    (is_lined c.args.form) c.args.unit.now.tape
     c.read_segment.new.unit.tape c.read_segment.new.work holds c.in-Ok.ensures.did c.args.sink.now c.write_part.new.sink
     (rw c.sectors.ensures.value at (c.in-Ok-write_part.ensures c.args.place.segment)) (c.in-Ok.ensures.solves (λ same. cc))
 
@@ -46,6 +52,7 @@ returns-in-Err-clause-ends g c = λ words is.
       room = c.in-Ok.ensures.room;
       block = c.in-Ok.ensures.block;
     } in
-    ungiven g.T.Tape.means g.K.Sink.means words c.args.place.segment c.args.place.count c.args.usable is (is_lined c.args.form) c.args.unit.now.tape
+    ungiven g.T.Tape.means g.K.Sink.means words c.args.place.segment c.args.place.count c.args.usable is
+    (is_lined c.args.form) c.args.unit.now.tape
     c.read_segment.new.unit.tape c.read_segment.new.work holds c.in-Ok.ensures.did c.args.sink.now c.write_part.new.sink
     (rw c.sectors.ensures.value at (c.in-Err.ensures c.args.place.segment)) (c.in-Ok.ensures.solves (λ same. cc))

@@ -29,6 +29,7 @@ returns c =
     let n : c.loop-segment.segment - c.args.start ≡ c.args.end + 1 - c.args.start =
     elim (cases_lt (c.args.end + 1) c.args.start) [
       | inl none ↦ let at : c.loop-segment.segment ≡ c.args.start = c.loop-segment.invariant.2 (omega arith) in omega arith
-      | inr some ↦ let at : c.loop-segment.segment ≤ c.from-segment-end.result + 1 = c.loop-segment.auto.segment-end (omega arith) in omega arith
+      | inr some ↦ let at : c.loop-segment.segment ≤ c.from-segment-end.result + 1 = c.loop-segment.auto.segment-end (omega arith) in
+          omega arith
     ] in
     c.loop-segment.invariant.0 ∙ ap (λ (k : ℕ). sum_by f (range_with_len c.args.start k)) n

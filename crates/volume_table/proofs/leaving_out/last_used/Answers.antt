@@ -13,12 +13,14 @@ loop-place-init c = sym (last_none (hidden c.args.lost (map Holds c.args.area.no
 pub loop-place-preserved : goal.loop-place-preserved
 loop-place-preserved c =
     let cells : List SectorView = hidden c.args.lost (map Holds c.args.area.now) in
-    let next : last_used_below cells (c.loop-place.place + 1) ≡ last_used_below cells (suc c.loop-place.place) = ap (last_used_below cells) (add-one c.loop-place.place) in
+    let next : last_used_below cells (c.loop-place.place + 1) ≡ last_used_below cells (suc c.loop-place.place) = ap (last_used_below cells)
+    (add-one c.loop-place.place) in
     elim c.if-shows_used_slot.branch [
       | then-shows_used_slot w ↦
           w.last-is ∙ sym (last_here cells c.loop-place.place (sym c.shows_used_slot.ensures ∙ w.if-shows_used_slot.true)) ∙ sym next
       | else-shows_used_slot w ↦
-          w.last-is ∙ c.loop-place.invariant ∙ sym (last_before cells c.loop-place.place (sym c.shows_used_slot.ensures ∙ w.if-shows_used_slot.false)) ∙ sym next
+          w.last-is ∙ c.loop-place.invariant
+          ∙ sym (last_before cells c.loop-place.place (sym c.shows_used_slot.ensures ∙ w.if-shows_used_slot.false)) ∙ sym next
     ]
 
 pub returns-clause-greatest : goal.returns-clause-greatest

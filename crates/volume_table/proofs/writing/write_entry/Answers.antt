@@ -34,7 +34,8 @@ returns-clause-spelled c =
     record { is = c.fill.ensures.after (λ y e. e) ∙ ap (λ (n : ℕ). replicate n 0) c.requires; long = refl } in
     let signature : IsSpelled c.write_u32.new.bytes (codes "VTBL") 4 124 =
     next_part (codes "VTBL") 4 124 zeros refl (c.write_u32.ensures.whole ∙ ap (overwritten c.fill.new.self 0) signature_bytes) in
-    let start = next_part (little_endian_bytes 2 e.start) 2 122 signature (length-little_endian_bytes 2 e.start) c.write_u16.ensures.whole in
+    let start = next_part (little_endian_bytes 2 e.start) 2 122 signature (length-little_endian_bytes 2 e.start) c.write_u16.ensures.whole
+    in
     let end = next_part (little_endian_bytes 2 e.end) 2 120 start (length-little_endian_bytes 2 e.end) c.write_u16-2.ensures.whole in
     let text = next_part e.name 44 76 end named copied in
     let date = next_part (little_endian_bytes 4 e.date) 4 72 text (length-little_endian_bytes 4 e.date) c.write_u32-2.ensures.whole in

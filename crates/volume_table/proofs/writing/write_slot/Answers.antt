@@ -14,7 +14,8 @@ returns-clause-written c =
     let at : ℕ = 128 * (c.args.index % 8) in
     let bytes : List ℕ = slot_bytes (entry_of c.args.entry.now) in
     let sector : List ℕ = get_or c.args.area.now k [] in
-    let long : length bytes ≡ at + 128 - at = omega (arith, length-slot_bytes (entry_of c.args.entry.now) c.write_entry.ensures.fits.name) in
+    let long : length bytes ≡ at + 128 - at = omega (arith, length-slot_bytes (entry_of c.args.entry.now) c.write_entry.ensures.fits.name)
+    in
     ap (λ (xs : List ℕ). set c.args.area.now k (put_mid at (at + 128 - at) sector xs)) c.write_entry.ensures.spelled
     ∙ ap (set c.args.area.now k) (put_mid-overwritten sector bytes at (at + 128 - at) long)
     ∙ ap (λ (xs : List ℕ). set c.args.area.now k (overwritten xs at bytes)) (sym (unwrap_or-slice_get c.args.area.now k []))

@@ -1,6 +1,7 @@
-use Rattle.std.proofs.Common.{[], ◌∷◌, refl}
+use Rattle.std.proofs.Common.{[], ◌∷◌, refl, arith}
 use Rattle.qic_base.specs.Step.{Renew}
-use Rattle.cart_image.proofs.Tapes.{Tape-done, Tape-broke, renew-does, new-laid, same-layout}
+use Rattle.cart_image.proofs.Tapes.{Tape-done, Tape-broke, renew-outcome, new-laid, same-layout}
+use Rattle.cart_image.proofs.Exits.{changes-stood}
 use Rattle.cart_image.proofs.tape.ImageTapeTape.renew.Goals as goal
 
 pub invariant_of-self : goal.invariant_of-self
@@ -28,7 +29,13 @@ invariant_of-self-in-Err g c =
     }
 
 pub returns-in-Ok-clause-did : goal.returns-in-Ok-clause-did
-returns-in-Ok-clause-did g c = Tape-done _ _ (Renew c.args.segments_per_track ∷ []) (renew-does c.args.self.now _ _ c.args.segments_per_track c.requires c.in-Ok.ensures.carried)
+returns-in-Ok-clause-did g c = Tape-done _ _ (Renew c.args.segments_per_track ∷ [])
+    (renew-outcome c.args.self.now _ _ c.args.segments_per_track c.requires c.in-Ok.ensures.carried) refl
 
 pub returns-in-Err-clause-did : goal.returns-in-Err-clause-did
-returns-in-Err-clause-did g c = Tape-broke _ _ (Renew c.args.segments_per_track ∷ []) (renew-does c.args.self.now _ _ c.args.segments_per_track c.requires c.in-Err.ensures.carried)
+returns-in-Err-clause-did g c = Tape-broke _ _ (Renew c.args.segments_per_track ∷ [])
+    (renew-outcome c.args.self.now _ _ c.args.segments_per_track c.requires c.in-Err.ensures.carried) c.saturating_add-self.ensures
+    (omega arith)
+
+pub returns-in-Ok-clause-changes : goal.returns-in-Ok-clause-changes
+returns-in-Ok-clause-changes g c = changes-stood g.D.Disk.means _ _ _ _ c.in-Ok.ensures.carried

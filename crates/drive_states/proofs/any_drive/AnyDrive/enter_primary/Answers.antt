@@ -9,7 +9,8 @@ pub unreachable-requires : goal.unreachable-requires
 unfolding waits_for_seek
 unreachable-requires g c =
     refused_elsewhere c.args.self EnterPrimary c.reveal.ensures.state refl c.requires
-    (λ legal. c.in_default.not-LoadPoint) (λ legal. c.in_default.not-Primary) (λ legal. c.in_default.not-Format) (λ legal. c.in_default.not-Verify)
+    (λ legal. c.in_default.not-LoadPoint) (λ legal. c.in_default.not-Primary) (λ legal. c.in_default.not-Format)
+    (λ legal. c.in_default.not-Verify)
 
 pub enter_primary-requires : goal.enter_primary-requires
 enter_primary-requires g c = primary_stopped c.in-Format.drive.deck (rw c.in-Format.is at c.requires)

@@ -8,4 +8,5 @@ pub unreachable-requires-in_default : goal.unreachable-requires-in_default
 unfolding waits_for_seek
 unreachable-requires-in_default g c =
     refused_elsewhere c.args.self SeekTrack c.reveal.ensures.state refl c.requires.taken
-    (λ legal. c.in_default.not-LoadPoint) (λ legal. c.in_default.not-Primary) (λ legal. c.in_default.not-Format) (λ legal. c.in_default.not-Verify)
+    (λ legal. c.in_default.not-LoadPoint) (λ legal. c.in_default.not-Primary) (λ legal. c.in_default.not-Format)
+    (λ legal. c.in_default.not-Verify)

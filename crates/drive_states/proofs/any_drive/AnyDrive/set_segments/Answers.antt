@@ -7,7 +7,8 @@ use Rattle.drive_states.proofs.Obeying.{parameter_stopped}
 use Rattle.drive_states.proofs.any_drive.AnyDrive.set_segments.Goals as goal
 
 pub set_segments-requires-clause-stopped : goal.set_segments-requires-clause-stopped
-set_segments-requires-clause-stopped g c = ap is_stopped (parameter_stopped SetFormatSegments c.in-Format.drive.deck (omega arith) (rw c.in-Format.is at c.requires.taken))
+set_segments-requires-clause-stopped g c =
+    ap is_stopped (parameter_stopped SetFormatSegments c.in-Format.drive.deck (omega arith) (rw c.in-Format.is at c.requires.taken))
 
 pub unreachable-requires : goal.unreachable-requires
 unfolding waits_for_seek illegal_in_primary illegal_in_verify

@@ -9,7 +9,8 @@ pub unreachable-requires : goal.unreachable-requires
 unfolding waits_for_seek
 unreachable-requires g c =
     refused_elsewhere c.args.self StopTape c.reveal.ensures.state refl c.requires
-    (λ legal. c.in_default.not-LoadPoint) (λ legal. c.in_default.not-Primary) (λ legal. c.in_default.not-Format) (λ legal. c.in_default.not-Verify)
+    (λ legal. c.in_default.not-LoadPoint) (λ legal. c.in_default.not-Primary) (λ legal. c.in_default.not-Format)
+    (λ legal. c.in_default.not-Verify)
 
 pub stop-requires : goal.stop-requires
 stop-requires g c = stop_present c.in-LoadPoint.drive.deck (rw c.in-LoadPoint.is at c.requires)

@@ -6,7 +6,8 @@ pub returns-then-is_protected-clause-reached : goal.returns-then-is_protected-cl
 returns-then-is_protected-clause-reached g c segment index reaches =
     let same = one_place _ _ _ _ _ _ c.in-Some.ensures.reached.address (rw (← c.self.view_is) at reaches.sector.address) in
     Writes-at g.T.Tape.means c.args.self.now c.refuse_write.new.self _ _ segment index c.args.from.now true _ (Err c.refuse_write.result)
-    (rw (← c.self.view_is) (sym c.is_protected.ensures ∙ c.if-is_protected.true)) same.0 same.1 (c.refuse_write.ensures.refused c.args.from.now)
+    (rw (← c.self.view_is) (sym c.is_protected.ensures ∙ c.if-is_protected.true)) same.0 same.1
+    (c.refuse_write.ensures.refused c.args.from.now)
 
 pub returns-clause-reached : goal.returns-clause-reached
 returns-clause-reached g c segment index reaches =

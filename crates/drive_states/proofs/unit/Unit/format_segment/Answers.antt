@@ -7,8 +7,10 @@ use Rattle.drive_states.proofs.unit.Unit.format_segment.Goals as goal
 pub invariant_of-self : goal.invariant_of-self
 invariant_of-self g c =
     let e = c.format_segment-answer.ensures in
-    IsSoundUnit-formatted g.T.Tape.means (unit_of c.self.inside.dialogue) (unit_of c.format_segment-answer.new.self) c.format_segment-answer.result
-    c.self.invariant.drive (λ none. ap (λ (x : Dialogue g.row.T.Denot). record_of x) (e.unreached none).1) e.moved e.failed c.reveal.ensures.known
+    IsSoundUnit-formatted g.T.Tape.means (unit_of c.self.inside.dialogue)
+    (unit_of c.format_segment-answer.new.self) c.format_segment-answer.result
+    c.self.invariant.drive (λ none. ap (λ (x : Dialogue g.row.T.Denot). record_of x) (e.unreached none).1) e.moved e.failed
+    c.reveal.ensures.known
 
 pub returns-clause-sound : goal.returns-clause-sound
 returns-clause-sound g c = invariant_of-self g c

@@ -13,7 +13,12 @@ invariant_of-self g c =
 pub returns-clause-placed : goal.returns-clause-placed
 returns-clause-placed g c =
     let answer : IsSpoilAnswerOf c.spoil.result c.match-spoil.result =
-    elim c.match-spoil.branch [ in-Ok-true w ↦ rw (w.in-Ok-true.is, w.in-Ok-true.field-0-test) w.result-is | in-Ok-false w ↦ rw (w.in-Ok-false.is, w.in-Ok-false.field-0-test) w.result-is | in-Err w ↦ rw w.in-Err.is w.result-is ] in
+    elim c.match-spoil.branch [
+      | in-Ok-true w ↦ rw (w.in-Ok-true.is, w.in-Ok-true.field-0-test) w.result-is
+      | in-Ok-false
+          w ↦ rw (w.in-Ok-false.is, w.in-Ok-false.field-0-test) w.result-is
+      | in-Err w ↦ rw w.in-Err.is w.result-is
+    ] in
     rw (← c.self.view_is)
     (Spoils-at g.T.Tape.means (unit_of c.self.inside.dialogue) (unit_of record c.self.inside.dialogue { drive = c.spoil.new.self })
     (record_of c.self.inside.dialogue).deck.cartridge c.args.segment c.args.sector c.in_ok-sector.sector c.spoil.result c.match-spoil.result
@@ -22,5 +27,10 @@ returns-clause-placed g c =
 pub returns-clause-untouched : goal.returns-clause-untouched
 returns-clause-untouched g c none =
     let answer : IsSpoilAnswerOf c.spoil.result c.match-spoil.result =
-    elim c.match-spoil.branch [ in-Ok-true w ↦ rw (w.in-Ok-true.is, w.in-Ok-true.field-0-test) w.result-is | in-Ok-false w ↦ rw (w.in-Ok-false.is, w.in-Ok-false.field-0-test) w.result-is | in-Err w ↦ rw w.in-Err.is w.result-is ] in
+    elim c.match-spoil.branch [
+      | in-Ok-true w ↦ rw (w.in-Ok-true.is, w.in-Ok-true.field-0-test) w.result-is
+      | in-Ok-false
+          w ↦ rw (w.in-Ok-false.is, w.in-Ok-false.field-0-test) w.result-is
+      | in-Err w ↦ rw w.in-Err.is w.result-is
+    ] in
     absurd (reached_to_spoil c.spoil.result c.match-spoil.result answer none)

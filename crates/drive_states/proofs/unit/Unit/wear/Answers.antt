@@ -12,7 +12,8 @@ invariant_of-self g c =
 
 pub returns-clause-placed : goal.returns-clause-placed
 returns-clause-placed g c =
-    let answer : IsAnswerOf c.wear.result c.match-wear.result = elim c.match-wear.branch [ in-Ok w ↦ rw w.in-Ok.is w.result-is | in-Err w ↦ rw w.in-Err.is w.result-is ] in
+    let answer : IsAnswerOf c.wear.result c.match-wear.result =
+    elim c.match-wear.branch [ in-Ok w ↦ rw w.in-Ok.is w.result-is | in-Err w ↦ rw w.in-Err.is w.result-is ] in
     rw (← c.self.view_is)
     (Wears-at g.T.Tape.means (unit_of c.self.inside.dialogue) (unit_of record c.self.inside.dialogue { drive = c.wear.new.self })
     (record_of c.self.inside.dialogue).deck.cartridge c.args.segment c.args.sector c.in_ok-sector.sector c.wear.result c.match-wear.result
@@ -20,5 +21,6 @@ returns-clause-placed g c =
 
 pub returns-clause-untouched : goal.returns-clause-untouched
 returns-clause-untouched g c none =
-    let answer : IsAnswerOf c.wear.result c.match-wear.result = elim c.match-wear.branch [ in-Ok w ↦ rw w.in-Ok.is w.result-is | in-Err w ↦ rw w.in-Err.is w.result-is ] in
+    let answer : IsAnswerOf c.wear.result c.match-wear.result =
+    elim c.match-wear.branch [ in-Ok w ↦ rw w.in-Ok.is w.result-is | in-Err w ↦ rw w.in-Err.is w.result-is ] in
     absurd (reached c.wear.result c.match-wear.result answer none)

@@ -8,5 +8,9 @@ returns-in-Ok-Bad-clause-hears g c =
     (refl, refl, record { n = _; some = read.0; few = read.1; gave = read.2; no_stop = read.3 })
 
 pub returns-in-Ok-Train-clause-hears : goal.returns-in-Ok-Train-clause-hears
-returns-in-Ok-Train-clause-hears g c =
-    (refl, refl, gave_on g.S.Source.means c.args.source.now c.read.new.source _ _ (rw c.in-Ok-Train.field-0-is at c.in-Ok-Train.ensures.read))
+returns-in-Ok-Train-clause-hears g c = (
+  refl,
+  refl,
+  gave_on g.S.Source.means c.args.source.now c.read.new.source _ _
+      (rw c.in-Ok-Train.field-0-is at c.in-Ok-Train.ensures.read),
+)

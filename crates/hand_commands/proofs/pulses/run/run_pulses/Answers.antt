@@ -42,7 +42,8 @@ loop-line-preserved g c =
           record { tape = c.carry_out_line.new.unit.tape; source = c.carry_out_line.new.source; sink = c.carry_out_line.new.sink }
           c.loop-line.unit.drive c.carry_out_line.new.unit.drive c.loop-line.line c.loop-line.place c.loop-line.invariant.far
           c.from-place.result (rw c.from-place.ensures (rw c.in-Ok-Some.field-0-is at c.in-Ok-Some.ensures.hears));
-      kept = g.met.S.Source.keeps_on c.args.source.now c.loop-line.source c.carry_out_line.new.source c.loop-line.invariant.kept c.in-Ok-Some.ensures.kept;
+      kept = g.met.S.Source.keeps_on c.args.source.now c.loop-line.source c.carry_out_line.new.source c.loop-line.invariant.kept
+          c.in-Ok-Some.ensures.kept;
       tells = c.in-Ok-Some.ensures.source_tells ∙ c.loop-line.invariant.tells;
     }
 
@@ -52,4 +53,5 @@ returns-clause-ends g c =
     record { tape = c.args.unit.now.tape; source = c.args.source.now; sink = c.args.sink.now }
     record { tape = c.loop-line.unit.tape; source = c.loop-line.source; sink = c.loop-line.sink }
     c.loop-line.unit.drive c.end_input.new.source c.loop-line.line c.loop-line.place c.loop-line.invariant.far (omega arith)
-    (g.met.K.Sink.took_nothing c.loop-line.sink) c.end_input.ensures.later c.end_input.result c.end_input.ensures.hears
+    (g.met.K.Sink.took_nothing c.loop-line.sink) c.end_input.result c.end_input.ensures.later c.end_input.ensures.stood
+    c.end_input.ensures.hears

@@ -11,13 +11,16 @@ pub returns-clause-row : goal.returns-clause-row
 returns-clause-row g c =
     let all : c.loop-pulse._pulse ≡ c.args.train = omega arith in
     subst (λ (r : Record). OnOk c.gap.result (c.gap.new.self.drive ≡ r))
-    (sent c.args.unit.now.drive c.loop-pulse.unit.drive c.loop-pulse._pulse c.args.train (ap (λ (u : UnitView _). u.drive) c.loop-pulse.invariant) all)
+    (sent c.args.unit.now.drive c.loop-pulse.unit.drive c.loop-pulse._pulse c.args.train
+    (ap (λ (u : UnitView _). u.drive) c.loop-pulse.invariant) all)
     c.gap.ensures.row
 
 pub returns-clause-did : goal.returns-clause-did
 returns-clause-did g c =
     let all : c.loop-pulse._pulse ≡ c.args.train = omega arith in
     let steps : gap_steps c.loop-pulse.unit.drive ≡ train_changes c.args.unit.now.drive c.args.train =
-    sent_steps c.args.unit.now.drive c.loop-pulse.unit.drive c.loop-pulse._pulse c.args.train (ap (λ (u : UnitView _). u.drive) c.loop-pulse.invariant) all in
+    sent_steps c.args.unit.now.drive c.loop-pulse.unit.drive c.loop-pulse._pulse c.args.train
+    (ap (λ (u : UnitView _). u.drive) c.loop-pulse.invariant) all in
     subst (λ (ss : List Step). Does g.T.Tape.means c.args.unit.now.tape c.gap.new.self.tape ss c.gap.result) steps
-    (subst (λ (u : UnitView _). Does g.T.Tape.means u.tape c.gap.new.self.tape (gap_steps c.loop-pulse.unit.drive) c.gap.result) c.loop-pulse.invariant c.gap.ensures.did)
+    (subst (λ (u : UnitView _). Does g.T.Tape.means u.tape c.gap.new.self.tape (gap_steps c.loop-pulse.unit.drive) c.gap.result)
+    c.loop-pulse.invariant c.gap.ensures.did)

@@ -17,6 +17,8 @@ enter_at_once-requires-2-clause-taken g c =
     let left = c.enter_at_once.ensures in
     let format : c.args.unit.now.drive.deck.mode ≡ Format = search rules in
     let writable : is_protected c.skip_to-2.new.unit.drive.deck ≡ false =
-    subst (λ (o : Option TapeInfo). option_map_or (λ (i : TapeInfo). i.protected) o false ≡ false) (sym (skipped.same.cartridge ∙ left.cartridge))
+    subst (λ (o : Option TapeInfo). option_map_or (λ (i : TapeInfo). i.protected) o false ≡ false)
+    (sym (skipped.same.cartridge ∙ left.cartridge))
     (c.requires.ready.fits.generates.writable (ap is_format format)) in
-    format_of c.skip_to-2.new.unit.drive.deck (stands_known skipped.ready.fits (ap is_stopped skipped.place.motion)) (skipped.same.mode ∙ left.mode) writable
+    format_of c.skip_to-2.new.unit.drive.deck (stands_known skipped.ready.fits (ap is_stopped skipped.place.motion))
+    (skipped.same.mode ∙ left.mode) writable

@@ -25,7 +25,8 @@ enter_at_once-requires-3-clause-taken g c =
       | else-eq-via-else-eq w ↦ absurd (false≢true (sym w.if-eq.false ∙ c.eq.ensures ∙ sameb-format c.args.mode ∙ ap is_format format))
     ] in
     subst (λ (d : Deck). refusal_of d (entry_of c.args.mode) ≡ None) (sym c.enter_at_once-2.ensures.deck)
-    (entry_taken c.args.mode (accepted EnterPrimary old) (record { present = ready.present; known = ready.known; stopped = ready.stopped }) refl writable c.requires.referenced)
+    (entry_taken c.args.mode (accepted EnterPrimary old) (record { present = ready.present; known = ready.known; stopped = ready.stopped })
+    refl writable c.requires.referenced)
 
 pub returns-clause-place : goal.returns-clause-place
 returns-clause-place g c =

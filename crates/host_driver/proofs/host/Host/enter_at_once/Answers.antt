@@ -31,7 +31,9 @@ pub returns-clause-ready : goal.returns-clause-ready
 returns-clause-ready g c = record {
   fits = c.command.ensures.fits;
   rest = record {
-    still = (entered_as c.args.mode c.args.unit.now.drive.deck c.command.new.unit.drive.deck (returns-clause-deck g c) c.requires.stopped).still;
-    idle = c.command.ensures.under_way ∙ ap (λ (k : Command). begun k c.args.unit.now.drive.deck) c.entry_of.ensures ∙ entry_idle c.args.mode c.args.unit.now.drive.deck;
+    still = (entered_as c.args.mode c.args.unit.now.drive.deck c.command.new.unit.drive.deck
+        (returns-clause-deck g c) c.requires.stopped).still;
+    idle = c.command.ensures.under_way ∙ ap (λ (k : Command). begun k c.args.unit.now.drive.deck) c.entry_of.ensures
+        ∙ entry_idle c.args.mode c.args.unit.now.drive.deck;
   };
 }

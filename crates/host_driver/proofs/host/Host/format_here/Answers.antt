@@ -11,6 +11,8 @@ returns-in-Err-Tape-clause-keeps g c =
     record {
       ready = search rules;
       same = search rules;
-      agrees = broke_agrees g.T.Tape.means c.args.unit.now c.format_segment.new.self (FormatSegment (segment_of c.args.unit.now.drive.deck) ∷ []) (format_keeps (segment_of c.args.unit.now.drive.deck)) (ap (λ (d : Deck). d.cartridge) found.0) found.1;
+      agrees = broke_agrees g.T.Tape.means c.args.unit.now c.format_segment.new.self
+          (FormatSegment (segment_of c.args.unit.now.drive.deck) ∷ []) (format_keeps (segment_of c.args.unit.now.drive.deck))
+          (ap (λ (d : Deck). d.cartridge) found.0) found.1;
       size = search rules;
     }

@@ -13,12 +13,14 @@ tell-requires-clause-taken g c =
 
 pub tell-requires-clause-reads : goal.tell-requires-clause-reads
 tell-requires-clause-reads g c =
-    let gave = gives c.args.unit.now.drive c.args.value c.requires.still c.requires.fits.no_error c.requires.fits.generates c.requires.awaited in
+    let gave = gives c.args.unit.now.drive c.args.value c.requires.still c.requires.fits.no_error c.requires.fits.generates
+    c.requires.awaited in
     ap (λ (n : ℕ). train_changes c.args.unit.now.drive (n + c.args.value)) c.number.ensures ∙ gave.steps
 
 pub returns-clause-given : goal.returns-clause-given
 returns-clause-given g c =
-    let gave = gives c.args.unit.now.drive c.args.value c.requires.still c.requires.fits.no_error c.requires.fits.generates c.requires.awaited in
+    let gave = gives c.args.unit.now.drive c.args.value c.requires.still c.requires.fits.no_error c.requires.fits.generates
+    c.requires.awaited in
     given_as c.args.unit.now.drive c.tell.new.unit.drive c.args.value
     (c.tell.ensures.row ∙ ap (λ (n : ℕ). pulsed_row c.args.unit.now.drive (n + c.args.value)) c.number.ensures)
     (parameter_of c.args.unit.now.drive.under_way) gave.given

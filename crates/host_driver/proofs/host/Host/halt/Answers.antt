@@ -10,7 +10,8 @@ use Rattle.host_driver.proofs.host.Host.halt.Goals as goal
 pub command-requires-clause-taken : goal.command-requires-clause-taken
 command-requires-clause-taken g c =
     stop_of c.args.unit.now.drive.deck
-    (there c.args.unit.now.drive.deck.cartridge (λ info. info.segments_per_track ≡ segments_of c.args.self.now) c.requires.ready.fits.cartridge) c.requires.ready.rest.still
+    (there c.args.unit.now.drive.deck.cartridge (λ info. info.segments_per_track ≡ segments_of c.args.self.now)
+    c.requires.ready.fits.cartridge) c.requires.ready.rest.still
 
 pub returns-clause-keeps : goal.returns-clause-keeps
 returns-clause-keeps g c =

@@ -10,10 +10,12 @@ use Rattle.host_driver.proofs.Running.{idles, idle_still, idle_keeps, runs_on_id
 use Rattle.host_driver.proofs.host.Host.next_segment.Goals as goal
 
 pub tell-requires-clause-taken : goal.tell-requires-clause-taken
-tell-requires-clause-taken g c = (idles c.args.unit.now.drive c.requires.ready.rest.still c.requires.ready.fits.no_error c.requires.ready.fits.generates).takes
+tell-requires-clause-taken g c = (idles c.args.unit.now.drive c.requires.ready.rest.still c.requires.ready.fits.no_error
+    c.requires.ready.fits.generates).takes
 
 pub tell-requires-clause-reads : goal.tell-requires-clause-reads
-tell-requires-clause-reads g c = (idles c.args.unit.now.drive c.requires.ready.rest.still c.requires.ready.fits.no_error c.requires.ready.fits.generates).steps
+tell-requires-clause-reads g c = (idles c.args.unit.now.drive c.requires.ready.rest.still c.requires.ready.fits.no_error
+    c.requires.ready.fits.generates).steps
 
 pub returns-clause-deck : goal.returns-clause-deck
 returns-clause-deck g c =
@@ -25,7 +27,8 @@ returns-clause-next g c running =
     let i = idles c.args.unit.now.drive c.requires.ready.rest.still c.requires.ready.fits.no_error c.requires.ready.fits.generates in
     let deck : c.tell.new.unit.drive.deck ≡ idled_deck c.args.unit.now.drive.deck =
     ap (λ (r : Record). r.deck) c.tell.ensures.row ∙ i.deck in
-    subst (λ (d : Deck). RunsOn c.args.unit.now.drive.deck d) (sym deck) (runs_on_idle c.args.unit.now.drive.deck c.requires.ready.fits.generates running)
+    subst (λ (d : Deck). RunsOn c.args.unit.now.drive.deck d) (sym deck)
+    (runs_on_idle c.args.unit.now.drive.deck c.requires.ready.fits.generates running)
 
 pub returns-clause-keeps : goal.returns-clause-keeps
 returns-clause-keeps g c =

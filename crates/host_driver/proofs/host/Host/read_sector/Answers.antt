@@ -17,6 +17,7 @@ returns-in-Err-Tape-clause-keeps g c =
     record {
       ready = search rules;
       same = search rules;
-      agrees = broke_agrees g.T.Tape.means c.args.unit.now c.read_under.new.unit [] nothing_keeps (ap (λ (d : Deck). d.cartridge) found.0) found.1;
+      agrees = broke_agrees g.T.Tape.means c.args.unit.now c.read_under.new.unit [] nothing_keeps
+          (ap (λ (d : Deck). d.cartridge) found.0) found.1;
       size = search rules;
     }

@@ -12,4 +12,5 @@ address-requires-clause-on_tape g c =
 pub returns-clause-found : goal.returns-clause-found
 returns-clause-found g c =
     c.read_sector.ensures.reached c.args.segment c.args.sector
-    (reaches reads_in c.args.unit.now.drive.deck c.args.self.now.geometry c.args.segment c.args.sector c.address.result c.requires.ready.fits.cartridge c.requires.mode c.requires.under c.address.ensures)
+    (reaches reads_in c.args.unit.now.drive.deck c.args.self.now.geometry c.args.segment c.args.sector c.address.result
+    c.requires.ready.fits.cartridge c.requires.mode c.requires.under c.address.ensures)

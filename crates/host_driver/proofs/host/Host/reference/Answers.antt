@@ -21,15 +21,18 @@ pub send-requires-clause-taken : goal.send-requires-clause-taken
 send-requires-clause-taken g c =
     let d : Deck = c.args.unit.now.drive.deck in
     let refs = references c.args.unit.now.drive c.requires.ready.rest.still c.requires.ready.rest.idle
-    (reference_of d c.requires.ready.fits.sound.drive.deck (format_mode d.mode c.requires.format) c.requires.stopped) c.requires.ready.fits.no_error c.requires.ready.fits.generates in
+    (reference_of d c.requires.ready.fits.sound.drive.deck (format_mode d.mode c.requires.format) c.requires.stopped)
+    c.requires.ready.fits.no_error c.requires.ready.fits.generates in
     subst (λ (n : ℕ). TakesTrain c.args.unit.now.drive n) (sym c.number.ensures) refs.takes
 
 pub returns-in_err-send-clause-did : goal.returns-in_err-send-clause-did
 returns-in_err-send-clause-did g c =
     let d : Deck = c.args.unit.now.drive.deck in
     let refs = references c.args.unit.now.drive c.requires.ready.rest.still c.requires.ready.rest.idle
-    (reference_of d c.requires.ready.fits.sound.drive.deck (format_mode d.mode c.requires.format) c.requires.stopped) c.requires.ready.fits.no_error c.requires.ready.fits.generates in
-    let steps : train_changes c.args.unit.now.drive c.number.result ≡ SetReferenced ∷ [] = ap (train_changes c.args.unit.now.drive) c.number.ensures ∙ refs.steps in
+    (reference_of d c.requires.ready.fits.sound.drive.deck (format_mode d.mode c.requires.format) c.requires.stopped)
+    c.requires.ready.fits.no_error c.requires.ready.fits.generates in
+    let steps : train_changes c.args.unit.now.drive c.number.result ≡ SetReferenced ∷ [] =
+    ap (train_changes c.args.unit.now.drive) c.number.ensures ∙ refs.steps in
     let broke : Broke g.T.Tape.means c.args.unit.now.tape c.send.new.unit.tape (SetReferenced ∷ []) =
     subst (λ (ss : List Step). Broke g.T.Tape.means c.args.unit.now.tape c.send.new.unit.tape ss) steps c.in_err-send.ensures.did in
     let p = err_from_is_err_and c.from_residual.result c.from_residual.ensures.1 in rw p.1 broke
@@ -38,8 +41,10 @@ pub returns-in_err-send-clause-unmarked : goal.returns-in_err-send-clause-unmark
 returns-in_err-send-clause-unmarked g c =
     let d : Deck = c.args.unit.now.drive.deck in
     let refs = references c.args.unit.now.drive c.requires.ready.rest.still c.requires.ready.rest.idle
-    (reference_of d c.requires.ready.fits.sound.drive.deck (format_mode d.mode c.requires.format) c.requires.stopped) c.requires.ready.fits.no_error c.requires.ready.fits.generates in
-    let failed : c.send.new.unit.drive ≡ without_reference (obeying (record c.args.unit.now.drive { line = false; train = 0 }) WriteReference) =
+    (reference_of d c.requires.ready.fits.sound.drive.deck (format_mode d.mode c.requires.format) c.requires.stopped)
+    c.requires.ready.fits.no_error c.requires.ready.fits.generates in
+    let failed : c.send.new.unit.drive ≡ without_reference
+    (obeying (record c.args.unit.now.drive { line = false; train = 0 }) WriteReference) =
     c.in_err-send.ensures.failed ∙ ap without_reference (ap (pulsed_row c.args.unit.now.drive) c.number.ensures ∙ refs.after) in
     let p = err_from_is_err_and c.from_residual.result c.from_residual.ensures.1 in
     rw p.1 (ap (λ (r : Record). r.deck.cartridge) failed ∙ unmarked d.cartridge)
@@ -48,8 +53,10 @@ pub returns-in_err-send-clause-mode : goal.returns-in_err-send-clause-mode
 returns-in_err-send-clause-mode g c =
     let d : Deck = c.args.unit.now.drive.deck in
     let refs = references c.args.unit.now.drive c.requires.ready.rest.still c.requires.ready.rest.idle
-    (reference_of d c.requires.ready.fits.sound.drive.deck (format_mode d.mode c.requires.format) c.requires.stopped) c.requires.ready.fits.no_error c.requires.ready.fits.generates in
-    let failed : c.send.new.unit.drive ≡ without_reference (obeying (record c.args.unit.now.drive { line = false; train = 0 }) WriteReference) =
+    (reference_of d c.requires.ready.fits.sound.drive.deck (format_mode d.mode c.requires.format) c.requires.stopped)
+    c.requires.ready.fits.no_error c.requires.ready.fits.generates in
+    let failed : c.send.new.unit.drive ≡ without_reference
+    (obeying (record c.args.unit.now.drive { line = false; train = 0 }) WriteReference) =
     c.in_err-send.ensures.failed ∙ ap without_reference (ap (pulsed_row c.args.unit.now.drive) c.number.ensures ∙ refs.after) in
     ap (λ (r : Record). r.deck.mode) failed
 
@@ -57,7 +64,8 @@ pub wait-requires-clause-idle : goal.wait-requires-clause-idle
 wait-requires-clause-idle g c =
     let d : Deck = c.args.unit.now.drive.deck in
     let refs = references c.args.unit.now.drive c.requires.ready.rest.still c.requires.ready.rest.idle
-    (reference_of d c.requires.ready.fits.sound.drive.deck (format_mode d.mode c.requires.format) c.requires.stopped) c.requires.ready.fits.no_error c.requires.ready.fits.generates in
+    (reference_of d c.requires.ready.fits.sound.drive.deck (format_mode d.mode c.requires.format) c.requires.stopped)
+    c.requires.ready.fits.no_error c.requires.ready.fits.generates in
     let row : c.send.new.unit.drive ≡ obeying (record c.args.unit.now.drive { line = false; train = 0 }) WriteReference =
     c.in_ok-send.ensures.row ∙ ap (pulsed_row c.args.unit.now.drive) c.number.ensures ∙ refs.after in
     ap (λ (r : Record). r.under_way) row
@@ -66,7 +74,8 @@ pub wait-requires-clause-still : goal.wait-requires-clause-still
 wait-requires-clause-still g c =
     let d : Deck = c.args.unit.now.drive.deck in
     let refs = references c.args.unit.now.drive c.requires.ready.rest.still c.requires.ready.rest.idle
-    (reference_of d c.requires.ready.fits.sound.drive.deck (format_mode d.mode c.requires.format) c.requires.stopped) c.requires.ready.fits.no_error c.requires.ready.fits.generates in
+    (reference_of d c.requires.ready.fits.sound.drive.deck (format_mode d.mode c.requires.format) c.requires.stopped)
+    c.requires.ready.fits.no_error c.requires.ready.fits.generates in
     let row : c.send.new.unit.drive ≡ obeying (record c.args.unit.now.drive { line = false; train = 0 }) WriteReference =
     c.in_ok-send.ensures.row ∙ ap (pulsed_row c.args.unit.now.drive) c.number.ensures ∙ refs.after in
     ap (λ (r : Record). is_streaming r.deck.motion) row
@@ -75,8 +84,10 @@ pub returns-clause-did : goal.returns-clause-did
 returns-clause-did g c =
     let d : Deck = c.args.unit.now.drive.deck in
     let refs = references c.args.unit.now.drive c.requires.ready.rest.still c.requires.ready.rest.idle
-    (reference_of d c.requires.ready.fits.sound.drive.deck (format_mode d.mode c.requires.format) c.requires.stopped) c.requires.ready.fits.no_error c.requires.ready.fits.generates in
-    let steps : train_changes c.args.unit.now.drive c.number.result ≡ SetReferenced ∷ [] = ap (train_changes c.args.unit.now.drive) c.number.ensures ∙ refs.steps in
+    (reference_of d c.requires.ready.fits.sound.drive.deck (format_mode d.mode c.requires.format) c.requires.stopped)
+    c.requires.ready.fits.no_error c.requires.ready.fits.generates in
+    let steps : train_changes c.args.unit.now.drive c.number.result ≡ SetReferenced ∷ [] =
+    ap (train_changes c.args.unit.now.drive) c.number.ensures ∙ refs.steps in
     let wrote : Done g.T.Tape.means c.args.unit.now.tape c.send.new.unit.tape (SetReferenced ∷ []) =
     subst (λ (ss : List Step). Done g.T.Tape.means c.args.unit.now.tape c.send.new.unit.tape ss) steps c.in_ok-send.ensures.did in
     let all : Done g.T.Tape.means c.args.unit.now.tape c.wait.new.unit.tape (SetReferenced ∷ []) =
@@ -87,7 +98,8 @@ pub returns-clause-marks : goal.returns-clause-marks
 returns-clause-marks g c =
     let d : Deck = c.args.unit.now.drive.deck in
     let refs = references c.args.unit.now.drive c.requires.ready.rest.still c.requires.ready.rest.idle
-    (reference_of d c.requires.ready.fits.sound.drive.deck (format_mode d.mode c.requires.format) c.requires.stopped) c.requires.ready.fits.no_error c.requires.ready.fits.generates in
+    (reference_of d c.requires.ready.fits.sound.drive.deck (format_mode d.mode c.requires.format) c.requires.stopped)
+    c.requires.ready.fits.no_error c.requires.ready.fits.generates in
     let row : c.send.new.unit.drive ≡ obeying (record c.args.unit.now.drive { line = false; train = 0 }) WriteReference =
     c.in_ok-send.ensures.row ∙ ap (pulsed_row c.args.unit.now.drive) c.number.ensures ∙ refs.after in
     ap (λ (e : Deck). e.cartridge) c.wait.ensures.deck ∙ ap (λ (r : Record). r.deck.cartridge) row
@@ -96,16 +108,22 @@ pub returns-clause-place : goal.returns-clause-place
 returns-clause-place g c =
     let d : Deck = c.args.unit.now.drive.deck in
     let refs = references c.args.unit.now.drive c.requires.ready.rest.still c.requires.ready.rest.idle
-    (reference_of d c.requires.ready.fits.sound.drive.deck (format_mode d.mode c.requires.format) c.requires.stopped) c.requires.ready.fits.no_error c.requires.ready.fits.generates in
+    (reference_of d c.requires.ready.fits.sound.drive.deck (format_mode d.mode c.requires.format) c.requires.stopped)
+    c.requires.ready.fits.no_error c.requires.ready.fits.generates in
     let row : c.send.new.unit.drive ≡ obeying (record c.args.unit.now.drive { line = false; train = 0 }) WriteReference =
     c.in_ok-send.ensures.row ∙ ap (pulsed_row c.args.unit.now.drive) c.number.ensures ∙ refs.after in
-    subst (λ (e : Deck). StandsAt 0 0 e) (sym (c.wait.ensures.deck ∙ ap (λ (r : Record). ready_deck r.deck) row)) record { motion = refl; on_track = refl; at_offset = refl }
+    subst (λ (e : Deck). StandsAt 0 0 e) (sym (c.wait.ensures.deck ∙ ap (λ (r : Record). ready_deck r.deck) row)) record {
+      motion = refl;
+      on_track = refl;
+      at_offset = refl;
+    }
 
 pub returns-clause-mode : goal.returns-clause-mode
 returns-clause-mode g c =
     let d : Deck = c.args.unit.now.drive.deck in
     let refs = references c.args.unit.now.drive c.requires.ready.rest.still c.requires.ready.rest.idle
-    (reference_of d c.requires.ready.fits.sound.drive.deck (format_mode d.mode c.requires.format) c.requires.stopped) c.requires.ready.fits.no_error c.requires.ready.fits.generates in
+    (reference_of d c.requires.ready.fits.sound.drive.deck (format_mode d.mode c.requires.format) c.requires.stopped)
+    c.requires.ready.fits.no_error c.requires.ready.fits.generates in
     let row : c.send.new.unit.drive ≡ obeying (record c.args.unit.now.drive { line = false; train = 0 }) WriteReference =
     c.in_ok-send.ensures.row ∙ ap (pulsed_row c.args.unit.now.drive) c.number.ensures ∙ refs.after in
     ap (λ (e : Deck). e.mode) c.wait.ensures.deck ∙ ap (λ (r : Record). r.deck.mode) row
@@ -114,8 +132,10 @@ pub returns-clause-agrees : goal.returns-clause-agrees
 returns-clause-agrees g c =
     let d : Deck = c.args.unit.now.drive.deck in
     let refs = references c.args.unit.now.drive c.requires.ready.rest.still c.requires.ready.rest.idle
-    (reference_of d c.requires.ready.fits.sound.drive.deck (format_mode d.mode c.requires.format) c.requires.stopped) c.requires.ready.fits.no_error c.requires.ready.fits.generates in
-    let steps : train_changes c.args.unit.now.drive c.number.result ≡ SetReferenced ∷ [] = ap (train_changes c.args.unit.now.drive) c.number.ensures ∙ refs.steps in
+    (reference_of d c.requires.ready.fits.sound.drive.deck (format_mode d.mode c.requires.format) c.requires.stopped)
+    c.requires.ready.fits.no_error c.requires.ready.fits.generates in
+    let steps : train_changes c.args.unit.now.drive c.number.result ≡ SetReferenced ∷ [] =
+    ap (train_changes c.args.unit.now.drive) c.number.ensures ∙ refs.steps in
     let row : c.send.new.unit.drive ≡ obeying (record c.args.unit.now.drive { line = false; train = 0 }) WriteReference =
     c.in_ok-send.ensures.row ∙ ap (pulsed_row c.args.unit.now.drive) c.number.ensures ∙ refs.after in
     let wrote : Done g.T.Tape.means c.args.unit.now.tape c.send.new.unit.tape (SetReferenced ∷ []) =

@@ -7,7 +7,8 @@ use Rattle.host_driver.proofs.Taking.{stands_known, seek_of, given_track, takes_
 use Rattle.host_driver.proofs.host.Host.seek_track.Goals as goal
 
 pub command-requires-clause-taken : goal.command-requires-clause-taken
-command-requires-clause-taken g c = seek_of c.args.unit.now.drive.deck (stands_known c.requires.ready.fits c.requires.stopped) c.requires.referenced
+command-requires-clause-taken g c = seek_of c.args.unit.now.drive.deck
+    (stands_known c.requires.ready.fits c.requires.stopped) c.requires.referenced
 
 pub give-requires-clause-still : goal.give-requires-clause-still
 give-requires-clause-still g c = ap (λ (d : Deck). is_seeking d.motion) c.command.ensures.deck ∙ c.requires.ready.rest.still
@@ -18,14 +19,17 @@ give-requires-clause-awaited g c =
 
 pub wait-requires-clause-idle : goal.wait-requires-clause-idle
 wait-requires-clause-idle g c =
-    (given_track c.command.new.unit.drive c.give.new.unit.drive c.args.unit.now.drive.deck c.args.track c.command.ensures.deck c.command.ensures.under_way c.give.ensures.given).under_way
+    (given_track c.command.new.unit.drive c.give.new.unit.drive c.args.unit.now.drive.deck c.args.track c.command.ensures.deck
+    c.command.ensures.under_way c.give.ensures.given).under_way
 
 pub wait-requires-clause-still : goal.wait-requires-clause-still
 wait-requires-clause-still g c =
     ap (λ (d : Deck). is_streaming d.motion)
-    (given_track c.command.new.unit.drive c.give.new.unit.drive c.args.unit.now.drive.deck c.args.track c.command.ensures.deck c.command.ensures.under_way c.give.ensures.given).deck
+    (given_track c.command.new.unit.drive c.give.new.unit.drive c.args.unit.now.drive.deck c.args.track c.command.ensures.deck
+    c.command.ensures.under_way c.give.ensures.given).deck
 
 pub returns-clause-deck : goal.returns-clause-deck
 returns-clause-deck g c =
     c.wait.ensures.deck ∙ ap ready_deck
-    (given_track c.command.new.unit.drive c.give.new.unit.drive c.args.unit.now.drive.deck c.args.track c.command.ensures.deck c.command.ensures.under_way c.give.ensures.given).deck
+    (given_track c.command.new.unit.drive c.give.new.unit.drive c.args.unit.now.drive.deck c.args.track c.command.ensures.deck
+    c.command.ensures.under_way c.give.ensures.given).deck

@@ -12,7 +12,8 @@ use Rattle.host_driver.proofs.host.Host.skip.Goals as goal
 pub command-requires-clause-taken : goal.command-requires-clause-taken
 command-requires-clause-taken g c =
     ap (refusal_of c.args.unit.now.drive.deck) c.skip_command.ensures
-    ∙ skip_of c.args.unit.now.drive.deck (stands_known c.requires.ready.fits c.requires.stopped) c.args.forward c.requires.referenced c.requires.skips
+    ∙ skip_of c.args.unit.now.drive.deck (stands_known c.requires.ready.fits c.requires.stopped) c.args.forward c.requires.referenced
+    c.requires.skips
 
 pub give-requires-clause-still : goal.give-requires-clause-still
 give-requires-clause-still g c =
@@ -52,7 +53,8 @@ wait-requires-clause-idle g c =
     c.command.ensures.deck ∙ ap (λ (k : Command). accepted k d) c.skip_command.ensures ∙ skip_awaits c.args.forward d in
     let half = given_low c.args.forward c.command.new.unit.drive c.give.new.unit.drive d (c.args.count % 16) deck
     (c.command.ensures.under_way ∙ ap (λ (k : Command). begun k d) c.skip_command.ensures) c.give.ensures.given in
-    let given = given_high c.args.forward c.give.new.unit.drive c.give-2.new.unit.drive d (c.args.count % 16) (c.args.count / 16) c.args.count (omega arith) half c.give-2.ensures.given in
+    let given = given_high c.args.forward c.give.new.unit.drive c.give-2.new.unit.drive d (c.args.count % 16)
+    (c.args.count / 16) c.args.count (omega arith) half c.give-2.ensures.given in
     given.under_way
 
 pub wait-requires-clause-still : goal.wait-requires-clause-still
@@ -62,7 +64,8 @@ wait-requires-clause-still g c =
     c.command.ensures.deck ∙ ap (λ (k : Command). accepted k d) c.skip_command.ensures ∙ skip_awaits c.args.forward d in
     let half = given_low c.args.forward c.command.new.unit.drive c.give.new.unit.drive d (c.args.count % 16) deck
     (c.command.ensures.under_way ∙ ap (λ (k : Command). begun k d) c.skip_command.ensures) c.give.ensures.given in
-    let given = given_high c.args.forward c.give.new.unit.drive c.give-2.new.unit.drive d (c.args.count % 16) (c.args.count / 16) c.args.count (omega arith) half c.give-2.ensures.given in
+    let given = given_high c.args.forward c.give.new.unit.drive c.give-2.new.unit.drive d (c.args.count % 16)
+    (c.args.count / 16) c.args.count (omega arith) half c.give-2.ensures.given in
     ap (λ (e : Deck). is_streaming e.motion) given.deck
 
 pub returns-clause-deck : goal.returns-clause-deck
@@ -72,5 +75,6 @@ returns-clause-deck g c =
     c.command.ensures.deck ∙ ap (λ (k : Command). accepted k d) c.skip_command.ensures ∙ skip_awaits c.args.forward d in
     let half = given_low c.args.forward c.command.new.unit.drive c.give.new.unit.drive d (c.args.count % 16) deck
     (c.command.ensures.under_way ∙ ap (λ (k : Command). begun k d) c.skip_command.ensures) c.give.ensures.given in
-    let given = given_high c.args.forward c.give.new.unit.drive c.give-2.new.unit.drive d (c.args.count % 16) (c.args.count / 16) c.args.count (omega arith) half c.give-2.ensures.given in
+    let given = given_high c.args.forward c.give.new.unit.drive c.give-2.new.unit.drive d (c.args.count % 16)
+    (c.args.count / 16) c.args.count (omega arith) half c.give-2.ensures.given in
     c.wait.ensures.deck ∙ ap ready_deck given.deck

@@ -18,6 +18,8 @@ returns-in-Err-Tape-clause-keeps g c =
     record {
       ready = search rules;
       same = search rules;
-      agrees = broke_agrees g.T.Tape.means c.args.unit.now c.write_under.new.unit (WriteSector c.args.segment c.args.sector c.args.from.now ∷ []) (write_keeps c.args.segment c.args.sector c.args.from.now) (ap (λ (d : Deck). d.cartridge) found.0) found.1;
+      agrees = broke_agrees g.T.Tape.means c.args.unit.now c.write_under.new.unit
+          (WriteSector c.args.segment c.args.sector c.args.from.now ∷ []) (write_keeps c.args.segment c.args.sector c.args.from.now)
+          (ap (λ (d : Deck). d.cartridge) found.0) found.1;
       size = search rules;
     }

@@ -12,4 +12,5 @@ address-requires-clause-on_tape g c =
 pub returns-clause-written : goal.returns-clause-written
 returns-clause-written g c =
     rw c.requires.writable.writable at (c.write_sector.ensures.reached c.args.segment c.args.sector
-    (reaches is_primary c.args.unit.now.drive.deck c.args.self.now.geometry c.args.segment c.args.sector c.address.result c.requires.ready.fits.cartridge c.requires.writable.mode c.requires.under c.address.ensures))
+    (reaches is_primary c.args.unit.now.drive.deck c.args.self.now.geometry c.args.segment c.args.sector c.address.result
+    c.requires.ready.fits.cartridge c.requires.writable.mode c.requires.under c.address.ensures))

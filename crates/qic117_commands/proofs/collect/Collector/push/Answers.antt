@@ -8,7 +8,11 @@ pub returns-after-level-clause-room : goal.returns-after-level-clause-room
 returns-after-level-clause-room c =
     let own = c.self.inside in
     let more : c.if-level.self-inside ≡ record own { levels = own.levels + cond c.args.level (2 ^ own.count) 0 } =
-    elim c.if-level.branch [ then-level w ↦ rw (w.self-inside-is, w.if-level.true, one-bit own.count (omega arith)) refl | else-level w ↦ rw (w.self-inside-is, w.if-level.false, add-zero) refl ] in
+    elim c.if-level.branch [
+      | then-level w ↦ rw (w.self-inside-is, w.if-level.true, one-bit own.count (omega arith)) refl
+      | else-level
+          w ↦ rw (w.self-inside-is, w.if-level.false, add-zero) refl
+    ] in
     rw (← c.self.view_is, more) (λ h. push-room own.count own.levels _ c.args.level c.self.invariant.2 refl)
 
 pub returns-after-level-clause-full : goal.returns-after-level-clause-full

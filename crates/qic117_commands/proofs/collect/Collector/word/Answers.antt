@@ -18,7 +18,8 @@ pub returns-clause-word : goal.returns-clause-word
 returns-clause-word c =
     let own = c.self.inside in
     let final : 2 ^ own.width ≤ own.levels = omega (arith, final-bit own.width c.self.invariant.0) in
-    rw (← c.self.view_is, final-bit own.width c.self.invariant.0) (sym (word-full own.width own.count own.levels c.self.invariant.1 c.self.invariant.2 final).0)
+    rw (← c.self.view_is, final-bit own.width c.self.invariant.0)
+    (sym (word-full own.width own.count own.levels c.self.invariant.1 c.self.invariant.2 final).0)
 
 pub returns-clause-complete : goal.returns-clause-complete
 returns-clause-complete c =
@@ -31,7 +32,12 @@ overflow_cast-result c =
     let own = c.self.inside in
     let e = final-bit own.width c.self.invariant.0 in
     let final : 2 ^ own.width ≤ own.levels = omega (arith, e) in
-    omega (arith, e, width-bound own.width c.self.invariant.0, word-fits own.width own.count own.levels c.self.invariant.1 c.self.invariant.2 final)
+    omega (
+      arith,
+      e,
+      width-bound own.width c.self.invariant.0,
+      word-fits own.width own.count own.levels c.self.invariant.1 c.self.invariant.2 final,
+    )
 
 pub returns-clause-fits : goal.returns-clause-fits
 returns-clause-fits c =

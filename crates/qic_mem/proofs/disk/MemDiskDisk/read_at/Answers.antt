@@ -8,4 +8,5 @@ use Rattle.qic_mem.proofs.disk.MemDiskDisk.read_at.Goals as goal
 pub returns-then-begin-clause-did : goal.returns-then-begin-clause-did
 unfolding disk_state
 returns-then-begin-clause-did c =
-    disk-refused _ _ Look c.settle.ensures refl refl c.begin.ensures.never_falls (counted-rose _ _ _ c.begin.ensures.counted c.if-begin.true)
+    disk-refused _ _ Look c.settle.ensures refl refl c.begin.ensures.never_falls
+    (counted-rose _ _ _ c.begin.ensures.counted c.if-begin.true) refl

@@ -5,7 +5,8 @@ use Rattle.rescue_map.proofs.scan.Scan.push.Goals.{else-byte-eq35-via-then-byte-
 
 pub returns-then-is_blank : goal.returns-then-is_blank
 returns-then-is_blank c = λ bytes cut.
-    push_blank c.args.self.now c.close.new.self bytes c.args.byte (sym c.is_blank.ensures ∙ c.if-is_blank.true) c.if-self.false c.close.ensures.comment c.close.ensures.len c.close.ensures.words cut
+    push_blank c.args.self.now c.close.new.self bytes c.args.byte (sym c.is_blank.ensures ∙ c.if-is_blank.true) c.if-self.false
+    c.close.ensures.comment c.close.ensures.len c.close.ensures.words cut
 
 pub returns-else-byte-eq35 : goal.returns-else-byte-eq35
 returns-else-byte-eq35 c = λ bytes cut.

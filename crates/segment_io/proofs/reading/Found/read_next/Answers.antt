@@ -24,15 +24,18 @@ returns-clause-gathered g c =
     (λ d reads cells count gathered.
     elim c.match-branch-2.branch [
       | in-Good w ↦
-          subst (λ (f : Found). Gathered (cells ++ view_at d c.args.segment c.args.index ∷ []) f.lost (set sectors place now)) (sym w.self-is)
+          subst (λ (f : Found). Gathered (cells ++ view_at d c.args.segment c.args.index ∷ []) f.lost (set sectors place now))
+          (sym w.self-is)
           (gathered_good cells (view_at d c.args.segment c.args.index) c.args.self.now.lost place sectors (get_or sectors place []) now
           count c.requires.room
-          (subst (λ (answer : SectorRead). Reads (view_at d c.args.segment c.args.index) (get_or sectors place []) now answer) w.in-Good.is reads)
+          (subst (λ (answer : SectorRead). Reads (view_at d c.args.segment c.args.index) (get_or sectors place []) now answer) w.in-Good.is
+          reads)
           gathered)
       | in-Lost w ↦
           let bad : c.in_ok-read_sector.field-0 ≢ read.Good =
           elim w.in-Lost.is [ inl lost ↦ λ good. cc (lost, good) | inr blank ↦ λ good. cc (blank, good) ] in
-          subst (λ (f : Found). Gathered (cells ++ view_at d c.args.segment c.args.index ∷ []) f.lost (set sectors place now)) (sym w.self-is)
+          subst (λ (f : Found). Gathered (cells ++ view_at d c.args.segment c.args.index ∷ []) f.lost (set sectors place now))
+          (sym w.self-is)
           (gathered_bad cells (view_at d c.args.segment c.args.index) c.args.self.now.lost place sectors (get_or sectors place []) now
           c.in_ok-read_sector.field-0 count c.requires.few bad reads gathered)
     ])
@@ -44,5 +47,6 @@ returns-clause-within g c below =
     let wider : 2 ^ place < 2 ^ (place + 1) = pow-lt {i = place} {j = place + 1} (omega arith) in
     elim c.match-branch-2.branch [
       | in-Good w ↦ subst (λ (f : Found). f.lost < 2 ^ (f.places + 1)) (sym w.self-is) (omega arith)
-      | in-Lost w ↦ subst (λ (f : Found). f.lost < 2 ^ (f.places + 1)) (sym w.self-is) (with_unread-below c.args.self.now.lost place below c.requires.few)
+      | in-Lost w ↦ subst (λ (f : Found). f.lost < 2 ^ (f.places + 1)) (sym w.self-is)
+          (with_unread-below c.args.self.now.lost place below c.requires.few)
     ]

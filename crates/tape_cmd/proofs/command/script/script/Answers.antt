@@ -8,6 +8,8 @@ returns-in-Err-clause-ends g c =
 
 pub returns-clause-ends : goal.returns-clause-ends
 returns-clause-ends g c =
-    rw c.answered.ensures (script_ended g.T.Tape.means g.S.Source.means g.K.Sink.means c.args.unit.now.tape c.args.source.now c.args.sink.now
-    c.open.new.unit c.in-Ok.store c.in-Ok.ensures c.run_script.new.unit.tape c.run_script.new.source c.run_script.new.sink g.met.K.Sink.took_both g.met.K.Sink.took_nothing
+    rw c.answered.ensures (script_ended g.T.Tape.means g.S.Source.means g.K.Sink.means c.args.unit.now.tape c.args.source.now
+    c.args.sink.now
+    c.open.new.unit c.in-Ok.store c.in-Ok.ensures c.run_script.new.unit.tape c.run_script.new.source c.run_script.new.sink
+    g.met.K.Sink.took_both g.met.K.Sink.took_nothing
     c.run_script.result c.run_script.ensures.tells c.run_script.ensures.ends)

@@ -24,11 +24,13 @@ returns-clause-fits g c = λ other.
     let right = g.met.T.Tape.told_right c.args.unit.now.tape in
     let there = told_there m store.host c.args.unit.now c.requires.fits.host c.requires.fits.agrees in
     let before : Tells m c.args.unit.now.tape (λ c'. c'.info.protected ≡ false → HasList c' table) =
-    subst (λ (es : List Entry). Tells m c.args.unit.now.tape (λ c'. c'.info.protected ≡ false → HasList c' es)) (sym same) c.requires.fits.volumes in
+    subst (λ (es : List Entry). Tells m c.args.unit.now.tape (λ c'. c'.info.protected ≡ false → HasList c' es))
+    (sym same) c.requires.fits.volumes in
     let behind : Tells m c.scrub_segments.new.unit.tape (λ c'. c'.info.protected ≡ false → HasList c' table) =
     elim c.match-scrub_segments.branch [
       | in-Ok w ↦
-          scrub_lists m k c.args.depth map table (length map - 1) c.self.invariant.1 a b (Ok w.in-Ok.report) w.in-Ok.ensures.ends (λ is. cc) right there before
+          scrub_lists m k c.args.depth map table (length map - 1) c.self.invariant.1 a b (Ok w.in-Ok.report) w.in-Ok.ensures.ends
+          (λ is. cc) right there before
       | in-Err-Sink w ↦
           scrub_lists m k c.args.depth map table (length map - 1) c.self.invariant.1 a b (Err scrub.Sink)
           (rw w.in-Err-Sink.field-0-is at w.in-Err-Sink.ensures.ends) (λ is. cc) right there before

@@ -11,7 +11,8 @@ use Rattle.cartridge_front.specs.declared.fault.StoreFault.TheVariants.{Tape}
 use Rattle.volume_store.specs.Mounting.{StoreView, Settles, IsSettling, SettlingBreaks, MountDoes}
 use Rattle.cartridge_front.specs.Settling.{mending_steps}
 use Rattle.cartridge_front.proofs.Passing.{passed}
-use Rattle.volume_store.proofs.Storing.{sound_volumes, told_settles, told_lists, told_there, none_mended, one_length, still_primary, still_referenced}
+use Rattle.volume_store.proofs.Storing.{sound_volumes, told_settles, told_lists, told_there, none_mended, one_length, still_primary}
+use Rattle.volume_store.proofs.Storing.{still_referenced}
 use Rattle.volume_store.proofs.store.Store.mount.Goals as goal
 
 pub invariant_of-result : goal.invariant_of-result
@@ -28,8 +29,10 @@ pub returns-clause-did : goal.returns-clause-did
 returns-clause-did g c = record {
   steps = mending_steps (is_protected c.learn.new.unit.drive.deck) c.in_ok-learnt.learnt.unread c.learn.new.work;
   done = Done-after_reads c.in_ok-learnt.ensures.did c.in_ok-settle.ensures.did;
-  told = told_settles g.T.Tape.means c.learn.new.host c.args.unit.now.tape c.learn.new.unit c.learn.new.map c.learn.new.work c.learn.new.table c.in_ok-learnt.learnt
-      c.in_ok-learnt.ensures.ready.fits c.in_ok-learnt.ensures.agrees c.in_ok-learnt.ensures.did c.in_ok-learnt.ensures.room (c.in_ok-learnt.ensures.found (λ same. cc));
+  told = told_settles g.T.Tape.means c.learn.new.host c.args.unit.now.tape c.learn.new.unit c.learn.new.map c.learn.new.work
+      c.learn.new.table c.in_ok-learnt.learnt
+      c.in_ok-learnt.ensures.ready.fits c.in_ok-learnt.ensures.agrees c.in_ok-learnt.ensures.did c.in_ok-learnt.ensures.room
+      (c.in_ok-learnt.ensures.found (λ same. cc));
 }
 
 pub returns-clause-fits : goal.returns-clause-fits
@@ -37,30 +40,39 @@ returns-clause-fits g c =
     let m = g.T.Tape.means in
     let words = c.in_ok-learnt.ensures.words in
     let one : segments_of c.learn.new.host ≡ segments_of c.settle.new.host =
-    one_length m c.learn.new.host c.settle.new.host c.learn.new.unit c.settle.new.unit c.in_ok-learnt.ensures.ready.fits c.in_ok-settle.ensures.keeps.ready.fits c.in_ok-settle.ensures.keeps.same.cartridge in
+    one_length m c.learn.new.host c.settle.new.host c.learn.new.unit c.settle.new.unit c.in_ok-learnt.ensures.ready.fits
+    c.in_ok-settle.ensures.keeps.ready.fits c.in_ok-settle.ensures.keeps.same.cartridge in
     let steps : List Step = mending_steps (is_protected c.learn.new.unit.drive.deck) c.in_ok-learnt.learnt.unread c.learn.new.work in
     record {
       host = c.in_ok-settle.ensures.keeps.ready.fits;
       rest = c.in_ok-settle.ensures.keeps.ready.rest;
-      mode = still_primary c.learn.new.unit.drive.deck c.settle.new.unit.drive.deck c.in_ok-settle.ensures.keeps.same c.in_ok-learnt.ensures.mode;
-      referenced = still_referenced c.learn.new.unit.drive.deck c.settle.new.unit.drive.deck c.in_ok-settle.ensures.keeps.same c.in_ok-learnt.ensures.referenced;
+      mode = still_primary c.learn.new.unit.drive.deck c.settle.new.unit.drive.deck c.in_ok-settle.ensures.keeps.same
+          c.in_ok-learnt.ensures.mode;
+      referenced = still_referenced c.learn.new.unit.drive.deck c.settle.new.unit.drive.deck c.in_ok-settle.ensures.keeps.same
+          c.in_ok-learnt.ensures.referenced;
       agrees = c.in_ok-settle.ensures.keeps.agrees c.in_ok-learnt.ensures.agrees;
       header = words.length_told ∙ one;
       words = words.size ∙ ap (λ (n : ℕ). 28 * n) one;
       list = subst (λ (n : ℕ). IsSoundList (28 * n - 1) c.learn.new.table) one
-          (sound_volumes (take 29 c.learn.new.work) (28 * segments_of c.learn.new.host - 1) c.learn.new.table c.in_ok-learnt.ensures.volumes);
-      volumes = told_lists m c.args.unit.now.tape c.settle.new.unit.tape (header_of c.in_ok-learnt.learnt.header) c.learn.new.map c.learn.new.table steps
-          (g.met.T.Tape.told_right c.args.unit.now.tape) (none_mended (is_protected c.learn.new.unit.drive.deck) c.in_ok-learnt.learnt.unread c.learn.new.work)
+          (sound_volumes (take 29 c.learn.new.work)
+          (28 * segments_of c.learn.new.host - 1) c.learn.new.table c.in_ok-learnt.ensures.volumes);
+      volumes = told_lists m c.args.unit.now.tape c.settle.new.unit.tape
+          (header_of c.in_ok-learnt.learnt.header) c.learn.new.map c.learn.new.table steps
+          (g.met.T.Tape.told_right c.args.unit.now.tape)
+          (none_mended (is_protected c.learn.new.unit.drive.deck) c.in_ok-learnt.learnt.unread c.learn.new.work)
           (Done-after_reads c.in_ok-learnt.ensures.did c.in_ok-settle.ensures.did)
-          (told_settles m c.learn.new.host c.args.unit.now.tape c.learn.new.unit c.learn.new.map c.learn.new.work c.learn.new.table c.in_ok-learnt.learnt
-          c.in_ok-learnt.ensures.ready.fits c.in_ok-learnt.ensures.agrees c.in_ok-learnt.ensures.did c.in_ok-learnt.ensures.room (c.in_ok-learnt.ensures.found (λ same. cc)));
+          (told_settles m c.learn.new.host c.args.unit.now.tape c.learn.new.unit c.learn.new.map c.learn.new.work c.learn.new.table
+          c.in_ok-learnt.learnt
+          c.in_ok-learnt.ensures.ready.fits c.in_ok-learnt.ensures.agrees c.in_ok-learnt.ensures.did c.in_ok-learnt.ensures.room
+          (c.in_ok-learnt.ensures.found (λ same. cc)));
     }
 
 pub returns-in_err-settle-clause-did : goal.returns-in_err-settle-clause-did
 returns-in_err-settle-clause-did g c =
     let m = g.T.Tape.means in
     let fault : StoreFault = c.in_err-settle.field-0.0 in
-    let is : c.from_residual-in_err-settle.result ≡ Err fault = passed c.from_residual-in_err-settle.result fault c.from_residual-in_err-settle.ensures.1 in
+    let is : c.from_residual-in_err-settle.result ≡ Err fault =
+    passed c.from_residual-in_err-settle.result fault c.from_residual-in_err-settle.ensures.1 in
     let tape : fault ≡ Tape = c.in_err-settle.ensures.fault in
     let steps : List Step = mending_steps (is_protected c.learn.new.unit.drive.deck) c.in_ok-learnt.learnt.unread c.learn.new.work in
     let broken : SettlingBreaks m c.args.unit.now.tape c.settle.new.unit.tape = record {
@@ -69,8 +81,16 @@ returns-in_err-settle-clause-did g c =
       front = told_there c.args.unit.now.drive.deck.cartridge (m.told c.args.unit.now.tape) _
           (λ c'. Settles c' (header_of c.in_ok-learnt.learnt.header) c.learn.new.map c.learn.new.table steps)
           (λ held. (steps ≡ []) ⊎ IsSomeAnd held (λ c'. IsSettling c' steps)) c.requires.ready.fits.cartridge c.requires.agrees
-          (λ c' settles. inr (record { header = header_of c.in_ok-learnt.learnt.header; words = c.learn.new.map; entries = c.learn.new.table; settles = settles }))
-          (told_settles m c.learn.new.host c.args.unit.now.tape c.learn.new.unit c.learn.new.map c.learn.new.work c.learn.new.table c.in_ok-learnt.learnt
-          c.in_ok-learnt.ensures.ready.fits c.in_ok-learnt.ensures.agrees c.in_ok-learnt.ensures.did c.in_ok-learnt.ensures.room (c.in_ok-learnt.ensures.found (λ same. cc)));
+          (λ c' settles. inr (record {
+            header = header_of c.in_ok-learnt.learnt.header;
+            words = c.learn.new.map;
+            entries = c.learn.new.table;
+            settles = settles;
+          }))
+          (told_settles m c.learn.new.host c.args.unit.now.tape c.learn.new.unit c.learn.new.map c.learn.new.work c.learn.new.table
+          c.in_ok-learnt.learnt
+          c.in_ok-learnt.ensures.ready.fits c.in_ok-learnt.ensures.agrees c.in_ok-learnt.ensures.did c.in_ok-learnt.ensures.room
+          (c.in_ok-learnt.ensures.found (λ same. cc)));
     } in
-    subst (λ (answer : Result StoreView StoreFault). MountDoes m c.args.unit.now.tape c.settle.new.unit.tape answer) (sym (is ∙ ap Err tape)) broken
+    subst (λ (answer : Result StoreView StoreFault). MountDoes m c.args.unit.now.tape c.settle.new.unit.tape answer)
+    (sym (is ∙ ap Err tape)) broken

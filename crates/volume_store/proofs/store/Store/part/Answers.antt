@@ -43,7 +43,8 @@ returns-in-Ok-None-clause-ends g c =
     let words : c.self.inside.map ≡ store.words = ap (λ (v : StoreView). v.words) c.self.view_is in (
       e,
       told.0,
-      piece_of_volume g.T.Tape.means c.args.unit.now.tape c.read_part.new.unit.tape c.args.part c.read_part.new.work store c.self.inside.map e
+      piece_of_volume g.T.Tape.means c.args.unit.now.tape c.read_part.new.unit.tape c.args.part c.read_part.new.work store c.self.inside.map
+          e
           c.length-length.result (Ok None) words told.1 (rw c.in-Ok-None.field-0-is at c.in-Ok-None.ensures.ends),
     )
 
@@ -56,7 +57,8 @@ returns-in-Ok-Some-clause-ends g c =
     let words : c.self.inside.map ≡ store.words = ap (λ (v : StoreView). v.words) c.self.view_is in (
       e,
       told.0,
-      piece_of_volume g.T.Tape.means c.args.unit.now.tape c.read_part.new.unit.tape c.args.part c.read_part.new.work store c.self.inside.map e
+      piece_of_volume g.T.Tape.means c.args.unit.now.tape c.read_part.new.unit.tape c.args.part c.read_part.new.work store c.self.inside.map
+          e
           c.length-length.result (Ok (Some c.in-Ok-Some.read)) words told.1 (rw c.in-Ok-Some.field-0-is at c.in-Ok-Some.ensures.ends),
     )
 
@@ -74,9 +76,11 @@ returns-in-Err-clause-ends g c =
       entries = c.self.inside.table;
       part = take c.self.inside.shown c.read_part.new.work;
     } in
-    rw c.output_fault.ensures (part_failed g.T.Tape.means c.args.unit.now.tape c.read_part.new.unit.tape c.args.part c.read_part.new.work store after c.args.number e
+    rw c.output_fault.ensures (part_failed g.T.Tape.means c.args.unit.now.tape c.read_part.new.unit.tape c.args.part c.read_part.new.work
+    store after c.args.number e
     c.in-Err.fault told.0
-    (piece_of_volume g.T.Tape.means c.args.unit.now.tape c.read_part.new.unit.tape c.args.part c.read_part.new.work store c.self.inside.map e
+    (piece_of_volume g.T.Tape.means c.args.unit.now.tape c.read_part.new.unit.tape c.args.part c.read_part.new.work store c.self.inside.map
+    e
     c.length-length.result (Err c.in-Err.fault) words told.1 c.in-Err.ensures.ends))
 
 pub returns-in-Err-clause-fits : goal.returns-in-Err-clause-fits

@@ -43,12 +43,14 @@ returns-clause-ends g c =
             there,
             (
               long,
-              of_volume g.T.Tape.means g.K.Sink.means store c.args.number (is_lined c.args.form) a b c.self.inside.map e c.length-length.result
+              of_volume g.T.Tape.means g.K.Sink.means store c.args.number
+                  (is_lined c.args.form) a b c.self.inside.map e c.length-length.result
                   (Ok tt) words long w.in-Ok.ensures.ends,
             ),
           )
       | in-Err w ↦
-          rw w.result-is (rw w.output_fault.ensures (restore_failed g.T.Tape.means g.K.Sink.means store c.args.number (is_lined c.args.form) a b e w.in-Err.fault there
+          rw w.result-is (rw w.output_fault.ensures
+          (restore_failed g.T.Tape.means g.K.Sink.means store c.args.number (is_lined c.args.form) a b e w.in-Err.fault there
           (of_volume g.T.Tape.means g.K.Sink.means store c.args.number (is_lined c.args.form) a b c.self.inside.map e c.length-length.result
           (Err w.in-Err.fault) words long w.in-Err.ensures.ends)))
     ]
@@ -64,12 +66,15 @@ returns-clause-fits g c = λ other.
     let told : Tells g.T.Tape.means c.give_volume.new.unit.tape (λ c'. c'.info.protected ≡ false → HasList c' store.entries) =
     elim c.match-give_volume.branch [
       | in-Ok w ↦
-          output_told g.T.Tape.means g.K.Sink.means map needed (is_lined c.args.form) a b (λ c'. c'.info.protected ≡ false → HasList c' store.entries)
+          output_told g.T.Tape.means g.K.Sink.means map needed (is_lined c.args.form) a b
+          (λ c'. c'.info.protected ≡ false → HasList c' store.entries)
           (Ok tt) w.in-Ok.ensures.ends (λ is. cc) c.requires.fits.volumes
       | in-Err w ↦
-          output_told g.T.Tape.means g.K.Sink.means map needed (is_lined c.args.form) a b (λ c'. c'.info.protected ≡ false → HasList c' store.entries)
+          output_told g.T.Tape.means g.K.Sink.means map needed (is_lined c.args.form) a b
+          (λ c'. c'.info.protected ≡ false → HasList c' store.entries)
           (Err w.in-Err.fault) w.in-Err.ensures.ends
-          (λ is. let tape : w.in-Err.fault ≡ output.Tape = cc in other (w.result-is ∙ ap Err (w.output_fault.ensures ∙ ap fault_of_output tape)))
+          (λ is. let tape : w.in-Err.fault ≡ output.Tape = cc in
+          other (w.result-is ∙ ap Err (w.output_fault.ensures ∙ ap fault_of_output tape)))
           c.requires.fits.volumes
     ] in
     let after : StoreView = record {

@@ -9,6 +9,12 @@ pub returns-clause-shown : goal.returns-clause-shown
 returns-clause-shown c =
     let area = arrays_are_long c.args.area.now c.requires.sectors c.told-area in
     let old : map entry_of c.self.inside.entries.items ≡ c.args.self.now = c.self.view_is in
-    rw (c.write_slot.ensures.written, c.push_within.ensures.items, map-append entry_of c.self.inside.entries.items (c.args.entry.now ∷ []), old)
-    (put_shows c.args.area.now c.args.self.now (entry_of c.args.entry.now) c.len-index.result area c.requires.list (sym c.len-index.ensures.count)
+    rw (
+      c.write_slot.ensures.written,
+      c.push_within.ensures.items,
+      map-append entry_of c.self.inside.entries.items (c.args.entry.now ∷ []),
+      old,
+    )
+    (put_shows c.args.area.now c.args.self.now (entry_of c.args.entry.now) c.len-index.result area c.requires.list
+    (sym c.len-index.ensures.count)
     (omega (arith, c.len-index.ensures.few, c.if-index.false)) c.write_slot.ensures.fits)

@@ -28,7 +28,8 @@ pub invariant_of-self : goal.invariant_of-self
 unfolding after
 invariant_of-self c =
     let room : (0 < c.self.inside.calls_left) × (length c.args.part.now ≤ c.self.inside.bytes_left) =
-    room-left c.self.inside.calls_left c.self.inside.bytes_left (length c.args.part.now) _ _ refl refl (rw (← c.self.view_is) at c.requires.room) in
+    room-left c.self.inside.calls_left c.self.inside.bytes_left (length c.args.part.now) _ _ refl refl
+    (rw (← c.self.view_is) at c.requires.room) in
     whole-noted c.self.inside (after c) c.args.entry c.args.part.now (noted c)
     (omega (arith, room.0, one-at-most c.is_pending-self-inside.result)) (omega (arith, room.1))
 

@@ -8,4 +8,5 @@ pub returns : goal.returns
 unfolding holder_state
 returns c =
     let to : Option Cartridge → HolderState = λ held. record (holder_state c.args.self.now) { cartridge = held } in
-    ap to (format-held c.args.self.now.told _ _ _ _ _ _ c.args.self.now.fits c.args.self.now.long c.requires c.view_index.ensures c.format_segment.ensures.formatted)
+    ap to (format-held c.args.self.now.told _ _ _ _ _ _ c.args.self.now.fits c.args.self.now.long c.requires c.view_index.ensures
+    c.format_segment.ensures.formatted)
