@@ -1,5 +1,5 @@
 -- What a function on the disk did, at each of its exits.
-use Rattle.std.proofs.Common.{◌≡◌, ℕ, inl, inr, List, [], ◌++◌, refl, ◌∙◌, ap, Option, Some, None, IfSome, subst, Result, Ok, Err}
+use Rattle.std.proofs.Common.{◌≡◌, ℕ, inl, inr, List, [], ◌++◌, refl, sym, ◌∙◌, ap, Option, Some, None, IfSome, subst, Result, Ok, Err}
 use Rattle.cart_image.specs.declared.layout.Layout.{Layout}
 use Rattle.std.specs.Prelude.{OnOk}
 use Rattle.qic_base.specs.Disk.{Meaning, DiskStep, Look, Failed}
@@ -97,6 +97,14 @@ pub CarriedBy-failed : {D E : Type 0} (T : Type 0) (m : Meaning D) (old new : D)
     CarriedBy {T = T} {E = E} m old new layout plan (Err e)
 CarriedBy-failed T m old new None plan e looked = tt
 CarriedBy-failed T m old new (Some l) plan e looked = Carried-failed m old looked.0 new (plan l) (Err e) e refl looked.1 looked.2
+
+-- .. where the plan is by this layout
+pub CarriedBy-layout : {D T E : Type 0} (m : Meaning D) (old new : D) (layout : Option Layout) (l : Layout)
+    (plan : Layout → List ℕ → List DiskStep) (r : Result T E) → layout ≡ Some l → Carried m old new (plan l) r →
+    CarriedBy m old new layout plan r
+CarriedBy-layout m old new layout l plan r is carried =
+    let P : Option Layout → Type 0 = λ o. CarriedBy m old new o plan r in
+    subst P (sym is) carried
 
 -- what was carried out left the count of failed changes as it was
 pub changes-stood : {D T E : Type 0} (m : Meaning D) (old new : D) (plan : List ℕ → List DiskStep) (r : Result T E) →

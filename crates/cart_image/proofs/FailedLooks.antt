@@ -4,7 +4,8 @@ use Rattle.std.proofs.Common.{is_some, subst, Result, Ok, Err}
 use Rattle.std.specs.Prelude.{IfOk}
 use Rattle.qic_base.specs.declared.tape.SectorRead.{SectorRead}
 use Rattle.qic_base.specs.declared.tape.SectorView.{SectorView}
-use Rattle.qic_base.specs.Disk.{Meaning, Look, IsSettled, Failed}
+use Rattle.qic_base.specs.Disk.{Meaning, Look, IsSettled, Stores, Failed}
+use Rattle.qic_base.proofs.Disks.{told-look}
 use Rattle.qic_base.proofs.Steps.{Rose-before}
 use Rattle.qic_base.specs.TapeCalls.{Reads}
 use Rattle.cart_image.specs.declared.layout.Layout.{Layout}
@@ -51,6 +52,24 @@ Looks-failed {m = m} {a = a} {b = b} settled failed =
         | inr was ↦ inr (subst (m.may_leave a) (sym was.2) was.1)
       ];
     }
+
+-- .. as does a look that may have failed
+pub Looks-tried : {D T E : Type 0} (m : Meaning D) (a b : D) (r : Result T E) → IsSettled m a → Stores m a b Look r → Looks m a b
+Looks-tried m a b (Err e) settled failed = Looks-failed settled failed
+Looks-tried m a b (Ok x) settled stored = record {
+  told = told-look stored;
+  later = (let e = stored.later in omega arith);
+  changes = stored.changes;
+  leaves = λ left is. let was = stored.leaves left is in subst (m.may_leave a) (sym was.2) was.1;
+  telling = stored.crashes.telling;
+  clock = stored.crashes.clock;
+  kept = stored.crashes.kept;
+  parted = stored.crashes.parted;
+  since = λ t left early is. elim (stored.crashes.since t left early is) [
+    | inl earlier ↦ inl earlier
+    | inr was ↦ inr (subst (m.may_leave a) (sym was.2) was.1)
+  ];
+}
 
 -- looks of which the last one failed
 pub Looks-broken : {D : Type 0} {m : Meaning D} {a b : D} → IsSettled m a → ((mid : D) × Looks m a mid × Failed m mid b Look) → Looks m a b

@@ -1,17 +1,14 @@
 -- What the writes of a segment's formatting make of the cartridge, at the end and in a crash.
-use Rattle.std.proofs.Common.{◌≡◌, ◌≢◌, ℕ, ◌+◌, ◌*◌, ◌-◌, ◌<◌, ◌≤◌, ◌⊎◌, inl, inr, ⊎_elim, Bool, true, false, List, [], ◌∷◌, ◌++◌, length}
+use Rattle.std.proofs.Common.{◌≡◌, ◌≢◌, ℕ, ◌+◌, ◌*◌, ◌-◌, ◌<◌, ◌≤◌, ◌⊎◌, inl, inr, Bool, true, false, List, [], ◌∷◌, ◌++◌, length}
 use Rattle.std.proofs.Common.{get_or, take, drop, map, refl, sym, ◌∙◌, ap, arith, Option, Some, subst}
-use Rattle.std.specs.Prelude.{slice_get, slice_index, ◌==◌, ◌&&◌, not, if◌then◌else◌}
-use Rattle.std.proofs.lemmas.Bool.{cases_lt}
-use Rattle.std.proofs.lemmas.List.{same_lists, length-replicate, get_or-replicate, get_or-map, length-map, get_or_default, get_or_past}
-use Rattle.std.proofs.lemmas.List.{length-take-le, length-drop, length-append, get_or-take, get_or-drop, get_or_append_left}
-use Rattle.std.proofs.lemmas.List.{get_or-append_right}
+use Rattle.std.specs.Prelude.{slice_index, ◌==◌, ◌&&◌, not}
+use Rattle.std.proofs.lemmas.List.{same_lists, length-replicate, get_or-replicate, get_or-map, length-map, get_or_default}
+use Rattle.std.proofs.lemmas.List.{length-take-le, length-drop, get_or-take, get_or-drop}
 use Rattle.std.proofs.lemmas.List.Edits.{length-between, get_or-between}
 use Rattle.std.proofs.lemmas.List.FromFn.{length-map-range_with_len, get_or-map-range_with_len}
-use Rattle.std.proofs.lemmas.Option.{slice_get-get_or, slice_get_past}
 use Rattle.qic_base.specs.declared.tape.SectorView.{SectorView}
-use Rattle.qic_base.specs.declared.tape.SectorView.TheVariants.{Blank, Defect, Lost, Holds}
-use Rattle.qic_base.specs.Cartridge.{Cartridge, view_at, zero_sector}
+use Rattle.qic_base.specs.declared.tape.SectorView.TheVariants.{Holds}
+use Rattle.qic_base.specs.Cartridge.{Cartridge, zero_sector}
 use Rattle.qic_base.specs.Disk.{DiskStep}
 use Rattle.qic_base.specs.Step.{FormatSegment, effect, formatted_view, Torn, ClosingView, OpeningView, SegmentBecame}
 use Rattle.qic_base.specs.CartridgeTerms.{HalfFormatted}
@@ -19,40 +16,18 @@ use Rattle.cart_image.specs.declared.layout.Head.{Head}
 use Rattle.cart_image.specs.declared.layout.Layout.{Layout}
 use Rattle.cart_image.specs.declared.layout.Part.{Part}
 use Rattle.cart_image.specs.declared.layout.Part.TheVariants.{GateByte, FormedByte, DefectByte, Data}
-use Rattle.cart_image.specs.Layout.{version_of, sectors, width, place, end_of, open_gate, closed_gate, formed_byte, defect_byte, synced}
-use Rattle.cart_image.specs.Layout.{fill_writes, those, is_usable, is_open, is_unformed, format_segment_steps}
-use Rattle.cart_image.specs.Image.{head_of, info_by, view_in, views_in, sector_bytes, read_as, cartridge_of}
+use Rattle.cart_image.specs.Layout.{sectors, width, place, end_of, open_gate, closed_gate, formed_byte, defect_byte, synced}
+use Rattle.cart_image.specs.Layout.{fill_writes, even, those, is_usable, is_open, is_unformed, format_segment_steps}
+use Rattle.cart_image.specs.Image.{head_of, view_in, views_in, sector_bytes, read_as, cartridge_of}
 use Rattle.cart_image.specs.Run.{after_steps, Crashed}
 use Rattle.cart_image.specs.Whole.{cartridge_of-read, length-views}
 use Rattle.cart_image.proofs.Carries.{Means}
-use Rattle.cart_image.proofs.Bytes.{head-same, range-same, view-same, view_in-is}
-use Rattle.cart_image.proofs.Changes.{get_or-views, view_at-read}
-use Rattle.cart_image.proofs.Fills.{OffChosen, fill-kept, fill-value, fill-crash}
-use Rattle.cart_image.proofs.Layouts.{laid_out, width-some}
+use Rattle.cart_image.proofs.Changes.{get_or-views}
+use Rattle.cart_image.proofs.Fills.{OffChosen, fill-kept, fill-value, fill-crash, length-even, get_or-even}
+use Rattle.cart_image.proofs.Layouts.{laid_out, width-less}
+use Rattle.cart_image.proofs.Stages.{shown, closing, closed, Stage, Stage-all, byte-spared, data-spared, next-stage, became, changed-views}
+use Rattle.cart_image.proofs.Stages.{read-with, shows, end-at}
 use Rattle.cart_image.proofs.Writes.{SameAt, after-both, after-synced, Crashed-synced}
-
--- a sector's view by the tests of its bytes
-abbrev shown : (bad formed open_is : Bool) (bytes : List ℕ) → SectorView
-shown bad formed open_is bytes = if bad then Defect else (if formed then (if open_is then Holds bytes else Lost) else Blank)
-
--- gates closed, or torn while they are closed
-closing : (bad formed was now : Bool) (s t : List ℕ) → (was ≡ false → now ≡ false) → t ≡ s → ClosingView (shown bad formed was s)
-    (shown bad formed now t)
-closing true formed was now s t kept same = refl
-closing false false was now s t kept same = refl
-closing false true true true s t kept same = inl (ap Holds same)
-closing false true true false s t kept same = inr refl
-closing false true false true s t kept same = let e = kept refl in cc
-closing false true false false s t kept same = refl
-
--- bytes written behind closed gates
-closed : (bad formed was now : Bool) (s t : List ℕ) → (bad ≡ false → now ≡ false) → ClosingView (shown bad formed was s)
-    (shown bad formed now t)
-closed true formed was now s t shut = refl
-closed false false was now s t shut = refl
-closed false true was true s t shut = let e = shut refl in cc
-closed false true true false s t shut = inr refl
-closed false true false false s t shut = refl
 
 -- formed bytes torn behind closed gates
 forming : (bad formed was formed_now now : Bool) (s t : List ℕ) → (bad ≡ false → now ≡ false) → (formed ≡ true → formed_now ≡ true) →
@@ -87,142 +62,11 @@ formatted false true true true true s t are opened zero = ap Holds (zero refl)
 formatted false true false true true s t are opened zero = ap Holds (zero refl)
 
 -- the chosen ones are sectors of the segment
-those-length : (segment : ℕ) (f : ℕ → Bool) → length (those segment f) ≡ 32
+pub those-length : (segment : ℕ) (f : ℕ → Bool) → length (those segment f) ≡ 32
 those-length segment f = length-map-range_with_len f (32 * segment) 32
 
-pub those-fit : (segment : ℕ) (f : ℕ → Bool) (n : ℕ) → segment < 28 * n → 32 * segment + length (those segment f) ≤ sectors n
-those-fit segment f n on = let long = those-length segment f in omega arith
-
-within-chosen : (chosen : List Bool) → length chosen ≡ 32 → (i : ℕ) → get_or chosen i false ≡ true → i < 32
-within-chosen chosen long i is = ⊎_elim (λ less. less) (λ past. let e = get_or_past chosen i false (omega arith) in cc) (cases_lt i 32)
-
-pub in-segment : (segment : ℕ) (f : ℕ → Bool) (i : ℕ) → get_or (those segment f) i false ≡ true → i < 32
-in-segment segment f = within-chosen (those segment f) (those-length segment f)
-
--- bytes that differ from these in one segment alone, and not in its defects
-record Stage (l : Layout) (first : ℕ) (bytes now : List ℕ) : Type 0 where
-  size : length now ≡ length bytes
-  head : head_of now ≡ head_of bytes
-  others : (j : ℕ) → j < sectors l.segments_per_track → (j < first) ⊎ (first + 32 ≤ j) → view_in l now j ≡ view_in l bytes j
-  defects : (j : ℕ) → j < sectors l.segments_per_track → slice_index now (place l DefectByte j) ≡ slice_index bytes (place l DefectByte j)
-
-Stage-all : (l : Layout) (first : ℕ) (bytes : List ℕ) → Stage l first bytes bytes
-Stage-all l first bytes = record { size = refl; head = refl; others = λ j on out. refl; defects = λ j on. refl }
-
--- what a change in a part of chosen sectors of a segment keeps
-module _ (l : Layout) (p : Part) (first : ℕ) (chosen : List Bool) (a b : List ℕ) (long : length chosen ≡ 32)
-    (within : first + 32 ≤ sectors l.segments_per_track) (whole : end_of l ≤ length a)
-    (kept : SameAt (λ k. (i : ℕ) → get_or chosen i false ≡ true → (k < place l p (first + i)) ⊎ (place l p (first + i) + width p ≤ k)) a b)
-  where
-    -- parts of another kind or of sectors that are not chosen
-    abbrev NotChosen : (r : Part) (j : ℕ) → Type 0
-    NotChosen r j = (p ≢ r) ⊎ ((i : ℕ) → get_or chosen i false ≡ true → first + i ≢ j)
-
-    off : (r : Part) (j : ℕ) → j < sectors l.segments_per_track → NotChosen r j → (k : ℕ) → place l r j ≤ k → k < place l r j + width r
-        → (i : ℕ) → get_or chosen i false ≡ true → (k < place l p (first + i)) ⊎ (place l p (first + i) + width p ≤ k)
-    off r j on none k at_least less i is =
-        let inside = within-chosen chosen long i is in
-        let out = laid_out l in
-        ⊎_elim (λ later. inr (omega arith)) (λ earlier. inl (omega arith))
-        (out.apart p r (first + i) j (omega arith) on (⊎_elim (λ ne. inl ne) (λ ne. inr (ne i is)) none))
-
-    byte-spared : (r : Part) (j : ℕ) → j < sectors l.segments_per_track → NotChosen r j → slice_index b (place l r j) ≡ slice_index a
-        (place l r j)
-    byte-spared r j on none = kept.same (place l r j) (off r j on none (place l r j) (omega arith) (let w = width-some r in omega arith))
-
-    data-spared : (j : ℕ) → j < sectors l.segments_per_track → NotChosen Data j → sector_bytes l b j ≡ sector_bytes l a j
-    data-spared j on none =
-        let end = (laid_out l).before Data j on in
-        let size = kept.size in
-        range-same a b (place l Data j) (place l Data j + 1024) (omega arith) (omega arith) (omega arith)
-        (λ k at_least less. kept.same k (off Data j on none k at_least (omega arith)))
-
-    next-stage : (bytes : List ℕ) → p ≢ DefectByte → Stage l first bytes a → Stage l first bytes b
-    next-stage bytes other stage = record {
-      size = kept.size ∙ stage.size;
-      head =
-          (let e : end_of l ≤ length a = whole in
-          let far = (laid_out l).behind GateByte first (omega arith) in
-          let end = (laid_out l).before GateByte first (omega arith) in
-          head-same a b kept.size (omega arith)
-          (λ k less. kept.same k (λ i is. let inside = within-chosen chosen long i is in
-          let behind = (laid_out l).behind p (first + i) (omega arith) in inl (omega arith)))) ∙ stage.head;
-      others = λ j on out.
-          let none : (i : ℕ) → get_or chosen i false ≡ true → first + i ≢ j = λ i is e. outside j out i is e in
-          view-same l a b j (λ r. byte-spared r j on (inr none)) (data-spared j on (inr none)) ∙ stage.others j on out;
-      defects = λ j on. byte-spared DefectByte j on (inl other) ∙ stage.defects j on;
-    }
-      where
-        outside : (j : ℕ) → (j < first) ⊎ (first + 32 ≤ j) → (i : ℕ) → get_or chosen i false ≡ true → first + i ≡ j → ⊥
-        outside j (inl below) i is e = omega arith
-        outside j (inr above) i is e = let inside = within-chosen chosen long i is in omega arith
-
--- lists of views that agree outside a segment, where the new ones are the old ones formatted in it
-formatted-views : (old new : List SectorView) (segment : ℕ) → 32 * segment + 32 ≤ length old → length new ≡ length old
-    → ((k : ℕ) (d : SectorView) → k < 32 * segment → get_or new k d ≡ get_or old k d)
-    → ((k : ℕ) (d : SectorView) → 32 * segment + 32 ≤ k → k < length old → get_or new k d ≡ get_or old k d)
-    → ((i : ℕ) (d : SectorView) → i < 32 → get_or new (32 * segment + i) d ≡ formatted_view (get_or old (32 * segment + i) d))
-    → new ≡ take (32 * segment) old ++ map formatted_view (take 32 (drop (32 * segment) old)) ++ drop (32 * (segment + 1)) old
-formatted-views old new segment within size below above inside =
-    same_lists _ _ (size ∙ sym whole) (λ k d less. at k d (omega arith))
-  where
-    front-length : length (take (32 * segment) old) ≡ 32 * segment
-    front-length = length-take-le (32 * segment) old (omega arith)
-
-    middle-length : length (map formatted_view (take 32 (drop (32 * segment) old))) ≡ 32
-    middle-length = length-map (take 32 (drop (32 * segment) old)) formatted_view ∙ length-take-le 32 (drop (32 * segment) old)
-        (let l = length-drop (32 * segment) old in omega arith)
-
-    both-length : length (take (32 * segment) old ++ map formatted_view (take 32 (drop (32 * segment) old))) ≡ 32 * segment + 32
-    both-length = let e = length-append (take (32 * segment) old) (map formatted_view (take 32 (drop (32 * segment) old))) in
-        let f = front-length in let g = middle-length in omega arith
-
-    whole : length (take (32 * segment) old ++ map formatted_view (take 32 (drop (32 * segment) old)) ++ drop
-        (32 * (segment + 1)) old) ≡ length old
-    whole =
-        let e = length-append (take (32 * segment) old ++ map formatted_view (take 32 (drop (32 * segment) old)))
-        (drop (32 * (segment + 1)) old) in
-        let f = both-length in
-        let g = length-drop (32 * (segment + 1)) old in
-        omega arith
-
-    in_middle : (i : ℕ) (d : SectorView) → i < 32 → get_or (map formatted_view (take 32 (drop (32 * segment) old))) i d ≡ formatted_view
-        (get_or old (32 * segment + i) d)
-    in_middle i d less =
-        get_or-map formatted_view (take 32 (drop (32 * segment) old)) i d d
-        (let l = length-take-le 32 (drop (32 * segment) old) (let l = length-drop (32 * segment) old in omega arith) in omega arith)
-        ∙ ap formatted_view (get_or-take 32 (drop (32 * segment) old) i d less ∙ get_or-drop (32 * segment) old i d)
-
-    at : (k : ℕ) (d : SectorView) → k < length old →
-        get_or new k d ≡ get_or (take (32 * segment) old ++ map formatted_view (take 32 (drop (32 * segment) old)) ++ drop
-        (32 * (segment + 1)) old) k d
-    at k d less = ⊎_elim
-        (λ first.
-        below k d first
-        ∙ sym (get_or_append_left (take (32 * segment) old ++ map formatted_view (take 32 (drop (32 * segment) old)))
-        (drop (32 * (segment + 1)) old) d k (let b = both-length in omega arith)
-        ∙ get_or_append_left (take (32 * segment) old) (map formatted_view (take 32 (drop (32 * segment) old))) d k
-        (let b = front-length in omega arith)
-        ∙ get_or-take (32 * segment) old k d first))
-        (λ later. ⊎_elim
-        (λ mid.
-        let i : ℕ = k - 32 * segment in
-        let there : k ≡ 32 * segment + (k - 32 * segment) = omega arith in
-        ap (λ j. get_or new j d) there ∙ inside (k - 32 * segment) d (omega arith)
-        ∙ sym (get_or_append_left (take (32 * segment) old ++ map formatted_view (take 32 (drop (32 * segment) old)))
-        (drop (32 * (segment + 1)) old) d k (let b = both-length in omega arith)
-        ∙ get_or-append_right (take (32 * segment) old) (map formatted_view (take 32 (drop (32 * segment) old)))
-        (32 * segment) k d front-length later
-        ∙ in_middle (k - 32 * segment) d (omega arith)))
-        (λ last.
-        let there : 32 * (segment + 1) + (k - (32 * segment + 32)) ≡ k = omega arith in
-        above k d last less
-        ∙ sym (get_or-append_right (take (32 * segment) old ++ map formatted_view (take 32 (drop (32 * segment) old)))
-        (drop (32 * (segment + 1)) old) (32 * segment + 32) k d both-length last
-        ∙ get_or-drop (32 * (segment + 1)) old (k - (32 * segment + 32)) d
-        ∙ ap (λ j. get_or old j d) there))
-        (cases_lt k (32 * segment + 32)))
-        (cases_lt k (32 * segment))
+pub those-few : (segment : ℕ) (f : ℕ → Bool) → length (those segment f) ≤ 32
+those-few segment f = let long = those-length segment f in omega arith
 
 module _ (h : Head) (bytes : List ℕ) (segment : ℕ) (is : head_of bytes ≡ Some h) (whole : end_of h.layout ≤ length bytes)
     (on : segment < 28 * h.layout.segments_per_track) where
@@ -236,31 +80,19 @@ module _ (h : Head) (bytes : List ℕ) (segment : ℕ) (is : head_of bytes ≡ S
   within = omega arith
 
   -- a segment whose sectors all became so
-  became : (Became : SectorView → SectorView → Type 0) (left : List ℕ) → Stage l first bytes left
+  in_segment : (Became : SectorView → SectorView → Type 0) (left : List ℕ) → Stage l first bytes left
       → ((i : ℕ) → i < 32 → Became (view_in l bytes (first + i)) (view_in l left (first + i)))
       → SegmentBecame Became segment (read_as h bytes) (read_as h left)
-  became Became left stage each = record {
-    info = refl;
-    version = refl;
-    sectors = length-views l left ∙ sym (length-views l bytes);
-    within = λ i less.
-        let there : first + i < sectors l.segments_per_track = omega arith in
-        let P : SectorView → Type 0 = λ v. Became v (view_at (read_as h left) segment i) in
-        let Q : SectorView → Type 0 = λ v. Became (view_in l bytes (first + i)) v in
-        subst P (sym (view_at-read h bytes segment i there)) (subst Q (sym (view_at-read h left segment i there)) (each i less));
-    below = λ place less. at place (omega arith) (inl less);
-    above = λ place more. ⊎_elim (λ there. at place there (inr (omega arith)))
-        (λ past. slice_get_past (views_in l left) place (let n = length-views l left in omega arith)
-        ∙ sym (slice_get_past (views_in l bytes) place (let n = length-views l bytes in omega arith)))
-        (cases_lt place (sectors l.segments_per_track));
-  }
-    where
-      at : (place : ℕ) → place < sectors l.segments_per_track → (place < first) ⊎ (first + 32 ≤ place) →
-          slice_get (views_in l left) place ≡ slice_get (views_in l bytes) place
-      at place there out =
-          slice_get-get_or (views_in l left) place Blank (let n = length-views l left in omega arith)
-          ∙ ap Some (get_or-views l left place Blank there ∙ stage.others place there out ∙ sym (get_or-views l bytes place Blank there))
-          ∙ sym (slice_get-get_or (views_in l bytes) place Blank (let n = length-views l bytes in omega arith))
+  in_segment Became left stage each =
+      let b = became h bytes segment is whole on (λ i. Became) left stage each in
+      record {
+        info = b.info;
+        version = b.version;
+        sectors = b.sectors;
+        within = b.within;
+        below = b.below;
+        above = b.above;
+      }
 
   half : (left : List ℕ) → Stage l first bytes left → SegmentBecame ClosingView segment (read_as h bytes) (read_as h left)
       ⊎ SegmentBecame OpeningView segment (read_as h bytes) (read_as h left)
@@ -275,26 +107,21 @@ module _ (h : Head) (bytes : List ℕ) (segment : ℕ) (is : head_of bytes ≡ S
       → ((i : ℕ) → i < 32 → view_in l left (first + i) ≡ formatted_view (view_in l bytes (first + i)))
       → cartridge_of left ≡ effect (FormatSegment segment) (cartridge_of bytes)
   all-formatted left stage each =
-      cartridge_of-read left h (stage.head ∙ is)
-      ∙ ap (λ (vs : List SectorView). Some (record { info = info_by h; version = version_of l.kind; views = vs })) views
+      read-with h bytes segment is whole on left _ stage
+      (changed-views h bytes segment is whole on left (map formatted_view (take 32 (drop first (views_in l bytes)))) stage
+      (length-map (take 32 (drop first (views_in l bytes))) formatted_view ∙ few)
+      (λ i d less.
+      let there : first + i < sectors l.segments_per_track = omega arith in
+      let n = few in
+      each i less
+      ∙ sym (get_or-map formatted_view (take 32 (drop first (views_in l bytes))) i d d (omega arith)
+      ∙ ap formatted_view (get_or-take 32 (drop first (views_in l bytes)) i d less ∙ get_or-drop first (views_in l bytes) i d
+      ∙ get_or-views l bytes (first + i) d there))))
       ∙ ap (effect (FormatSegment segment)) (sym (cartridge_of-read bytes h is))
     where
-      lengths : length (views_in l bytes) ≡ sectors l.segments_per_track
-      lengths = length-views l bytes
-
-      outside : (k : ℕ) (d : SectorView) → k < sectors l.segments_per_track → (k < first) ⊎ (first + 32 ≤ k) →
-          get_or (views_in l left) k d ≡ get_or (views_in l bytes) k d
-      outside k d there out = get_or-views l left k d there ∙ stage.others k there out ∙ sym (get_or-views l bytes k d there)
-
-      views : views_in l left ≡ take first (views_in l bytes) ++ map formatted_view (take 32 (drop first (views_in l bytes))) ++ drop
-          (32 * (segment + 1)) (views_in l bytes)
-      views = formatted-views (views_in l bytes) (views_in l left) segment (let n = lengths in omega arith)
-          (length-views l left ∙ sym lengths)
-          (λ k d less. outside k d (let n = lengths in omega arith) (inl less))
-          (λ k d more less. outside k d (let n = lengths in omega arith) (inr (omega arith)))
-          (λ i d less.
-          let there : first + i < sectors l.segments_per_track = omega arith in
-          get_or-views l left (first + i) d there ∙ each i less ∙ ap formatted_view (sym (get_or-views l bytes (first + i) d there)))
+      few : length (take 32 (drop first (views_in l bytes))) ≡ 32
+      few = length-take-le 32 (drop first (views_in l bytes))
+          (let n = length-views l bytes in let d = length-drop first (views_in l bytes) in omega arith)
 
   -- the chosen ones
   abbrev readable : List Bool
@@ -309,8 +136,8 @@ module _ (h : Head) (bytes : List ℕ) (segment : ℕ) (is : head_of bytes ≡ S
   those-at : (f : ℕ → Bool) (i : ℕ) → i < 32 → get_or (those segment f) i false ≡ f (first + i)
   those-at f i less = get_or-map-range_with_len f first 32 i (first + i) false less refl
 
-  fits : (f : ℕ → Bool) → first + length (those segment f) ≤ sectors l.segments_per_track
-  fits f = those-fit segment f l.segments_per_track on
+  fits : (f : ℕ → Bool) → length (those segment f) ≤ 32
+  fits f = those-few segment f
 
   -- a sector that is not chosen keeps its part
   not-chosen : (f : ℕ → Bool) (i : ℕ) → i < 32 → f (first + i) ≡ false → (j : ℕ) → get_or (those segment f) j false ≡ true →
@@ -332,35 +159,33 @@ module _ (h : Head) (bytes : List ℕ) (segment : ℕ) (is : head_of bytes ≡ S
   abbrev held : List ℕ → ℕ → List ℕ
   held s i = sector_bytes l s (first + i)
 
-  -- what a sector shows in a stage
-  shows : (s : List ℕ) → Stage l first bytes s → (i : ℕ) → i < 32 → view_in l s (first + i) ≡ shown (bad i) (formed s i) (opened s i)
+  shows_in : (s : List ℕ) → Stage l first bytes s → (i : ℕ) → i < 32 → view_in l s (first + i) ≡ shown (bad i) (formed s i) (opened s i)
       (held s i)
-  shows s stage i less = view_in-is l s (first + i) ∙ ap (λ d. shown (d == defect_byte) (formed s i) (opened s i) (held s i))
-      (stage.defects (first + i) (omega arith))
+  shows_in = shows h bytes segment is whole on
 
-  all-stage : Stage l first bytes bytes
-  all-stage = Stage-all l first bytes
+  staged : Stage l first bytes bytes
+  staged = Stage-all l first bytes
 
-  end-at : (s : List ℕ) → Stage l first bytes s → end_of l ≤ length s
-  end-at s stage = let size = stage.size in omega arith
+  ends-at : (s : List ℕ) → Stage l first bytes s → end_of l ≤ length s
+  ends-at = end-at h bytes segment is whole on
 
   closing-half : (left : List ℕ) → Stage l first bytes left →
       ((i : ℕ) → i < 32 → ClosingView (shown (bad i) (formed bytes i) (opened bytes i) (held bytes i))
       (shown (bad i) (formed left i) (opened left i) (held left i)))
       → HalfFormatted segment (cartridge_of bytes) (cartridge_of left)
-  closing-half left stage each = half left stage (inl (became ClosingView left stage (λ i less.
+  closing-half left stage each = half left stage (inl (in_segment ClosingView left stage (λ i less.
       let P : SectorView → Type 0 = λ u. ClosingView u (view_in l left (first + i)) in
       let Q : SectorView → Type 0 = λ u. ClosingView (shown (bad i) (formed bytes i) (opened bytes i) (held bytes i)) u in
-      subst P (sym (shows bytes all-stage i less)) (subst Q (sym (shows left stage i less)) (each i less)))))
+      subst P (sym (shows_in bytes staged i less)) (subst Q (sym (shows_in left stage i less)) (each i less)))))
 
   opening-half : (left : List ℕ) → Stage l first bytes left →
       ((i : ℕ) → i < 32 → OpeningView (shown (bad i) (formed bytes i) (opened bytes i) (held bytes i))
       (shown (bad i) (formed left i) (opened left i) (held left i)))
       → HalfFormatted segment (cartridge_of bytes) (cartridge_of left)
-  opening-half left stage each = half left stage (inr (became OpeningView left stage (λ i less.
+  opening-half left stage each = half left stage (inr (in_segment OpeningView left stage (λ i less.
       let P : SectorView → Type 0 = λ u. OpeningView u (view_in l left (first + i)) in
       let Q : SectorView → Type 0 = λ u. OpeningView (shown (bad i) (formed bytes i) (opened bytes i) (held bytes i)) u in
-      subst P (sym (shows bytes all-stage i less)) (subst Q (sym (shows left stage i less)) (each i less)))))
+      subst P (sym (shows_in bytes staged i less)) (subst Q (sym (shows_in left stage i less)) (each i less)))))
 
   not-both : (a b : Bool) → a ≡ false → (not a && b) ≡ b
   not-both true b is = cc
@@ -376,23 +201,26 @@ module _ (h : Head) (bytes : List ℕ) (segment : ℕ) (is : head_of bytes ≡ S
 
   -- what a fill of a byte leaves of it
   filled : (p : Part) (value : ℕ) (f : ℕ → Bool) (s : List ℕ) → end_of l ≤ length s → (i : ℕ) → i < 32 → f (first + i) ≡ true →
-      width p ≡ 1 → slice_index (after_steps (fill_writes l p value first (those segment f) 0) s) (place l p (first + i)) ≡ value
+      width p ≡ 1 → slice_index (after_steps (fill_writes l p (even p value) first 0 (those segment f) 0) s)
+      (place l p (first + i)) ≡ value
   filled p value f s there i less picked one =
-      fill-value l p value (length s) there first (those segment f) (fits f) s refl i (those-at f i less ∙ picked) (place l p (first + i))
-      (omega arith) (omega arith)
+      fill-value l p (even p value) (length s) there first (length-even p value) within (those segment f) (fits f) s refl i less
+      (those-at f i less ∙ picked) (place l p (first + i)) (omega arith) (omega arith)
+      ∙ get_or-even p value _ (omega (arith, width-less p i 32 less))
 
   keeps : (p : Part) (value : ℕ) (f : ℕ → Bool) (s : List ℕ) → end_of l ≤ length s → SameAt (OffChosen l p first (those segment f)) s
-      (after_steps (fill_writes l p value first (those segment f) 0) s)
-  keeps p value f s there = fill-kept l p value (length s) there first (those segment f) (fits f) s refl
+      (after_steps (fill_writes l p (even p value) first 0 (those segment f) 0) s)
+  keeps p value f s there =
+      fill-kept l p (even p value) (length s) there first (length-even p value) within (those segment f) (fits f) s refl
 
   -- the gates are closed
   abbrev b1 : List ℕ
-  b1 = after_steps (fill_writes l GateByte closed_gate first readable 0) bytes
+  b1 = after_steps (fill_writes l GateByte (even GateByte closed_gate) first 0 readable 0) bytes
 
   module _ (left : List ℕ) (kept : SameAt (OffChosen l GateByte first readable) bytes left) where
     gates-stage : Stage l first bytes left
     gates-stage = next-stage l GateByte first readable bytes left (those-length segment (is_open l bytes)) within whole kept bytes
-        (λ e. cc) all-stage
+        (λ e. cc) staged
 
     gates-formed : (i : ℕ) → i < 32 → formed left i ≡ formed bytes i
     gates-formed i less = ap (λ b. b == formed_byte)
@@ -424,7 +252,7 @@ module _ (h : Head) (bytes : List ℕ) (segment : ℕ) (is : head_of bytes ≡ S
   stage1 = gates-stage b1 kept1
 
   end1 : end_of l ≤ length b1
-  end1 = end-at b1 stage1
+  end1 = ends-at b1 stage1
 
   shut1 : (i : ℕ) → i < 32 → bad i ≡ false → opened b1 i ≡ false
   shut1 i less good = by_gate (opened bytes i) refl
@@ -436,7 +264,7 @@ module _ (h : Head) (bytes : List ℕ) (segment : ℕ) (is : head_of bytes ≡ S
 
   -- the sectors are zeroed
   abbrev b2 : List ℕ
-  b2 = after_steps (fill_writes l Data 0 first usable 0) b1
+  b2 = after_steps (fill_writes l Data (even Data 0) first 0 usable 0) b1
 
   module _ (left : List ℕ) (kept : SameAt (OffChosen l Data first usable) b1 left) where
     zeroed-stage : Stage l first bytes left
@@ -457,7 +285,8 @@ module _ (h : Head) (bytes : List ℕ) (segment : ℕ) (is : head_of bytes ≡ S
         let P : Bool → Type 0 = λ f. ClosingView (shown (bad i) (formed bytes i) (opened bytes i) (held bytes i))
         (shown (bad i) f (opened left i) (held left i)) in
         subst P (sym (zeroed-formed i less))
-        (closed (bad i) (formed bytes i) (opened bytes i) (opened left i) (held bytes i) (held left i) (zeroed-shut i less)))
+        (closed (bad i) (formed bytes i) (opened bytes i) (opened left i) (held bytes i) (held left i)
+        (λ good formed_is. zeroed-shut i less good)))
 
   kept2 : SameAt (OffChosen l Data first usable) b1 b2
   kept2 = keeps Data 0 (is_usable l bytes) b1 end1
@@ -466,7 +295,7 @@ module _ (h : Head) (bytes : List ℕ) (segment : ℕ) (is : head_of bytes ≡ S
   stage2 = zeroed-stage b2 kept2
 
   end2 : end_of l ≤ length b2
-  end2 = end-at b2 stage2
+  end2 = ends-at b2 stage2
 
   zero_sector-length : length zero_sector ≡ 1024
   unfolding zero_sector
@@ -487,14 +316,15 @@ module _ (h : Head) (bytes : List ℕ) (segment : ℕ) (is : head_of bytes ≡ S
       let k_less : k < 1024 = omega arith in
       get_or-between b2 (place l Data (first + i)) (place l Data (first + i) + 1024) k d (omega arith)
       ∙ get_or_default b2 (place l Data (first + i) + k) d 0 (omega arith)
-      ∙ fill-value l Data 0 (length b1) end1 first usable (fits (is_usable l bytes)) b1 refl i
+      ∙ fill-value l Data (even Data 0) (length b1) end1 first (length-even Data 0) within usable (fits (is_usable l bytes)) b1 refl i less
       (those-at (is_usable l bytes) i less ∙ ap not good) (place l Data (first + i) + k) (omega arith) (omega arith)
+      ∙ get_or-even Data 0 _ (omega arith)
       ∙ sym (zero_sector-zero k k_less)
       ∙ get_or_default zero_sector k 0 d (omega arith))
 
   -- the sectors are formed
   abbrev b3 : List ℕ
-  b3 = after_steps (fill_writes l FormedByte formed_byte first unformed 0) b2
+  b3 = after_steps (fill_writes l FormedByte (even FormedByte formed_byte) first 0 unformed 0) b2
 
   module _ (left : List ℕ) (kept : SameAt (OffChosen l FormedByte first unformed) b2 left) where
     form-stage : Stage l first bytes left
@@ -529,7 +359,7 @@ module _ (h : Head) (bytes : List ℕ) (segment : ℕ) (is : head_of bytes ≡ S
   stage3 = form-stage b3 kept3
 
   end3 : end_of l ≤ length b3
-  end3 = end-at b3 stage3
+  end3 = ends-at b3 stage3
 
   formed3 : (i : ℕ) → i < 32 → bad i ≡ false → formed b3 i ≡ true
   formed3 i less good = by_formed (formed bytes i) refl
@@ -542,7 +372,7 @@ module _ (h : Head) (bytes : List ℕ) (segment : ℕ) (is : head_of bytes ≡ S
 
   -- the gates are opened
   abbrev b4 : List ℕ
-  b4 = after_steps (fill_writes l GateByte open_gate first usable 0) b3
+  b4 = after_steps (fill_writes l GateByte (even GateByte open_gate) first 0 usable 0) b3
 
   module _ (left : List ℕ) (kept : SameAt (OffChosen l GateByte first usable) b3 left) where
     open-stage : Stage l first bytes left
@@ -568,24 +398,24 @@ module _ (h : Head) (bytes : List ℕ) (segment : ℕ) (is : head_of bytes ≡ S
 
   formatted4 : cartridge_of b4 ≡ effect (FormatSegment segment) (cartridge_of bytes)
   formatted4 = all-formatted b4 (open-stage b4 kept4) (λ i less.
-      shows b4 (open-stage b4 kept4) i less
+      shows_in b4 (open-stage b4 kept4) i less
       ∙ formatted (bad i) (formed bytes i) (opened bytes i) (formed b4 i) (opened b4 i) (held bytes i) (held b4 i)
       (open-formed b4 kept4 i less)
       (λ good. ap (λ b. b == open_gate) (filled GateByte open_gate (is_usable l bytes) b3 end3 i less (ap not good) refl))
       (open-zero b4 kept4 i less)
-      ∙ ap formatted_view (sym (shows bytes all-stage i less)))
+      ∙ ap formatted_view (sym (shows_in bytes staged i less)))
 
   abbrev f1 : List DiskStep
-  f1 = fill_writes l GateByte closed_gate first readable 0
+  f1 = fill_writes l GateByte (even GateByte closed_gate) first 0 readable 0
 
   abbrev f2 : List DiskStep
-  f2 = fill_writes l Data 0 first usable 0
+  f2 = fill_writes l Data (even Data 0) first 0 usable 0
 
   abbrev f3 : List DiskStep
-  f3 = fill_writes l FormedByte formed_byte first unformed 0
+  f3 = fill_writes l FormedByte (even FormedByte formed_byte) first 0 unformed 0
 
   abbrev f4 : List DiskStep
-  f4 = fill_writes l GateByte open_gate first usable 0
+  f4 = fill_writes l GateByte (even GateByte open_gate) first 0 usable 0
 
   abbrev run : List DiskStep
   run = synced f1 ++ (synced f2 ++ (synced f3 ++ synced f4))
@@ -608,15 +438,19 @@ module _ (h : Head) (bytes : List ℕ) (segment : ℕ) (is : head_of bytes ≡ S
       torn left crashed =
           elim (Crashed-synced f1 (synced f2 ++ (synced f3 ++ synced f4)) bytes left crashed) [
             | inl in1 ↦ inr (inl (gates-torn left
-                (fill-crash l GateByte closed_gate (length bytes) whole first readable (fits (is_open l bytes)) bytes left refl in1)))
+                (fill-crash l GateByte (even GateByte closed_gate) (length bytes) whole first (length-even GateByte closed_gate) within
+                readable (fits (is_open l bytes)) bytes left refl in1)))
             | inr later1 ↦ elim (Crashed-synced f2 (synced f3 ++ synced f4) b1 left later1) [
               | inl in2 ↦ inr (inl (zeroed-torn left
-                  (fill-crash l Data 0 (length b1) end1 first usable (fits (is_usable l bytes)) b1 left refl in2)))
+                  (fill-crash l Data (even Data 0) (length b1) end1 first (length-even Data 0) within usable (fits (is_usable l bytes)) b1
+                  left refl in2)))
               | inr later2 ↦ elim (Crashed-synced f3 (synced f4) b2 left later2) [
                 | inl in3 ↦ inr (inl (form-torn left
-                    (fill-crash l FormedByte formed_byte (length b2) end2 first unformed (fits (is_unformed l bytes)) b2 left refl in3)))
+                    (fill-crash l FormedByte (even FormedByte formed_byte) (length b2) end2 first (length-even FormedByte formed_byte)
+                    within unformed (fits (is_unformed l bytes)) b2 left refl in3)))
                 | inr in4 ↦ inr (inl (open-torn left
-                    (fill-crash l GateByte open_gate (length b3) end3 first usable (fits (is_usable l bytes)) b3 left refl in4)))
+                    (fill-crash l GateByte (even GateByte open_gate) (length b3) end3 first (length-even GateByte open_gate) within usable
+                    (fits (is_usable l bytes)) b3 left refl in4)))
               ]
             ]
           ]

@@ -29,7 +29,7 @@ use Rattle.cart_image.specs.ImageTape.{size_by}
 use Rattle.cart_image.specs.Layout.{place, place_in, plane_place, base_of, end_of, sectors, touches, open_gate, formed_byte, defect_byte}
 use Rattle.cart_image.specs.Layout.{those, is_open, is_usable, is_unformed, format_segment_steps, format_plan}
 use Rattle.cart_image.specs.Run.{Looked}
-use Rattle.cart_image.specs.State.{state_of, HoldsStates, AreStates, AreMarks, with_state}
+use Rattle.cart_image.specs.State.{state_of, HoldsStates, AreStates, AreStatesOf, AreMarks, with_state}
 use Rattle.cart_image.specs.Tape.{disk_means}
 use Rattle.cart_image.specs.Whole.{cartridge_of-read, head_of-parts, length-views, some_head}
 use Rattle.cart_image.proofs.Bytes.{view_in-is}
@@ -142,6 +142,21 @@ states-with c k l sector view s on within long are now same_segment same_states 
 pub told-same : {a b : Option (List ℕ)} (P : List ℕ → Type 0) → a ≡ b → IfSome a P → IfSome b P
 told-same P same fact = let Q : Option (List ℕ) → Type 0 = λ o. IfSome o P in subst Q same fact
 
+-- what the state bytes of a segment say of its sectors
+pub marked-state : (l : Layout) (segment : ℕ) (bytes : List ℕ) (m : SegmentMarks) (states : List SectorState) → AreMarks l segment bytes m
+    → ((i : ℕ) (bytes : List ℕ) → i < 32 → slice_index_or states i state.Blank ≡ state_of
+    (view_by (slice_index m.defects i) (slice_index m.formed i) (slice_index m.gates i) bytes))
+    → (i : ℕ) → i < 32 → slice_index_or states i state.Blank ≡ state_of (view_in l bytes (place_of segment i))
+marked-state l segment bytes m states marks by i less =
+    by i (sector_bytes l bytes (place_of segment i)) less
+    ∙ ap (λ x. state_of (view_by x (slice_index m.formed i) (slice_index m.gates i) (sector_bytes l bytes (place_of segment i))))
+    (marks.defects i less)
+    ∙ ap (λ x. state_of (view_by (slice_index bytes (place l DefectByte (place_of segment i))) x (slice_index m.gates i)
+    (sector_bytes l bytes (place_of segment i)))) (marks.formed i less)
+    ∙ ap (λ x. state_of (view_by (slice_index bytes (place l DefectByte (place_of segment i)))
+    (slice_index bytes (place l FormedByte (place_of segment i))) x (sector_bytes l bytes (place_of segment i)))) (marks.gates i less)
+    ∙ ap state_of (sym (view_in-is l bytes (place_of segment i)))
+
 -- a tape of this layout, and a place on it
 module _ {D : Type 0} {g : Ghosts D} (s : ImageTape D g) (l : Layout) (segment sector : ℕ) (layout : s.layout ≡ Some l)
     (spot : IsSomeAnd (size_by s.layout) (λ k. IsPlace k segment sector)) where
@@ -180,14 +195,7 @@ module _ {D : Type 0} {g : Ghosts D} (s : ImageTape D g) (l : Layout) (segment s
       let marks : AreMarks l segment bytes m = told-fact (g.means.told s.disk) (λ b. end_of l ≤ length b → AreMarks l segment b m) bytes was
       fact (long-under bytes was) in
       states-of h.0 bytes k h.1 (let e = ap (λ (y : Layout). y.segments_per_track) h.2 in let a = p.on_tape in omega arith) (λ i less.
-      by i (sector_bytes l bytes (place_of segment i)) less
-      ∙ ap (λ x. state_of (view_by x (slice_index m.formed i) (slice_index m.gates i) (sector_bytes l bytes (place_of segment i))))
-      (marks.defects i less)
-      ∙ ap (λ x. state_of (view_by (slice_index bytes (place l DefectByte (place_of segment i))) x (slice_index m.gates i)
-      (sector_bytes l bytes (place_of segment i)))) (marks.formed i less)
-      ∙ ap (λ x. state_of (view_by (slice_index bytes (place l DefectByte (place_of segment i)))
-      (slice_index bytes (place l FormedByte (place_of segment i))) x (sector_bytes l bytes (place_of segment i)))) (marks.gates i less)
-      ∙ ap state_of (sym (view_in-is l bytes (place_of segment i)))
+      marked-state l segment bytes m k.states marks by i less
       ∙ ap (λ y. state_of (view_in y bytes (place_of segment i))) (sym h.2)
       ∙ ap (λ t. state_of (view_in h.0.layout bytes (place_of t i))) (sym of))
 
@@ -204,6 +212,35 @@ module _ {D : Type 0} {g : Ghosts D} (s : ImageTape D g) (l : Layout) (segment s
       (right bytes told) sector p.in_segment
       ∙ ap (λ y. state_of (view_in y bytes (place_of k.segment sector))) h.2
       ∙ ap (λ t. state_of (view_in l bytes (place_of t sector))) of
+
+  -- .. as it is of those of its sectors that are asked for
+  pub known-states : (k : SegmentStates) (new : Option (List ℕ)) (wanted : ℕ) → k.segment ≡ segment → new ≡ g.means.told s.disk →
+      ((bytes : List ℕ) → new ≡ Some bytes → AreStates k (cartridge_of bytes))
+      → IfSome (g.means.told s.disk) (λ bytes. AreStatesOf l segment wanted bytes k.states)
+  known-states k new wanted of same right = by_told (g.means.told s.disk) refl
+    where
+      by_told : (told : Option (List ℕ)) → g.means.told s.disk ≡ told → IfSome told (λ bytes. AreStatesOf l segment wanted bytes k.states)
+      by_told None was = tt
+      by_told (Some bytes) was = λ i less bit.
+          let h = head-under bytes was in
+          let p = is-place in
+          state-of h.0 bytes k h.1 (let e = ap (λ (y : Layout). y.segments_per_track) h.2 in let a = p.on_tape in omega arith)
+          (right bytes (same ∙ was)) i less
+          ∙ ap (λ y. state_of (view_in y bytes (place_of k.segment i))) h.2
+          ∙ ap (λ t. state_of (view_in l bytes (place_of t i))) of
+
+  -- a fact of bytes that hold the whole layout
+  pub whole-fact : (P : List ℕ → Type 0) → IfSome (g.means.told s.disk) (λ b. end_of l ≤ length b → P b) → IfSome (g.means.told s.disk) P
+  whole-fact P fact = by_told (g.means.told s.disk) refl fact
+    where
+      by_told : (told : Option (List ℕ)) → g.means.told s.disk ≡ told → IfSome told (λ b. end_of l ≤ length b → P b) → IfSome told P
+      by_told None was fact = tt
+      by_told (Some bytes) was fact = fact (long-under bytes was)
+
+  pub whole-ok : {T E : Type 0} (r : Result T E) (P : T → List ℕ → Type 0) →
+      IfOk r (λ x. IfSome (g.means.told s.disk) (λ b. end_of l ≤ length b → P x b)) → IfOk r (λ x. IfSome (g.means.told s.disk) (P x))
+  whole-ok (Err e) P fact = tt
+  whole-ok (Ok x) P fact = whole-fact (P x) fact
 
   -- What is known of the segment stays right where a call changes the sector, whose state was x.
   pub changed-right : (k : SegmentStates) (x y : SectorState) (new : D) (step : Step) (f : SectorView → SectorView) → k.segment ≡ segment →
@@ -387,7 +424,7 @@ part-told (Some b) t1 l q p j at part same here there few cells on fact = λ lon
     (omega arith)
 
 -- .. where all its bytes were read at once
-cell-at : (l : Layout) (q : ℕ) → touches l.kind ≡ false → place l GateByte q ≡ base_of l.kind l.segments_per_track + 1027 * q
+pub cell-at : (l : Layout) (q : ℕ) → touches l.kind ≡ false → place l GateByte q ≡ base_of l.kind l.segments_per_track + 1027 * q
 cell-at l q cells = by_kind l.kind cells
   where
     by_kind : (kind : Kind) → touches kind ≡ false →

@@ -10,14 +10,19 @@ use Rattle.cart_image.specs.declared.layout.Part.{Part}
 use Rattle.cart_image.specs.declared.layout.Part.TheVariants.{GateByte, FormedByte, DefectByte, Data}
 use Rattle.cart_image.specs.Image.{layout_of}
 use Rattle.cart_image.specs.Layout.{sectors, end_of, width, place, put, mark_byte, open_gate, closed_gate, formed_byte, defect_byte, fill}
-use Rattle.cart_image.specs.Layout.{fill_writes, those, is_open, is_usable, is_unformed, write_sector_steps, wear_steps, spoil_steps}
-use Rattle.cart_image.specs.Layout.{mark_steps, format_plan, format_segment_steps}
+use Rattle.cart_image.specs.Layout.{fill_writes, even, those, is_open, is_usable, is_unformed, write_sector_steps, wear_steps, spoil_steps}
+use Rattle.cart_image.specs.Layout.{mark_steps, format_plan, format_segment_steps, chosen_by, overwrite_all}
+use Rattle.cart_image.specs.Several.{is_readable, takes_write}
+use Rattle.cart_image.specs.Layout.{write_sectors_steps}
 use Rattle.cart_image.specs.Run.{Carried, Went, after_steps}
-use Rattle.cart_image.proofs.Fills.{OffChosen, fill-spares}
-use Rattle.cart_image.proofs.Formats.{in-segment, those-fit}
+use Rattle.cart_image.specs.Several.{AreSectors}
+use Rattle.cart_image.proofs.Fills.{OffChosen, fill-spares, length-even}
+use Rattle.cart_image.proofs.Formats.{those-length}
 use Rattle.cart_image.proofs.Heads.{TellsLayout, layout-same}
 use Rattle.cart_image.proofs.Layouts.{laid_out}
+use Rattle.cart_image.proofs.Overwrites.{joined, length-chosen, length-sectors}
 use Rattle.cart_image.proofs.Runs.{Passes, Passes-Passes, Looks-Passes, Failed-Passes, Ran-Passes, Halted-Passes, Ran-told, Halted-told}
+use Rattle.cart_image.proofs.Stages.{within-chosen}
 use Rattle.cart_image.proofs.Writes.{SameAt, SameAt-all, Spares, Spares-both, Spares-synced, spared, spared-crash}
 
 Spares-less : (P Q : ℕ → Type 0) (len : ℕ) (steps : List DiskStep) → ((k : ℕ) → P k → Q k) → Spares Q len steps → Spares P len steps
@@ -68,31 +73,50 @@ module _ (l : Layout) (len : ℕ) (room : end_of l ≤ len) where
   spoil-spares q Lost on = tt
   spoil-spares q (Holds old) on = tt
 
-  filling-spares : (p : Part) (value segment : ℕ) (f : ℕ → Bool) → segment < 28 * l.segments_per_track →
-      Spares TellsLayout len (fill l p value (32 * segment) (those segment f))
-  filling-spares p value segment f on =
-      Spares-synced TellsLayout len (fill_writes l p value (32 * segment) (those segment f) 0)
-      (Spares-less TellsLayout (OffChosen l p (32 * segment) (those segment f)) len
-      (fill_writes l p value (32 * segment) (those segment f) 0)
+  -- .. in chosen sectors of a segment
+  pub filling-spares : (p : Part) (values : List ℕ) (segment : ℕ) (chosen : List Bool) → length values ≡ width p * 32 →
+      length chosen ≡ 32 → segment < 28 * l.segments_per_track → Spares TellsLayout len (fill l p values (32 * segment) chosen)
+  filling-spares p values segment chosen long_values long on =
+      Spares-synced TellsLayout len (fill_writes l p values (32 * segment) 0 chosen 0)
+      (Spares-less TellsLayout (OffChosen l p (32 * segment) chosen) len (fill_writes l p values (32 * segment) 0 chosen 0)
       (λ k tells i is.
       let b = low k tells in
-      let inside = in-segment segment f i is in
+      let inside = within-chosen chosen long i is in
       let behind = (laid_out l).behind p (32 * segment + i) (omega arith) in
       inl (omega arith))
-      (fill-spares l p value len room (32 * segment) (those segment f) (those-fit segment f l.segments_per_track on)))
+      (fill-spares l p values len room (32 * segment) long_values (omega arith) chosen (omega arith)))
+
+  forming-spares : (p : Part) (value segment : ℕ) (f : ℕ → Bool) → segment < 28 * l.segments_per_track →
+      Spares TellsLayout len (fill l p (even p value) (32 * segment) (those segment f))
+  forming-spares p value segment f on =
+      filling-spares p (even p value) segment (those segment f) (length-even p value) (those-length segment f) on
 
   pub format-spares : (segment : ℕ) (bytes : List ℕ) → segment < 28 * l.segments_per_track →
       Spares TellsLayout len (format_plan l segment bytes)
   unfolding format_segment_steps
   format-spares segment bytes on =
-      Spares-both TellsLayout len (fill l GateByte closed_gate (32 * segment) (those segment (is_open l bytes))) _
-      (filling-spares GateByte closed_gate segment (is_open l bytes) on)
-      (Spares-both TellsLayout len (fill l Data 0 (32 * segment) (those segment (is_usable l bytes))) _
-      (filling-spares Data 0 segment (is_usable l bytes) on)
-      (Spares-both TellsLayout len (fill l FormedByte formed_byte (32 * segment) (those segment (is_unformed l bytes)))
-      (fill l GateByte open_gate (32 * segment) (those segment (is_usable l bytes)))
-      (filling-spares FormedByte formed_byte segment (is_unformed l bytes) on)
-      (filling-spares GateByte open_gate segment (is_usable l bytes) on)))
+      Spares-both TellsLayout len (fill l GateByte (even GateByte closed_gate) (32 * segment) (those segment (is_open l bytes))) _
+      (forming-spares GateByte closed_gate segment (is_open l bytes) on)
+      (Spares-both TellsLayout len (fill l Data (even Data 0) (32 * segment) (those segment (is_usable l bytes))) _
+      (forming-spares Data 0 segment (is_usable l bytes) on)
+      (Spares-both TellsLayout len (fill l FormedByte (even FormedByte formed_byte) (32 * segment) (those segment (is_unformed l bytes)))
+      (fill l GateByte (even GateByte open_gate) (32 * segment) (those segment (is_usable l bytes)))
+      (forming-spares FormedByte formed_byte segment (is_unformed l bytes) on)
+      (forming-spares GateByte open_gate segment (is_usable l bytes) on)))
+
+  pub overwrite-spares : (segment written : ℕ) (from : List (List ℕ)) (views : List SectorView) → AreSectors from →
+      segment < 28 * l.segments_per_track → Spares TellsLayout len (write_sectors_steps l segment written from views)
+  unfolding overwrite_all
+  overwrite-spares segment written from views are on =
+      Spares-both TellsLayout len (fill l GateByte (even GateByte closed_gate) (32 * segment) (chosen_by written views is_readable)) _
+      (filling-spares GateByte (even GateByte closed_gate) segment (chosen_by written views is_readable) (length-even GateByte closed_gate)
+      (length-chosen written views is_readable) on)
+      (Spares-both TellsLayout len (fill l Data (joined from) (32 * segment) (chosen_by written views takes_write))
+      (fill l GateByte (even GateByte open_gate) (32 * segment) (chosen_by written views takes_write))
+      (filling-spares Data (joined from) segment (chosen_by written views takes_write) (length-sectors from are)
+      (length-chosen written views takes_write) on)
+      (filling-spares GateByte (even GateByte open_gate) segment (chosen_by written views takes_write) (length-even GateByte open_gate)
+      (length-chosen written views takes_write) on))
 
 -- a mark is no byte that tells the layout
 pub mark-spares : (len at : ℕ) (on : Bool) (byte : ℕ) → 12 ≤ at → at < 14 → 24 ≤ len → Spares TellsLayout len (mark_steps at on byte)

@@ -148,3 +148,15 @@ width-few GateByte c few = omega arith
 width-few FormedByte c few = omega arith
 width-few DefectByte c few = omega arith
 width-few Data c few = omega arith
+
+pub width-sum : (p : Part) (a b : ℕ) → width p * (a + b) ≡ width p * a + width p * b
+width-sum GateByte a b = omega arith
+width-sum FormedByte a b = omega arith
+width-sum DefectByte a b = omega arith
+width-sum Data a b = omega arith
+
+pub width-one : (p : Part) → width p * 1 ≡ width p
+width-one GateByte = refl
+width-one FormedByte = refl
+width-one DefectByte = refl
+width-one Data = refl

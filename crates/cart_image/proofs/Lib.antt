@@ -1,20 +1,27 @@
+mod Asked
 pub mod Bytes
 mod Carries
 pub mod Changes
+mod Choices
 mod Copies
 pub mod Exits
 mod FailedLooks
 mod Fills
 mod Formats
+mod Gathers
 mod Heads
 mod Infos
 mod Known
 mod Laid
 mod Layouts
 pub mod Loops
+mod OneSector
+mod OneSteps
+mod Overwrites
 pub mod Renews
 pub mod Runs
 mod Sectors
+mod Stages
 mod States
 mod Tapes
 mod Upgrades

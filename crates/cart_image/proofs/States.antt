@@ -112,7 +112,7 @@ read-good-told (Some b) t1 l q old bytes s found same readable is seen given = �
     read-good l q b old bytes (sym readable ∙ seen) (same_Some _ _ e)
 
 -- the parts of a sector in its cell
-in-cell : (l : Layout) (q : ℕ) → touches l.kind ≡ false
+pub in-cell : (l : Layout) (q : ℕ) → touches l.kind ≡ false
     → (place l FormedByte q ≡ place l GateByte q + 1) × (place l DefectByte q ≡ place l GateByte q + 2)
     × (place l Data q ≡ place l GateByte q + 3)
 in-cell l q cells = by_kind l.kind cells

@@ -1,5 +1,5 @@
 -- What writes leave of places that they spare, told and in a crash, and what stands where they write one value.
-use Rattle.std.proofs.Common.{◌≡◌, ℕ, ◌+◌, ◌-◌, ◌<◌, ◌≤◌, ◌⊎◌, inl, inr, ⊎_elim, List, [], ◌∷◌, ◌++◌, length, get_or, refl, sym, ◌∙◌, ap}
+use Rattle.std.proofs.Common.{◌≡◌, ℕ, ◌+◌, ◌-◌, ◌<◌, ◌≤◌, ◌⊎◌, inl, inr, ⊎_elim, List, [], ◌∷◌, ◌++◌, length, get_or, refl, sym, ◌∙◌}
 use Rattle.std.proofs.Common.{arith, subst}
 use Rattle.std.proofs.lemmas.Bool.{cases_lt}
 use Rattle.qic_base.specs.Disk.{DiskStep, Look, WriteAt, SetLen, Sync, stored}
@@ -105,21 +105,28 @@ pub Crashed-synced : (writes rest : List DiskStep) (bytes left : List ℕ) → C
 Crashed-synced [] rest bytes left crashed = inr crashed
 Crashed-synced (w ∷ ws) rest bytes left crashed = Crashed-front (λ b. b ≡ bytes) (w ∷ ws) rest bytes left crashed
 
--- writes whose bytes are those of a function of the place
+-- writes each of whose bytes is right at its place
+abbrev pub Puts : (Is : ℕ → ℕ → Type 0) (len : ℕ) → List DiskStep → Type 0
+Puts Is len [] = Unit {0}
+Puts Is len (Look ∷ steps) = Puts Is len steps
+Puts Is len (Sync ∷ steps) = Puts Is len steps
+Puts Is len (SetLen n ∷ steps) = ⊥
+Puts Is len (WriteAt place part ∷ steps) = (place + length part ≤ len)
+    × ((i : ℕ) → i < length part → Is (place + i) (get_or part i 0)) × Puts Is len steps
+
+pub Puts-both : (Is : ℕ → ℕ → Type 0) (len : ℕ) (xs ys : List DiskStep) → Puts Is len xs → Puts Is len ys → Puts Is len (xs ++ ys)
+Puts-both Is len [] ys a b = b
+Puts-both Is len (Look ∷ xs) ys a b = Puts-both Is len xs ys a b
+Puts-both Is len (Sync ∷ xs) ys a b = Puts-both Is len xs ys a b
+Puts-both Is len (SetLen n ∷ xs) ys a b = absurd a
+Puts-both Is len (WriteAt place part ∷ xs) ys a b = (a.0, a.1, Puts-both Is len xs ys a.2 b)
+
+-- .. where that is a function of the place
 abbrev pub Even : (value : ℕ → ℕ) (len : ℕ) → List DiskStep → Type 0
-Even value len [] = Unit {0}
-Even value len (Look ∷ steps) = Even value len steps
-Even value len (Sync ∷ steps) = Even value len steps
-Even value len (SetLen n ∷ steps) = ⊥
-Even value len (WriteAt place part ∷ steps) = (place + length part ≤ len)
-    × ((i : ℕ) → i < length part → get_or part i 0 ≡ value (place + i)) × Even value len steps
+Even value len steps = Puts (λ k b. b ≡ value k) len steps
 
 pub Even-both : (value : ℕ → ℕ) (len : ℕ) (xs ys : List DiskStep) → Even value len xs → Even value len ys → Even value len (xs ++ ys)
-Even-both value len [] ys a b = b
-Even-both value len (Look ∷ xs) ys a b = Even-both value len xs ys a b
-Even-both value len (Sync ∷ xs) ys a b = Even-both value len xs ys a b
-Even-both value len (SetLen n ∷ xs) ys a b = absurd a
-Even-both value len (WriteAt place part ∷ xs) ys a b = (a.0, a.1, Even-both value len xs ys a.2 b)
+Even-both value len xs ys a b = Puts-both (λ k b. b ≡ value k) len xs ys a b
 
 -- a place that one of the writes reaches
 abbrev pub Reached : (k : ℕ) → List DiskStep → Type 0
@@ -144,31 +151,38 @@ Reached-later k (Sync ∷ xs) ys reached = Reached-later k xs ys reached
 Reached-later k (SetLen n ∷ xs) ys reached = Reached-later k xs ys reached
 Reached-later k (WriteAt place part ∷ xs) ys reached = inr (Reached-later k xs ys reached)
 
--- .. has its byte in the end, as has one that had it before
-pub has-value : (value : ℕ → ℕ) (k : ℕ) (steps : List DiskStep) (bytes : List ℕ) → Even value (length bytes) steps →
-    (get_or bytes k 0 ≡ value k) ⊎ Reached k steps → get_or (after_steps steps bytes) k 0 ≡ value k
-has-value value k [] bytes even (inl has) = has
-has-value value k [] bytes even (inr reached) = absurd reached
-has-value value k (Look ∷ steps) bytes even has = has-value value k steps bytes even has
-has-value value k (Sync ∷ steps) bytes even has = has-value value k steps bytes even has
-has-value value k (SetLen n ∷ steps) bytes even has = absurd even
-has-value value k (WriteAt place part ∷ steps) bytes even has =
-    let only = OnlyIn-written place bytes part even.0 in
-    has-value value k steps (overwritten bytes place part) (subst (λ (len : ℕ). Even value len steps) (sym only.size) even.2) (now has)
+-- .. has a right byte in the end, as has one that had it before
+pub has-put : (Is : ℕ → ℕ → Type 0) (k : ℕ) (steps : List DiskStep) (bytes : List ℕ) → Puts Is (length bytes) steps →
+    Is k (get_or bytes k 0) ⊎ Reached k steps → Is k (get_or (after_steps steps bytes) k 0)
+has-put Is k [] bytes puts (inl has) = has
+has-put Is k [] bytes puts (inr reached) = absurd reached
+has-put Is k (Look ∷ steps) bytes puts has = has-put Is k steps bytes puts has
+has-put Is k (Sync ∷ steps) bytes puts has = has-put Is k steps bytes puts has
+has-put Is k (SetLen n ∷ steps) bytes puts has = absurd puts
+has-put Is k (WriteAt place part ∷ steps) bytes puts has =
+    let only = OnlyIn-written place bytes part puts.0 in
+    has-put Is k steps (overwritten bytes place part) (subst (λ (len : ℕ). Puts Is len steps) (sym only.size) puts.2) (now has)
   where
-    here : place ≤ k → k < place + length part → get_or (overwritten bytes place part) k 0 ≡ value k
+    here : place ≤ k → k < place + length part → Is k (get_or (overwritten bytes place part) k 0)
     here at_least less =
         let at : k ≡ place + (k - place) = omega arith in
-        let fits = even.0 in
-        ap (λ j. get_or (overwritten bytes place part) j 0) at ∙ get_or-overwritten bytes part place (k - place) 0 (omega arith)
-        (omega arith) ∙ even.1 (k - place) (omega arith) ∙ ap value (sym at)
+        let fits = puts.0 in
+        let P : ℕ → Type 0 = λ j. Is j (get_or (overwritten bytes place part) j 0) in
+        let Q : ℕ → Type 0 = λ v. Is (place + (k - place)) v in
+        subst P (sym at) (subst Q (sym (get_or-overwritten bytes part place (k - place) 0 (omega arith) (omega arith)))
+        (puts.1 (k - place) (omega arith)))
 
-    now : (get_or bytes k 0 ≡ value k) ⊎ Reached k (WriteAt place part ∷ steps) → (get_or (overwritten bytes place part) k 0 ≡ value k)
+    now : Is k (get_or bytes k 0) ⊎ Reached k (WriteAt place part ∷ steps) → Is k (get_or (overwritten bytes place part) k 0)
         ⊎ Reached k steps
     now (inl had) =
-        let only = OnlyIn-written place bytes part even.0 in
-        ⊎_elim (λ below. inl (only.below k below ∙ had))
-        (λ at_least. ⊎_elim (λ less. inl (here at_least less)) (λ above. inl (only.above k above ∙ had))
+        let only = OnlyIn-written place bytes part puts.0 in
+        let Q : ℕ → Type 0 = λ v. Is k v in
+        ⊎_elim (λ below. inl (subst Q (sym (only.below k below)) had))
+        (λ at_least. ⊎_elim (λ less. inl (here at_least less)) (λ above. inl (subst Q (sym (only.above k above)) had))
         (cases_lt k (place + length part))) (cases_lt k place)
     now (inr (inl there)) = inl (here there.0 there.1)
     now (inr (inr later)) = inr later
+
+pub has-value : (value : ℕ → ℕ) (k : ℕ) (steps : List DiskStep) (bytes : List ℕ) → Even value (length bytes) steps →
+    (get_or bytes k 0 ≡ value k) ⊎ Reached k steps → get_or (after_steps steps bytes) k 0 ≡ value k
+has-value value k steps bytes even has = has-put (λ j b. b ≡ value j) k steps bytes even has

@@ -1,5 +1,6 @@
 -- The bytes of an image file, read as a cartridge (this project's profile, versions 1 and 2).
-use Rattle.std.specs.Prelude.{ℕ, ◌+◌, Bool, ◌&&◌, ◌==◌, nat_le, if◌then◌else◌, List, length, map, slice_index, slice_range, Option, Some}
+use Rattle.std.specs.Prelude.{ℕ, ◌+◌, ◌*◌, Bool, ◌&&◌, ◌==◌, nat_le, if◌then◌else◌, List, length, map, slice_index, slice_range, Option}
+use Rattle.std.specs.Prelude.{Some}
 use Rattle.std.specs.Prelude.{None}
 use Rattle.std.specs.Option.{option_map}
 use Rattle.std.specs.List.{range_with_len}
@@ -91,6 +92,10 @@ view_in l bytes sector =
 
 unfoldable pub views_in : (l : Layout) (bytes : List ℕ) → List SectorView
 views_in l bytes = map (view_in l bytes) (range_with_len 0 (sectors l.segments_per_track))
+
+-- .. of the sectors of a segment
+unfoldable pub segment_views : (l : Layout) (segment : ℕ) (bytes : List ℕ) → List SectorView
+segment_views l segment bytes = map (view_in l bytes) (range_with_len (32 * segment) 32)
 
 -- what the head of a file tells; None where it is no image
 unfoldable pub head_of : List ℕ → Option Head

@@ -1,12 +1,14 @@
 -- The image file: where its head and the parts of its sectors stand in its two layouts, and what each call writes (this
 -- project's profile, versions 1 and 2).
 use Rattle.std.specs.Prelude.{ℕ, zero, suc, ◌+◌, ◌-◌, ◌*◌, Bool, true, false, not, ◌&&◌, ◌==◌, if◌then◌else◌, List, [], ◌∷◌, ◌++◌, map}
-use Rattle.std.specs.Prelude.{drop, replicate, codes, slice_index, slice_range}
-use Rattle.std.specs.List.{range_with_len}
+use Rattle.std.specs.Prelude.{drop, replicate, codes, slice_index, slice_index_or, slice_range}
+use Rattle.std.specs.List.{flat_map, range_with_len}
 use Rattle.qic_base.specs.declared.tape.SectorView.{SectorView}
 use Rattle.qic_base.specs.declared.tape.SectorView.TheVariants.{Blank, Defect, Lost, Holds}
+use Rattle.qic_base.specs.CartridgeTerms.{is_lost}
 use Rattle.qic_base.specs.Disk.{DiskStep, Look, WriteAt, SetLen, Sync}
 use Rattle.qic_base.specs.Field.{little_endian_bytes}
+use Rattle.cart_image.specs.Several.{is_readable, takes_write}
 use Rattle.cart_image.specs.declared.layout.Kind.{Kind}
 use Rattle.cart_image.specs.declared.layout.Kind.TheVariants.{Planes, Cells, CellsBehind}
 use Rattle.cart_image.specs.declared.layout.Layout.{Layout}
@@ -138,38 +140,43 @@ put at bytes = WriteAt at bytes ∷ Sync ∷ []
 abbrev pub resize : ℕ → List DiskStep
 resize length = SetLen length ∷ Sync ∷ []
 
--- a run of sectors from a first one on whose part gets one value, as one write
-abbrev pub run_write : (l : Layout) (part : Part) (value sector count : ℕ) → List DiskStep
-run_write l part value sector zero = []
-run_write l part value sector (suc count) =
-    WriteAt (place l part sector) (replicate (width part * suc count) value) ∷ []
+-- The values are those of a part of the sectors from a first one on. A run of these sectors gets its own, as one write;
+-- `at` is how many sectors are before it.
+abbrev pub run_write : (l : Layout) (part : Part) (values : List ℕ) (first at count : ℕ) → List DiskStep
+run_write l part values first at zero = []
+run_write l part values first at (suc count) =
+    WriteAt (place l part (first + at)) (slice_range values (width part * at) (width part * (at + suc count))) ∷ []
 
 -- what one sector adds to the writes, and to the run under way that ends before it
-abbrev pub step_writes : (l : Layout) (part : Part) (value sector : ℕ) (chosen : Bool) (under : ℕ) → List DiskStep
-step_writes l part value sector true under = if touches l.kind then [] else run_write l part value sector 1
-step_writes l part value sector false under = run_write l part value (sector - under) under
+abbrev pub step_writes : (l : Layout) (part : Part) (values : List ℕ) (first at : ℕ) (chosen : Bool) (under : ℕ) → List DiskStep
+step_writes l part values first at true under = if touches l.kind then [] else run_write l part values first at 1
+step_writes l part values first at false under = run_write l part values first (at - under) under
 
 abbrev pub step_under : (kind : Kind) (chosen : Bool) (under : ℕ) → ℕ
 step_under kind true under = if touches kind then suc under else under
 step_under kind false under = 0
 
--- A part of the chosen ones of sectors from one on gets a value. Neighbouring parts go as one write; `under` is the
--- length of the run that ends before the sector.
-abbrev pub fill_writes : (l : Layout) (part : Part) (value sector : ℕ) (chosen : List Bool) (under : ℕ) → List DiskStep
-fill_writes l part value sector [] under = run_write l part value (sector - under) under
-fill_writes l part value sector (true ∷ chosen) under =
-    if touches l.kind then fill_writes l part value (suc sector) chosen (suc under)
-    else run_write l part value sector 1 ++ fill_writes l part value (suc sector) chosen under
-fill_writes l part value sector (false ∷ chosen) under =
-    run_write l part value (sector - under) under ++ fill_writes l part value (suc sector) chosen zero
+-- A part of the chosen ones of sectors gets its values. Neighbouring parts go as one write; `under` is the length of the
+-- run that ends before the sector.
+abbrev pub fill_writes : (l : Layout) (part : Part) (values : List ℕ) (first at : ℕ) (chosen : List Bool) (under : ℕ) → List DiskStep
+fill_writes l part values first at [] under = run_write l part values first (at - under) under
+fill_writes l part values first at (true ∷ chosen) under =
+    if touches l.kind then fill_writes l part values first (suc at) chosen (suc under)
+    else run_write l part values first at 1 ++ fill_writes l part values first (suc at) chosen under
+fill_writes l part values first at (false ∷ chosen) under =
+    run_write l part values first (at - under) under ++ fill_writes l part values first (suc at) chosen zero
 
 -- writes, and one sync where there was any
 abbrev pub synced : List DiskStep → List DiskStep
 synced [] = []
 synced (write ∷ writes) = write ∷ writes ++ Sync ∷ []
 
-abbrev pub fill : (l : Layout) (part : Part) (value sector : ℕ) (chosen : List Bool) → List DiskStep
-fill l part value sector chosen = synced (fill_writes l part value sector chosen 0)
+abbrev pub fill : (l : Layout) (part : Part) (values : List ℕ) (first : ℕ) (chosen : List Bool) → List DiskStep
+fill l part values first chosen = synced (fill_writes l part values first 0 chosen 0)
+
+-- the same value for each byte of a part of 32 sectors
+unfoldable pub even : (part : Part) (value : ℕ) → List ℕ
+even part value = replicate (width part * 32) value
 
 -- What each call writes, by the view of its sector. No byte whose meaning stays is written: a gate is closed only where
 -- it is open.
@@ -207,8 +214,9 @@ mark_steps place false byte = if byte == mark_byte then put place (0 ∷ []) els
 -- zeroed, those not formed are formed, and all gates are opened.
 unfoldable pub format_segment_steps : (l : Layout) (segment : ℕ) (readable usable unformed : List Bool) → List DiskStep
 format_segment_steps l segment readable usable unformed =
-    fill l GateByte closed_gate (32 * segment) readable ++ (fill l Data 0 (32 * segment) usable
-    ++ (fill l FormedByte formed_byte (32 * segment) unformed ++ fill l GateByte open_gate (32 * segment) usable))
+    fill l GateByte (even GateByte closed_gate) (32 * segment) readable ++ (fill l Data (even Data 0) (32 * segment) usable
+    ++ (fill l FormedByte (even FormedByte formed_byte) (32 * segment) unformed
+    ++ fill l GateByte (even GateByte open_gate) (32 * segment) usable))
 
 -- by the state bytes that the file has
 abbrev pub is_usable : (l : Layout) (bytes : List ℕ) (sector : ℕ) → Bool
@@ -229,6 +237,22 @@ abbrev pub format_plan : (l : Layout) (segment : ℕ) (bytes : List ℕ) → Lis
 format_plan l segment bytes =
     format_segment_steps l segment (those segment (is_open l bytes)) (those segment (is_usable l bytes))
     (those segment (is_unformed l bytes))
+
+-- A call that writes several sectors of a segment: of those that are no defects and were formatted, the open gates are
+-- closed, the bytes are written, and all gates are opened.
+unfoldable pub overwrite_all : (l : Layout) (segment : ℕ) (sectors : List (List ℕ)) (closed taken : List Bool) → List DiskStep
+overwrite_all l segment sectors closed taken =
+    fill l GateByte (even GateByte closed_gate) (32 * segment) closed
+    ++ (fill l Data (flat_map (λ bytes. bytes) sectors) (32 * segment) taken
+    ++ fill l GateByte (even GateByte open_gate) (32 * segment) taken)
+
+-- by the views of the 32 sectors: which of them are written, and are so
+abbrev pub chosen_by : (written : ℕ) (views : List SectorView) (is : SectorView → Bool) → List Bool
+chosen_by written views is = map (λ i. is_lost written i && is (slice_index_or views i Blank)) (range_with_len 0 32)
+
+abbrev pub write_sectors_steps : (l : Layout) (segment written : ℕ) (sectors : List (List ℕ)) (views : List SectorView) → List DiskStep
+write_sectors_steps l segment written sectors views =
+    overwrite_all l segment sectors (chosen_by written views is_readable) (chosen_by written views takes_write)
 
 -- an image's first byte is cleared
 abbrev pub clear_steps : (first : ℕ) → List DiskStep

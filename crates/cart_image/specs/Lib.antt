@@ -2,6 +2,8 @@ pub mod Image
 pub mod ImageTape
 pub mod Layout
 pub mod Run
+pub mod Several
+pub mod SeveralLaws
 pub mod State
 pub mod Tape
 pub mod Whole

@@ -1,7 +1,7 @@
 -- What the state bytes say of a sector, without its bytes (this project's profile).
-use Rattle.std.specs.Prelude.{◌≡◌, ℕ, ◌<◌, List, Option, Some, slice_index, slice_index_or, slice_set}
+use Rattle.std.specs.Prelude.{◌≡◌, ℕ, ◌<◌, true, if◌then◌else◌, List, [], Option, Some, slice_index, slice_index_or, slice_set}
 use Rattle.qic_base.specs.Cartridge.{Cartridge, view_at}
-use Rattle.qic_base.specs.CartridgeTerms.{place_of}
+use Rattle.qic_base.specs.CartridgeTerms.{is_lost, place_of}
 use Rattle.qic_base.specs.declared.tape.SectorView.{SectorView}
 use Rattle.qic_base.specs.declared.tape.SectorView.TheVariants.{Blank, Defect, Lost, Holds}
 use Rattle.cart_image.specs.declared.reading.SectorState.{SectorState}
@@ -10,6 +10,7 @@ use Rattle.cart_image.specs.declared.segment.SegmentStates.{SegmentStates}
 use Rattle.cart_image.specs.declared.segment.SegmentMarks.{SegmentMarks}
 use Rattle.cart_image.specs.declared.layout.Layout.{Layout}
 use Rattle.cart_image.specs.declared.layout.Part.TheVariants.{GateByte, FormedByte, DefectByte}
+use Rattle.cart_image.specs.Image.{view_in, sector_bytes}
 use Rattle.cart_image.specs.Layout.{place}
 
 abbrev pub state_of : SectorView → SectorState
@@ -29,6 +30,17 @@ with_state states sector state = record { segment = states.segment; states = sli
 -- .. where there is one
 abbrev pub AreStates : SegmentStates → Option Cartridge → Type 0
 AreStates states held = (c : Cartridge) → held ≡ Some c → HoldsStates states c
+
+-- .. and of each sector of a segment that is in a word of sectors, by the bytes of a file
+abbrev pub AreStatesOf : (l : Layout) (segment wanted : ℕ) (bytes : List ℕ) → List SectorState → Type 0
+AreStatesOf l segment wanted bytes states = (i : ℕ) → i < 32 → is_lost wanted i ≡ true →
+    slice_index_or states i state.Blank ≡ state_of (view_in l bytes (place_of segment i))
+
+-- the bytes of the good ones of the sectors of a segment, put in their entries
+pub record GotBytes (l : Layout) (segment : ℕ) (bytes : List ℕ) (good got : ℕ) (old new : List (List ℕ)) : Type 0 where
+  pub same : (i : ℕ) → i < 32 → is_lost got i ≡ is_lost good i
+  pub into : (i : ℕ) → i < 32 →
+      slice_index_or new i [] ≡ (if is_lost good i then sector_bytes l bytes (place_of segment i) else slice_index_or old i [])
 
 -- the state bytes that a file has of a segment's sectors
 pub record AreMarks (l : Layout) (segment : ℕ) (bytes : List ℕ) (m : SegmentMarks) : Type 0 where

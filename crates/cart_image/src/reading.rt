@@ -230,7 +230,7 @@ fn read_cells<D: Disk>(disk: &mut D, place: u64) -> Result<[u8; 32864], DiskFail
 }
 
 /// The state bytes among those of the 32 cells of a segment.
-fn marks_in(cells: &[u8; 32864]) -> SegmentMarks
+pub fn marks_in(cells: &[u8; 32864]) -> SegmentMarks
     ensures gates { (i : ℕ) → i < 32 →
         slice_index result.gates i ≡ slice_index cells.now (1027 * i) }
     ensures formed { (i : ℕ) → i < 32 →
@@ -254,7 +254,7 @@ fn marks_in(cells: &[u8; 32864]) -> SegmentMarks
 }
 
 /// The state bytes of a segment in cells, read with all its bytes at once.
-fn read_marks_at_once<D: Disk>(
+pub fn read_marks_at_once<D: Disk>(
     disk: &mut D,
     layout: Layout,
     segment: u32,
@@ -373,7 +373,7 @@ pub fn read_state<D: Disk>(
 }
 
 /// The bytes of a sector; None where the disk has fewer.
-fn read_bytes<D: Disk>(
+pub fn read_bytes<D: Disk>(
     disk: &mut D,
     layout: Layout,
     sector: u64,

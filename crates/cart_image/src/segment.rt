@@ -1,10 +1,19 @@
 //! What the state bytes say of the sectors of one segment, and what a call makes of it.
 ghost use Rattle.std.specs.Prelude.{◌≡◌, ℕ, ◌<◌, List, slice_index_or, slice_set};
 ghost use Rattle.qic_base.specs.declared.tape.SectorView.{SectorView};
+ghost use Rattle.qic_base.specs.CartridgeTerms.{is_lost};
 ghost use Rattle.qic_base.specs.Step.{written_view, worn_view, spoiled_view};
 ghost use Rattle.cart_image.specs.State.{state_of};
 
 use crate::reading::SectorState;
+
+/// What a read of several sectors of a segment found: the word of those that were read, and of those that were never
+/// formatted. The other ones that were asked for are lost, or defects.
+#[derive(Clone, Copy, Debug, PartialEq, Eq)]
+pub struct SectorsRead {
+    pub good: u32,
+    pub blank: u32,
+}
 
 /// The state bytes of the sectors of a segment.
 #[derive(Clone, Copy, Debug)]
@@ -78,4 +87,12 @@ impl SectorState {
             SectorState::Defect | SectorState::Lost | SectorState::Readable => self,
         }
     }
+}
+
+/// Whether a sector is in a word of sectors.
+pub fn is_in(set: u32, sector: usize) -> bool
+    requires { sector < 32 }
+    ensures { result ≡ is_lost set sector }
+{
+    set >> sector & 1 == 1
 }

@@ -9,16 +9,16 @@ ghost use Rattle.qic_base.specs.Step.{WriteSector, FormatSegment, SetReferenced,
 ghost use Rattle.qic_base.specs.TapeCalls.{Does, Tells, IsPlaceOf, Reads, write_answer};
 ghost use Rattle.qic_base.specs.Tape.{spoil_answer};
 ghost use Rattle.qic_base.specs.declared.TheConstants.{LONGEST};
-ghost use Rattle.cart_image.specs.Image.{cartridge_of, layout_of, view_in, info_by as info_told};
+ghost use Rattle.cart_image.specs.Image.{cartridge_of, layout_of, view_in, segment_views, info_by as info_told};
 ghost use Rattle.cart_image.specs.Layout.{end_of, touches};
-ghost use Rattle.cart_image.specs.State.{AreStates, state_of, with_state};
+ghost use Rattle.cart_image.specs.State.{AreStates, AreStatesOf, state_of, with_state};
 ghost use Rattle.cart_image.specs.declared.layout.Layout.{Layout};
 ghost use Rattle.cart_image.specs.declared.segment.SegmentStates.{SegmentStates};
 
 use crate::layout::{Head, Kind, Layout, PROTECTED_PLACE, REFERENCED_PLACE};
 use crate::reading::SectorState;
-use crate::segment::SegmentStates;
-use crate::{formatting, reading, renewing, upgrading, writing};
+use crate::segment::{SectorsRead, SegmentStates};
+use crate::{formatting, reading, renewing, several, upgrading, wanted, writing};
 use qic_base::{Disk, DiskFailed, Sector, SectorRead, SectorWrite, Tape, TapeFailed, TapeInfo};
 
 /// A tape in an image file on a disk.
@@ -48,7 +48,9 @@ pub struct ImageTape<D: Disk> {
 
 impl<D: Disk> ImageTape<D> {
     ghost use Rattle.cart_image.specs.ImageTape.{disk_of, layout_at, known_of, faults_of, image_means};
-    ghost use Rattle.cart_image.specs.Run.{Looked};
+    ghost use Rattle.cart_image.specs.Layout.{write_sectors_steps};
+    ghost use Rattle.cart_image.specs.Run.{Looked, CarriedBy};
+    ghost use Rattle.cart_image.specs.Several.{contents_of, AreRefused, WritesSectors, ReadsSectors, KeepsOthers};
 
     /// A tape in this file, of which nothing is known yet. It makes no call of the disk.
     pub fn open(disk: D) -> ImageTape<D>
@@ -139,6 +141,31 @@ impl<D: Disk> ImageTape<D> {
         }
     }
 
+    /// What the state bytes say of the wanted sectors of a segment. In planes those of all are read where they are not
+    /// known.
+    fn look_at_sectors(
+        &mut self,
+        layout: Layout,
+        segment: u32,
+        wanted: u32,
+    ) -> Result<[SectorState; 32], DiskFailed>
+        requires place { IsPlaceOf image_means self.old segment 0 }
+        requires layout { layout_at self.old ≡ Some layout }
+        ensures states { IfOk result (λ states. IfSome (D.means.told (disk_of self.old))
+            (λ bytes. AreStatesOf layout segment wanted bytes states)) }
+        ensures looked { Looked D.means (disk_of self.old) (disk_of self.new) result }
+        ensures layout { layout_at self.new ≡ layout_at self.old }
+        ensures faults { faults_of self.new ≡ faults_of self.old }
+    {
+        if layout.touches() {
+            let states = self.look_at_segment(layout, segment)?;
+            Ok(states.states)
+        } else {
+            self.known = None;
+            wanted::read_states(&mut self.disk, layout, segment, wanted)
+        }
+    }
+
     /// Reads a sector in planes: its state bytes are known or read first.
     fn read_in_planes(
         &mut self,
@@ -191,6 +218,146 @@ impl<D: Disk> ImageTape<D> {
         } else {
             self.known = None;
             reading::read_whole(&mut self.disk, layout, sector_number(segment, sector), into)
+        }
+    }
+
+    /// Reads the wanted sectors of a segment in planes: its state bytes are known or read first.
+    fn read_wanted_in_planes(
+        &mut self,
+        layout: Layout,
+        segment: u32,
+        wanted: u32,
+        into: &mut [Sector],
+    ) -> Result<SectorsRead, DiskFailed>
+        requires place { IsPlaceOf image_means self.old segment 0 }
+        requires layout { layout_at self.old ≡ Some layout }
+        requires planes { touches layout.kind ≡ true }
+        requires count { length into.old ≡ 32 }
+        ensures looked { Looked D.means (disk_of self.old) (disk_of self.new) result }
+        ensures reads { IfOk result (λ read. IfSome (D.means.told (disk_of self.old)) (λ bytes.
+            ReadsSectors wanted read.good read.blank
+            (λ i. view_in layout bytes (place_of segment i)) into.old into.new)) }
+        ensures kept { IfOk result (λ read. KeepsOthers read.good into.old into.new) }
+        ensures layout { layout_at self.new ≡ layout_at self.old }
+        ensures faults { faults_of self.new ≡ faults_of self.old }
+    {
+        let states = self.look_at_segment(layout, segment)?;
+        match wanted::read_in_planes(
+            &mut self.disk,
+            layout,
+            segment,
+            &states.states,
+            wanted,
+            into,
+        ) {
+            Ok(read) => Ok(read),
+            Err(DiskFailed) => {
+                self.known = None;
+                Err(DiskFailed)
+            }
+        }
+    }
+
+    /// Reads the wanted sectors of a segment: all of it at once, and just these where the disk fails in that.
+    fn read_wanted(
+        &mut self,
+        layout: Layout,
+        segment: u32,
+        wanted: u32,
+        into: &mut [Sector],
+    ) -> Result<SectorsRead, DiskFailed>
+        requires place { IsPlaceOf image_means self.old segment 0 }
+        requires layout { layout_at self.old ≡ Some layout }
+        requires count { length into.old ≡ 32 }
+        ensures looked { Looked D.means (disk_of self.old) (disk_of self.new) result }
+        ensures reads { IfOk result (λ read. IfSome (D.means.told (disk_of self.old)) (λ bytes.
+            ReadsSectors wanted read.good read.blank
+            (λ i. view_in layout bytes (place_of segment i)) into.old into.new)) }
+        ensures kept { IfOk result (λ read. KeepsOthers read.good into.old into.new) }
+        ensures layout { layout_at self.new ≡ layout_at self.old }
+        ensures faults { faults_of self.new ≡ faults_of self.old }
+    {
+        if layout.touches() {
+            self.read_wanted_in_planes(layout, segment, wanted, into)
+        } else {
+            self.known = None;
+            wanted::read_in_cells(&mut self.disk, layout, segment, wanted, into)
+        }
+    }
+
+    /// Reads the sectors of a segment whose bits of `wanted` are 1, bit `i` for sector `i`, each into its entry of
+    /// `into`. An entry is unchanged unless its sector's bit of `good` is 1.
+    pub fn read_sectors(
+        &mut self,
+        segment: u32,
+        wanted: u32,
+        into: &mut [Sector; 32],
+    ) -> Result<SectorsRead, TapeFailed>
+        requires { IsPlaceOf image_means self.old segment 0 }
+        ensures did { Does image_means self.old self.new [] result }
+        ensures reads { IfOk result (λ read. Tells image_means self.old (λ c.
+            ReadsSectors wanted read.good read.blank (view_at c segment) into.old into.new)) }
+        ensures kept { IfOk result (λ read. KeepsOthers read.good into.old into.new) }
+        ensures unchanged { OnErr result (into.new ≡ into.old) }
+        ensures size { image_means.size self.new ≡ image_means.size self.old }
+
+        // It only looks at the disk.
+        ensures looked { Looked D.means (disk_of self.old) (disk_of self.new) result }
+        ensures changes { OnOk result (D.means.failed_changes (disk_of self.new)
+            ≡ D.means.failed_changes (disk_of self.old)) }
+    {
+        let layout = self.layout();
+        let mut found = *into;
+        match self.read_wanted(layout, segment, wanted, &mut found) {
+            Ok(read) => {
+                *into = found;
+                Ok(read)
+            }
+            Err(DiskFailed) => {
+                self.faults = self.faults.saturating_add(1);
+                Err(TapeFailed)
+            }
+        }
+    }
+
+    /// Writes the sectors of a segment whose bits of `written` are 1, bit `i` for sector `i`, each with its entry of
+    /// `from`. Answers the word of those that were never formatted and took no write; a defect takes its write and keeps
+    /// nothing. A call that fails leaves each sector as a stop in it does.
+    pub fn write_sectors(
+        &mut self,
+        segment: u32,
+        written: u32,
+        from: &[Sector; 32],
+    ) -> Result<u32, TapeFailed>
+        requires { IsPlaceOf image_means self.old segment 0 }
+        ensures did { WritesSectors image_means self.old self.new segment
+            (contents_of written from.now) result }
+        ensures answer { IfOk result (λ blank. Tells image_means self.old (λ c.
+            AreRefused blank (contents_of written from.now) (view_at c segment))) }
+        ensures size { image_means.size self.new ≡ image_means.size self.old }
+
+        // The disk's steps, in order.
+        ensures steps { CarriedBy D.means (disk_of self.old) (disk_of self.new)
+            (layout_at self.old) (λ l bytes. write_sectors_steps l segment written from.now
+            (segment_views l segment bytes)) result }
+        ensures changes { OnOk result (D.means.failed_changes (disk_of self.new)
+            ≡ D.means.failed_changes (disk_of self.old)) }
+    {
+        let layout = self.layout();
+        let states = match self.look_at_sectors(layout, segment, written) {
+            Ok(states) => states,
+            Err(DiskFailed) => {
+                self.faults = self.faults.saturating_add(1);
+                return Err(TapeFailed);
+            }
+        };
+        self.known = None;
+        match several::write_sectors(&mut self.disk, layout, segment, &states, written, from) {
+            Ok(blank) => Ok(blank),
+            Err(DiskFailed) => {
+                self.faults = self.faults.saturating_add(1);
+                Err(TapeFailed)
+            }
         }
     }
 }

@@ -6,7 +6,7 @@ ghost use Rattle.std.specs.Prelude.{IfOk};
 ghost use Rattle.qic_base.specs.Disk.{IsSettled};
 ghost use Rattle.qic_mem.specs.Disk.{disk_means};
 
-use crate::files::{CLOSED, LENGTH, NEW, OPEN, sees_three, write_cells, write_image};
+use crate::files::{CLOSED, LENGTH, NEW, OLD, OPEN, sees_three, write_cells, write_image};
 use cart_image::ImageTape;
 use qic_base::Tape;
 use qic_mem::{DiskChange, DiskEntry, MemDisk};
@@ -19,6 +19,7 @@ pub enum Call {
     Info,
     Read(u8),
     Write(u8),
+    WriteSectors(u32),
     Wear(u8),
     Spoil(u8),
     Format,
@@ -45,6 +46,15 @@ pub enum Row {
     Other,
 }
 
+/// 32 sectors, each of its number, counted from 1.
+fn numbered() -> [[u8; 1024]; 32] {
+    let mut sectors = [[0; 1024]; 32];
+    for i in 0..32 {
+        sectors[i as usize] = [i + 1; 1024];
+    }
+    sectors
+}
+
 /// Makes a call of a tape.
 fn make(tape: &mut ImageTape<MemDisk>, call: Call) -> Result<(), Fail> {
     sees_three(tape)?;
@@ -57,6 +67,9 @@ fn make(tape: &mut ImageTape<MemDisk>, call: Call) -> Result<(), Fail> {
         }
         Call::Write(sector) if sector < 32 => {
             let _ = tape.write_sector(2, sector, &[NEW; 1024])?;
+        }
+        Call::WriteSectors(written) => {
+            let _ = tape.write_sectors(2, written, &numbered())?;
         }
         Call::Wear(sector) if sector < 32 => tape.wear(2, sector)?,
         Call::Spoil(sector) if sector < 32 => {
@@ -99,7 +112,9 @@ fn image_of(alloc: Global, version: Version) -> Result<MemDisk, Fail>
 }
 
 /// The disk of such an image after these calls.
-fn after(alloc: Global, version: Version, calls: &[Call]) -> Result<MemDisk, Fail> {
+fn after(alloc: Global, version: Version, calls: &[Call]) -> Result<MemDisk, Fail>
+    ensures { IfOk result (IsSettled disk_means) }
+{
     let mut tape = ImageTape::open(image_of(alloc, version)?);
     make_all(&mut tape, calls)?;
     Ok(tape.into_disk())
@@ -185,6 +200,98 @@ fn a_sector_is_written_in_three_steps_or_two_or_none(rt: HostRuntime) -> Result<
         (&[Call::Spoil(3), Call::Write(3)], &[]),
     ];
     assert_eq!(rt; first_other(rt.alloc(), Version::One, &table)?, None);
+    Ok(())
+}
+
+/// Neighbours go as one write, and each step of all sectors has one sync. Sector 4 was never formatted.
+#[test]
+fn several_sectors_are_written_in_three_steps_or_two_or_none(rt: HostRuntime) -> Result<(), Fail> {
+    let together = [
+        Row::Fill(128, 3, CLOSED),
+        Row::Sync,
+        Row::Write(73_664, 3_072),
+        Row::Sync,
+        Row::Fill(128, 3, OPEN),
+        Row::Sync,
+    ];
+    let apart = [
+        Row::Fill(128, 1, CLOSED),
+        Row::Fill(130, 1, CLOSED),
+        Row::Sync,
+        Row::Fill(73_664, 1_024, 1),
+        Row::Fill(75_712, 1_024, 3),
+        Row::Sync,
+        Row::Fill(128, 1, OPEN),
+        Row::Fill(130, 1, OPEN),
+        Row::Sync,
+    ];
+    let lost = [
+        Row::Fill(74_688, 1_024, 2),
+        Row::Sync,
+        Row::Fill(129, 1, OPEN),
+        Row::Sync,
+    ];
+    let table: [(&[Call], &[Row]); 5] = [
+        (&[Call::WriteSectors(0b1_0111)], &together),
+        (&[Call::WriteSectors(0b101)], &apart),
+        (&[Call::Wear(1), Call::WriteSectors(0b10)], &lost),
+        (&[Call::WriteSectors(0b1_0000)], &[]),
+        (&[Call::WriteSectors(0)], &[]),
+    ];
+    assert_eq!(rt; first_other(rt.alloc(), Version::One, &table)?, None);
+    Ok(())
+}
+
+/// In version 2 the cell of sector i of segment 2 begins at 64 + 1,027 * (64 + i), with its gate, and its bytes 3 bytes
+/// later. Sector 0 can be read, sector 1 is lost, and sector 3 is a defect.
+#[test]
+fn sectors_in_cells_are_written_one_by_one_with_three_syncs(rt: HostRuntime) -> Result<(), Fail> {
+    let rows = [
+        Row::Fill(65_792, 1, CLOSED),
+        Row::Sync,
+        Row::Fill(65_795, 1_024, 1),
+        Row::Fill(66_822, 1_024, 2),
+        Row::Sync,
+        Row::Fill(65_792, 1, OPEN),
+        Row::Fill(66_819, 1, OPEN),
+        Row::Sync,
+    ];
+    let calls = [Call::Wear(1), Call::Spoil(3), Call::WriteSectors(0b1011)];
+    assert!(rt; does(rt.alloc(), Version::Two, &calls, &rows)?);
+    Ok(())
+}
+
+/// Which of the sectors 0, 3 and 4 of segment 2 take no write, where sector 3 is a defect and sector 4 was never
+/// formatted.
+fn refused(alloc: Global) -> Result<u32, Fail> {
+    let mut tape = ImageTape::open(after(alloc, Version::Two, &[Call::Spoil(3)])?);
+    sees_three(&mut tape)?;
+    Ok(tape.write_sectors(2, 0b1_1001, &numbered())?)
+}
+
+#[test]
+fn a_sector_that_was_never_formatted_is_answered(rt: HostRuntime) -> Result<(), Fail> {
+    assert_eq!(rt; refused(rt.alloc())?, 0b1_0000);
+    Ok(())
+}
+
+/// What a read of the sectors 0, 1 and 3 of segment 2 finds, where sector 1 is lost and sector 3 was never formatted:
+/// the two words, and the first byte of each of the entries 0 to 3, which was 7.
+fn found(alloc: Global, version: Version) -> Result<(u32, u32, [u8; 4]), Fail> {
+    let mut tape = ImageTape::open(after(alloc, version, &[Call::Wear(1)])?);
+    sees_three(&mut tape)?;
+    let mut into = [[7; 1024]; 32];
+    let read = tape.read_sectors(2, 0b1011, &mut into)?;
+    let firsts = [into[0][0], into[1][0], into[2][0], into[3][0]];
+    Ok((read.good, read.blank, firsts))
+}
+
+#[test]
+fn several_sectors_are_read_and_other_entries_stay(rt: HostRuntime) -> Result<(), Fail> {
+    let wanted = (0b1, 0b1000, [OLD, 7, 7, 7]);
+    assert!(rt;
+        found(rt.alloc(), Version::One)? == wanted && found(rt.alloc(), Version::Two)? == wanted
+    );
     Ok(())
 }
 
