@@ -1,5 +1,6 @@
 -- What a segment gives where a code block agrees with its cells.
-use Rattle.std.proofs.Common.{◌≡◌, ℕ, zero, suc, ◌+◌, ◌-◌, ◌≤◌, ◌<◌, Bool, true, false, ◌&&◌, if◌then◌else◌, nat_le, List, [], ◌∷◌, length, map, take, drop, None, refl, sym, ap, subst, ◌∙◌, inl, inr, arith}
+use Rattle.std.proofs.Common.{◌≡◌, ℕ, zero, suc, ◌+◌, ◌-◌, ◌≤◌, ◌<◌, Bool, true, false, ◌&&◌, if◌then◌else◌, nat_le, List, [], ◌∷◌, length}
+use Rattle.std.proofs.Common.{map, take, drop, None, refl, sym, ap, subst, ◌∙◌, inl, inr, arith}
 use Rattle.std.proofs.Math.ListN.{drop_of_length-le}
 use Rattle.std.proofs.Math.Seq.{drop-cons}
 use Rattle.std.proofs.lemmas.List.{take-map}
@@ -17,13 +18,13 @@ use Rattle.dump_spec.specs.declared.mark.Mark.TheVariants.{Sure, Unchecked}
 
 -- ---- bytes
 
-ends-there : (a place : ℕ) → a ≡ place + 0 → a ≤ place
+pub ends-there : (a place : ℕ) → a ≡ place + 0 → a ≤ place
 ends-there a place e = omega arith
 
-one-less : (a place n : ℕ) → a ≡ place + suc n → a ≡ suc place + n
+pub one-less : (a place n : ℕ) → a ≡ place + suc n → a ≡ suc place + n
 one-less a place n e = grind arith
 
-starts-before : (a place n : ℕ) → a ≡ place + suc n → place < a
+pub starts-before : (a place n : ℕ) → a ≡ place + suc n → place < a
 starts-before a place n e = omega arith
 
 -- the sectors that a block gives are its own, from a place on

@@ -27,15 +27,18 @@ one_case forms.Sectors cells (OneBlock a) (OneWrong b w) p q = let e = (one_deep
 one_case forms.Sectors cells (OneBlock a) Contradicts p q = absurd (q.1 a None p)
 one_case forms.Sectors cells (OneBlock a) AsRead p q = absurd (not-both (unreadable_count cells) p.few q)
 one_case forms.Sectors cells (OneWrong a v) (OneBlock b) p q = let e = (one_deep_reading cells a b (Some v) None p q).1 in cc
-one_case forms.Sectors cells (OneWrong a v) (OneWrong b w) p q = let both = one_deep_reading cells a b (Some v) (Some w) p q in let e = both.0 in let f = both.1 in cc
+one_case forms.Sectors cells (OneWrong a v) (OneWrong b w) p q = let both = one_deep_reading cells a b (Some v) (Some w) p q in let e =
+    both.0 in let f = both.1 in cc
 one_case forms.Sectors cells (OneWrong a v) Contradicts p q = absurd (q.1 a (Some v) p)
-one_case forms.Sectors cells (OneWrong a v) AsRead p q = absurd (not-both (unreadable_count cells) (three-at-most (unreadable_count cells) p.few) q)
+one_case forms.Sectors cells (OneWrong a v) AsRead p q =
+    absurd (not-both (unreadable_count cells) (three-at-most (unreadable_count cells) p.few) q)
 one_case forms.Sectors cells Contradicts (OneBlock b) p q = absurd (p.1 b None q)
 one_case forms.Sectors cells Contradicts (OneWrong b w) p q = absurd (p.1 b (Some w) q)
 one_case forms.Sectors cells Contradicts Contradicts p q = refl
 one_case forms.Sectors cells Contradicts AsRead p q = absurd (not-both (unreadable_count cells) p.0 q)
 one_case forms.Sectors cells AsRead (OneBlock b) p q = absurd (not-both (unreadable_count cells) q.few p)
-one_case forms.Sectors cells AsRead (OneWrong b w) p q = absurd (not-both (unreadable_count cells) (three-at-most (unreadable_count cells) q.few) p)
+one_case forms.Sectors cells AsRead (OneWrong b w) p q =
+    absurd (not-both (unreadable_count cells) (three-at-most (unreadable_count cells) q.few) p)
 one_case forms.Sectors cells AsRead Contradicts p q = absurd (not-both (unreadable_count cells) q.0 p)
 one_case forms.Sectors cells AsRead AsRead p q = refl
 one_case forms.Data cells (OneBlock a) other p q = absurd p

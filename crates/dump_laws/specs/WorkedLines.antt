@@ -21,7 +21,8 @@ use Rattle.dump_spec.specs.declared.status.Status.TheVariants as status
 -- the first bytes of its header, which was read from segment 0
 abbrev pub evening : FoundHeader
 evening = record {
-  area = ((0x55 ∷ 0xAA ∷ 0x55 ∷ 0xAA ∷ 2 ∷ 0 ∷ 0 ∷ 0 ∷ 1 ∷ 0 ∷ 2 ∷ 0 ∷ 83 ∷ 0 ∷ []) ++ replicate 10 0 ++ 3 ∷ 0 ∷ 28 ∷ 0 ∷ 149 ∷ 128 ∷ filled (codes "evening")) ∷ [];
+  area = ((0x55 ∷ 0xAA ∷ 0x55 ∷ 0xAA ∷ 2 ∷ 0 ∷ 0 ∷ 0 ∷ 1 ∷ 0 ∷ 2 ∷ 0 ∷ 83 ∷ 0 ∷ []) ++ replicate 10 0 ++ 3 ∷ 0 ∷ 28 ∷ 0 ∷ 149 ∷ 128 ∷
+      filled (codes "evening")) ∷ [];
   segment = Some 0;
 }
 
@@ -95,7 +96,8 @@ SureMapOfNothing = sure_text []
 
 abbrev pub CountsOfPage : Type 0
 CountsOfPage = map (λ marks. status_line (output_status marks)) (replicate 15 Unchecked ∷ replicate 15 Filled ∷ replicate 15 Sure ∷ [] ∷ [])
-    ≡ codes "tape_salvage: 0 bytes read, 15 unchecked, 0 filled\n" ∷ codes "tape_salvage: 0 bytes read, 0 unchecked, 15 filled\n" ∷ [] ∷ [] ∷ []
+    ≡ codes "tape_salvage: 0 bytes read, 15 unchecked, 0 filled\n" ∷ codes "tape_salvage: 0 bytes read, 0 unchecked, 15 filled\n" ∷ [] ∷
+    [] ∷ []
 
 abbrev pub MendLine : Type 0
 MendLine = status_line (status.Damaged 1 0) ≡ codes "tape_salvage: 1 segments can be mended, 0 not\n"

@@ -20,7 +20,8 @@ bytes_by case cells = map (λ g. g.bytes) (given_by case cells)
 
 -- two sectors are solved, and the third of parity checks them: the block's bytes, all `+`
 abbrev pub TwoSolved : Type 0
-TwoSolved = marks_by (OneBlock block) (Lost ∷ Holds (2 ∷ []) ∷ Lost ∷ Holds (4 ∷ []) ∷ Holds (5 ∷ []) ∷ Holds (6 ∷ []) ∷ Holds (7 ∷ []) ∷ [])
+TwoSolved = marks_by (OneBlock block) (Lost ∷ Holds (2 ∷ []) ∷ Lost ∷ Holds (4 ∷ []) ∷ Holds (5 ∷ []) ∷ Holds (6 ∷ []) ∷ Holds (7 ∷ []) ∷
+    [])
     ≡ 43 ∷ 43 ∷ 43 ∷ 43 ∷ []
 
 -- with three, one of them parity, nothing checks them: `/+/+`
@@ -30,12 +31,14 @@ ThreeSolved = marks_by (OneBlock block) (Lost ∷ Holds (2 ∷ []) ∷ Lost ∷ 
 
 -- sector 1 is wrong and sector 3 is lost: `+/+/`
 abbrev pub WrongAndLost : Type 0
-WrongAndLost = marks_by (OneWrong block 1) (Holds (1 ∷ []) ∷ Holds (9 ∷ []) ∷ Holds (3 ∷ []) ∷ Lost ∷ Holds (5 ∷ []) ∷ Holds (6 ∷ []) ∷ Holds (7 ∷ []) ∷ [])
+WrongAndLost = marks_by (OneWrong block 1) (Holds (1 ∷ []) ∷ Holds (9 ∷ []) ∷ Holds (3 ∷ []) ∷ Lost ∷ Holds (5 ∷ []) ∷ Holds (6 ∷ []) ∷
+    Holds (7 ∷ []) ∷ [])
     ≡ 43 ∷ 47 ∷ 43 ∷ 47 ∷ []
 
 -- no block is found: what was read is `/`, and the lost sector `-`
 abbrev pub ReadAndContradicted : Type 0
-ReadAndContradicted = marks_by Contradicts (Holds (1 ∷ []) ∷ Lost ∷ Holds (3 ∷ []) ∷ Holds (4 ∷ []) ∷ Holds (5 ∷ []) ∷ Holds (6 ∷ []) ∷ Holds (7 ∷ []) ∷ [])
+ReadAndContradicted = marks_by Contradicts (Holds (1 ∷ []) ∷ Lost ∷ Holds (3 ∷ []) ∷ Holds (4 ∷ []) ∷ Holds (5 ∷ []) ∷ Holds (6 ∷ []) ∷
+    Holds (7 ∷ []) ∷ [])
     ≡ 47 ∷ 45 ∷ 47 ∷ 47 ∷ []
 
 abbrev pub filler : Given

@@ -78,5 +78,6 @@ CellsOfData = unread (cells_in (dump_of 29696) (layout_of forms.Data 8 []) 8)
 -- a segment that lacks, one in front of the first, and one behind the dump's end have no piece
 abbrev pub CellsOfMissing : Type 0
 CellsOfMissing =
-    map (λ segment. unread (cells_in (dump_of 65536) (layout_of forms.Sectors 8 (span 9 9 ∷ span 12 12 ∷ [])) segment)) (7 ∷ 9 ∷ 12 ∷ 11 ∷ [])
+    map (λ segment. unread (cells_in (dump_of 65536) (layout_of forms.Sectors 8 (span 9 9 ∷ span 12 12 ∷ [])) segment)) (7 ∷ 9 ∷ 12 ∷ 11 ∷
+    [])
     ≡ replicate 32 true ∷ [] ∷ replicate 32 true ∷ replicate 32 true ∷ []

@@ -17,12 +17,14 @@ slot_from first last size flags = slot_of (codes "VTBL") first last size flags
 
 -- the slots of extensions are passed over
 abbrev pub PassedSlots : Type 0
-PassedSlots = volume_slots (map (λ letters. slot_of letters 7 10 60000 0) (codes "VTBL" ∷ codes "XTBL" ∷ codes "UTID" ∷ codes "EXVT" ∷ codes "VTBL" ∷ []))
+PassedSlots = volume_slots (map (λ letters. slot_of letters 7 10 60000 0) (codes "VTBL" ∷ codes "XTBL" ∷ codes "UTID" ∷ codes "EXVT" ∷
+    codes "VTBL" ∷ []))
     ≡ slot_from 7 10 60000 0 ∷ slot_from 7 10 60000 0 ∷ []
 
 -- any other letters end the table
 abbrev pub EndedSlots : Type 0
-EndedSlots = volume_slots (slot_from 7 10 60000 0 ∷ slot_of (codes "VTBX") 11 12 0 0 ∷ slot_from 11 12 0 0 ∷ []) ≡ slot_from 7 10 60000 0 ∷ []
+EndedSlots = volume_slots (slot_from 7 10 60000 0 ∷ slot_of (codes "VTBX") 11 12 0 0 ∷ slot_from 11 12 0 0 ∷ []) ≡ slot_from 7 10 60000 0 ∷
+    []
 
 -- ---- ranges
 

@@ -1,6 +1,7 @@
 -- What a run over opened files answers, in the order of its tests: the output, the map of the output, the warning and the
 -- status, where nothing of the outside fails (this project's own).
-use Rattle.std.specs.Prelude.{ℕ, ◌+◌, ◌-◌, ◌≡◌, ◌&&◌, ◌==◌, nat_lt, not, Bool, false, List, [], ◌++◌, length, count_by, if◌then◌else◌, Option, Some, None, slice_get, unwrap_or, MatchBool}
+use Rattle.std.specs.Prelude.{ℕ, ◌+◌, ◌-◌, ◌≡◌, ◌&&◌, ◌==◌, nat_lt, not, Bool, false, List, [], ◌++◌, length, count_by, if◌then◌else◌}
+use Rattle.std.specs.Prelude.{Option, Some, None, slice_get, unwrap_or, MatchBool}
 use Rattle.std.specs.Option.{option_map, option_or, option_and_then}
 use Rattle.cartridge_spec.specs.Header.{HeaderFault}
 use Rattle.rescue_map.specs.declared.form.Block.{Block}

@@ -1,5 +1,6 @@
 -- What a check finds of each segment of a dump, and its counts (this project's profile).
-use Rattle.std.specs.Prelude.{ℕ, ◌+◌, ◌==◌, ◌≡◌, nat_le, Bool, true, false, List, [], ◌∷◌, ◌++◌, codes, count_by, filter, length, slice_index, take, decimal, if◌then◌else◌}
+use Rattle.std.specs.Prelude.{ℕ, ◌+◌, ◌==◌, ◌≡◌, nat_le, Bool, true, false, List, [], ◌∷◌, ◌++◌, codes, count_by, filter, length}
+use Rattle.std.specs.Prelude.{slice_index, take, decimal, if◌then◌else◌}
 use Rattle.cartridge_spec.specs.Says.{unreadable_count}
 use Rattle.cartridge_spec.specs.Shape.{usable_places, usable_count, data_count}
 use Rattle.command_spec.specs.Lines.{place_line, number_line}

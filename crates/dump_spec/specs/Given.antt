@@ -1,6 +1,7 @@
 -- What a segment gives, and how sure each of its data sectors is (QIC-80-MC: three sectors of parity behind the data; two
 -- code blocks differ in at least four sectors; the marks are this project's profile).
-use Rattle.std.specs.Prelude.{ℕ, suc, ◌-◌, ◌==◌, ◌||◌, ◌&&◌, ◌≡◌, ◌<◌, ◌≤◌, ◌⊎◌, nat_le, Bool, true, false, List, [], ◌∷◌, length, map, take, if◌then◌else◌, Option, Some, None}
+use Rattle.std.specs.Prelude.{ℕ, suc, ◌-◌, ◌==◌, ◌||◌, ◌&&◌, ◌≡◌, ◌<◌, ◌≤◌, ◌⊎◌, nat_le, Bool, true, false, List, [], ◌∷◌, length, map}
+use Rattle.std.specs.Prelude.{take, if◌then◌else◌, Option, Some, None}
 use Rattle.std.specs.List.{list_all}
 use Rattle.cartridge_spec.specs.Says.{unreadable_count}
 use Rattle.cartridge_spec.specs.Shape.{is_unreadable, sector_at}

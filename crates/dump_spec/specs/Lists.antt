@@ -1,5 +1,6 @@
 -- The lists of segments that a dump lacks and of bad sectors: text lines of decimal numbers (this project's profile).
-use Rattle.std.specs.Prelude.{ℕ, ◌+◌, ◌==◌, ◌&&◌, nat_le, nat_lt, Bool, List, [], ◌∷◌, ◌++◌, length, slice_index, if◌then◌else◌, Option, Some, None, option_and_then}
+use Rattle.std.specs.Prelude.{ℕ, ◌+◌, ◌==◌, ◌&&◌, nat_le, nat_lt, Bool, List, [], ◌∷◌, ◌++◌, length, slice_index, if◌then◌else◌, Option}
+use Rattle.std.specs.Prelude.{Some, None, option_and_then}
 use Rattle.std.specs.List.{list_any}
 use Rattle.rescue_map.specs.Lines.{Line, lines_of, content_of, is_blank, begun_word}
 use Rattle.rescue_map.specs.Map.{most_lines}

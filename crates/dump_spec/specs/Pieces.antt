@@ -1,6 +1,7 @@
 -- The pieces of a dump: where each segment's lies, and which are there (this project's profile; the form of data is what the
 -- Linux ftape driver hands out).
-use Rattle.std.specs.Prelude.{ℕ, ◌-◌, ◌*◌, ◌&&◌, nat_le, nat_lt, not, Bool, List, [], ◌∷◌, length, filter, sum_by, count_by, if◌then◌else◌, Option, Some, None}
+use Rattle.std.specs.Prelude.{ℕ, ◌-◌, ◌*◌, ◌&&◌, nat_le, nat_lt, not, Bool, List, [], ◌∷◌, length, filter, sum_by, count_by, if◌then◌else◌}
+use Rattle.std.specs.Prelude.{Option, Some, None}
 use Rattle.std.specs.List.{range_with_len}
 use Rattle.cartridge_spec.specs.Header.{has_signature}
 use Rattle.cartridge_spec.specs.Says.{whole_mask}

@@ -37,13 +37,14 @@ HasNoTapeTable form mask cells =
 
 -- The data of the table: by that reading where it gives any, and else what the segment gives, as any segment does. They are sure
 -- where the latter is.
-pub record HasTableData (form : Form) (zero_lost : Bool) (mask : ℕ) (cells : List SectorView) (area : List (List ℕ)) (sure : Bool) : Type 0 where
-  pub counted : List SectorView
-  pub counts : CountAs form zero_lost cells counted
-  pub given : List Given
-  pub gives : Gives form zero_lost cells given
-  pub data_are : (IsWholeSegment form mask × IsTapeTable counted area) ⊎ (HasNoTapeTable form mask counted × (area ≡ given_area given))
-  pub marks : sure ≡ all_sure given
+pub record HasTableData (form : Form) (zero_lost : Bool) (mask : ℕ) (cells : List SectorView) (area : List (List ℕ)) (sure : Bool) : Type 0
+  where
+    pub counted : List SectorView
+    pub counts : CountAs form zero_lost cells counted
+    pub given : List Given
+    pub gives : Gives form zero_lost cells given
+    pub data_are : (IsWholeSegment form mask × IsTapeTable counted area) ⊎ (HasNoTapeTable form mask counted × (area ≡ given_area given))
+    pub marks : sure ≡ all_sure given
 
 -- ---- where it is
 
@@ -58,7 +59,8 @@ table_segment (Some area) layout = first_data area
 table_segment None layout = segment_without layout.form layout.first
 
 -- the data of the table's segment
-abbrev pub IsTableData : (header : Option (List (List ℕ))) → Dump → Layout → (zero_lost : Bool) → (area : List (List ℕ)) → (sure : Bool) → Type 0
+abbrev pub IsTableData : (header : Option (List (List ℕ))) → Dump → Layout → (zero_lost : Bool) → (area : List (List ℕ)) → (sure : Bool) →
+    Type 0
 IsTableData header dump layout zero_lost area sure =
     let segment : ℕ = table_segment header layout in
     HasTableData layout.form zero_lost (layout.masks segment) (cells_in dump layout segment) area sure

@@ -4,9 +4,13 @@
 #[cfg(test)]
 mod addresses;
 #[cfg(test)]
+mod dump_headers;
+#[cfg(test)]
 mod field;
 #[cfg(test)]
 mod headers;
+#[cfg(test)]
+mod lists_read;
 #[cfg(test)]
 mod locating;
 #[cfg(test)]

@@ -84,16 +84,16 @@ pub record TextOf (old : Option (List ℕ)) (given : List ℕ) : Type 0 where
   pub rest : List ℕ
   pub told : IfSome old (λ bytes. given ++ rest ≡ bytes)
 
-text_of : (o p : Option (List ℕ)) (given : List ℕ) → WereGiven o p given → TextOf o given
+pub text_of : (o p : Option (List ℕ)) (given : List ℕ) → WereGiven o p given → TextOf o given
 text_of o None given gave = record { rest = []; told = rw gave tt }
 text_of o (Some rest) given gave = record { rest = rest; told = rw gave refl }
 
-text_ended : (o p : Option (List ℕ)) (given : List ℕ) → WereGiven o p given → NoneLeft p → IsInput o given
+pub text_ended : (o p : Option (List ℕ)) (given : List ℕ) → WereGiven o p given → NoneLeft p → IsInput o given
 text_ended o None given gave ended = rw gave tt
 text_ended o (Some rest) given gave ended = rw (gave, ended) (sym (append-nil given))
 
 -- where nothing is left, nothing is left of the source
-source_ended : {S : Type 0} (m : Meaning S) (s : S) (buffer : List ℕ) (ahead : Ahead) → NoneLeft (left_of m s buffer ahead) →
+pub source_ended : {S : Type 0} (m : Meaning S) (s : S) (buffer : List ℕ) (ahead : Ahead) → NoneLeft (left_of m s buffer ahead) →
     NoneLeft (m.left s)
 source_ended m s buffer ahead ended = by_left (drop ahead.at (take ahead.end buffer)) (m.left s) ended where
   none : (front rest : List ℕ) → front ++ rest ≡ [] → rest ≡ []

@@ -13,6 +13,8 @@ mod spelling;
 mod text;
 mod words;
 
+pub use ahead::{Ahead, next_byte};
 pub use form::Block;
+pub use mask::{clear, mark};
 pub use reading::{MapError, read_map};
 pub use text::{write_bytes, write_map};

@@ -16,8 +16,9 @@ pub fn clear(mask: &mut [u32])
     }
 }
 
-/// The sectors from `first` up to `end` are in the mask, too, as far as it goes.
-fn mark(mask: &mut [u32], first: u64, end: u64)
+/// The sectors from `first` up to `end` are in the mask, too, as far as it goes: bit `i` of word `w` is that of sector
+/// 32 `w` + `i`.
+pub fn mark(mask: &mut [u32], first: u64, end: u64)
     ensures { (sector : ℕ) → sector < 32 * length mask.old →
         (IsMarked mask.new sector ↔ (IsMarked mask.old sector ⊎ ((first ≤ sector) × (sector < end)))) }
 {

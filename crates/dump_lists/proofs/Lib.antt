@@ -1,0 +1,4 @@
+pub mod Converting
+pub mod Following
+pub mod Naming
+pub mod Numbering

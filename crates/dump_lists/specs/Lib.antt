@@ -1,0 +1,5 @@
+pub mod Masks
+pub mod Names
+pub mod Numbers
+pub mod Reads
+pub mod Scanning

@@ -1,0 +1,12 @@
+pub mod BufferCells
+pub mod CellsGathered
+pub mod CellsGiven
+pub mod CellsHidden
+pub mod Counting
+pub mod Filling
+pub mod Found
+pub mod ReadingWhole
+pub mod Salvaged
+pub mod Sets
+pub mod SureData
+pub mod Zeros

@@ -1,0 +1,9 @@
+pub mod Buffer
+pub mod Counted
+pub mod Filled
+pub mod Finding
+pub mod Found
+pub mod HeaderData
+pub mod Laws
+pub mod Reading
+pub mod Salvaged

@@ -1,0 +1,14 @@
+//! How the cells of 32 sectors in memory stand to those of a dump, as laws. Each is the contract of a function that does
+//! nothing.
+
+ghost use Rattle.segment_salvage.specs.Laws.{BufferIsPiece, UnreadIsLost};
+
+/// The cells of sectors are those of the dump's piece whose sectors they are, each read where it can be read there.
+pub fn buffer_is_piece()
+    ensures { BufferIsPiece }
+{}
+
+/// Where no sector can be read, all cells are lost, as they are where a segment has no piece.
+pub fn unread_is_lost()
+    ensures { UnreadIsLost }
+{}

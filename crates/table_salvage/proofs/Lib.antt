@@ -1,0 +1,2 @@
+pub mod TableData
+pub mod Tables
