@@ -4,12 +4,21 @@
     docs/picture.py IMAGE > PICTURE.svg
 
 What a segment is for gives the cell its ground; lost sectors and defects are drawn over it, from the bottom up, each as high
-as its share of the 32 sectors. A volume's segment with more than three lost usable sectors can't be read, and gets a cross.
-The image is read alone, in either version of its layout (FORMATS.md).
+as its share of the 32 sectors. A segment of header, table or volumes with more than three lost usable sectors can't be read,
+and gets a cross. Above stands the label, and below each volume with its number, name and segments.
+
+The image is read alone, in either version of its layout (FORMATS.md). Label and volumes are those that the program tells: its
+commands `info` and `list`, called on a copy, since they may write. The program is `tape` on the path, or the one that `make`
+built.
 """
 
+import shutil
 import struct
+import subprocess
 import sys
+import tempfile
+from pathlib import Path
+from xml.sax.saxutils import escape
 
 TRACKS = 28
 SECTORS = 32
@@ -35,12 +44,14 @@ class Image:
 
     def __init__(self, data):
         self.data = data
-        if data[:8] != b"QIC80IMG":
+        if data[:8] != b"QIC80IMG" or len(data) < HEAD:
             sys.exit("picture: no cartridge")
         self.per_track = struct.unpack_from("<H", data, 10)[0]
         self.count = TRACKS * SECTORS * self.per_track
         self.cells = data[14] == 0x5A
         self.base = struct.unpack_from("<Q", data, 16)[0] if self.cells else HEAD
+        if len(data) < self.base + 1027 * self.count:
+            sys.exit("picture: the image is shorter than its cartridge")
 
     def place(self, part, sector):
         """Where a part of a sector stands: 0 to 2 its state bytes, 3 its bytes."""
@@ -61,29 +72,43 @@ class Image:
     def states(self, segment):
         return [self.state(SECTORS * segment + index) for index in range(SECTORS)]
 
-    def sector(self, segment, index):
-        start = self.place(3, SECTORS * segment + index)
-        return self.data[start : start + 1024]
 
-    def volumes(self):
-        """The first and last segment of each volume, as the data sectors of the table hold them."""
-        table = b"".join(self.sector(2, index) for index in range(SECTORS - 3))
-        found = []
-        for start in range(0, len(table), 128):
-            if table[start : start + 4] != b"VTBL":
-                break
-            found.append(struct.unpack_from("<HH", table, start + 4))
-        return found
+class Told:
+    """What the program tells of the cartridge in an image: its label and volumes, or why it tells none."""
+
+    def __init__(self, data):
+        self.label, self.volumes, self.refusal = "", [], ""
+        program = shutil.which("tape") or str(Path(__file__).resolve().parent.parent / "out/bin/tape")
+        with tempfile.NamedTemporaryFile(suffix=".img") as copy:
+            copy.write(data)
+            copy.flush()
+            for command in ("info", "list"):
+                try:
+                    ran = subprocess.run([program, copy.name, command], capture_output=True, check=False)
+                except OSError as error:
+                    sys.exit(f"picture: {program}: {error.strerror}; build it by make")
+                if ran.returncode != 0:
+                    self.refusal = ran.stderr.decode("ascii", "replace").strip()
+                    return
+                self.take(command, ran.stdout.decode("ascii", "replace").splitlines())
+
+    def take(self, command, lines):
+        if command == "info":
+            self.label = lines[0].partition(" ")[2]
+            return
+        for line in lines[:-1]:
+            number, first, last, length, _, name = line.split(" ", 5)
+            self.volumes.append((int(number), int(first), int(last), int(length), name))
 
 
-def grounds(image):
+def grounds(image, told):
     """What each segment is for: a key of COLOURS."""
     segments = TRACKS * image.per_track
     kinds = ["free"] * segments
     kinds[0:3] = ["header or table"] * 3
-    for number, (first, last) in enumerate(image.volumes()):
+    for number, first, last, _, _ in told.volumes:
         for segment in range(first, min(last, segments - 1) + 1):
-            kinds[segment] = "next volume" if number % 2 else "volume"
+            kinds[segment] = "volume" if number % 2 else "next volume"
     return kinds
 
 
@@ -100,20 +125,22 @@ def cell(x, y, width, kind, states):
             bottom -= height
             parts.append(f'<rect x="{x}" y="{bottom}" width="{width}" height="{height}" fill="{COLOURS[name]}"/>')
     if lost > MOST_LOST and kind != "free":
-        parts.append(
-            f'<path d="M{x} {y}l{width} {CELL_HEIGHT}m0 -{CELL_HEIGHT}l-{width} {CELL_HEIGHT}" stroke="{COLOURS["defect"]}"/>'
-        )
+        parts.append(cross(x, y, width, CELL_HEIGHT))
     return parts
 
 
-def picture(image):
+def cross(x, y, width, height):
+    return f'<path d="M{x} {y}l{width} {height}m0 -{height}l-{width} {height}" stroke="{COLOURS["defect"]}"/>'
+
+
+def picture(image, told):
     """The lines of the SVG file."""
     width = max(4, min(24, 960 // image.per_track))
-    left, top = 70, 20
+    left, top = 70, 40
     right = left + (width + 1) * image.per_track
     bottom = top + (CELL_HEIGHT + 1) * TRACKS
-    lines = []
-    kinds = grounds(image)
+    lines = [f'<text x="{left}" y="24" font-size="14">{escape(told.refusal or told.label)}</text>']
+    kinds = grounds(image, told)
     for track in range(TRACKS):
         y = top + (CELL_HEIGHT + 1) * track
         lines.append(f'<text x="{left - 8}" y="{y + 13}" text-anchor="end">track {track}</text>')
@@ -125,7 +152,15 @@ def picture(image):
         lines.append(f'<rect x="{x}" y="{bottom + 12}" width="12" height="12" fill="{colour}" stroke="#888"/>')
         lines.append(f'<text x="{x + 17}" y="{bottom + 22}">{name}</text>')
         x += 30 + 7 * len(name)
-    size = f'width="{max(right, x) + 10}" height="{bottom + 40}"'
+    lines.append(cross(x, bottom + 12, 12, 12))
+    lines.append(f'<text x="{x + 17}" y="{bottom + 22}">can\'t be read</text>')
+    x += 30 + 7 * len("can't be read")
+    below = bottom + 36
+    for number, first, last, length, name in told.volumes:
+        below += 16
+        where = f"segments {first} to {last}" if first != last else f"segment {first}"
+        lines.append(f'<text x="{left}" y="{below}">{number} {escape(name)}: {length} bytes, {where}</text>')
+    size = f'width="{max(right, x) + 10}" height="{below + 20}"'
     style = 'font-family="sans-serif" font-size="11"'
     return [f'<svg xmlns="http://www.w3.org/2000/svg" {size} {style}>', *lines, "</svg>"]
 
@@ -133,9 +168,12 @@ def picture(image):
 def main():
     if len(sys.argv) != 2:
         sys.exit("usage: picture.py IMAGE")
-    with open(sys.argv[1], "rb") as file:
-        image = Image(file.read())
-    print("\n".join(picture(image)))
+    try:
+        data = Path(sys.argv[1]).read_bytes()
+    except OSError as error:
+        sys.exit(f"picture: {sys.argv[1]}: {error.strerror}")
+    image = Image(data)
+    print("\n".join(picture(image, Told(data))))
 
 
 if __name__ == "__main__":
