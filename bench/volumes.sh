@@ -1,7 +1,8 @@
 #!/usr/bin/env bash
 # Times format, append and restore of one volume on a cartridge of 100 segments per track, a file on a disk and
 # one in memory: beside the bare writes and syncs of the same places in the same order, beside cp of the image,
-# and beside tar into a file with one sync. Restore also with three lost sectors in each segment of the volume.
+# and beside tar into a file with one sync. Restore also with three lost sectors in each segment of the volume, and
+# check of the same images.
 # And upgrade of an image of version 1 with that volume, beside cp of it with one sync.
 #
 #     bench/volumes.sh [RUNS [BYTES [FOLDER ..]]]
@@ -129,7 +130,9 @@ round() {
     fresh formatted.img; bare append
     fresh whole.img; timed restore "$program" "$room/image" restore 1
     bare restore
+    timed check "$program" "$room/image" check
     fresh worn.img; timed restore_worn "$program" "$room/image" restore 1
+    timed check_worn "$program" "$room/image" check || [ $? = 21 ]
     timed cp cp --sparse=never "$room/image" "$room/copy"; rm "$room/copy"
     fresh old.img
     timed bare_upgrade sh -c 'cp --sparse=never "$1/image" "$1/copy" && sync "$1/copy"' sh "$room"; rm "$room/copy"
@@ -180,6 +183,8 @@ for folder in "${folders[@]}"; do
     of_bytes restore "$bytes" restore
     of_bytes bare_restore "$bytes" '  its reads alone'
     of_bytes restore_worn "$bytes" 'restore, three lost a segment'
+    of_bytes check "$bytes" check
+    of_bytes check_worn "$bytes" 'check, three lost a segment'
     of_bytes cp "$(stat -c %s "$base/worn.img")" 'cp of the image'
     of_bytes tar "$bytes" 'tar and one sync'
     echo "the usage line: $(memory usage) kB"
