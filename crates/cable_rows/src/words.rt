@@ -75,7 +75,9 @@ fn make(seed: u32, count: u32) -> Words {
 
 #[test]
 fn words_have_their_values(rt: HostRuntime) -> Result<(), Fail> {
-    let table: [(&[&str], Words); 16] = [
+    let table: [(&[&str], Words); 18] = [
+        (&["room"], Words::Room),
+        (&["check"], Words::Check),
         (&["scrub"], Words::Scrub),
         (&["scrub", "deep"], Words::ScrubDeep),
         (&["script"], Words::Script),

@@ -15,11 +15,11 @@ use Rattle.cartridge_front.specs.Finding.{HasFormat, FindsVolumes}
 use Rattle.cartridge_front.specs.Learning.{MountRefuses}
 use Rattle.cartridge_front.proofs.Copies.{IsLearnt}
 
-sound_format : (c : Cartridge) (words : List ℕ) (header : Header) → HasFormat c words header → IsSoundlyFormatted c
+pub sound_format : (c : Cartridge) (words : List ℕ) (header : Header) → HasFormat c words header → IsSoundlyFormatted c
 sound_format c words header has = record { area = has.area; header = header_of header; words = words; formatted = has.formatted }
 
 -- the last segment, by what the host has learnt
-last_learnt : (host : Host) (c : Cartridge) → IsLearnt host c → 28 * segments_of host - 1 ≡ last_segment c
+pub last_learnt : (host : Host) (c : Cartridge) → IsLearnt host c → 28 * segments_of host - 1 ≡ last_segment c
 last_learnt host c learnt = ap (λ (n : ℕ). 28 * n - 1) (sym learnt.length_told)
 
 -- a refusal of the volume table, on a cartridge with a sound header

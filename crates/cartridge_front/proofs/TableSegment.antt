@@ -48,7 +48,7 @@ found-take sectors n i bytes within there =
     ∙ there
 
 -- where no data sector was lost, all can be read, and stand in their places
-collected_reads : (cells : List SectorView) (lost : ℕ) (sectors : List (List ℕ)) → length cells ≡ 32 → length sectors ≡ 32 →
+pub collected_reads : (cells : List SectorView) (lost : ℕ) (sectors : List (List ℕ)) → length cells ≡ 32 → length sectors ≡ 32 →
     Gathered cells lost sectors → ¬ (LosesData lost) → ReadsAll cells (take 29 sectors)
 collected_reads cells lost sectors count room gathered none = record {
   size = omega (arith, length-take 29 sectors);

@@ -71,7 +71,7 @@ fn read_copy<T: Tape>(
 }
 
 /// Reads the header in force, that of copy 0 where it can be read and else that of copy 1, and its map of bad sectors.
-pub(crate) fn read_header<T: Tape>(
+pub fn read_header<T: Tape>(
     host: &mut Host,
     unit: &mut Unit<T>,
     work: &mut Workspace,

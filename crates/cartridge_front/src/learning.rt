@@ -31,8 +31,8 @@ pub struct Learnt {
     pub unread: Unread,
 }
 
-/// Has the drive stop the tape and enter Primary mode.
-fn enter_primary<T: Tape>(host: &mut Host, unit: &mut Unit<T>) -> Result<(), StoreFault>
+/// Has the drive stop the tape and enter Primary mode. It never fails.
+pub fn enter_primary<T: Tape>(host: &mut Host, unit: &mut Unit<T>) -> Result<(), StoreFault>
     requires ready { IsReady T.means host.old unit.old }
     ensures ok { IsOk result }
     ensures mode { unit.new.drive.deck.mode ≡ Mode.Primary }

@@ -12,7 +12,9 @@ mod table_writer;
 mod volume_reader;
 
 pub use fault::StoreFault;
-pub use learning::{Learnt, learn};
+pub use header_reader::read_header;
+pub use learning::{Learnt, enter_primary, learn};
 pub use refreshing::{add_entry, settle_again};
 pub use settling::settle;
-pub use table_reader::Unread;
+pub use table_reader::{Unread, data_sectors, read_table};
+pub use volume_reader::read_volumes;

@@ -36,7 +36,7 @@ pub struct Unread {
 }
 
 /// The first 29 sectors of a workspace, where those of a whole segment's data stand.
-pub(crate) fn data_sectors(work: &Workspace) -> &[Sector]
+pub fn data_sectors(work: &Workspace) -> &[Sector]
     ensures value { result.now ≡ take 29 work.now }
     ensures size { length result.now ≡ 29 }
 {
@@ -121,7 +121,7 @@ fn solve_table(lost: LostSet, work: &mut Workspace) -> Result<Unread, SegFault>
 /// Reads the volume table's segment: its data sectors as they are, where all can be read, and else those of the code
 /// block that agrees with the others, or with those outside the first of the further sets for which there is one. The
 /// parity sectors stand as they are. The answer is the sectors that the tape may hold otherwise.
-pub(crate) fn read_table<T: Tape>(
+pub fn read_table<T: Tape>(
     host: &mut Host,
     unit: &mut Unit<T>,
     work: &mut Workspace,

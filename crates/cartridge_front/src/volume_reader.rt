@@ -1,6 +1,6 @@
 //! The list of volumes read.
 
-ghost use Rattle.std.specs.Prelude.{◌≡◌, ◌≢◌, ℕ, ◌-◌, ◌*◌, [], true, length, take, OnOk};
+ghost use Rattle.std.specs.Prelude.{◌≡◌, ◌≢◌, ℕ, ◌-◌, ◌*◌, [], true, length, take, Err, OnOk};
 ghost use Rattle.qic_base.specs.TapeCalls.{Tells};
 ghost use Rattle.drive_spec.specs.Terms.{is_referenced};
 ghost use Rattle.drive_states.specs.Reach.{reads_in};
@@ -35,6 +35,7 @@ fn decode_table(table: &mut Table, area: &[Sector], last: u32) -> Result<(), Sto
     requires { length area.now ≡ 29 }
     ensures shown { DecodesTable area.now last table.new result }
     ensures kind { RefusesMounting result }
+    ensures formatted { result ≢ Err StoreFault.NotFormatted }
     ensures cause { (n : ℕ) → NamesCause n result }
 {
     match table.decode(area, last) {
@@ -52,7 +53,7 @@ fn decode_table(table: &mut Table, area: &[Sector], last: u32) -> Result<(), Sto
 
 /// Reads the volume table's segment and the list of volumes in its data. The answer is the sectors that the tape may
 /// hold otherwise.
-pub(crate) fn read_volumes<T: Tape>(
+pub fn read_volumes<T: Tape>(
     host: &mut Host,
     unit: &mut Unit<T>,
     work: &mut Workspace,
@@ -65,6 +66,7 @@ pub(crate) fn read_volumes<T: Tape>(
     ensures found { result ≢ Err StoreFault.Tape → Tells T.means unit.old.tape (λ c.
         FindsVolumes c (28 * segments_of host.old - 1) work.new table.new result) }
     ensures kind { RefusesMounting result }
+    ensures formatted { result ≢ Err StoreFault.NotFormatted }
     ensures cause { NamesCause (segments_of host.old) result }
     ensures shown { OnOk result
         (ShowsVolumes (take 29 work.new) (28 * segments_of host.old - 1) table.new) }

@@ -2,6 +2,7 @@
 use Rattle.std.proofs.Common.{[], ℕ, List, ◌≡◌, ◌++◌, Option, false}
 use Rattle.command_laws.proofs.CommandTable.{laws_of}
 use Rattle.command_spec.specs.Commands.{traits_of}
+use Rattle.command_laws.specs.CommandRecord.{is_unsound}
 use Rattle.command_laws.specs.CommandFields.{FrontPrints, CommandPrints, RefusedPrints, Yields}
 use Rattle.command_spec.specs.Outcome.{CommandOutcome}
 use Rattle.command_spec.specs.Machine.{IsOfBytes}
@@ -33,8 +34,8 @@ pub shorter_front : (command : Words) (front rest text : List ℕ) → front ++ 
 shorter_front command front rest text parts prints = (laws_of command).texts.shorter_front front rest text parts prints
 
 -- one that was refused may have printed nothing, ..
-pub none_printed : (command : Words) (answer : Status) → RefusedPrints command answer []
-none_printed command answer = (laws_of command).texts.none_printed answer
+pub none_printed : (command : Words) (answer : Status) → is_unsound answer ≡ false → RefusedPrints command answer []
+none_printed command answer other = (laws_of command).texts.none_printed answer other
 
 -- .. and what it printed is a front of a text
 pub refused_front : (command : Words) (answer : Status) (text : List ℕ) → RefusedPrints command answer text → FrontPrints command text

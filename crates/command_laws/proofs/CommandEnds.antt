@@ -1,5 +1,5 @@
 -- What follows of how a command ended, whatever the command is.
-use Rattle.std.proofs.Common.{◌≡◌, ◌≤◌, arith, ℕ, Option, Some, None, IfSome, subst, List, refl, false, true, ◌≢◌, ◌⊎◌, inl, inr, [], ◌++◌}
+use Rattle.std.proofs.Common.{◌≡◌, arith, ℕ, Option, Some, None, IfSome, subst, List, refl, false, true, ◌≢◌, ◌⊎◌, inl, inr, [], ◌++◌}
 use Rattle.std.proofs.Common.{IsSomeAnd, ap, ◌∙◌, sym}
 use Rattle.std.specs.Option.{option_map}
 use Rattle.std.specs.Prelude.{is_some}

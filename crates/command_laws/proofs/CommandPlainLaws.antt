@@ -7,7 +7,6 @@ use Rattle.cartridge_laws.proofs.MountOnce.{mounts_is_function}
 use Rattle.cartridge_laws.proofs.MountWhole.{settling_effects}
 use Rattle.cartridge_spec.specs.Formatting.{IsFirstDefectInFront, clearing_steps, format_steps, HasNoDefectInFront, IsFreshWith}
 use Rattle.cartridge_spec.specs.Header.{Header}
-use Rattle.cartridge_spec.specs.HeaderCopies.{IsUnformatted}
 use Rattle.cartridge_spec.specs.Mounting.{Mounting, settled, Mounts}
 use Rattle.cartridge_spec.specs.Settling.{settling_steps}
 use Rattle.cartridge_spec.specs.Table.{Entry}
@@ -379,17 +378,7 @@ format_locked label date c outcome locked (inl is) = is.1
 format_locked label date c outcome locked (inr (inl is)) = let free = is.0 in absurd (cc)
 format_locked label date c outcome locked (inr (inr is)) = let free = is.0 in absurd (cc)
 
--- ---- an unformatted one, and one with a defect in front
-
-pub open_unformatted : (goes : Going) (c : Cartridge) (outcome : CommandOutcome) → IsUnformatted c → OpenOutcome goes (Some c) outcome →
-    outcome ≡ refused status.NotFormatted
-open_unformatted goes c outcome bare (m, mounts, opened) =
-    subst (λ (k : Mounting). Opened goes c k outcome) (mounts_is_function c m mounting.NotFormatted mounts bare) opened
-
-pub writable_unformatted : (goes : Going) (c : Cartridge) (outcome : CommandOutcome) → c.info.protected ≡ false → IsUnformatted c →
-    WritableOutcome goes (Some c) outcome → outcome ≡ refused status.NotFormatted
-writable_unformatted goes c outcome free bare (inl is) = let locked = is.0 in absurd (cc)
-writable_unformatted goes c outcome free bare (inr is) = open_unformatted goes c outcome bare is.1
+-- ---- one with a defect in front
 
 pub format_in_front : (label : List ℕ) (date : ℕ) (c : Cartridge) (segment : ℕ) (outcome : CommandOutcome) → c.info.protected ≡ false →
     IsFirstDefectInFront c segment →

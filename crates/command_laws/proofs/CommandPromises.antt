@@ -25,6 +25,7 @@ use Rattle.command_spec.specs.Input.{most_items}
 use Rattle.command_laws.specs.RunTerms.{Answers, EndsBlind}
 use Rattle.command_spec.specs.Several.{IsHeard}
 use Rattle.command_laws.specs.MadeTerms.{AppendedFrom}
+use Rattle.command_laws.specs.CommandRecord.{is_unsound}
 use Rattle.command_laws.specs.CommandFields.{HasInputFault, FrontPrints, RefusedPrints}
 use Rattle.command_spec.specs.Machine.{HasValues, Spells, SpellsNone, may_come_from, NamesFault, InputLeft, IsCutOff, CommandEnds, is_fault}
 use Rattle.command_spec.specs.Machine.{Finished, is_outcome}
@@ -263,6 +264,11 @@ idle_changes_nothing status.Usage is = (refl, refl, refl)
 idle_changes_nothing status.NoMemory is = (refl, refl, refl)
 idle_changes_nothing answer is = absurd (cc)
 
+idle_is_sound : (answer : Status) → is_idle answer ≡ true → is_unsound answer ≡ false
+idle_is_sound status.Usage is = refl
+idle_is_sound status.NoMemory is = refl
+idle_is_sound answer is = absurd (cc)
+
 idle_carries_nothing : (answer : Status) → is_idle answer ≡ true → (IsCarriedOut answer → ⊥) × (IsHeard answer → ⊥)
 idle_carries_nothing answer is =
     let nothing = idle_changes_nothing answer is in (
@@ -355,7 +361,7 @@ module _ {T S K : Type 0} (t : tapes.Meaning T) (s : sources.Meaning S) (k : sin
         kept = kept;
         text = record {
           done = λ done. let no = ap is_idle done in absurd (cc);
-          refused = λ command spells sound unlike. ([], none_printed command answer, laws.nothing old.sink);
+          refused = λ command spells sound unlike. ([], none_printed command answer (idle_is_sound answer is), laws.nothing old.sink);
           begun = begun;
         };
       }

@@ -1,5 +1,6 @@
 -- The laws of each command, in a file of its own, and what follows for all of them.
 pub mod AppendCommand
+pub mod CheckCommand
 pub mod DeepScrubCommand
 pub mod DefectCommand
 pub mod FormatCommand
@@ -18,6 +19,7 @@ pub mod UpgradeCommand
 use Rattle.std.proofs.Common.{◌≤◌, length, ◌≡◌, ◌∙◌, ℕ, List, [], ◌∷◌, Option, IfSome, ap, refl, if◌then◌else◌}
 use Rattle.std.specs.Str.{bytes_eq}
 use Rattle.command_laws.proofs.CommandTable.AppendCommand.{append_laws, append_read, append_reading}
+use Rattle.command_laws.proofs.CommandTable.CheckCommand.{check_laws, check_read, check_reading}
 use Rattle.command_laws.proofs.CommandTable.DeepScrubCommand.{deep_scrub_laws, deep_scrub_read}
 use Rattle.command_laws.proofs.CommandTable.DefectCommand.{defect_laws, defect_read, defect_reading}
 use Rattle.command_laws.proofs.CommandTable.FormatCommand.{format_laws, format_read, format_reading}
@@ -50,7 +52,7 @@ abbrev pub readings : List Reading
 readings =
     new_reading ∷ defect_reading ∷ lose_reading ∷ protect_reading ∷ format_reading ∷ info_reading ∷ append_reading ∷ list_reading ∷
     restore_reading
-    ∷ scrub_reading ∷ pulses_reading ∷ script_reading ∷ make_reading ∷ upgrade_reading ∷ room_reading ∷ []
+    ∷ scrub_reading ∷ pulses_reading ∷ script_reading ∷ make_reading ∷ upgrade_reading ∷ room_reading ∷ check_reading ∷ []
 
 -- the command that the first of them reads, whose word the words begin with
 abbrev pub read_among : List Reading → (first : List ℕ) → (behind : List (List ℕ)) → Words
@@ -89,6 +91,7 @@ described (words.Format label date) = record {
 }
 described words.Info = record { laws = info_laws; read = read_by info_reading (λ behind. refl) info_read }
 described words.Room = record { laws = room_laws; read = read_by room_reading (λ behind. refl) room_read }
+described words.Check = record { laws = check_laws; read = read_by check_reading (λ behind. refl) check_read }
 described (words.Append name date) = record {
   laws = append_laws name date;
   read = read_by append_reading (λ behind. refl)

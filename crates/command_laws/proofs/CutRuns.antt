@@ -1,5 +1,5 @@
 -- What a fault of the outside cuts off is a run that was stopped, with the text that it had printed; and a run leaves what mounts.
-use Rattle.std.proofs.Common.{◌≡◌, ◌∙◌, ◌++◌, ℕ, List, ◌∷◌, append_assoc, ap, inl, is_some, refl, subst, sym, Option, Some, None, IsSomeAnd}
+use Rattle.std.proofs.Common.{◌≡◌, ◌∙◌, ◌++◌, ℕ, List, ◌∷◌, append_assoc, ap, is_some, subst, sym, Option, Some, None, IsSomeAnd}
 use Rattle.cartridge_laws.proofs.FormatWriting.{some_weaker}
 use Rattle.cartridge_laws.proofs.MountStanding.{standing_mounts}
 use Rattle.cartridge_spec.specs.Mounting.{Mounts, mounted_as}
@@ -8,17 +8,14 @@ use Rattle.cartridge_spec.specs.Volumes.{Plain, Stands}
 use Rattle.command_laws.proofs.CommandEnds.{after_steps, over_at, told_weaker}
 use Rattle.command_laws.proofs.CommandSeveral.{cut_left, still_told}
 use Rattle.command_laws.proofs.CommandTable.{has_values}
-use Rattle.command_laws.proofs.CommandVolumes.{now_weaker}
 use Rattle.command_laws.proofs.MadeAnswered.{next_torn}
 use Rattle.command_laws.proofs.ReadableRuns.{runs_keep_readable}
 use Rattle.command_laws.specs.CutLaws.{CutRunsAreStopped, RunsReopen}
 use Rattle.command_laws.specs.Life.{Leaves, Stopped}
 use Rattle.command_laws.specs.ReadableLaws.{WordsKeepReadable}
 use Rattle.command_spec.specs.Command.{ReadsAs}
-use Rattle.command_spec.specs.Headline.{EachLeft, ToldNow}
-use Rattle.command_spec.specs.Machine.{fault_of}
+use Rattle.command_spec.specs.Headline.{ToldNow}
 use Rattle.command_spec.specs.Outcome.{CommandOutcome}
-use Rattle.command_spec.specs.Promises.{Promises}
 use Rattle.qic_base.proofs.Joins.{steps_of-append}
 use Rattle.qic_base.proofs.Steps.{Torn-all, Torn-behind, Torn-front}
 use Rattle.qic_base.specs.Acts.{Act, Cut, Failing, Outside, SinkFails, SourceFails, TapeFails, next_steps, steps_of, text_of}

@@ -1,4 +1,12 @@
 pub mod BetweenCarrying
+pub mod CheckAnswered
+pub mod CheckLeft
+pub mod CheckMended
+pub mod CheckPrinted
+pub mod CheckScrubbed
+pub mod CheckSound
+pub mod CheckTable
+pub mod Checked
 pub mod CommandAdded
 pub mod CommandAppends
 pub mod CommandClean

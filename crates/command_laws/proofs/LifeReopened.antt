@@ -1,5 +1,5 @@
 -- Behind each event of a life in which no sector of the table's segment is lost beside what a stop takes, the cartridge mounts.
-use Rattle.std.proofs.Common.{◌≡◌, ◌≢◌, ◌<◌, ℕ, All, inl, inr, List, [], ◌∷◌, sym, subst, refl, Bool, Option, Some, None, IfSome}
+use Rattle.std.proofs.Common.{◌≡◌, ◌≢◌, ◌<◌, ℕ, All, inr, List, [], ◌∷◌, sym, subst, refl, Bool, Option, Some, None, IfSome}
 use Rattle.cartridge_laws.proofs.FormatWriting.{some_and}
 use Rattle.cartridge_laws.proofs.MountStanding.{standing_mounts}
 use Rattle.cartridge_spec.specs.TableSegment.{CanBeRead}

@@ -1,6 +1,6 @@
 -- In a life in which no sector of the table's segment is lost beside what a stop takes, what a run leaves mounts again.
 use Rattle.std.proofs.Common.{◌≡◌, ◌≢◌, ◌⊎◌, ◌≤◌, ◌<◌, ℕ, All, arith, inl, inr, List, [], ◌∷◌, ap, ◌∙◌, sym, subst, refl, Bool, true, false}
-use Rattle.std.proofs.Common.{Option, Some, None, IsSomeAnd, IfSome, length, take, zero, suc}
+use Rattle.std.proofs.Common.{Option, Some, None, IsSomeAnd, length, take, zero, suc}
 use Rattle.std.proofs.lemmas.Bool.{cases_Bool}
 use Rattle.std.proofs.lemmas.List.{take_all}
 use Rattle.std.specs.Prelude.{codes}
@@ -14,8 +14,7 @@ use Rattle.cartridge_laws.proofs.MountStanding.{can_be_read, standing_mounts}
 use Rattle.cartridge_spec.specs.Appending.{with_bytes}
 use Rattle.cartridge_spec.specs.Formatting.{HasNoHeader}
 use Rattle.cartridge_spec.specs.HeaderCopies.{IsUnformatted}
-use Rattle.cartridge_spec.specs.Mounting.{Mounted, Mounts, settled}
-use Rattle.cartridge_spec.specs.Settling.{settling_steps}
+use Rattle.cartridge_spec.specs.Mounting.{settled}
 use Rattle.cartridge_spec.specs.TableSegment.{CanBeRead, IsTableLive}
 use Rattle.cartridge_spec.specs.Volumes.{Plain, Stands, entries_of, worn}
 use Rattle.command_laws.proofs.CommandComesBack.{make_comes_back, script_comes_answered, script_comes_back}
@@ -33,9 +32,8 @@ use Rattle.command_laws.proofs.ReadableRuns.{ReadableOrNot, format_left_readable
 use Rattle.command_laws.proofs.ScriptSpeaking.{as_many}
 use Rattle.command_laws.specs.CommandFields.{Yields}
 use Rattle.command_laws.specs.Life.{Answered, CommandSpares, Ended, IsSound, IsSoundWith, Leaves, LinesSpare, MayEnd, Stopped, StopsAmong}
-use Rattle.command_laws.specs.Life.{begun_by}
 use Rattle.command_laws.specs.LifeReopens.{CanReopen, LinesSpareTable, SparesTable}
-use Rattle.command_laws.specs.Outcomes.{NewOutcome, ScriptOutcome}
+use Rattle.command_laws.specs.Outcomes.{ScriptOutcome}
 use Rattle.command_spec.specs.Commands.{command_of}
 use Rattle.command_spec.specs.Input.{Item}
 use Rattle.command_spec.specs.Machine.{HasValues}
@@ -45,7 +43,6 @@ use Rattle.command_spec.specs.Script.{Did, Scripting}
 use Rattle.command_spec.specs.ScriptLists.{FirstSpare, ItemsSpare, ItemsSpareTable, with_items}
 use Rattle.command_spec.specs.Several.{Scripted}
 use Rattle.command_spec.specs.Single.{FormatOutcome}
-use Rattle.command_spec.specs.declared.status.Status.{Status}
 use Rattle.command_spec.specs.declared.words.Words.{Words}
 use Rattle.qic_base.specs.Acts.{Act, steps_of}
 use Rattle.qic_base.specs.Cartridge.{Cartridge, new_cartridge}
@@ -53,7 +50,6 @@ use Rattle.qic_base.specs.CartridgeTerms.{IsCartridge}
 use Rattle.qic_base.specs.Step.{Renew, Wear, effects, Torn}
 use Rattle.qic_base.specs.declared.tape.TapeInfo.{TapeInfo}
 use Rattle.cartridge_laws.specs.HeaderTerms.{IsBare}
-use Rattle.command_spec.specs.declared.status.Status.TheVariants as status
 use Rattle.command_spec.specs.declared.words.Words.TheVariants as words
 
 -- ---- what is read and what is not

@@ -1,5 +1,5 @@
 -- Runs of calls that reach a part of the outside alone, as runs over all of it; and a reply behind them.
-use Rattle.std.proofs.Common.{[], ◌≡◌, ◌≢◌, ℕ, ◌≤◌, List, ◌∷◌, ◌++◌, refl, sym, subst, arith, append-nil}
+use Rattle.std.proofs.Common.{[], ◌≡◌, ◌≢◌, ℕ, List, ◌∷◌, ◌++◌, refl, sym, subst, arith, append-nil}
 use Rattle.command_spec.specs.Script.{reply}
 use Rattle.qic_base.proofs.Joins.{went_both, went_then_cut, sink_cut_one}
 use Rattle.qic_base.proofs.Steps.{Done-nothing}

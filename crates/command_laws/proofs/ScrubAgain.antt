@@ -55,7 +55,7 @@ no_write : (b : Bool) (segment place : ℕ) (bytes : List ℕ) (rest : List Step
 no_write true segment place bytes rest readable none = absurd (cc)
 no_write false segment place bytes rest readable none = none
 
-mending_none : (d : Cartridge) (segment : ℕ) (places : List ℕ) (sectors : List (List ℕ)) →
+pub mending_none : (d : Cartridge) (segment : ℕ) (places : List ℕ) (sectors : List (List ℕ)) →
     ((k : ℕ) → k < length places → is_unreadable (view_at d segment (get_or places k 0)) ≡ false) →
     mending_writes d segment places sectors ≡ []
 mending_none d segment [] sectors readable = refl

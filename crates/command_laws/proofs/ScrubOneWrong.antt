@@ -22,7 +22,7 @@ use Rattle.command_laws.proofs.ScrubStanding.{same_place}
 use Rattle.cartridge_laws.proofs.Writing.{cell_at}
 use Rattle.command_laws.proofs.ScrubTurns.{steps_whole}
 use Rattle.command_laws.specs.DeepScrubLaws.{FormIsFunction, FormAlways}
-use Rattle.command_spec.specs.Scrub.{Looked, cells_at, reads, looked_at, Finding, IsSearched, IsWrong, HasFound, FindInTurn, steps_for}
+use Rattle.command_spec.specs.Scrub.{Looked, cells_at, reads, looked_at, Finding, IsSearched, IsWrong, HasFoundBy, FindInTurn, steps_for}
 use Rattle.command_spec.specs.Scrub.{without}
 use Rattle.command_laws.specs.ScrubTerms.{Finds, acts_for}
 use Rattle.command_spec.specs.declared.depth.Depth.{Depth}
@@ -166,13 +166,13 @@ finding_same f g saying wrong =
     ap (λ (s : Saying). record { saying = s; wrong = f.wrong }) saying
     ∙ ap (λ (w : Option ℕ). record { saying = g.saying; wrong = w }) wrong
 
-found_once : (depth : Depth) (c : Cartridge) (l : Looked) (s t : Saying) (v w : Option ℕ) → HasFound depth c l s v →
-    HasFound depth c l t w →
+pub found_once : (searched : Type 0) (c : Cartridge) (l : Looked) (s t : Saying) (v w : Option ℕ) → HasFoundBy searched c l s v →
+    HasFoundBy searched c l t w →
     (s ≡ t) × (v ≡ w)
-found_once depth c l s t None None one two = (says_is_function (cells_at c l) s t one.0 two.0, refl)
-found_once depth c l s t None (Some j) one two = absurd (one.1 two.0 j two.1 two.3)
-found_once depth c l s t (Some i) None one two = absurd (two.1 one.0 i one.1 one.3)
-found_once depth c l s t (Some i) (Some j) one two =
+found_once searched c l s t None None one two = (says_is_function (cells_at c l) s t one.0 two.0, refl)
+found_once searched c l s t None (Some j) one two = absurd (one.1 two.0 j two.1 two.3)
+found_once searched c l s t (Some i) None one two = absurd (two.1 one.0 i one.1 one.3)
+found_once searched c l s t (Some i) (Some j) one two =
     let index : i ≡ j = one_wrong c l i j one.1 two.1 one.3 two.3 in
     let same : Data one.1 ≡ Data two.1 =
     says_is_function (cells_at (worn l.segment j c) l) (Data one.1) (Data two.1)
@@ -181,7 +181,7 @@ found_once depth c l s t (Some i) (Some j) one two =
 
 pub finds_one : (depth : Depth) (c : Cartridge) (l : Looked) (f g : Finding) → Finds depth c l f → Finds depth c l g → f ≡ g
 finds_one depth c l f g one two =
-    let both = found_once depth c l f.saying g.saying f.wrong g.wrong one two in
+    let both = found_once (IsSearched depth l) c l f.saying g.saying f.wrong g.wrong one two in
     finding_same f g both.0 both.1
 
 pub one_turn : (depth : Depth) (ls : List Looked) (c : Cartridge) (fs gs : List Finding) → FindInTurn depth c ls fs →
@@ -225,10 +225,10 @@ worn_whole c segment sector whole =
     with_view_whole c segment sector (worn_view (view_at c segment sector)) whole
     (worn_is_view (view_at c segment sector) (view_of_cartridge c segment sector whole))
 
-record IsSomeWrong (c : Cartridge) (l : Looked) : Type 0 where
-  sector : ℕ
-  sectors : List (List ℕ)
-  wrong : IsWrong c l sector sectors
+pub record IsSomeWrong (c : Cartridge) (l : Looked) : Type 0 where
+  pub sector : ℕ
+  pub sectors : List (List ℕ)
+  pub wrong : IsWrong c l sector sectors
 
 -- no sector at one of the first places is wrong
 abbrev NoneBefore : Cartridge → Looked → ℕ → Type 0
@@ -266,7 +266,7 @@ search_before c l (suc n) h whole mismatch few =
       ]
     ]
 
-search : (c : Cartridge) (l : Looked) (s : Saying) → IsCartridge c → Says (cells_at c l) s →
+pub search : (c : Cartridge) (l : Looked) (s : Saying) → IsCartridge c → Says (cells_at c l) s →
     IsSomeWrong c l ⊎ ((sector : ℕ) (ds : List (List ℕ)) → IsWrong c l sector ds → ⊥)
 search c l (Data xs) whole says = inr (λ sector ds wrong. let both = says_is_function (cells_at c l)
     (Data xs) Mismatch says wrong.mismatch in cc)

@@ -1,5 +1,5 @@
 -- Behind `scrub deep` each sector is as it was, or was put right.
-use Rattle.std.proofs.Common.{◌≡◌, ◌⊎◌, inl, inr, ℕ, List, ◌<◌, ap, sym, ◌∙◌, refl, subst, Contains, Some}
+use Rattle.std.proofs.Common.{◌≡◌, ◌⊎◌, inl, inr, ℕ, List, ap, sym, ◌∙◌, refl, subst, Contains, Some}
 use Rattle.cartridge_laws.specs.Segment.{IsUnreadable}
 use Rattle.cartridge_spec.specs.Says.{Data}
 use Rattle.cartridge_spec.specs.Settling.{changed_by}

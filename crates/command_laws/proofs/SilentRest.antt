@@ -107,14 +107,14 @@ holds_same c e l xs same (inr (other, one)) = inr (
   },
 )
 
-mendable_same : (c e : Cartridge) (l : Looked) (xs : List (List ℕ)) → IsSameIn c e l.segment → IsMendable c l xs → IsMendable e l xs
+pub mendable_same : (c e : Cartridge) (l : Looked) (xs : List (List ℕ)) → IsSameIn c e l.segment → IsMendable c l xs → IsMendable e l xs
 mendable_same c e l xs same mendable = record {
   data_of = mendable.data_of;
   holds = holds_same c e l xs (same_cells c e l.segment l.mask same) mendable.holds;
 }
 
 -- the settling of the table leaves the others
-settled_same : (c : Cartridge) (header : Header) (words : List ℕ) (table : List (List ℕ)) (entries : List Entry) (l : Looked) →
+pub settled_same : (c : Cartridge) (header : Header) (words : List ℕ) (table : List (List ℕ)) (entries : List Entry) (l : Looked) →
     Mounts c (Mounted header words table entries) → (l.segment ≡ 2 → ⊥) → IsSameIn c (settled table c) l.segment
 settled_same c header words table entries l mounts other i h = (settled_keeps_table c table mounts.reads).others l.segment i h other
 

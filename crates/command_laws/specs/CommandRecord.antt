@@ -1,9 +1,8 @@
 -- All that a theorem over all commands asks of one: the laws of a command, in one record.
-use Rattle.std.specs.Prelude.{All, ◌<◌, length, ◌≤◌, true, None, ◌≡◌, ◌++◌, ℕ, List, [], Option, Some, IfSome, IsSomeAnd, false}
+use Rattle.std.specs.Prelude.{All, ◌<◌, length, ◌≤◌, true, None, ◌≡◌, ◌++◌, ℕ, List, [], Option, Some, IfSome, IsSomeAnd, false, Bool}
 use Rattle.cartridge_laws.specs.ChangeSteps.{HasNoRenew}
 use Rattle.cartridge_spec.specs.Formatting.{IsFirstDefectInFront, HasCleanCopies, HasNoHeader}
 use Rattle.cartridge_spec.specs.Header.{Header}
-use Rattle.cartridge_spec.specs.HeaderCopies.{IsUnformatted}
 use Rattle.cartridge_spec.specs.Shape.{IsArea}
 use Rattle.cartridge_spec.specs.Mounting.{Mounted, Mounts}
 use Rattle.cartridge_spec.specs.Table.{Entry}
@@ -18,10 +17,15 @@ use Rattle.qic_base.specs.Step.{Torn}
 use Rattle.cartridge_laws.specs.HeaderTerms.{NeitherReads}
 use Rattle.command_spec.specs.declared.status.Status.TheVariants as status
 
--- What it prints hangs together: before its first act nothing is printed, and nothing is a front of its text; so is all of it, a
--- front of a front, and what it has printed that was refused.
+-- what was found is told with its counts
+abbrev pub is_unsound : Status → Bool
+is_unsound (status.Unsound mendable bad) = true
+is_unsound answer = false
+
+-- What it prints hangs together: before its first act nothing is printed, but where counts are told, and nothing is a front of its
+-- text; so is all of it, a front of a front, and what it has printed that was refused.
 pub record TextLaws (prints fronts : List ℕ → Type 0) (refused : Status → List ℕ → Type 0) : Type 0 where
-  pub none_printed : (answer : Status) → refused answer []
+  pub none_printed : (answer : Status) → is_unsound answer ≡ false → refused answer []
   pub nothing_front : fronts []
   pub text_front : (text : List ℕ) → prints text → fronts text
   pub shorter_front : (front rest text : List ℕ) → front ++ rest ≡ text → fronts text → fronts front
@@ -56,9 +60,7 @@ pub record CommandLaws (command : Command) : Type 0 where
       outcome ≡ refused status.NoCartridge
   pub locked : command.traits.writable ≡ true → (c : Cartridge) (input : List ℕ) (outcome : CommandOutcome) → c.info.protected ≡ true →
       command.yields (Some c) input outcome → outcome ≡ refused status.Protected
-  -- an unformatted one stops those that mount it, and a defect in front one that formats
-  pub unformatted : command.traits.mounts ≡ true → (c : Cartridge) (input : List ℕ) (outcome : CommandOutcome) → c.info.protected ≡ false →
-      IsUnformatted c → command.yields (Some c) input outcome → outcome ≡ refused status.NotFormatted
+  -- a defect in front stops one that formats
   pub in_front : command.traits.formats ≡ true → (c : Cartridge) (segment : ℕ) (input : List ℕ) (outcome : CommandOutcome) →
       c.info.protected ≡ false →
       IsFirstDefectInFront c segment → command.yields (Some c) input outcome → outcome.status ≡ status.DefectInFront segment

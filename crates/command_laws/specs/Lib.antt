@@ -1,6 +1,7 @@
 pub mod ActStops
 pub mod AppendTerms
 pub mod Between
+pub mod CheckLaws
 pub mod CommandFields
 pub mod CommandLaws
 pub mod CommandRecord

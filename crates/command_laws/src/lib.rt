@@ -3,6 +3,7 @@
 //! nothing; no code stands here.
 #![tactic(auto)]
 
+pub mod checking;
 pub mod commands;
 pub mod copying;
 pub mod deep_scrubbing;

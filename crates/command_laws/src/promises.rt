@@ -1,7 +1,8 @@
 //! What follows of the promises of a run and is no clause of them. Each is the contract of a function that does nothing.
 
 ghost use Rattle.command_laws.specs.CutLaws.{CutRunsAreStopped, RunsReopen};
-ghost use Rattle.command_laws.specs.PromiseLaws.{AnswersWhereNoneRose, DeepScrubRunMends, RoomLeavesAll, ScriptsUntold};
+ghost use Rattle.command_laws.specs.PromiseLaws.{AnswersWhereNoneRose, DeepScrubRunMends, FaultsWhereCountsRose, LeavesAll, ScriptsUntold};
+ghost use Rattle.command_spec.specs.declared.words.Words.TheVariants.{Check, Room};
 ghost use Rattle.command_laws.specs.ReadableLaws.{FormatsLeaveReadable, FormattedCanBeRead, RunsKeepReadable};
 
 use qic_base::{Sink, Source, Tape};
@@ -11,6 +12,11 @@ pub fn a_run_without_a_failure_answers<T: Tape, S: Source, K: Sink>()
     ensures { AnswersWhereNoneRose T.means S.means K.means }
 {}
 
+/// Below the greatest count a fault of an object of the outside is answered exactly where its count rose.
+pub fn a_fault_is_answered_where_its_count_rose<T: Tape, S: Source, K: Sink>()
+    ensures { FaultsWhereCountsRose T.means S.means K.means }
+{}
+
 /// A run of `scrub deep` that is answered Done mends sectors that silently hold other bytes.
 pub fn a_run_that_scrubs_deep_mends<T: Tape, S: Source, K: Sink>()
     ensures { DeepScrubRunMends T.means S.means K.means }
@@ -18,7 +24,12 @@ pub fn a_run_that_scrubs_deep_mends<T: Tape, S: Source, K: Sink>()
 
 /// `room` leaves a cartridge exactly as it was, at its end and at any moment of it, protected or not.
 pub fn a_run_that_tells_the_room_leaves_all<T: Tape, S: Source, K: Sink>()
-    ensures { RoomLeavesAll T.means S.means K.means }
+    ensures { LeavesAll T.means S.means K.means Room }
+{}
+
+/// So does `check`.
+pub fn a_run_that_checks_leaves_all<T: Tape, S: Source, K: Sink>()
+    ensures { LeavesAll T.means S.means K.means Check }
 {}
 
 /// Behind a formatting that was carried out the volume table can be read; and what one leaves that was stopped is

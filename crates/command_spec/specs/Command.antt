@@ -72,11 +72,13 @@ pub record Traits : Type 0 where
   pub writable : Bool
   pub sector : Bool
   pub blank : Bool
-  -- it formats; mounts the cartridge; appends volumes, of bytes of its input; is refused by a volume's segment that doesn't read
+  -- it formats; mounts the cartridge; appends volumes, of bytes of its input; is refused by a volume's segment that doesn't read;
+  -- tells what is unsound
   pub formats : Bool
   pub mounts : Bool
   pub appends : Bool
   pub restores : Bool
+  pub checks : Bool
 
 -- one with none of them
 abbrev pub none_of_them : Traits
@@ -93,6 +95,7 @@ none_of_them = record {
   mounts = false;
   appends = false;
   restores = false;
+  checks = false;
 }
 
 -- ---- what it may need of a cartridge

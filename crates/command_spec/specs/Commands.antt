@@ -1,5 +1,6 @@
 -- The commands: the record of each, from its own file, and its words and traits by that (this project's own).
 use Rattle.command_spec.specs.Append.{append_command}
+use Rattle.command_spec.specs.Check.{check_command}
 use Rattle.command_spec.specs.Command.{Command, Traits}
 use Rattle.command_spec.specs.Scrub.{deep_scrub_command, scrub_command}
 use Rattle.command_spec.specs.Single.{defect_command, format_command, info_command, list_command, lose_command, new_command}
@@ -20,6 +21,7 @@ command_of (words.Protect on) = protect_command on
 command_of (words.Format label date) = format_command label date
 command_of words.Info = info_command
 command_of words.Room = room_command
+command_of words.Check = check_command
 command_of (words.Append name date) = append_command name date
 command_of words.List = list_command
 command_of (words.Restore number) = restore_command number

@@ -1,4 +1,5 @@
 pub mod Append
+pub mod Check
 pub mod Command
 pub mod Commands
 pub mod Copied

@@ -100,6 +100,7 @@ may_come_from (status.DefectInFront segment) command = (traits_of command).forma
 may_come_from status.TableMismatch command = (traits_of command).mounts
 may_come_from (status.Full need have) command = (command_of command).is_full need have
 may_come_from (status.NoVolume number count) command = (command_of command).is_no_volume number count
+may_come_from (status.Unsound mendable bad) command = (traits_of command).checks && nat_lt 0 (mendable + bad)
 may_come_from (status.Mismatch segment) command = (traits_of command).restores && nat_le 3 segment
 may_come_from answer command = false
 

@@ -107,13 +107,15 @@ pub record IsWrong (c : Cartridge) (looked : Looked) (sector : ℕ) (sectors : L
   pub says : Says (cells_at (worn looked.segment sector c) looked) (Data sectors)
   pub can_be_read : reads looked (Data sectors) ≡ true
 
--- what a segment says, where no sector is found to be wrong; else what it says with the wrong one lost
+-- what a segment says, where no sector is found to be wrong; else what it says with the wrong one lost; if it is searched
+abbrev pub HasFoundBy : (searched : Type 0) → Cartridge → Looked → Saying → (wrong : Option ℕ) → Type 0
+HasFoundBy searched c looked saying None =
+    Says (cells_at c looked) saying × (searched → (sector : ℕ) (sectors : List (List ℕ)) → IsWrong c looked sector sectors → ⊥)
+HasFoundBy searched c looked saying (Some sector) =
+    searched × (sectors : List (List ℕ)) × (saying ≡ Data sectors) × IsWrong c looked sector sectors
+
 abbrev pub HasFound : Depth → Cartridge → Looked → Saying → (wrong : Option ℕ) → Type 0
-HasFound depth c looked saying None =
-    Says (cells_at c looked) saying
-    × (IsSearched depth looked → (sector : ℕ) (sectors : List (List ℕ)) → IsWrong c looked sector sectors → ⊥)
-HasFound depth c looked saying (Some sector) =
-    IsSearched depth looked × (sectors : List (List ℕ)) × (saying ≡ Data sectors) × IsWrong c looked sector sectors
+HasFound depth c looked saying wrong = HasFoundBy (IsSearched depth looked) c looked saying wrong
 
 -- the writes: those of a scrub, where the wrong sector counts as lost
 abbrev pub steps_for : Cartridge → Looked → Finding → List Step

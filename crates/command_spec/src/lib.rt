@@ -8,6 +8,7 @@ mod depth;
 mod line;
 mod refusal;
 mod status;
+mod verdict;
 mod words;
 
 pub use copy_fault::CopyFault;
@@ -16,6 +17,7 @@ pub use depth::Depth;
 pub use line::Line;
 pub use refusal::Refusal;
 pub use status::Status;
+pub use verdict::Verdict;
 pub use words::Words;
 
 /// The most lines of an input, before the line `end`: trains of `pulses`, or lines of a script.

@@ -29,6 +29,8 @@ pub enum Status {
     Lost { segment: u32, lost: u8 },
     /// The sectors of a segment that can be read are those of no code block.
     Mismatch { segment: u32 },
+    /// All segments were looked at: so many can be mended, and so many can't.
+    Unsound { mendable: u32, bad: u32 },
     /// A sector of the segments 0 to 2 is a defect.
     DefectInFront { segment: u32 },
     /// The sector was formatted, so it can be made no defect.

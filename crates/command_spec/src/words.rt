@@ -14,6 +14,8 @@ pub enum Words {
     Format { label: Name, date: u32 },
     Info,
     Room,
+    /// What can be mended and what can't, without a write.
+    Check,
     Append { name: Name, date: u32 },
     List,
     Restore { number: u32 },

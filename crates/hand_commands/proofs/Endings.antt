@@ -7,6 +7,7 @@ use Rattle.command_laws.proofs.CommandTable.{plain_is_function}
 use Rattle.command_spec.specs.Commands.{traits_of}
 use Rattle.command_spec.specs.Single.{DefectOutcome, LoseOutcome}
 use Rattle.command_spec.specs.Lines.{protected_line, lost_line, defect_line, upgraded_line}
+use Rattle.command_laws.specs.CommandRecord.{is_unsound}
 use Rattle.command_laws.specs.CommandFields.{Yields, CommandPrints}
 use Rattle.command_laws.specs.RunTerms.{EndsBlind}
 use Rattle.command_spec.specs.Outcome.{CommandOutcome, refused, refused_behind, acted, carried_out}
@@ -90,9 +91,10 @@ module _ {T K : Type 0} (t : tapes.Meaning T) (k : sinks.Meaning K) where
 
   -- it was refused, with nothing done and nothing printed
   pub turned_down : (command : Words) → IsBlind command → (a b : T) (x : K) (why : Status) → ((z : K) → k.took z [] z) →
-      may_come_from why command ≡ true → why ≢ status.Done → IfSome (t.told a) (λ held. Rules command held (refused why)) →
+      may_come_from why command ≡ true → is_unsound why ≡ false → why ≢ status.Done →
+      IfSome (t.told a) (λ held. Rules command held (refused why)) →
       tapes.Done t a b [] → EndsBlind t k command a b x x why
-  turned_down command blind a b x why nothing sound other told did = inl (record {
+  turned_down command blind a b x why nothing sound uncounted other told did = inl (record {
     outcome = refused why;
     answered = refl;
     told = over_rules (t.told a) command (refused why) blind told;
@@ -100,7 +102,7 @@ module _ {T K : Type 0} (t : tapes.Meaning T) (k : sinks.Meaning K) where
     left = none_taken why 0;
     sound = sound;
     none_taken = λ blind. refl;
-    prints = ((λ is. absurd (other is)), (λ unlike. none_printed command why));
+    prints = ((λ is. absurd (other is)), (λ unlike. none_printed command why uncounted));
     silent = λ still unlike. refl;
     fault = tt;
   })
@@ -108,9 +110,10 @@ module _ {T K : Type 0} (t : tapes.Meaning T) (k : sinks.Meaning K) where
   -- .. with some steps done
   pub turned_behind : (command : Words) → IsBlind command → (a b : T) (x : K) (why : Status) (steps : List TapeStep) →
       ((z : K) → k.took z [] z) →
-      may_come_from why command ≡ true → why ≢ status.Done → IfSome (t.told a) (λ held. Rules command held (refused_behind steps why)) →
+      may_come_from why command ≡ true → is_unsound why ≡ false → why ≢ status.Done →
+      IfSome (t.told a) (λ held. Rules command held (refused_behind steps why)) →
       tapes.Done t a b steps → EndsBlind t k command a b x x why
-  turned_behind command blind a b x why steps nothing sound other told did = inl (record {
+  turned_behind command blind a b x why steps nothing sound uncounted other told did = inl (record {
     outcome = refused_behind steps why;
     answered = refl;
     told = over_rules (t.told a) command (refused_behind steps why) blind told;
@@ -118,7 +121,7 @@ module _ {T K : Type 0} (t : tapes.Meaning T) (k : sinks.Meaning K) where
     left = none_taken why 0;
     sound = sound;
     none_taken = λ blind. refl;
-    prints = ((λ is. absurd (other is)), (λ unlike. none_printed command why));
+    prints = ((λ is. absurd (other is)), (λ unlike. none_printed command why uncounted));
     silent = λ still unlike. refl;
     fault = tt;
   })

@@ -152,7 +152,7 @@ pub format_unstarted : {T K : Type 0} (t : tapes.Meaning T) (k : sinks.Meaning K
     (why : Status) → ((z : K) → k.took z [] z) →
     NoStart t a b why → EndsBlind t k (Format label date) a b x x why
 format_unstarted t k label date a b x why nothing (inl (is, (did, none))) =
-    rw is (turned_down t k (Format label date) is_blind a b x status.NoCartridge nothing refl (λ same. cc)
+    rw is (turned_down t k (Format label date) is_blind a b x status.NoCartridge nothing refl refl (λ same. cc)
     (no_cartridge label date (t.told a) none) did)
 format_unstarted t k label date a b x why nothing (inr (is, broke)) =
     rw is (cut_off_first t k (Format label date) is_blind a b x nothing broke)
@@ -163,13 +163,13 @@ pub format_faulted : {T K : Type 0} (t : tapes.Meaning T) (k : sinks.Meaning K) 
     Formats t info.segments_per_track label date b c words (Err f) →
     EndsBlind t k (Format label date) a c x x (format_status f)
 format_faulted t k label date a b c x info words fault.Protected nothing there marked came =
-    turned_down t k (Format label date) is_blind a c x status.Protected nothing refl (λ is. cc)
+    turned_down t k (Format label date) is_blind a c x status.Protected nothing refl refl (λ is. cc)
     (told_known (t.told a) (Some info) (λ h. Rules (Format label date) h (refused status.Protected)) there.known
     (λ held known input. protected_is label date info held (marked.0 refl) known)) (Done-Done there.did came)
 format_faulted t k label date a b c x info words (fault.DefectInFront segment) nothing there marked came =
     let unlocked : info.protected ≡ false = not_true info.protected (λ mark. let is = marked.1 mark in cc) in
     turned_behind t k (Format label date) is_blind a c x (status.DefectInFront segment) (clearing_steps info.segments_per_track) nothing
-    (lt-ltb segment 3 came.in_front) (λ is. cc)
+    (lt-ltb segment 3 came.in_front) refl (λ is. cc)
     (told_known_beside (t.told a) (Some info) (λ d. IsFirstDefectInFront d segment)
     (λ h. Rules (Format label date) h (cleared info.segments_per_track segment)) there.known
     (told_at_start t a b there.did (λ d. IsFirstDefectInFront d segment) came.first)

@@ -1,4 +1,5 @@
 pub mod Added
+pub mod Checks
 pub mod Formats
 pub mod Mounted
 pub mod Restored

@@ -26,6 +26,7 @@ use Rattle.volume_store.proofs.Opened.{opening_cut}
 use Rattle.volume_store.specs.Opening.{HasOpened, IsTurnedDown, OpenFails, StartFails}
 use Rattle.volume_store.specs.declared.opening.OpenFault.{OpenFault}
 use Rattle.command_laws.specs.CommandFields.{CommandPrints, Yields}
+use Rattle.command_laws.specs.CommandRecord.{is_unsound}
 use Rattle.command_laws.specs.RunTerms.{EndsBlind}
 use Rattle.command_laws.proofs.CommandOpened.{quiet}
 use Rattle.command_laws.proofs.CommandTold.{input_told, input_bytes}
@@ -210,6 +211,11 @@ writable_failed t a b why free (inr cut) = inr (inr cut)
 pub no_outcome : (why : Status) → is_opening why ≡ true → why ≢ status.Done
 no_outcome why sound same = let no = ap is_opening same in cc
 
+-- an opening counts nothing
+pub no_counts : (why : Status) → is_opening why ≡ true → is_unsound why ≡ false
+no_counts (status.Unsound mendable bad) sound = absurd (cc)
+no_counts why sound = refl
+
 -- a segment that an opening finds lost is that of the volume table
 pub table_lost : (segment lost : ℕ) (b : Bool) → (nat_lt 3 lost && segment == 2) ≡ true → (segment ≡ 2 → b ≡ true) →
     (nat_lt 3 lost && (nat_le 2 segment && b)) ≡ true
@@ -267,7 +273,8 @@ pub refuses : {T K : Type 0} (t : tapes.Meaning T) (k : sinks.Meaning K) (comman
     (why : Status) → Follows command goes → ((z : K) → k.took z [] z) →
     OpeningEnds t a b (Err why) → EndsBlind t k command a b.tape x x why
 refuses t k command goes a b x why follows nothing (inl turned) =
-    turned_down t k command follows.blind a b.tape x why nothing (follows.found why turned.sound) (no_outcome why turned.sound)
+    turned_down t k command follows.blind a b.tape x why nothing (follows.found why turned.sound) (no_counts why turned.sound)
+    (no_outcome why turned.sound)
     (told_map (t.told a) _ _ turned.told (λ held is. follows.rules held (refused why) (refused_is goes why held is))) turned.did
 refuses t k command goes a b x why follows nothing (inr (is, cut)) =
     rw is (cut_off t k command follows.blind a b.tape x cut.steps nothing

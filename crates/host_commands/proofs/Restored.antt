@@ -118,7 +118,7 @@ module _ {T K : Type 0} (t : tapes.Meaning T) (k : sinks.Meaning K) (number : 鈩
       EndsBlind t k (words.Restore number) a b.tape x x (status.NoVolume number (length store.entries))
   none_given x nothing none =
       turned_behind t k (words.Restore number) (restore_follows number).blind a b.tape x
-      (status.NoVolume number (length store.entries)) opening.steps nothing (none_sound store.entries number none) (位 is. cc)
+      (status.NoVolume number (length store.entries)) opening.steps nothing (none_sound store.entries number none) refl (位 is. cc)
       (told_map (t.told a) _ _ opening.told (位 held is input.
       opened_is (Gives number) (refused_behind opening.steps (status.NoVolume number (length store.entries))) store opening.steps held is
       (位 c table there mounts settles. inl

@@ -12,7 +12,7 @@ use Rattle.command_spec.specs.declared.status.Status.{Status}
 use Rattle.drive_states.specs.Unit.{UnitView}
 use Rattle.hand_commands.proofs.Endings.{IsBlind, printed, turned_down, cut_off_first, told_map}
 use Rattle.hand_commands.specs.Writing.{printed_status}
-use Rattle.host_commands.proofs.Mounted.{no_outcome, open_failed, refused_is, table_lost}
+use Rattle.host_commands.proofs.Mounted.{no_counts, no_outcome, open_failed, refused_is, table_lost}
 use Rattle.host_commands.specs.Opening.{OpeningEnds, OpeningRefused, is_opening}
 use Rattle.host_commands.specs.Statuses.{open_status}
 use Rattle.qic_base.specs.Cartridge.{Cartridge}
@@ -58,7 +58,8 @@ module _ {T K : Type 0} (t : tapes.Meaning T) (k : sinks.Meaning K) (a : T) (b :
   turned_room : (why : Status) → ((z : K) → k.took z [] z) → why ≢ status.TapeFault → OpeningEnds t a b (Err why) → EndsBlind t k
       words.Room a b.tape x x why
   turned_room why nothing other (inl turned) =
-      turned_down t k words.Room blind a b.tape x why nothing (found_by_room why turned.sound) (no_outcome why turned.sound)
+      turned_down t k words.Room blind a b.tape x why nothing (found_by_room why turned.sound) (no_counts why turned.sound)
+      (no_outcome why turned.sound)
       (told_map (t.told a) _ _ turned.told (λ held is input. refused_is TellsRoom why held is)) turned.did
   turned_room why nothing other (inr (is, cut)) = absurd (other is)
 

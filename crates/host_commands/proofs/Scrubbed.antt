@@ -36,7 +36,7 @@ use Rattle.host_commands.specs.Opening.{IsUnlocked, WritableEnds, is_opening}
 use Rattle.host_commands.specs.Statuses.{store_status}
 use Rattle.hand_commands.specs.Outcome.{first_steps}
 use Rattle.hand_commands.proofs.Endings.{IsBlind, turned_behind, turned_down, cut_off, told_map, told_both}
-use Rattle.host_commands.proofs.Mounted.{BeginsSettling, no_outcome, locked_is, unlocked_refused_is, writable_begins, table_lost}
+use Rattle.host_commands.proofs.Mounted.{BeginsSettling, no_counts, no_outcome, locked_is, unlocked_refused_is, writable_begins, table_lost}
 use Rattle.qic_base.proofs.Steps.{tells_two}
 use Rattle.qic_base.specs.Sink as sinks
 use Rattle.qic_base.specs.Tape as tapes
@@ -120,10 +120,11 @@ module _ (command : Words) (depth : Depth) (form : IsForm command depth) where
       ((z : K) → k.took z [] z) →
       WritableEnds t a b (Err why) → EndsBlind t k command a b.tape x x why
   refused_form t k a b x why nothing (inl locked) =
-      rw locked.answered (turned_down t k command form.blind a b.tape x status.Protected nothing form.locked (λ is. cc)
+      rw locked.answered (turned_down t k command form.blind a b.tape x status.Protected nothing form.locked refl (λ is. cc)
       (told_map (t.told a) _ _ locked.told (λ held is input. form.yields held input _ (locked_is (ScrubsBy depth) held is))) locked.did)
   refused_form t k a b x why nothing (inr (inl (free, turned))) =
-      turned_down t k command form.blind a b.tape x why nothing (form.found why turned.sound) (no_outcome why turned.sound)
+      turned_down t k command form.blind a b.tape x why nothing (form.found why turned.sound)
+      (no_counts why turned.sound) (no_outcome why turned.sound)
       (told_map (t.told a) _ _ (told_both (t.told a) _ _ free turned.told)
       (λ held is input. form.yields held input _ (unlocked_refused_is (ScrubsBy depth) why held is.0 is.1))) turned.did
   refused_form t k a b x why nothing (inr (inr (is, cut))) =
@@ -138,7 +139,7 @@ module _ (command : Words) (depth : Depth) (form : IsForm command depth) where
     locked_form : (x : K) → ((z : K) → k.took z [] z) → IsUnlocked t a → is_protected b.drive.deck ≡ true →
         EndsBlind t k command a b.tape x x status.Protected
     locked_form x nothing free locked =
-        turned_behind t k command form.blind a b.tape x status.Protected opening.steps nothing form.locked (λ is. cc)
+        turned_behind t k command form.blind a b.tape x status.Protected opening.steps nothing form.locked refl (λ is. cc)
         (told_map (t.told a) _ _ (told_both (t.told a) _ _ free (found_locked t a b store opening locked))
         (λ held is. absurd (never_both held is.0 is.1))) opening.did
 

@@ -1,6 +1,7 @@
 -- What is found of a segment, by the deep reading of its cells.
 use Rattle.std.proofs.Common.{◌≡◌, ◌≢◌, ◌↔◌, ℕ, ◌+◌, ◌<◌, ◌≤◌, refl, sym, ◌∙◌, ap, subst, arith, inl, inr, true, false, List, length}
-use Rattle.std.proofs.Common.{slice_get, get_or, slice_index, Option, Some, None, IsSomeAnd}
+use Rattle.std.proofs.Common.{slice_get, get_or, slice_index, Option, Some, None, IsSomeAnd, Result, Ok, Err}
+use Rattle.std.specs.Prelude.{IfOk}
 use Rattle.std.proofs.lemmas.Bool.{cases_eq, cases_lt, false≢true}
 use Rattle.std.proofs.lemmas.Option.{slice_get_past}
 use Rattle.cartridge_laws.proofs.ChangeViews.{held_before, worn_reads_no_more}
@@ -16,14 +17,20 @@ use Rattle.command_laws.proofs.ScrubOneWrong.{IsPlace, wrong_place, cell_unworn,
 use Rattle.command_laws.proofs.ScrubSeen.{worn_here, worn_elsewhere}
 use Rattle.command_laws.proofs.ScrubStanding.{same_place}
 use Rattle.cartridge_laws.proofs.Writing.{cell_at}
-use Rattle.command_spec.specs.Scrub.{Looked, cells_at, reads, IsSearched, IsWrong, HasFound}
-use Rattle.command_spec.specs.declared.depth.Depth.{Depth}
+use Rattle.command_spec.specs.Scrub.{Looked, cells_at, reads, IsWrong, HasFoundBy}
+use Rattle.qic_base.proofs.Steps.{Tells-map}
 use Rattle.qic_base.specs.Cartridge.{Cartridge, view_at}
 use Rattle.qic_base.specs.CartridgeTerms.{IsLost}
 use Rattle.qic_base.specs.Step.{worn_view}
+use Rattle.qic_base.specs.Tape.{Meaning}
+use Rattle.qic_base.specs.TapeCalls.{Tells}
 use Rattle.qic_base.specs.declared.tape.SectorView.{SectorView}
 use Rattle.qic_base.specs.declared.tape.SectorView.TheVariants.{Holds}
 use Rattle.segment_io.specs.Gathered.{IsUnreadableAt, NamesUnreadable}
+use Rattle.segment_mending.specs.Locating.{IsFoundBy, MayBeBy, DeepFinds, DeepMayFind}
+use Rattle.segment_mending.specs.declared.fault.ScrubFault.{ScrubFault}
+use Rattle.segment_mending.specs.declared.locating.Found.{Found}
+use Rattle.segment_mending.specs.declared.locating.Found.TheVariants.{Reads, Fails}
 use Rattle.silent_locate.proofs.Readings.{one_deep_reading}
 use Rattle.silent_locate.specs.Deep.{Deep, HasNoReading}
 
@@ -96,39 +103,40 @@ deep_of_wrong c l sector ds wrong =
 -- ---- findings
 
 -- what says anything but that it has no block has no wrong sector
-plainly : (depth : Depth) (c : Cartridge) (l : Looked) (s : Saying) → Says (cells_at c l) s → (s ≡ Mismatch → ⊥) → HasFound depth c l s None
-plainly depth c l s says other =
-    (says, λ searched sector ds wrong. other (says_is_function (cells_at c l) s Mismatch says wrong.mismatch))
+plainly : (searched : Type 0) (c : Cartridge) (l : Looked) (s : Saying) → Says (cells_at c l) s → (s ≡ Mismatch → ⊥) →
+    HasFoundBy searched c l s None
+plainly searched c l s says other =
+    (says, λ is sector ds wrong. other (says_is_function (cells_at c l) s Mismatch says wrong.mismatch))
 
-pub found_right : (depth : Depth) (c : Cartridge) (l : Looked) (block : List (List ℕ)) → Deep (cells_at c l) block None →
-    HasFound depth c l (Data (data_of block)) None
-found_right depth c l block deep =
-    plainly depth c l (Data (data_of block)) (deep.few, record { block = block; code = deep.code; agrees = deep.agrees; shown = refl })
+pub found_right : (searched : Type 0) (c : Cartridge) (l : Looked) (block : List (List ℕ)) → Deep (cells_at c l) block None →
+    HasFoundBy searched c l (Data (data_of block)) None
+found_right searched c l block deep =
+    plainly searched c l (Data (data_of block)) (deep.few, record { block = block; code = deep.code; agrees = deep.agrees; shown = refl })
     (λ same. cc)
 
-pub found_many : (depth : Depth) (c : Cartridge) (l : Looked) (n : ℕ) → Says (cells_at c l) (LostSectors n) →
-    HasFound depth c l (LostSectors n) None
-found_many depth c l n says = plainly depth c l (LostSectors n) says (λ same. cc)
+pub found_many : (searched : Type 0) (c : Cartridge) (l : Looked) (n : ℕ) → Says (cells_at c l) (LostSectors n) →
+    HasFoundBy searched c l (LostSectors n) None
+found_many searched c l n says = plainly searched c l (LostSectors n) says (λ same. cc)
 
-pub found_none : (depth : Depth) (c : Cartridge) (l : Looked) → unreadable_count (cells_at c l) ≤ 3 → HasNoReading (cells_at c l) →
-    HasFound depth c l Mismatch None
-found_none depth c l few none = (
+pub found_none : (searched : Type 0) (c : Cartridge) (l : Looked) → unreadable_count (cells_at c l) ≤ 3 → HasNoReading (cells_at c l) →
+    HasFoundBy searched c l Mismatch None
+found_none searched c l few none = (
   (few, λ block code agrees. none block None (record { few = few; code = code; agrees = agrees })),
-  λ searched sector ds wrong. let other = deep_of_wrong c l sector ds wrong in none other.block (Some wrong.place) other.deep,
+  λ is sector ds wrong. let other = deep_of_wrong c l sector ds wrong in none other.block (Some wrong.place) other.deep,
 )
 
-pub found_wrong : (depth : Depth) (c : Cartridge) (l : Looked) (place : ℕ) (block : List (List ℕ)) → IsSearched depth l →
+pub found_wrong : (searched : Type 0) (c : Cartridge) (l : Looked) (place : ℕ) (block : List (List ℕ)) → searched →
     place < usable_count l.mask → Deep (cells_at c l) block (Some place) → reads l (Data (data_of block)) ≡ true →
-    HasFound depth c l (Data (data_of block)) (Some (index_at l place))
-found_wrong depth c l place block searched within deep can = (searched, data_of block, refl, wrong_of_deep c l place block within deep can)
+    HasFoundBy searched c l (Data (data_of block)) (Some (index_at l place))
+found_wrong searched c l place block is within deep can = (is, data_of block, refl, wrong_of_deep c l place block within deep can)
 
 -- a block that does not read is the only one that could be had, so no sector is wrong
-pub found_unfit : (depth : Depth) (c : Cartridge) (l : Looked) (place : ℕ) (block : List (List ℕ)) →
-    Deep (cells_at c l) block (Some place) → reads l (Data (data_of block)) ≡ false → HasFound depth c l Mismatch None
-found_unfit depth c l place block deep unfit =
+pub found_unfit : (searched : Type 0) (c : Cartridge) (l : Looked) (place : ℕ) (block : List (List ℕ)) →
+    Deep (cells_at c l) block (Some place) → reads l (Data (data_of block)) ≡ false → HasFoundBy searched c l Mismatch None
+found_unfit searched c l place block deep unfit =
     let few : unreadable_count (cells_at c l) ≤ 1 = deep.few in (
       (omega arith, deep.none_agrees),
-      λ searched sector ds wrong.
+      λ is sector ds wrong.
           let other = deep_of_wrong c l sector ds wrong in
           let same : block ≡ other.block =
           (one_deep_reading (cells_at c l) block other.block (Some place) (Some wrong.place) deep other.deep).0 in
@@ -184,3 +192,37 @@ names_with_wrong c l place lost places within names here others i =
             λ u. (others i apart).1 ((names i).1 (subst (λ (o : Option SectorView). IsSomeAnd o IsUnreadable) as_it_was u)),
           )
     ]
+
+-- ---- what is found of a segment that is searched
+
+pub for_searched : (searched : Type 0) (c : Cartridge) (l : Looked) (found : Found) (sectors : List (List ℕ)) → searched →
+    DeepFinds c l found sectors → IsFoundBy searched c l found sectors
+for_searched searched c l (Reads places None) sectors is found =
+    record { finds = (found.finds.0, λ again. found.finds.1 tt); places = found.places }
+for_searched searched c l (Reads places (Some sector)) sectors is found =
+    record { finds = (is, found.finds.1, found.finds.2, found.finds.3); places = found.places }
+for_searched searched c l (Fails why) sectors is found =
+    record { finds = (found.finds.0, λ again. found.finds.1 tt); places = tt }
+
+pub may_be_searched : (searched : Type 0) (l : Looked) (found : Found) (sectors : List (List ℕ)) → searched →
+    DeepMayFind l found sectors → MayBeBy searched l found sectors
+may_be_searched searched l (Reads places None) sectors is may =
+    record { within = may.within; code = may.code; can_be_read = may.can_be_read; may = tt }
+may_be_searched searched l (Reads places (Some sector)) sectors is may =
+    record { within = may.within; code = may.code; can_be_read = may.can_be_read; may = (is, may.may.1) }
+may_be_searched searched l (Fails why) sectors is may = may
+
+-- or that isn't
+pub for_unsearched : (searched : Type 0) (c : Cartridge) (l : Looked) (found : Found) (sectors : List (List ℕ)) → (searched → ⊥) →
+    IsFoundBy ⊥ c l found sectors → IsFoundBy searched c l found sectors
+for_unsearched searched c l (Reads places None) sectors not found =
+    record { finds = (found.finds.0, λ is. absurd (not is)); places = found.places }
+for_unsearched searched c l (Reads places (Some sector)) sectors not found = absurd found.finds.0
+for_unsearched searched c l (Fails why) sectors not found = record { finds = (found.finds.0, λ is. absurd (not is)); places = tt }
+
+-- by the answer of a call
+pub found_tells : {T : Type 0} (m : Meaning T) (s : T) (P Q : Found → Cartridge → Type 0) (result : Result Found ScrubFault) →
+    ((found : Found) (c : Cartridge) → P found c → Q found c) → IfOk result (λ found. Tells m s (P found)) →
+    IfOk result (λ found. Tells m s (Q found))
+found_tells m s P Q (Ok found) follows told = Tells-map m s (P found) (Q found) (follows found) told
+found_tells m s P Q (Err fault) follows told = tt

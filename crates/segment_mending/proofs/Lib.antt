@@ -1,3 +1,4 @@
+pub mod Counted
 pub mod Finding
 pub mod Gathered
 pub mod Joining
@@ -6,3 +7,4 @@ pub mod Parts
 pub mod Passing
 pub mod Reading
 pub mod Scrubbed
+pub mod WithoutPlaces

@@ -1,6 +1,6 @@
 -- One segment looked at: it was read, and then mended, or its line was printed.
 use Rattle.std.proofs.Common.{◌≡◌, ℕ, ◌+◌, ◌≤◌, Bool, true, false, cond, List, [], ◌∷◌, ◌++◌, length, refl, sym, ap, ◌∙◌, subst, arith}
-use Rattle.std.proofs.Common.{Option, None, Result, Ok, Err, OnOk, append-nil, nat_lt}
+use Rattle.std.proofs.Common.{Option, None, Some, Result, Ok, Err, OnOk, append-nil, nat_lt}
 use Rattle.std.specs.Prelude.{IsOkUnless}
 use Rattle.qic_base.specs.Cartridge.{Cartridge}
 use Rattle.qic_base.specs.Step.{Step}
@@ -15,7 +15,7 @@ use Rattle.cartridge_laws.specs.Segment.{sectors_of}
 use Rattle.cartridge_laws.specs.Writes.{named_writes}
 use Rattle.cartridge_laws.proofs.Places.{count_below}
 use Rattle.command_spec.specs.Scrub.{Looked, Counts, reads, steps_in, fault_line, line_in, Finding, FindInTurn, finding_acts, line_for}
-use Rattle.command_spec.specs.Scrub.{steps_for, without, wrong_line}
+use Rattle.command_spec.specs.Scrub.{steps_for, without, wrong_line, IsSearched, MayFind}
 use Rattle.command_spec.specs.declared.depth.Depth.{Depth}
 use Rattle.command_laws.proofs.ScrubNamed.{steps_by_places, count_of_named}
 use Rattle.command_laws.proofs.ScrubOneWrong.{finds_one}
@@ -24,7 +24,7 @@ use Rattle.segment_io.proofs.Going.{tells_always}
 use Rattle.segment_mending.specs.declared.fault.ScrubFault.{ScrubFault}
 use Rattle.segment_mending.specs.declared.locating.Found.TheVariants.{Reads, Fails}
 use Rattle.segment_mending.specs.declared.locating.Unread.{Unread}
-use Rattle.segment_mending.specs.Locating.{data_in, unread_saying, finding_of, IsFound, MayMend, mending, GoesAs}
+use Rattle.segment_mending.specs.Locating.{data_in, unread_saying, finding_of, IsFound, MayBeWrong, MayMend, mending, GoesAs}
 use Rattle.segment_mending.specs.Looking.{AreActs, Counted, LookingCut, Looks, with_mended, with_unread}
 use Rattle.qic_base.specs.Sink as sinks
 use Rattle.qic_base.specs.SinkCalls as sink_calls
@@ -55,9 +55,14 @@ line_of_wrong : (l : Looked) (s : Saying) (wrong : Option ℕ) → reads l s ≡
 line_of_wrong l s wrong can =
     sym (ap (λ (line : List ℕ). wrong_line l.segment wrong ++ line) (no_line l s can) ∙ append-nil (wrong_line l.segment wrong))
 
+may_find : (depth : Depth) (l : Looked) (s : Saying) (wrong : Option ℕ) → reads l s ≡ true → MayBeWrong (IsSearched depth l) wrong →
+    MayFind depth l s wrong
+may_find depth l s None can may = tt
+may_find depth l s (Some sector) can may = (may.0, can, may.1)
+
 pub are_mended : {T : Type 0} (t : tapes.Meaning T) (a : T) (depth : Depth) (l : Looked) (places : ℕ) (wrong : Option ℕ)
     (sectors : List (List ℕ)) →
-    tape_calls.Tells t a (λ c. IsFound depth c l (Reads places wrong) sectors) → MayMend depth l places wrong sectors →
+    tape_calls.Tells t a (λ c. IsFound depth c l (Reads places wrong) sectors) → MayMend (IsSearched depth l) l places wrong sectors →
     usable_count l.mask ≤ length sectors →
     AreActs t a depth (l ∷ []) (finding_of l (Reads places wrong) sectors ∷ []) (mending l places wrong sectors ∷ [])
 are_mended t a depth l places wrong sectors told may room =
@@ -74,7 +79,7 @@ are_mended t a depth l places wrong sectors told may room =
                 ∙ ap (λ (text : List ℕ). act_of (steps_for c l f) text ∷ []) text,
           ))
           told;
-      may = (may.may, tt);
+      may = (may_find depth l f.saying wrong may.can_be_read may.may, tt);
       text = ap (λ (text : List ℕ). text ++ []) text;
     }
 

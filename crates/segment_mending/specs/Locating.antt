@@ -4,10 +4,10 @@ use Rattle.cartridge_spec.specs.Code.{IsCodeBlock}
 use Rattle.cartridge_spec.specs.Says.{Saying, Data, LostSectors, unreadable_count}
 use Rattle.cartridge_laws.specs.Segment.{data_of}
 use Rattle.cartridge_spec.specs.Shape.{usable_count}
-use Rattle.command_spec.specs.Scrub.{Looked, cells_at, reads, Finding, MayFind, without, wrong_line}
-use Rattle.command_laws.specs.ScrubTerms.{Finds}
+use Rattle.command_spec.specs.Scrub.{Looked, cells_at, reads, Finding, HasFoundBy, IsSearched, without, wrong_line}
 use Rattle.command_spec.specs.declared.depth.Depth.{Depth}
 use Rattle.cartridge_laws.specs.Writes.{named_writes}
+use Rattle.erasure_solve.specs.Lost.{lost_count}
 use Rattle.qic_base.specs.Acts.{Act, Outside, TapeFails, SinkFails, Went, Cut}
 use Rattle.qic_base.specs.Alone.{no_source}
 use Rattle.qic_base.specs.Cartridge.{Cartridge}
@@ -59,24 +59,49 @@ abbrev pub NamesPlaces : Cartridge → Looked → Found → Type 0
 NamesPlaces c l (Reads places wrong) = NamesUnreadable (cells_at (without wrong l c) l) places
 NamesPlaces c l (Fails why) = Unit {0}
 
--- this is found of a segment of a cartridge
-pub record IsFound (depth : Depth) (c : Cartridge) (l : Looked) (found : Found) (sectors : List (List ℕ)) : Type 0 where
-  pub finds : Finds depth c l (finding_of l found sectors)
+-- this is found of a segment of a cartridge, if it is searched
+pub record IsFoundBy (searched : Type 0) (c : Cartridge) (l : Looked) (found : Found) (sectors : List (List ℕ)) : Type 0 where
+  pub finds : HasFoundBy searched c l (finding_of l found sectors).saying (finding_of l found sectors).wrong
   pub places : NamesPlaces c l found
+
+abbrev pub IsFound : (depth : Depth) → Cartridge → Looked → Found → (sectors : List (List ℕ)) → Type 0
+IsFound depth c l found sectors = IsFoundBy (IsSearched depth l) c l found sectors
+
+-- a wrong sector was looked for in it
+abbrev pub DeepFinds : Cartridge → Looked → Found → (sectors : List (List ℕ)) → Type 0
+DeepFinds c l found sectors = IsFoundBy (Unit {0}) c l found sectors
 
 -- ---- whatever the tape holds
 
+-- a wrong sector may be found in a segment that is searched
+abbrev pub MayBeWrong : (searched : Type 0) → (wrong : Option ℕ) → Type 0
+MayBeWrong searched None = Unit {0}
+MayBeWrong searched (Some sector) = searched × (sector < 32)
+
 -- the sectors at these places may be written
-pub record MayMend (depth : Depth) (l : Looked) (places : ℕ) (wrong : Option ℕ) (sectors : List (List ℕ)) : Type 0 where
+pub record MayMend (searched : Type 0) (l : Looked) (places : ℕ) (wrong : Option ℕ) (sectors : List (List ℕ)) : Type 0 where
   pub within : places < 2 ^ usable_count l.mask
   pub code : IsCodeBlock (take (usable_count l.mask) sectors)
   pub can_be_read : reads l (data_in l sectors) ≡ true
-  pub may : MayFind depth l (data_in l sectors) wrong
+  pub may : MayBeWrong searched wrong
 
--- this may be found of a segment
+-- this may be found of a segment, if it is searched
+abbrev pub MayBeBy : (searched : Type 0) → Looked → Found → (sectors : List (List ℕ)) → Type 0
+MayBeBy searched l (Reads places wrong) sectors = MayMend searched l places wrong sectors
+MayBeBy searched l (Fails why) sectors = reads l (unread_saying l why sectors) ≡ false
+
 abbrev pub MayBe : Depth → Looked → Found → (sectors : List (List ℕ)) → Type 0
-MayBe depth l (Reads places wrong) sectors = MayMend depth l places wrong sectors
-MayBe depth l (Fails why) sectors = reads l (unread_saying l why sectors) ≡ false
+MayBe depth l found sectors = MayBeBy (IsSearched depth l) l found sectors
+
+abbrev pub DeepMayFind : Looked → Found → (sectors : List (List ℕ)) → Type 0
+DeepMayFind l found sectors = MayBeBy (Unit {0}) l found sectors
+
+-- So many sectors can't be read, where a wrong one is looked for and none is found: at most three in a segment that reads.
+abbrev pub HasCount : Found → Type 0
+HasCount (Reads places None) = lost_count places ≤ 3
+HasCount (Reads places (Some sector)) = Unit {0}
+HasCount (Fails (Lost n)) = (3 < n) × (n ≤ 32)
+HasCount (Fails why) = Unit {0}
 
 -- ---- what is done
 

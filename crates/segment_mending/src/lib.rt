@@ -10,11 +10,14 @@ mod mending;
 mod progress;
 mod report;
 mod scrubbing;
+mod searching;
 mod volumes;
 
 pub use fault::ScrubFault;
+pub use locating::Unread;
 pub use report::ScrubReport;
 pub use scrubbing::scrub_segments;
+pub use searching::{Searched, search_segment};
 
 /// Segments with a copy of the header, the first of a cartridge.
 const HEADER_COPIES: u32 = 2;

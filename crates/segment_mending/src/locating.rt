@@ -1,6 +1,6 @@
 //! One segment read, and what is found of it.
 
-ghost use Rattle.std.specs.Prelude.{◌≡◌, ◌≢◌, ◌<◌, ◌≤◌, ◌^◌, ℕ, [], length, take, slice_index, Some, None, IfOk, IsOkUnless};
+ghost use Rattle.std.specs.Prelude.{◌≡◌, ◌<◌, ◌≤◌, ◌^◌, ℕ, [], true, length, take, slice_index, Some, None, IfOk, IsOkUnless};
 ghost use Rattle.qic_base.specs.Cartridge.{Cartridge};
 ghost use Rattle.qic_base.specs.TapeCalls.{Does, Tells};
 ghost use Rattle.cartridge_laws.specs.Shape.{Carries};
@@ -8,13 +8,15 @@ ghost use Rattle.cartridge_spec.specs.Code.{IsCodeBlock};
 ghost use Rattle.cartridge_spec.specs.Header.{has_signature};
 ghost use Rattle.cartridge_spec.specs.Says.{cells_of, whole_mask};
 ghost use Rattle.cartridge_laws.specs.Segment.{data_of};
+ghost use Rattle.erasure_solve.specs.Lost.{lost_count};
 ghost use Rattle.cartridge_spec.specs.Shape.{usable_count, usable_places};
-ghost use Rattle.command_spec.specs.Scrub.{reads};
+ghost use Rattle.command_spec.specs.Scrub.{IsSearched, reads};
 ghost use Rattle.command_spec.specs.declared.depth.Depth.{Depth};
-ghost use Rattle.host_driver.specs.Calls.{IsReady, MayWrite, Keeps};
+ghost use Rattle.drive_states.specs.Reach.{reads_in};
+ghost use Rattle.host_driver.specs.Calls.{IsReady, Keeps};
 ghost use Rattle.segment_io.specs.Calls.{HasSegment};
 ghost use Rattle.segment_io.specs.Gathered.{Gathered, NamesUnreadable};
-ghost use Rattle.segment_mending.specs.Locating.{Locates, data_in, IsFound, MayBe};
+ghost use Rattle.segment_mending.specs.Locating.{Locates, data_in, IsFound, DeepFinds, MayBe, DeepMayFind, HasCount};
 ghost use Rattle.command_spec.specs.declared.depth.Depth.TheVariants as depths;
 ghost use Rattle.silent_locate.specs.Deep as deep;
 
@@ -28,7 +30,7 @@ use qic_base::{LostSet, SECTORS, Sector, Tape, read_u32};
 use segment_io::{SegFault, Workspace, collect, read_segment};
 use silent_locate::{LocateFault, Located, locate, with_place};
 
-/// What is found of a segment.
+/// What is found of a segment. A place counts from 0 among its usable sectors, an index among its 32.
 #[derive(Clone, Copy)]
 pub(crate) enum Found {
     /// It reads: the places to be written, and among them the sector with this index, which can be read and is wrong.
@@ -39,10 +41,10 @@ pub(crate) enum Found {
 
 /// Why a segment does not read.
 #[derive(Clone, Copy)]
-pub(crate) enum Unread {
+pub enum Unread {
     /// A header copy's data begin with no header's signature.
     NoHeader,
-    /// So many usable sectors can't be read, more than three.
+    /// So many usable sectors can't be read, 4 to 32.
     Lost(u8),
     /// No code block agrees with those that can.
     Mismatch,
@@ -60,7 +62,7 @@ pub(crate) fn find_in_segment<T: Tape>(
 ) -> Result<Found, ScrubFault>
     requires ready { IsReady T.means host.old unit.old }
     requires segment { HasSegment unit.old.drive.deck segment usable }
-    requires writable { MayWrite unit.old.drive.deck }
+    requires mode { reads_in unit.old.drive.deck.mode ≡ true }
     requires whole { segment < 2 → usable ≡ whole_mask }
     ensures did { Does T.means unit.old.tape unit.new.tape [] result }
     ensures fault { IsOkUnless result ScrubFault.Tape }
@@ -72,9 +74,23 @@ pub(crate) fn find_in_segment<T: Tape>(
     ensures room { length work.new ≡ 32 }
     ensures keeps { Keeps T.means host.new unit.old unit.new }
 {
+    if is_searched(depth, segment) {
+        find_deep(host, unit, segment, usable, work)
+    } else {
+        find_shallow(host, unit, segment, usable, work)
+    }
+}
+
+/// Whether a wrong sector of a segment is looked for.
+fn is_searched(depth: Depth, segment: u32) -> bool
+    ensures yes { (usable : ℕ) → result ≡ true →
+        IsSearched depth (record { segment = segment; mask = usable }) }
+    ensures no { (usable : ℕ) → IsSearched depth (record { segment = segment; mask = usable }) →
+        result ≡ true }
+{
     match depth {
-        Depth::Deep if segment != TABLE_SEGMENT => find_deep(host, unit, segment, usable, work),
-        Depth::Deep | Depth::Shallow => find_shallow(host, unit, segment, usable, work),
+        Depth::Deep => segment != TABLE_SEGMENT,
+        Depth::Shallow => false,
     }
 }
 
@@ -88,7 +104,7 @@ fn find_shallow<T: Tape>(
 ) -> Result<Found, ScrubFault>
     requires ready { IsReady T.means host.old unit.old }
     requires segment { HasSegment unit.old.drive.deck segment usable }
-    requires writable { MayWrite unit.old.drive.deck }
+    requires mode { reads_in unit.old.drive.deck.mode ≡ true }
     requires whole { segment < 2 → usable ≡ whole_mask }
     ensures did { Does T.means unit.old.tape unit.new.tape [] result }
     ensures fault { IsOkUnless result ScrubFault.Tape }
@@ -107,8 +123,8 @@ fn find_shallow<T: Tape>(
     }
 }
 
-/// As `find_in_segment`, with a look for a wrong sector.
-fn find_deep<T: Tape>(
+/// As `find_in_segment`, with a look for a wrong sector, whichever segment it is.
+pub(crate) fn find_deep<T: Tape>(
     host: &mut Host,
     unit: &mut Unit<T>,
     segment: u32,
@@ -117,15 +133,16 @@ fn find_deep<T: Tape>(
 ) -> Result<Found, ScrubFault>
     requires ready { IsReady T.means host.old unit.old }
     requires segment { HasSegment unit.old.drive.deck segment usable }
-    requires writable { MayWrite unit.old.drive.deck }
+    requires mode { reads_in unit.old.drive.deck.mode ≡ true }
     requires whole { segment < 2 → usable ≡ whole_mask }
-    requires searched { segment ≢ 2 }
     ensures did { Does T.means unit.old.tape unit.new.tape [] result }
     ensures fault { IsOkUnless result ScrubFault.Tape }
     ensures found { IfOk result (λ found. Tells T.means unit.old.tape (λ c.
-        IsFound depths.Deep c (record { segment = segment; mask = usable }) found work.new)) }
+        DeepFinds c (record { segment = segment; mask = usable }) found work.new)) }
+    // And where the tape tells nothing:
     ensures may { IfOk result (λ found.
-        MayBe depths.Deep (record { segment = segment; mask = usable }) found work.new) }
+        DeepMayFind (record { segment = segment; mask = usable }) found work.new) }
+    ensures count { IfOk result (λ found. HasCount found) }
     ensures room { length work.new ≡ 32 }
     ensures keeps { Keeps T.means host.new unit.old unit.new }
 {
@@ -143,12 +160,12 @@ fn locate_collected(segment: u32, usable: u32, lost: LostSet, work: &mut Workspa
     requires carries { Carries usable }
     requires within { lost < 2 ^ usable_count usable }
     requires whole { segment < 2 → usable ≡ whole_mask }
-    requires searched { segment ≢ 2 }
     // What the segment's cells say, of which these sectors were gathered.
     ensures found { (c : Cartridge) → Gathered (cells_of c segment usable) lost work.old →
-        IsFound depths.Deep c (record { segment = segment; mask = usable }) result work.new }
+        DeepFinds c (record { segment = segment; mask = usable }) result work.new }
     // And where nothing is known of the cells:
-    ensures may { MayBe depths.Deep (record { segment = segment; mask = usable }) result work.new }
+    ensures may { DeepMayFind (record { segment = segment; mask = usable }) result work.new }
+    ensures count { HasCount result }
     ensures room { length work.new ≡ 32 }
 {
     match locate_in(usable, lost, work) {
@@ -193,8 +210,13 @@ fn found_block(segment: u32, usable: u32, lost: LostSet, work: &Workspace) -> Fo
         NamesUnreadable (cells_of c segment usable) lost →
         deep.Deep (cells_of c segment usable) (take (usable_count usable) work.now) None →
         IsFound depth c (record { segment = segment; mask = usable }) result work.now }
+    ensures searched { (c : Cartridge) → NamesUnreadable (cells_of c segment usable) lost →
+        deep.Deep (cells_of c segment usable) (take (usable_count usable) work.now) None →
+        DeepFinds c (record { segment = segment; mask = usable }) result work.now }
     ensures may { (depth : Depth) →
         MayBe depth (record { segment = segment; mask = usable }) result work.now }
+    ensures may_by { DeepMayFind (record { segment = segment; mask = usable }) result work.now }
+    ensures count { lost_count lost ≤ 3 → HasCount result }
 {
     if can_be_read(segment, work) {
         Found::Reads {
@@ -211,14 +233,14 @@ fn found_block(segment: u32, usable: u32, lost: LostSet, work: &Workspace) -> Fo
 fn found_wrong(segment: u32, usable: u32, lost: LostSet, place: u8, work: &Workspace) -> Found
     requires room { length work.now ≡ 32 }
     requires whole { segment < 2 → usable ≡ whole_mask }
-    requires searched { segment ≢ 2 }
     requires within { lost < 2 ^ usable_count usable }
     requires place { place < usable_count usable }
     requires code { IsCodeBlock (take (usable_count usable) work.now) }
     ensures found { (c : Cartridge) → NamesUnreadable (cells_of c segment usable) lost →
         deep.Deep (cells_of c segment usable) (take (usable_count usable) work.now) (Some place) →
-        IsFound depths.Deep c (record { segment = segment; mask = usable }) result work.now }
-    ensures may { MayBe depths.Deep (record { segment = segment; mask = usable }) result work.now }
+        DeepFinds c (record { segment = segment; mask = usable }) result work.now }
+    ensures may { DeepMayFind (record { segment = segment; mask = usable }) result work.now }
+    ensures count { HasCount result }
 {
     if !can_be_read(segment, work) {
         return Found::Fails(Unread::Mismatch);

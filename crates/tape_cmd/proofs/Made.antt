@@ -35,7 +35,7 @@ use Rattle.volume_store.proofs.Opened.{went_behind, cut_behind, settled_told}
 use Rattle.host_commands.specs.Opening.{IsUnlocked, WritableEnds, is_opening}
 use Rattle.hand_commands.specs.Outcome.{first_steps}
 use Rattle.hand_commands.proofs.Endings.{IsBlind, none_taken, turned_down, cut_off, told_map, told_both}
-use Rattle.host_commands.proofs.Mounted.{BeginsSettling, table_lost, no_outcome, locked_is, unlocked_refused_is, writable_begins}
+use Rattle.host_commands.proofs.Mounted.{BeginsSettling, table_lost, no_counts, no_outcome, locked_is, unlocked_refused_is, writable_begins}
 use Rattle.qic_base.specs.Sink as sinks
 use Rattle.qic_base.specs.Tape as tapes
 use Rattle.cartridge_spec.specs.Mounting as mounting
@@ -163,11 +163,11 @@ module _ {T K : Type 0} (t : tapes.Meaning T) (k : sinks.Meaning K) (seed count 
   pub make_refused : (b : UnitView T) (x : K) (why : Status) → ((z : K) → k.took z [] z) → WritableEnds t a b (Err why) →
       EndsBlind t k (words.Make seed count) a b.tape x x why
   make_refused b x why nothing (inl locked) =
-      rw locked.answered (turned_down t k (words.Make seed count) blind a b.tape x status.Protected nothing refl (λ is. cc)
+      rw locked.answered (turned_down t k (words.Make seed count) blind a b.tape x status.Protected nothing refl refl (λ is. cc)
       (told_map (t.told a) _ _ locked.told (λ held is input. locked_is (Making seed count) held is)) locked.did)
   make_refused b x why nothing (inr (inl (free, turned))) =
       turned_down t k (words.Make seed count) blind a b.tape x why nothing (found_by_make seed count why turned.sound)
-      (no_outcome why turned.sound)
+      (no_counts why turned.sound) (no_outcome why turned.sound)
       (told_map (t.told a) _ _ (told_both (t.told a) _ _ free turned.told)
       (λ held is input. unlocked_refused_is (Making seed count) why held is.0 is.1)) turned.did
   make_refused b x why nothing (inr (inr (is, cut))) =

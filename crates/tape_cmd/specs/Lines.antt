@@ -30,6 +30,8 @@ status_code status.SourceFault = 16
 status_code status.SinkFault = 17
 status_code status.TapeFault = 18
 status_code status.NoMemory = 19
+-- 20 is that of an image that can't be opened
+status_code (status.Unsound mendable bad) = 21
 
 abbrev pub field_text : ForeignField → List ℕ
 field_text FormatCode = codes "format-code"
@@ -73,5 +75,7 @@ status_text (status.NoVolume number count) =
 status_text (status.Lost segment lost) =
     codes "tape: segment " ++ decimal segment ++ codes " lost " ++ decimal lost ++ codes " sectors\n"
 status_text (status.Mismatch segment) = codes "tape: segment " ++ decimal segment ++ codes " does not agree\n"
+status_text (status.Unsound mendable bad) =
+    codes "tape: " ++ decimal mendable ++ codes " segments can be mended, " ++ decimal bad ++ codes " not\n"
 status_text (status.DefectInFront segment) = codes "tape: defect in segment " ++ decimal segment ++ codes "\n"
 status_text other = plain_text other

@@ -16,7 +16,7 @@ use crate::room::Memory;
 use bad_sector_map::BadMap;
 use drive_states::Unit;
 use hand_commands::{defect, lose, new, protect, pulses, upgrade};
-use host_commands::{append, format, info, list, restore, room, scrub};
+use host_commands::{append, check, format, info, list, restore, room, scrub};
 use qic_base::{NoMemory, Sink, Source, Tape};
 use segment_io::Workspace;
 use std::alloc::Global;
@@ -87,6 +87,7 @@ fn carry_out_blind<M: Memory + Drop, T: Tape, K: Sink>(
         Words::Info => Ok(info::info(unit, memory.room()?, sink)),
         Words::List => Ok(list::list(unit, memory.room()?, sink)),
         Words::Room => Ok(room::tell_room(unit, memory.room()?, sink)),
+        Words::Check => Ok(check::check(unit, memory.room()?, sink)),
         Words::Restore { number } => Ok(restore::restore(unit, memory.room()?, number, sink)),
         Words::Scrub => Ok(scrub::scrub(unit, memory.room()?, sink)),
         Words::ScrubDeep => Ok(scrub::scrub_deep(unit, memory.room()?, sink)),

@@ -52,6 +52,7 @@ pub fn exit_status(status: &Status) -> u8
         Status::SinkFault => 17,
         Status::TapeFault => 18,
         Status::NoMemory => 19,
+        Status::Unsound { .. } => 21,
     }
 }
 
@@ -97,6 +98,13 @@ fn status_line(status: &Status) -> TextLine
         Status::Mismatch { segment } => {
             with_number(b"tape: segment ", u64::from(segment), b" does not agree\n")
         }
+        Status::Unsound { mendable, bad } => with_numbers(
+            b"tape: ",
+            u64::from(mendable),
+            b" segments can be mended, ",
+            u64::from(bad),
+            b" not\n",
+        ),
         Status::DefectInFront { segment } => {
             with_number(b"tape: defect in segment ", u64::from(segment), b"\n")
         }
@@ -176,6 +184,7 @@ fn fixed_text(status: Status) -> &'static [u8]
         | Status::NoVolume { .. }
         | Status::Lost { .. }
         | Status::Mismatch { .. }
+        | Status::Unsound { .. }
         | Status::DefectInFront { .. } => b"",
     }
 }

@@ -10,7 +10,8 @@ grown : (at : ℕ) (bytes part : List ℕ) → at ≡ length bytes → overwritt
 unfolding overwritten
 grown at bytes part is = grind (arith, common_steps)
 
-pub told-grown : (at end : ℕ) (part : List ℕ) (told : Option (List ℕ)) → end ≡ at + length part → IsEnd at told → option_map (stored (WriteAt at part)) (option_map (stored (SetLen end)) told) ≡ longer_by part told
+pub told-grown : (at end : ℕ) (part : List ℕ) (told : Option (List ℕ)) → end ≡ at + length part → IsEnd at told →
+    option_map (stored (WriteAt at part)) (option_map (stored (SetLen end)) told) ≡ longer_by part told
 told-grown at end part None long is = refl
 told-grown at end part (Some bytes) long is = rw long (ap Some (grown at bytes part is))
 

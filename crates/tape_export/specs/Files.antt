@@ -15,7 +15,8 @@ use Rattle.tape_export.specs.declared.status.ExportStatus.TheVariants.{Done, Not
 
 -- The dump of the cartridge was written. The file of the map, where there is one, has just the text of the map, and
 -- nothing of it is pending.
-pub record BothKept {T K D : Type 0} (t : tapes.Meaning T) (k : sinks.Meaning K) (d : disks.Meaning D) (old new : Ends T K (MapFile D)) : Type 0 where
+pub record BothKept {T K D : Type 0} (t : tapes.Meaning T) (k : sinks.Meaning K) (d : disks.Meaning D) (old new : Ends T K (MapFile D)) :
+    Type 0 where
   pub did : tapes.Done t old.tape new.tape []
   pub cartridge : Cartridge
   pub is_on : IsOn t old.tape cartridge
@@ -24,13 +25,15 @@ pub record BothKept {T K D : Type 0} (t : tapes.Meaning T) (k : sinks.Meaning K)
   pub on_disk : IsOnDisk d new.chart
 
 -- the file of the map was found empty, and then the run ended so
-pub record RanOn {T K D : Type 0} (t : tapes.Meaning T) (k : sinks.Meaning K) (d : disks.Meaning D) (old new : Ends T K (MapFile D)) (how : ExportStatus) : Type 0 where
+pub record RanOn {T K D : Type 0} (t : tapes.Meaning T) (k : sinks.Meaning K) (d : disks.Meaning D) (old new : Ends T K (MapFile D))
+    (how : ExportStatus) : Type 0 where
   pub seen : MapFile D
   pub empty : IfSome (bytes_of d seen) (λ bytes. bytes ≡ [])
   pub runs : Runs t k (map_means d) (record old { chart = seen }) new how
 
 -- dump and map were written, and the map was not put on the disk
-pub record NotKept {T K D : Type 0} (t : tapes.Meaning T) (k : sinks.Meaning K) (d : disks.Meaning D) (old new : Ends T K (MapFile D)) : Type 0 where
+pub record NotKept {T K D : Type 0} (t : tapes.Meaning T) (k : sinks.Meaning K) (d : disks.Meaning D) (old new : Ends T K (MapFile D)) :
+    Type 0 where
   pub written : MapFile D
   pub ran : RanOn t k d old (record new { chart = written }) Done
   pub broke : SyncBroke d written new.chart
@@ -41,7 +44,8 @@ pub record Untouched {T K M : Type 0} (old new : Ends T K M) : Type 0 where
   pub dump : new.dump ≡ old.dump
 
 -- how a run ended whose map is written into a file
-abbrev pub Exports : {T K D : Type 0} (t : tapes.Meaning T) (k : sinks.Meaning K) (d : disks.Meaning D) (old new : Ends T K (MapFile D)) → ExportStatus → Type 0
+abbrev pub Exports : {T K D : Type 0} (t : tapes.Meaning T) (k : sinks.Meaning K) (d : disks.Meaning D) (old new : Ends T K (MapFile D)) →
+    ExportStatus → Type 0
 Exports t k d old new Done = BothKept t k d old new
 Exports t k d old new NotEmpty = IfSome (bytes_of d old.chart) (λ bytes. bytes ≢ []) × Untouched old new
 Exports t k d old new SinkFault =

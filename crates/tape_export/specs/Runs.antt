@@ -8,7 +8,8 @@ use Rattle.flat_dump.specs.Dump.{dump_of}
 use Rattle.flat_dump.specs.Export.{IsOn, HadNone, TapeBroke, SinkBroke}
 use Rattle.flat_dump.specs.Held.{map_of}
 use Rattle.tape_export.specs.declared.status.ExportStatus.{ExportStatus}
-use Rattle.tape_export.specs.declared.status.ExportStatus.TheVariants.{Done, Usage, NoCartridge, NotEmpty, SinkFault, TapeFault, NoMemory, NoImage, NoMap}
+use Rattle.tape_export.specs.declared.status.ExportStatus.TheVariants.{Done, Usage, NoCartridge, NotEmpty, SinkFault, TapeFault, NoMemory}
+use Rattle.tape_export.specs.declared.status.ExportStatus.TheVariants.{NoImage, NoMap}
 
 -- the exit status
 abbrev pub status_code : ExportStatus → ℕ
@@ -29,12 +30,13 @@ pub record Ends (T K M : Type 0) : Type 0 where
   pub chart : M
 
 -- The dump of the cartridge was written, and its map.
-pub record BothWritten {T K M : Type 0} (t : tapes.Meaning T) (k : sinks.Meaning K) (m : sinks.Meaning M) (old new : Ends T K M) : Type 0 where
-  pub did : tapes.Done t old.tape new.tape []
-  pub cartridge : Cartridge
-  pub is_on : IsOn t old.tape cartridge
-  pub dump : sinks.Wrote k old.dump new.dump (dump_of cartridge)
-  pub chart : sinks.Wrote m old.chart new.chart (map_of cartridge)
+pub record BothWritten {T K M : Type 0} (t : tapes.Meaning T) (k : sinks.Meaning K) (m : sinks.Meaning M) (old new : Ends T K M) : Type 0
+  where
+    pub did : tapes.Done t old.tape new.tape []
+    pub cartridge : Cartridge
+    pub is_on : IsOn t old.tape cartridge
+    pub dump : sinks.Wrote k old.dump new.dump (dump_of cartridge)
+    pub chart : sinks.Wrote m old.chart new.chart (map_of cartridge)
 
 -- The dump was written, and a fault broke its map off.
 pub record MapBroke {T K M : Type 0} (t : tapes.Meaning T) (k : sinks.Meaning K) (m : sinks.Meaning M) (old new : Ends T K M) : Type 0 where
@@ -45,7 +47,8 @@ pub record MapBroke {T K M : Type 0} (t : tapes.Meaning T) (k : sinks.Meaning K)
   pub chart : sink_calls.BrokeOff m old.chart new.chart (map_of cartridge)
 
 -- How a run over opened files ended.
-abbrev pub Runs : {T K M : Type 0} (t : tapes.Meaning T) (k : sinks.Meaning K) (m : sinks.Meaning M) (old new : Ends T K M) → ExportStatus → Type 0
+abbrev pub Runs : {T K M : Type 0} (t : tapes.Meaning T) (k : sinks.Meaning K) (m : sinks.Meaning M) (old new : Ends T K M) → ExportStatus →
+    Type 0
 Runs t k m old new Done = BothWritten t k m old new
 Runs t k m old new NoCartridge = HadNone t k old.tape new.tape old.dump new.dump × (new.chart ≡ old.chart)
 Runs t k m old new TapeFault = TapeBroke t k old.tape new.tape old.dump new.dump × (new.chart ≡ old.chart)

@@ -22,7 +22,8 @@ leaves old new (WriteAt place part) = λ left may. absurd may
 leaves old new (SetLen n) = λ left may. absurd may
 leaves old new Sync = settled new
 
-pub file_stored : {F : Type 0} (old new : FileState F) (step : DiskStep) → new.faults ≡ old.faults → new.failed_changes ≡ old.failed_changes → Stored file_means old new step
+pub file_stored : {F : Type 0} (old new : FileState F) (step : DiskStep) → new.faults ≡ old.faults → new.failed_changes ≡
+    old.failed_changes → Stored file_means old new step
 file_stored old new step later changes = record {
   told = refl;
   later = later;
@@ -31,7 +32,8 @@ file_stored old new step later changes = record {
   crashes = crashes old new step;
 }
 
-pub file_failed : {F : Type 0} (old new : FileState F) (step : DiskStep) → Rose old.faults new.faults → old.faults ≤ new.faults → ChangesCounted step old.failed_changes new.failed_changes → Failed file_means old new step
+pub file_failed : {F : Type 0} (old new : FileState F) (step : DiskStep) → Rose old.faults new.faults → old.faults ≤ new.faults →
+    ChangesCounted step old.failed_changes new.failed_changes → Failed file_means old new step
 file_failed old new step rose later changes = record {
   cause = rose;
   later = later;

@@ -19,7 +19,8 @@ no_bytes : (bytes : List ℕ) → 0 ≡ length bytes → bytes ≡ []
 no_bytes [] none = refl
 no_bytes (x ∷ xs) none = absurd (omega arith)
 
-pub found-empty : {D : Type 0} (d : disks.Meaning D) (old new : D) → disks.Stored d old new Look → IsSettled d old → IfSome (d.told old) (λ bytes. 0 ≡ length bytes) → FoundEmpty d old new
+pub found-empty : {D : Type 0} (d : disks.Meaning D) (old new : D) → disks.Stored d old new Look → IsSettled d old → IfSome (d.told old)
+    (λ bytes. 0 ≡ length bytes) → FoundEmpty d old new
 found-empty d old new looked settled none = record {
   looked = looked;
   empty = record { told = by (d.told old) (d.told new) (told-look looked) none; settled = settled-behind d old new looked settled };
@@ -30,6 +31,7 @@ found-empty d old new looked settled none = record {
     by (Some bytes) now is none = rw is (no_bytes bytes none)
 
 -- a file that was to be emptied
-pub emptied-by : {D T E : Type 0} (d : disks.Meaning D) (old new : D) (result : Result T E) → steps.Runs d old new (resize 0) result → Emptied d old new
+pub emptied-by : {D T E : Type 0} (d : disks.Meaning D) (old new : D) (result : Result T E) → steps.Runs d old new (resize 0) result →
+    Emptied d old new
 emptied-by d old new (Ok x) ran = inl ran
 emptied-by d old new (Err e) halted = inr halted

@@ -80,13 +80,15 @@ Masks m old new mask (Err other) = ⊥
 -- ---- the dump
 
 -- The image was made, and that was told.
-pub record WasTold {S D K : Type 0} (s : sources.Meaning S) (d : disks.Meaning D) (k : sinks.Meaning K) (mask : List ℕ) (asked : Option ℕ) (dump : S) (old new : D) (from to : K) : Type 0 where
+pub record WasTold {S D K : Type 0} (s : sources.Meaning S) (d : disks.Meaning D) (k : sinks.Meaning K) (mask : List ℕ) (asked : Option ℕ)
+    (dump : S) (old new : D) (from to : K) : Type 0 where
   pub imported : Imported
   pub was : WasImported s d dump old new mask asked imported
   pub told : sinks.Wrote k from to (imported_text imported)
 
 -- The image was made, and a fault of the sink broke off what is told of that; then the file was emptied.
-pub record WasTakenBack {S D K : Type 0} (s : sources.Meaning S) (d : disks.Meaning D) (k : sinks.Meaning K) (mask : List ℕ) (asked : Option ℕ) (dump : S) (old new : D) (from to : K) : Type 0 where
+pub record WasTakenBack {S D K : Type 0} (s : sources.Meaning S) (d : disks.Meaning D) (k : sinks.Meaning K) (mask : List ℕ)
+    (asked : Option ℕ) (dump : S) (old new : D) (from to : K) : Type 0 where
   pub imported : Imported
   pub made : D
   pub was : WasImported s d dump old made mask asked imported
@@ -94,7 +96,8 @@ pub record WasTakenBack {S D K : Type 0} (s : sources.Meaning S) (d : disks.Mean
   pub emptied : Emptied d made new
 
 -- how the import into an empty file ended, by a mask
-abbrev pub Filled : {S D K : Type 0} (s : sources.Meaning S) (d : disks.Meaning D) (k : sinks.Meaning K) (mask : List ℕ) (asked : Option ℕ) (dump ended : S) (old new : D) (from to : K) → ImportStatus → Type 0
+abbrev pub Filled : {S D K : Type 0} (s : sources.Meaning S) (d : disks.Meaning D) (k : sinks.Meaning K) (mask : List ℕ) (asked : Option ℕ)
+    (dump ended : S) (old new : D) (from to : K) → ImportStatus → Type 0
 Filled s d k mask asked dump ended old new from to status.Done = WasTold s d k mask asked dump old new from to
 Filled s d k mask asked dump ended old new from to status.SinkFault =
     WasTakenBack s d k mask asked dump old new from to
@@ -108,7 +111,8 @@ Filled s d k mask asked dump ended old new from to other = ⊥
 -- ---- a run
 
 -- The file was found empty, the mask was made, and the dump was imported by it.
-pub record Imports {M S D K : Type 0} (m : sources.Meaning M) (s : sources.Meaning S) (d : disks.Meaning D) (k : sinks.Meaning K) (asked : Option ℕ) (old new : Ends M S D K) (how : ImportStatus) : Type 0 where
+pub record Imports {M S D K : Type 0} (m : sources.Meaning M) (s : sources.Meaning S) (d : disks.Meaning D) (k : sinks.Meaning K)
+    (asked : Option ℕ) (old new : Ends M S D K) (how : ImportStatus) : Type 0 where
   pub seen : D
   pub empty : FoundEmpty d old.image seen
   pub mask : List ℕ
@@ -122,7 +126,8 @@ pub record LeftEmpty {M S D K : Type 0} (d : disks.Meaning D) (old new : Ends M 
   pub told : new.told ≡ old.told
 
 -- How a run over opened files ended.
-abbrev pub Runs : {M S D K : Type 0} (m : sources.Meaning M) (s : sources.Meaning S) (d : disks.Meaning D) (k : sinks.Meaning K) (asked : Option ℕ) (old new : Ends M S D K) → ImportStatus → Type 0
+abbrev pub Runs : {M S D K : Type 0} (m : sources.Meaning M) (s : sources.Meaning S) (d : disks.Meaning D) (k : sinks.Meaning K)
+    (asked : Option ℕ) (old new : Ends M S D K) → ImportStatus → Type 0
 Runs m s d k asked old new status.NotEmpty =
     FoundMore d old.image new.image × (new ≡ record old { image = new.image })
 Runs m s d k asked old new (status.MapFault line) = LeftEmpty d old new × HasFault m old.chart line

@@ -24,6 +24,8 @@ fn read_one(first: &[u8]) -> Option<Words>
         Some(Words::List)
     } else if is_word(first, "room") {
         Some(Words::Room)
+    } else if is_word(first, "check") {
+        Some(Words::Check)
     } else if is_word(first, "scrub") {
         Some(Words::Scrub)
     } else if is_word(first, "pulses") {

@@ -1,5 +1,6 @@
 -- What a copy's answer says, and what it prints, over any tapes and sink.
-use Rattle.std.proofs.Common.{◌≡◌, ◌≢◌, ◌⊎◌, ℕ, ◌+◌, ◌<◌, ◌≤◌, Bool, true, false, List, [], ◌∷◌, ◌++◌, length, Option, Some, None, Result, Ok, Err, refl, ap, sym, subst, ◌∙◌, arith, inl, inr, append_assoc, length-append}
+use Rattle.std.proofs.Common.{◌≡◌, ◌≢◌, ◌⊎◌, ℕ, ◌+◌, ◌<◌, ◌≤◌, Bool, true, false, List, [], ◌∷◌, ◌++◌, length, Option, Some, None, Result}
+use Rattle.std.proofs.Common.{Ok, Err, refl, ap, sym, subst, ◌∙◌, arith, inl, inr, append_assoc, length-append}
 use Rattle.std.specs.Prelude.{if◌then◌else◌, ◌==◌, nat_lt}
 use Rattle.std.proofs.lemmas.Bool.{and_from, lt-ltb}
 use Rattle.cartridge_spec.specs.Table.{Entry}
@@ -60,13 +61,16 @@ pub record IsNumberOf (first : ℕ) (others : List Entry) (number : ℕ) : Type 
   pub least : first ≤ number
   pub most : number < first + length others
 
-pub differs_at_most : (words : List ℕ) (es : List Entry) (words' : List ℕ) (es' : List Entry) (n number : ℕ) → difference words es words' es' n ≡ Some number → IsNumberOf n es' number
+pub differs_at_most : (words : List ℕ) (es : List Entry) (words' : List ℕ) (es' : List Entry) (n number : ℕ) → difference words es words'
+    es' n ≡ Some number → IsNumberOf n es' number
 differs_at_most words es words' [] n number is = absurd (cc)
 differs_at_most words [] words' (e' ∷ es') n number is =
     let same : n ≡ number = cc in record { least = omega (arith, same); most = omega (arith, same) }
-differs_at_most words (e ∷ es) words' (e' ∷ es') n number is = by_test (is_alike words e words' e') (λ rest. differs_at_most words es words' es' (n + 1) number rest) is
+differs_at_most words (e ∷ es) words' (e' ∷ es') n number is = by_test (is_alike words e words' e') (λ rest. differs_at_most words es words'
+    es' (n + 1) number rest) is
   where
-    by_test : (like : Bool) → (difference words es words' es' (n + 1) ≡ Some number → IsNumberOf (n + 1) es' number) → (if like then difference words es words' es' (n + 1) else Some n) ≡ Some number →
+    by_test : (like : Bool) → (difference words es words' es' (n + 1) ≡ Some number → IsNumberOf (n + 1) es' number) →
+        (if like then difference words es words' es' (n + 1) else Some n) ≡ Some number →
         IsNumberOf n (e' ∷ es') number
     by_test true later rest =
         let found = later rest in
@@ -75,7 +79,8 @@ differs_at_most words (e ∷ es) words' (e' ∷ es') n number is = by_test (is_a
 
 -- ---- one volume that was refused
 
-module _ {A B : Type 0} (a : tapes.Meaning A) (b : tapes.Meaning B) (number : ℕ) (from after : SideView A) (to new : SideView B) (answer : CopyStatus) (one : CopiesOne a b number from after to new (Err answer)) where
+module _ {A B : Type 0} (a : tapes.Meaning A) (b : tapes.Meaning B) (number : ℕ) (from after : SideView A) (to new : SideView B)
+    (answer : CopyStatus) (one : CopiesOne a b number from after to new (Err answer)) where
   abbrev Ended : Result Appended StoreFault → Type 0
   Ended r = AppendEnds b (source_means a) (reading to.unit.tape (new_source from.store from.unit number)) (reading new.unit.tape one.source)
       to.store new.store one.entry.name one.entry.date (Some (volume_length from.store.words one.entry)) r
@@ -92,21 +97,25 @@ module _ {A B : Type 0} (a : tapes.Meaning A) (b : tapes.Meaning B) (number : �
     where
       by_answer : (r : Result Appended StoreFault) → one.appended ≡ r → FailsSo
       by_answer (Ok appended) is =
-          let no : Err answer ≡ append_answer (Ok appended) one.source.fault = one.is ∙ ap (λ (r : Result Appended StoreFault). append_answer r one.source.fault) is in absurd (cc)
+          let no : Err answer ≡ append_answer (Ok appended) one.source.fault = one.is ∙ ap (λ (r : Result Appended StoreFault).
+          append_answer r one.source.fault) is in absurd (cc)
       by_answer (Err f) is =
-          let same : Err answer ≡ append_answer (Err f) one.source.fault = one.is ∙ ap (λ (r : Result Appended StoreFault). append_answer r one.source.fault) is in
+          let same : Err answer ≡ append_answer (Err f) one.source.fault = one.is ∙ ap (λ (r : Result Appended StoreFault).
+          append_answer r one.source.fault) is in
           record { fault = f; is = is; ends = subst Ended is one.ends; answered = cc }
 
   pub one_kind : HasKind answer
   one_kind =
       subst HasKind (sym fails_so.answered)
-      (append_kind a b to.unit.tape new.unit.tape (new_source from.store from.unit number) one.source to.store new.store one.entry.name one.entry.date (volume_length from.store.words one.entry) fails_so.fault one.source.fault
+      (append_kind a b to.unit.tape new.unit.tape (new_source from.store from.unit number) one.source to.store new.store one.entry.name
+      one.entry.date (volume_length from.store.words one.entry) fails_so.fault one.source.fault
       fails_so.ends one.sound.kind)
 
   pub one_late : is_before_copies answer ≡ false
   one_late =
       ap is_before_copies fails_so.answered
-      ∙ append_late a b to.unit.tape new.unit.tape (new_source from.store from.unit number) one.source to.store new.store one.entry.name one.entry.date (volume_length from.store.words one.entry) fails_so.fault one.source.fault
+      ∙ append_late a b to.unit.tape new.unit.tape (new_source from.store from.unit number) one.source to.store new.store one.entry.name
+      one.entry.date (volume_length from.store.words one.entry) fails_so.fault one.source.fault
       fails_so.ends one.sound.kind
 
 -- it is neither that all was done nor a fault of the sink
@@ -119,7 +128,8 @@ append_other fault.Source (Some why) = record { done = λ is. cc; sink = λ is. 
 append_other fault.Source None = record { done = λ is. cc; sink = λ is. cc }
 append_other f o = record { done = λ is. cc; sink = λ is. cc }
 
-other_text : (answer : CopyStatus) → IsOther answer → (count : ℕ) (lengths text : List ℕ) → (is_before_copies answer ≡ true → lengths ≡ []) → text ≡ copied_lines (count + 1) lengths → IsCopyText answer text
+other_text : (answer : CopyStatus) → IsOther answer → (count : ℕ) (lengths text : List ℕ) →
+    (is_before_copies answer ≡ true → lengths ≡ []) → text ≡ copied_lines (count + 1) lengths → IsCopyText answer text
 other_text status.Done other count lengths text before is = absurd (other.done refl)
 other_text status.SinkFault other count lengths text before is = absurd (other.sink refl)
 other_text answer other count lengths text before is = (count, (lengths, before, is))
@@ -195,125 +205,143 @@ module _ {A B K : Type 0} (a : tapes.Meaning A) (b : tapes.Meaning B) (k : sinks
   module _ (both : TakesBoth k) (nothing : (z : K) → k.took z [] z) where
     -- ---- the missing volumes
 
-    module _ (old new : CopyView A B K) (answer : CopyStatus) (ends : MissingEnds a b k old new answer) (chain : Chained a b k old ends.mid) where
-      missing_kind : HasKind answer
-      missing_kind = by_end ends.ends
-        where
-          by_count : (found : CopyStatus) → PrintsCount k ends.mid.sink new.sink (length ends.mid.to.store.entries) found → HasKind found
-          by_count status.Done wrote = tt
-          by_count status.SinkFault broke = tt
-          by_count found none = absurd none
+    module _ (old new : CopyView A B K) (answer : CopyStatus) (ends : MissingEnds a b k old new answer) (chain : Chained a b k old ends.mid)
+      where
+        missing_kind : HasKind answer
+        missing_kind = by_end ends.ends
+          where
+            by_count : (found : CopyStatus) → PrintsCount k ends.mid.sink new.sink (length ends.mid.to.store.entries) found → HasKind found
+            by_count status.Done wrote = tt
+            by_count status.SinkFault broke = tt
+            by_count found none = absurd none
 
-          by_end : IsRefused a b ends.mid new answer ⊎ IsUnprinted a b k ends.mid new answer ⊎ IsCounted k ends.mid new answer → HasKind answer
-          by_end (inl refused) = one_kind a b (next_number ends.mid) ends.mid.from new.from ends.mid.to new.to answer refused.one
-          by_end (inr (inl unprinted)) = subst HasKind (sym unprinted.answered) tt
-          by_end (inr (inr counted)) = by_count answer counted.count
+            by_end : IsRefused a b ends.mid new answer ⊎ IsUnprinted a b k ends.mid new answer ⊎ IsCounted k ends.mid new answer →
+                HasKind answer
+            by_end (inl refused) = one_kind a b (next_number ends.mid) ends.mid.from new.from ends.mid.to new.to answer refused.one
+            by_end (inr (inl unprinted)) = subst HasKind (sym unprinted.answered) tt
+            by_end (inr (inr counted)) = by_count answer counted.count
 
-      -- ---- what is printed
+        -- ---- what is printed
 
-      abbrev count : ℕ
-      count = length old.to.store.entries
+        abbrev count : ℕ
+        count = length old.to.store.entries
 
-      abbrev lines : List ℕ
-      lines = copied_lines (length old.to.store.entries + 1) chain.lengths
+        abbrev lines : List ℕ
+        lines = copied_lines (length old.to.store.entries + 1) chain.lengths
 
-      entries_now : length ends.mid.to.store.entries ≡ count + length chain.lengths
-      entries_now =
-          let all : length ends.mid.to.store.entries ≡ length old.to.store.entries + length chain.more = ap length chain.to_entries ∙ length-append old.to.store.entries chain.more in
-          let same = chain.many in omega (arith, all, same)
+        entries_now : length ends.mid.to.store.entries ≡ count + length chain.lengths
+        entries_now =
+            let all : length ends.mid.to.store.entries ≡ length old.to.store.entries + length chain.more = ap length chain.to_entries ∙
+            length-append old.to.store.entries chain.more in
+            let same = chain.many in omega (arith, all, same)
 
-      counted_line : count_line (length ends.mid.to.store.entries) ≡ count_line (count + length chain.lengths)
-      counted_line = ap count_line entries_now
+        counted_line : count_line (length ends.mid.to.store.entries) ≡ count_line (count + length chain.lengths)
+        counted_line = ap count_line entries_now
 
-      missing_printed : PrintsCopies k answer old.sink new.sink
-      missing_printed = by_end ends.ends
-        where
-          by_count : (found : CopyStatus) → PrintsCount k ends.mid.sink new.sink (length ends.mid.to.store.entries) found → PrintsCopies k found old.sink new.sink
-          by_count status.Done wrote = record {
-            text = lines ++ count_line (length ends.mid.to.store.entries);
-            is_text = (count, (chain.lengths, ap (λ (text : List ℕ). lines ++ text) counted_line));
-            took = both old.sink ends.mid.sink new.sink lines (count_line (length ends.mid.to.store.entries)) chain.took wrote.took;
-          }
-          by_count status.SinkFault broke = record {
-            text = lines ++ broke.front;
-            is_text = (
-              count,
-              (
-                chain.lengths,
-                (
-                  broke.rest,
-                  broke.some,
-                  append_assoc lines broke.front broke.rest ∙ ap (λ (text : List ℕ). lines ++ text) (broke.parts ∙ counted_line),
-                ),
-              ),
-            );
-            took = both old.sink ends.mid.sink new.sink lines broke.front chain.took broke.took;
-          }
-          by_count found none = absurd none
-
-          refused_printed : IsRefused a b ends.mid new answer → PrintsCopies k answer old.sink new.sink
-          refused_printed refused =
-              let so = fails_so a b (next_number ends.mid) ends.mid.from new.from ends.mid.to new.to answer refused.one in
-              let late : is_before_copies answer ≡ false = one_late a b (next_number ends.mid) ends.mid.from new.from ends.mid.to new.to answer refused.one in
-              record {
-                text = lines;
-                is_text = other_text answer (subst IsOther (sym so.answered) (append_other so.fault refused.one.source.fault)) count chain.lengths lines (λ before. absurd (let no : true ≡ false = sym before ∙ late in cc)) refl;
-                took = subst (λ (z : K). k.took old.sink lines z) (sym refused.sink) chain.took;
-              }
-
-          unprinted_text : (unprinted : IsUnprinted a b k ends.mid new answer) → IsCopyText status.SinkFault (lines ++ unprinted.line.front)
-          unprinted_text unprinted =
-              let bytes : ℕ = unprinted.bytes in
-              let lengths : List ℕ = chain.lengths ++ bytes ∷ [] in
-              let front : List ℕ = unprinted.line.front in
-              let rest : List ℕ = unprinted.line.rest in
-              let last : List ℕ = count_line (count + length lengths) in
-              let number : next_number ends.mid ≡ count + 1 + length chain.lengths = let all = entries_now in omega (arith, all) in (
+        missing_printed : PrintsCopies k answer old.sink new.sink
+        missing_printed = by_end ends.ends
+          where
+            by_count : (found : CopyStatus) → PrintsCount k ends.mid.sink new.sink (length ends.mid.to.store.entries) found →
+                PrintsCopies k found old.sink new.sink
+            by_count status.Done wrote = record {
+              text = lines ++ count_line (length ends.mid.to.store.entries);
+              is_text = (count, (chain.lengths, ap (λ (text : List ℕ). lines ++ text) counted_line));
+              took = both old.sink ends.mid.sink new.sink lines (count_line (length ends.mid.to.store.entries)) chain.took wrote.took;
+            }
+            by_count status.SinkFault broke = record {
+              text = lines ++ broke.front;
+              is_text = (
                 count,
                 (
-                  lengths,
+                  chain.lengths,
                   (
-                    rest ++ last,
-                    some_longer rest last unprinted.line.some,
-                    append_assoc lines front (rest ++ last)
-                        ∙ ap (λ (text : List ℕ). lines ++ text) (sym (append_assoc front rest last) ∙ ap (λ (text : List ℕ). text ++ last) (unprinted.line.parts ∙ ap (λ (m : ℕ). copied_line m bytes) number))
-                        ∙ sym (append_assoc lines (copied_line (count + 1 + length chain.lengths) bytes) last)
-                        ∙ ap (λ (text : List ℕ). text ++ last) (sym (lines_more (count + 1) chain.lengths bytes)),
+                    broke.rest,
+                    broke.some,
+                    append_assoc lines broke.front broke.rest ∙ ap (λ (text : List ℕ). lines ++ text) (broke.parts ∙ counted_line),
                   ),
                 ),
-              )
+              );
+              took = both old.sink ends.mid.sink new.sink lines broke.front chain.took broke.took;
+            }
+            by_count found none = absurd none
 
-          by_end : IsRefused a b ends.mid new answer ⊎ IsUnprinted a b k ends.mid new answer ⊎ IsCounted k ends.mid new answer → PrintsCopies k answer old.sink new.sink
-          by_end (inl refused) = refused_printed refused
-          by_end (inr (inl unprinted)) =
-              subst (λ (found : CopyStatus). PrintsCopies k found old.sink new.sink) (sym unprinted.answered) (record {
-                text = lines ++ unprinted.line.front;
-                is_text = unprinted_text unprinted;
-                took = both old.sink ends.mid.sink new.sink lines unprinted.line.front chain.took unprinted.line.took;
-              })
-          by_end (inr (inr counted)) = by_count answer counted.count
+            refused_printed : IsRefused a b ends.mid new answer → PrintsCopies k answer old.sink new.sink
+            refused_printed refused =
+                let so = fails_so a b (next_number ends.mid) ends.mid.from new.from ends.mid.to new.to answer refused.one in
+                let late : is_before_copies answer ≡ false = one_late a b (next_number ends.mid) ends.mid.from new.from ends.mid.to new.to
+                answer refused.one in
+                record {
+                  text = lines;
+                  is_text = other_text answer (subst IsOther (sym so.answered) (append_other so.fault refused.one.source.fault)) count
+                      chain.lengths lines (λ before. absurd (let no : true ≡ false = sym before ∙ late in cc)) refl;
+                  took = subst (λ (z : K). k.took old.sink lines z) (sym refused.sink) chain.took;
+                }
+
+            unprinted_text : (unprinted : IsUnprinted a b k ends.mid new answer) → IsCopyText status.SinkFault
+                (lines ++ unprinted.line.front)
+            unprinted_text unprinted =
+                let bytes : ℕ = unprinted.bytes in
+                let lengths : List ℕ = chain.lengths ++ bytes ∷ [] in
+                let front : List ℕ = unprinted.line.front in
+                let rest : List ℕ = unprinted.line.rest in
+                let last : List ℕ = count_line (count + length lengths) in
+                let number : next_number ends.mid ≡ count + 1 + length chain.lengths = let all = entries_now in omega (arith, all) in (
+                  count,
+                  (
+                    lengths,
+                    (
+                      rest ++ last,
+                      some_longer rest last unprinted.line.some,
+                      append_assoc lines front (rest ++ last)
+                          ∙ ap (λ (text : List ℕ). lines ++ text) (sym (append_assoc front rest last) ∙ ap (λ (text : List ℕ). text ++ last)
+                          (unprinted.line.parts ∙ ap (λ (m : ℕ). copied_line m bytes) number))
+                          ∙ sym (append_assoc lines (copied_line (count + 1 + length chain.lengths) bytes) last)
+                          ∙ ap (λ (text : List ℕ). text ++ last) (sym (lines_more (count + 1) chain.lengths bytes)),
+                    ),
+                  ),
+                )
+
+            by_end : IsRefused a b ends.mid new answer ⊎ IsUnprinted a b k ends.mid new answer ⊎ IsCounted k ends.mid new answer →
+                PrintsCopies k answer old.sink new.sink
+            by_end (inl refused) = refused_printed refused
+            by_end (inr (inl unprinted)) =
+                subst (λ (found : CopyStatus). PrintsCopies k found old.sink new.sink) (sym unprinted.answered) (record {
+                  text = lines ++ unprinted.line.front;
+                  is_text = unprinted_text unprinted;
+                  took = both old.sink ends.mid.sink new.sink lines unprinted.line.front chain.took unprinted.line.took;
+                })
+            by_end (inr (inr counted)) = by_count answer counted.count
 
     -- ---- the run
 
     module _ (old new : Units A B K) (answer : CopyStatus) where
       run_chain : (run : HasRun a b k old new answer) → Chained a b k run.begun run.missing.mid
       run_chain run =
-          chained a b k both nothing run.missing.count run.begun run.missing.mid run.opened.opened_source.fits run.opened.opened_target.fits run.missing.copied
+          chained a b k both nothing run.missing.count run.begun run.missing.mid run.opened.opened_source.fits run.opened.opened_target.fits
+          run.missing.copied
 
       silent : new.sink ≡ old.sink → IsOther answer → PrintsCopies k answer old.sink new.sink
-      silent same other = record { text = []; is_text = no_text answer other; took = subst (λ (z : K). k.took old.sink [] z) (sym same) (nothing old.sink) }
+      silent same other = record {
+        text = [];
+        is_text = no_text answer other;
+        took = subst (λ (z : K). k.took old.sink [] z) (sym same)
+            (nothing old.sink);
+      }
 
       refused_other : BothRefused a b old.from.tape new.from old.to new.to answer → IsOther answer
       refused_other (inl refused) = subst IsOther (sym refused.3) (from_other refused.0)
       refused_other (inr (inl refused)) = subst IsOther (sym refused.4) (to_other refused.1)
-      refused_other (inr (inr (source, target, opened, opened', inl protected))) = subst IsOther (sym protected.1) (record { done = λ is. cc; sink = λ is. cc })
-      refused_other (inr (inr (source, target, opened, opened', inr differs))) = subst IsOther (sym differs.1.2) (record { done = λ is. cc; sink = λ is. cc })
+      refused_other (inr (inr (source, target, opened, opened', inl protected))) = subst IsOther (sym protected.1)
+          (record { done = λ is. cc; sink = λ is. cc })
+      refused_other (inr (inr (source, target, opened, opened', inr differs))) = subst IsOther (sym differs.1.2)
+          (record { done = λ is. cc; sink = λ is. cc })
 
       pub run_printed : RunEnds a b k old new answer → PrintsCopies k answer old.sink new.sink
       run_printed (inl (refused, same)) = silent same (refused_other refused)
       run_printed (inr run) =
           subst (λ (units : Units A B K). PrintsCopies k answer old.sink units.sink) (sym run.left)
-          (subst (λ (z : K). PrintsCopies k answer z run.ended.sink) run.sink (missing_printed run.begun run.ended answer run.missing (run_chain run)))
+          (subst (λ (z : K). PrintsCopies k answer z run.ended.sink) run.sink (missing_printed run.begun run.ended answer run.missing
+          (run_chain run)))
 
       pub run_kind : RunEnds a b k old new answer → HasKind answer
       run_kind (inl (inl refused, same)) = subst HasKind (sym refused.3) (from_kind a old.from.tape new.from.tape refused.0 refused.1)
@@ -372,15 +400,19 @@ module _ {A B K : Type 0} (a : tapes.Meaning A) (b : tapes.Meaning B) (k : sinks
       run_goes (inr run) =
           let begun : CopyView A B K = run.begun in
           let ended : CopyView A B K = run.ended in
-          let goes = missing_goes a b k both nothing begun ended answer run.opened.opened_source.fits run.opened.opened_target.fits run.missing in record {
+          let goes = missing_goes a b k both nothing begun ended answer run.opened.opened_source.fits run.opened.opened_target.fits
+          run.missing in record {
             from = subst (λ (units : Units A B K). GoesOn a old.from.tape units.from.tape) (sym run.left)
-                (goes_both a old.from.tape begun.from.unit.tape ended.from.unit.tape (goes_done a old.from.tape begun.from.unit.tape run.opened.opened_source.steps run.opened.opened_source.did)
+                (goes_both a old.from.tape begun.from.unit.tape ended.from.unit.tape (goes_done a old.from.tape begun.from.unit.tape
+                run.opened.opened_source.steps run.opened.opened_source.did)
                 (goes_read a begun.from.unit.tape ended.from.unit.tape
                 (reads_only a begun.from.unit.tape ended.from.unit.tape answer goes.from)));
             to = subst (λ (units : Units A B K). GoesOn b old.to.tape units.to.tape) (sym run.left)
-                (goes_both b old.to.tape begun.to.unit.tape ended.to.unit.tape (goes_done b old.to.tape begun.to.unit.tape run.opened.opened_target.steps run.opened.opened_target.did) goes.to);
+                (goes_both b old.to.tape begun.to.unit.tape ended.to.unit.tape (goes_done b old.to.tape begun.to.unit.tape
+                run.opened.opened_target.steps run.opened.opened_target.did) goes.to);
             sink = subst (λ (units : Units A B K). k.faults old.sink ≤ k.faults units.sink) (sym run.left)
-                (let is : k.faults begun.sink ≡ k.faults old.sink = ap k.faults run.sink in let later = goes.sink in omega (arith, is, later));
+                (let is : k.faults begun.sink ≡ k.faults old.sink = ap k.faults run.sink in let later = goes.sink in omega
+                (arith, is, later));
           }
 
       joins_of : RunGoes → CopiesJoin a b k (decks_of old) (decks_of new)

@@ -55,8 +55,10 @@ pub given_none : (c : Cartridge) (words : List ℕ) → given_bytes c words [] �
 given_none c words = given_is c words []
 
 -- a piece that reads gives its data's first bytes, and then the pieces behind it theirs
-pub given_next : (c : Cartridge) (words : List ℕ) (piece : Piece) (rest : List Piece) (sectors : List (List ℕ)) → Says (piece_cells c words piece) (Data sectors) →
+pub given_next : (c : Cartridge) (words : List ℕ) (piece : Piece) (rest : List Piece) (sectors : List (List ℕ)) →
+    Says (piece_cells c words piece) (Data sectors) →
     given_bytes c words (piece ∷ rest) ≡ take piece.count (bytes_in sectors) ++ given_bytes c words rest
 given_next c words piece rest sectors says =
-    given_is_function c words (piece ∷ rest) (given_bytes c words (piece ∷ rest)) (take piece.count (bytes_in sectors) ++ given_bytes c words rest)
+    given_is_function c words (piece ∷ rest) (given_bytes c words (piece ∷ rest)) (take piece.count (bytes_in sectors) ++ given_bytes c
+    words rest)
     (given_is c words (piece ∷ rest)) (Data sectors, given_bytes c words rest, says, given_is c words rest, refl)

@@ -101,17 +101,21 @@ module _ {T : Type 0} (m : Meaning T) (s : SourceView T) (store : StoreView) (un
 
     -- what is so of the words and the pieces, and of what is told
     tells_after : (P : Cartridge → List ℕ → List Piece → Type 0) → m.told unit.tape ≡ m.told s.unit.tape →
-        Tells m s.unit.tape (λ c. P c s.store.words (source_pieces s)) → Tells m unit.tape (λ c. P c store.words (pieces_of_number store s.number))
+        Tells m s.unit.tape (λ c. P c s.store.words (source_pieces s)) → Tells m unit.tape
+        (λ c. P c store.words (pieces_of_number store s.number))
     tells_after P told fact =
-        subst (λ (o : Option (Option Cartridge)). IfSome o (λ h. IfSome h (λ c. P c store.words (pieces_of_number store s.number)))) (sym told)
+        subst (λ (o : Option (Option Cartridge)). IfSome o (λ h. IfSome h (λ c. P c store.words (pieces_of_number store s.number))))
+        (sym told)
         (Tells-map m s.unit.tape (λ c. P c s.store.words (source_pieces s)) (λ c. P c store.words (pieces_of_number store s.number))
         (λ c h. subst (λ (ws : List ℕ). P c ws (pieces_of_number store s.number)) (sym kept.words)
         (subst (λ (ps : List Piece). P c s.store.words ps) (sym same_pieces) h)) fact)
 
     module _ (fits : StoreFits m store unit) (read : OnlyRead m s.unit.tape unit.tape) (sound : IsSoundSource m s) where
       -- what is true of it
-      sound_after : (done : ℕ) (unread : List ℕ) (faults : ℕ) (why : Option StoreFault) → Tells m s.unit.tape (λ c. FirstRead c s.store.words (source_pieces s) done) →
-          Tells m s.unit.tape (λ c. IsRefusal c s.store.words (source_pieces s) why) → IsOfPart why → (why ≡ None → faults ≡ 0) → (faults ≡ 0 → why ≡ None) →
+      sound_after : (done : ℕ) (unread : List ℕ) (faults : ℕ) (why : Option StoreFault) → Tells m s.unit.tape
+          (λ c. FirstRead c s.store.words (source_pieces s) done) →
+          Tells m s.unit.tape (λ c. IsRefusal c s.store.words (source_pieces s) why) → IsOfPart why → (why ≡ None → faults ≡ 0) →
+          (faults ≡ 0 → why ≡ None) →
           IsSoundSource m (after done unread faults why)
       sound_after done unread faults why reads refused kind counted counting = record {
         fits = fits;
@@ -153,7 +157,8 @@ module _ {T : Type 0} (m : Meaning T) (s : SourceView T) (store : StoreView) (un
           by_told (Some (Some c)) is = ap (λ (bytes : List ℕ). Some bytes) (same c is)
 
       given_same : (c : Cartridge) (done : ℕ) →
-          given_bytes c store.words (drop done (pieces_of_number store s.number)) ≡ given_bytes c s.store.words (drop done (source_pieces s))
+          given_bytes c store.words (drop done (pieces_of_number store s.number)) ≡ given_bytes c s.store.words
+          (drop done (source_pieces s))
       given_same c done =
           ap (λ (ws : List ℕ). given_bytes c ws (drop done (pieces_of_number store s.number))) kept.words
           ∙ ap (λ (ps : List Piece). given_bytes c s.store.words (drop done ps)) same_pieces
@@ -175,7 +180,8 @@ module _ {T : Type 0} (m : Meaning T) (s : SourceView T) (store : StoreView) (un
         none_kept none part =
             kept_after s.done unread s.faults s.fault none_sound none (λ some. absurd (cc)) (λ other. part_stood (Ok None) (λ is. cc) part)
 
-      pub none_ended : ReadsPart m s.store store s.number s.done s.unit.tape unit.tape (Ok None) → s.unread ≡ [] → (unread : List ℕ) → unread ≡ [] →
+      pub none_ended : ReadsPart m s.store store s.number s.done s.unit.tape unit.tape (Ok None) → s.unread ≡ [] → (unread : List ℕ) →
+          unread ≡ [] →
           HasEnded (source_means m) (after s.done unread s.faults s.fault)
       none_ended (e, at, found) all unread empty = by_told (m.told unit.tape)
         where
@@ -193,7 +199,8 @@ module _ {T : Type 0} (m : Meaning T) (s : SourceView T) (store : StoreView) (un
 
       -- ---- the next piece was read
 
-      more_read : (c : Cartridge) (words : List ℕ) (needed : List Piece) (done : ℕ) (piece : Piece) → slice_get needed done ≡ Some piece → Reads c words piece →
+      more_read : (c : Cartridge) (words : List ℕ) (needed : List Piece) (done : ℕ) (piece : Piece) → slice_get needed done ≡ Some piece →
+          Reads c words piece →
           FirstRead c words needed done → FirstRead c words needed (done + 1)
       more_read c words needed done piece there reads first i p below at =
           elim (cases_lt i done) [
@@ -240,7 +247,8 @@ module _ {T : Type 0} (m : Meaning T) (s : SourceView T) (store : StoreView) (un
         pub part_some : 0 < length (take count (bytes_in store.part))
         part_some =
             let some : 0 < count = piece_reads.some in
-            let all : length (take count (bytes_in store.part)) ≡ count = length-take-le count (bytes_in store.part) (part_held.bytes some) in
+            let all : length (take count (bytes_in store.part)) ≡ count = length-take-le count (bytes_in store.part) (part_held.bytes some)
+            in
             omega arith
 
         module _ (unread : List ℕ) where
@@ -252,12 +260,15 @@ module _ {T : Type 0} (m : Meaning T) (s : SourceView T) (store : StoreView) (un
               kept_after (s.done + 1) unread s.faults s.fault some_sound none (λ some. absurd (cc))
               (λ other. part_stood (Ok (Some count)) (λ is. cc) part)
 
-        pub some_left : s.unread ≡ [] → (source_means m).left (after (s.done + 1) (take count (bytes_in store.part)) s.faults s.fault) ≡ (source_means m).left s
+        pub some_left : s.unread ≡ [] → (source_means m).left (after (s.done + 1) (take count (bytes_in store.part)) s.faults s.fault) ≡
+            (source_means m).left s
         some_left all = left_after (s.done + 1) (take count (bytes_in store.part)) s.faults s.fault (λ c is.
             let says : Says (piece_cells c s.store.words piece) (Data store.part) =
-            subst (λ (o : Option (Option Cartridge)). IfSome o (λ h. IfSome h (λ d. Says (piece_cells d s.store.words piece) (Data store.part)))) is piece_reads.told in
+            subst (λ (o : Option (Option Cartridge)).
+            IfSome o (λ h. IfSome h (λ d. Says (piece_cells d s.store.words piece) (Data store.part)))) is piece_reads.told in
             let rest : List Piece = drop (s.done + 1) (source_pieces s) in
-            ap (λ (n : ℕ). take n (bytes_in store.part) ++ given_bytes c store.words (drop (s.done + 1) (pieces_of_number store s.number))) piece_reads.counted
+            ap (λ (n : ℕ). take n (bytes_in store.part) ++ given_bytes c store.words (drop (s.done + 1) (pieces_of_number store s.number)))
+            piece_reads.counted
             ∙ ap (λ (bytes : List ℕ). take piece.count (bytes_in store.part) ++ bytes) (given_same c (s.done + 1))
             ∙ sym (given_next c s.store.words piece rest store.part says)
             ∙ ap (given_bytes c s.store.words) (sym (from_index (source_pieces s) s.done piece is_next))
@@ -271,7 +282,8 @@ module _ {T : Type 0} (m : Meaning T) (s : SourceView T) (store : StoreView) (un
       refused_so (fault.NoVolume number count) none = absurd (let some = sound.numbered in let other = none.none in cc)
       refused_so (fault.Lost segment lost) (e, at, found) = first_unread (m.told s.unit.tape) sound.reads found.2.told
         where
-          first_unread : (o : Option (Option Cartridge)) → IfSome o (λ h. IfSome h (λ c. FirstRead c s.store.words (source_pieces s) s.done)) →
+          first_unread : (o : Option (Option Cartridge)) →
+              IfSome o (λ h. IfSome h (λ c. FirstRead c s.store.words (source_pieces s) s.done)) →
               IfSome o (λ h. IfSome h (λ c. PieceEnds c s.store.words found.0 (LostIn segment lost))) →
               IfSome o (λ h. IfSome h (λ c. IsRefusal c s.store.words (source_pieces s) (Some (fault.Lost segment lost))))
           first_unread None first ends = tt
@@ -285,7 +297,8 @@ module _ {T : Type 0} (m : Meaning T) (s : SourceView T) (store : StoreView) (un
           }
       refused_so (fault.Mismatch segment) (e, at, found) = first_unread (m.told s.unit.tape) sound.reads found.2.told
         where
-          first_unread : (o : Option (Option Cartridge)) → IfSome o (λ h. IfSome h (λ c. FirstRead c s.store.words (source_pieces s) s.done)) →
+          first_unread : (o : Option (Option Cartridge)) →
+              IfSome o (λ h. IfSome h (λ c. FirstRead c s.store.words (source_pieces s) s.done)) →
               IfSome o (λ h. IfSome h (λ c. PieceEnds c s.store.words found.0 (MismatchIn segment))) →
               IfSome o (λ h. IfSome h (λ c. IsRefusal c s.store.words (source_pieces s) (Some (fault.Mismatch segment))))
           first_unread None first ends = tt
@@ -299,7 +312,8 @@ module _ {T : Type 0} (m : Meaning T) (s : SourceView T) (store : StoreView) (un
           }
       refused_so fault.Tape ends = no_cause (m.told s.unit.tape)
         where
-          no_cause : (o : Option (Option Cartridge)) → IfSome o (λ h. IfSome h (λ c. IsRefusal c s.store.words (source_pieces s) (Some fault.Tape)))
+          no_cause : (o : Option (Option Cartridge)) →
+              IfSome o (λ h. IfSome h (λ c. IsRefusal c s.store.words (source_pieces s) (Some fault.Tape)))
           no_cause None = tt
           no_cause (Some None) = tt
           no_cause (Some (Some c)) = tt
@@ -342,7 +356,8 @@ module _ {T : Type 0} (m : Meaning T) (s : SourceView T) (store : StoreView) (un
       tape_broke fault.Source same ends = absurd ends
       tape_broke fault.Sink same ends = absurd ends
 
-      module _ (why : StoreFault) (part : ReadsPart m s.store store s.number s.done s.unit.tape unit.tape (Err why)) (unread : List ℕ) (faults : ℕ)
+      module _ (why : StoreFault) (part : ReadsPart m s.store store s.number s.done s.unit.tape unit.tape (Err why)) (unread : List ℕ)
+          (faults : ℕ)
           (rise : faults ≡ min (s.faults + 1) (2 ^ 64 - 1)) where
         pub refused_sound : IsSoundSource m (after s.done unread faults (Some why))
         refused_sound = sound_after s.done unread faults (Some why) sound.reads (refused_so why part) (of_part why part)

@@ -21,7 +21,8 @@ use Rattle.qic_base.specs.Cartridge.{Cartridge}
 use Rattle.qic_base.specs.Step.{Step as TapeStep, effects}
 use Rattle.volume_copy.proofs.Filling.{OnlyRead, by_broke, by_done}
 use Rattle.volume_copy.specs.Faults.{copy_fault}
-use Rattle.volume_copy.specs.Runs.{CopiesOne, CopyView, HasCopied, HaveCopied, IsCounted, IsRefused, IsUnprinted, MissingEnds, PrintsCount, SideFits, SideView, append_answer, append_status, next_number}
+use Rattle.volume_copy.specs.Runs.{CopiesOne, CopyView, HasCopied, HaveCopied, IsCounted, IsRefused, IsUnprinted, MissingEnds, PrintsCount}
+use Rattle.volume_copy.specs.Runs.{SideFits, SideView, append_answer, append_status, next_number}
 use Rattle.volume_copy.specs.Source.{IsOfPart, SourceView, new_source, source_means}
 use Rattle.volume_store.specs.Appending.{AppendEnds}
 use Rattle.volume_store.specs.Mounting.{StoreView}
@@ -64,14 +65,16 @@ goes_both m a b c first next = record {
   stops = record {
     telling = next.stops.telling ∙ first.stops.telling;
     clock = let e = first.stops.clock in let f = next.stops.clock in omega arith;
-    kept = λ time left before was. next.stops.kept time left (let e = first.stops.clock in omega (arith, before)) (first.stops.kept time left before was);
-    parted = λ time later left order before was. elim (next.stops.parted time later left order (let e = first.stops.clock in omega (arith, before)) was) [
-      | inl early ↦ elim (first.stops.parted time later left order before early) [
-        | inl first_early ↦ inl first_early
-        | inr late ↦ inr (next.stops.kept later left (let e = first.stops.clock in omega (arith, before)) late)
-      ]
-      | inr late ↦ inr late
-    ];
+    kept = λ time left before was. next.stops.kept time left (let e = first.stops.clock in omega (arith, before))
+        (first.stops.kept time left before was);
+    parted = λ time later left order before was.
+        elim (next.stops.parted time later left order (let e = first.stops.clock in omega (arith, before)) was) [
+          | inl early ↦ elim (first.stops.parted time later left order before early) [
+            | inl first_early ↦ inl first_early
+            | inr late ↦ inr (next.stops.kept later left (let e = first.stops.clock in omega (arith, before)) late)
+          ]
+          | inr late ↦ inr late
+        ];
   };
 }
 
@@ -133,15 +136,18 @@ taking_by room short have n input = if room then (if short then TooShort n (leng
 pub too_long : (have n : ℕ) (input : List ℕ) (need most : ℕ) → taking have (Some n) input ≡ TooLong need most → NoRoom have n need most
 too_long have n input need most is = by_flags (has_promised_room have (Some n)) (nat_lt (length input) n) refl is
   where
-    by_flags : (room short : Bool) → has_promised_room have (Some n) ≡ room → taking_by room short have n input ≡ TooLong need most → NoRoom have n need most
+    by_flags : (room short : Bool) → has_promised_room have (Some n) ≡ room → taking_by room short have n input ≡ TooLong need most →
+        NoRoom have n need most
     by_flags true true room is = absurd (cc)
     by_flags true false room is = absurd (cc)
     by_flags false short room is = record { none = room; needs = cc; has = cc }
 
-pub too_short : (have n : ℕ) (input : List ℕ) (promised read : ℕ) → taking have (Some n) input ≡ TooShort promised read → Early have n promised read input
+pub too_short : (have n : ℕ) (input : List ℕ) (promised read : ℕ) → taking have (Some n) input ≡ TooShort promised read →
+    Early have n promised read input
 too_short have n input promised read is = by_flags (has_promised_room have (Some n)) (nat_lt (length input) n) refl refl is
   where
-    by_flags : (room short : Bool) → has_promised_room have (Some n) ≡ room → nat_lt (length input) n ≡ short → taking_by room short have n input ≡ TooShort promised read →
+    by_flags : (room short : Bool) → has_promised_room have (Some n) ≡ room → nat_lt (length input) n ≡ short → taking_by room short have n
+        input ≡ TooShort promised read →
         Early have n promised read input
     by_flags true true room short is = record { room = room; asked = cc; given = cc; short = short }
     by_flags true false room short is = absurd (cc)
@@ -150,7 +156,8 @@ too_short have n input promised read is = by_flags (has_promised_room have (Some
 pub fitting : (have n : ℕ) (input bytes : List ℕ) → taking have (Some n) input ≡ Fits bytes → Enough have n input bytes
 fitting have n input bytes is = by_flags (has_promised_room have (Some n)) (nat_lt (length input) n) refl refl is
   where
-    by_flags : (room short : Bool) → has_promised_room have (Some n) ≡ room → nat_lt (length input) n ≡ short → taking_by room short have n input ≡ Fits bytes →
+    by_flags : (room short : Bool) → has_promised_room have (Some n) ≡ room → nat_lt (length input) n ≡ short → taking_by room short have n
+        input ≡ Fits bytes →
         Enough have n input bytes
     by_flags true true room short is = absurd (cc)
     by_flags true false room short is = record { room = room; long = short; taken = cc }
@@ -172,7 +179,8 @@ full_is_named have n none = by_parts (and_cases (nat_le 1 have) (nat_le n have) 
 
 -- ---- an append
 
-module _ {A B : Type 0} (a : tapes.Meaning A) (b : tapes.Meaning B) (x y : B) (old new : SourceView A) (store after : StoreView) (name : List ℕ) (date n : ℕ) where
+module _ {A B : Type 0} (a : tapes.Meaning A) (b : tapes.Meaning B) (x y : B) (old new : SourceView A) (store after : StoreView)
+    (name : List ℕ) (date n : ℕ) where
   abbrev Appends : Result Appended StoreFault → Type 0
   Appends r = AppendEnds b (source_means a) (reading x old) (reading y new) store after name date (Some n) r
 
@@ -225,7 +233,8 @@ module _ {A B : Type 0} (a : tapes.Meaning A) (b : tapes.Meaning B) (x y : B) (o
   append_kind (fault.Full need have) refused ends kind =
       let most : ℕ = room store.words store.entries in
       let none = too_long most n ends.input need have ends.took in
-      subst (λ (h : ℕ). (h == 0 || nat_lt h need) ≡ true) none.has (subst (λ (m : ℕ). (most == 0 || nat_lt most m) ≡ true) none.needs (full_is_named most n none.none))
+      subst (λ (h : ℕ). (h == 0 || nat_lt h need) ≡ true) none.has (subst (λ (m : ℕ). (most == 0 || nat_lt most m) ≡ true) none.needs
+      (full_is_named most n none.none))
   append_kind (fault.Short promised read) refused ends kind =
       let early = too_short (room store.words store.entries) n ends.input promised read ends.took in
       ap (λ (m : ℕ). nat_lt m promised) (sym early.given) ∙ ap (λ (m : ℕ). nat_lt (length ends.input) m) (sym early.asked) ∙ early.short
@@ -233,7 +242,8 @@ module _ {A B : Type 0} (a : tapes.Meaning A) (b : tapes.Meaning B) (x y : B) (o
   append_kind f refused ends kind = absurd ends
 
   -- none of its refusals comes before a volume is copied
-  pub append_late : (f : StoreFault) (refused : Option StoreFault) → Appends (Err f) → IsOfPart refused → is_before_copies (append_status f refused) ≡ false
+  pub append_late : (f : StoreFault) (refused : Option StoreFault) → Appends (Err f) → IsOfPart refused →
+      is_before_copies (append_status f refused) ≡ false
   append_late fault.Source (Some fault.Tape) ends kind = refl
   append_late fault.Source (Some (fault.Lost segment lost)) ends kind = refl
   append_late fault.Source (Some (fault.Mismatch segment)) ends kind = refl
@@ -256,15 +266,17 @@ append_sink f refused = refl
 -- ---- a volume
 
 -- what a copy of one did, whatever came of it
-pub record OneGoes {A B : Type 0} (a : tapes.Meaning A) (b : tapes.Meaning B) (before after : SideView A) (old new : SideView B) : Type 0 where
-  pub from : OnlyRead a before.unit.tape after.unit.tape
-  pub words : after.store.words ≡ before.store.words
-  pub entries : after.store.entries ≡ before.store.entries
-  pub fits : SideFits a after
-  pub to : GoesOn b old.unit.tape new.unit.tape
-  pub to_words : new.store.words ≡ old.store.words
+pub record OneGoes {A B : Type 0} (a : tapes.Meaning A) (b : tapes.Meaning B) (before after : SideView A) (old new : SideView B) : Type 0
+  where
+    pub from : OnlyRead a before.unit.tape after.unit.tape
+    pub words : after.store.words ≡ before.store.words
+    pub entries : after.store.entries ≡ before.store.entries
+    pub fits : SideFits a after
+    pub to : GoesOn b old.unit.tape new.unit.tape
+    pub to_words : new.store.words ≡ old.store.words
 
-module _ {A B : Type 0} (a : tapes.Meaning A) (b : tapes.Meaning B) (number : ℕ) (from after : SideView A) (to new : SideView B) (result : Result ℕ CopyStatus) (one : CopiesOne a b number from after to new result) where
+module _ {A B : Type 0} (a : tapes.Meaning A) (b : tapes.Meaning B) (number : ℕ) (from after : SideView A) (to new : SideView B)
+    (result : Result ℕ CopyStatus) (one : CopiesOne a b number from after to new result) where
   source_tape : after.unit.tape ≡ one.source.unit.tape
   source_tape = ap (λ (side : SideView A). side.unit.tape) one.back
 
@@ -275,7 +287,8 @@ module _ {A B : Type 0} (a : tapes.Meaning A) (b : tapes.Meaning B) (number : �
     words = ap (λ (side : SideView A). side.store.words) one.back ∙ one.kept.store.words;
     entries = ap (λ (side : SideView A). side.store.entries) one.back ∙ one.kept.store.entries;
     fits = subst (λ (side : SideView A). SideFits a side) (sym one.back) one.sound.fits;
-    to = append_goes a b to.unit.tape new.unit.tape (new_source from.store from.unit number) one.source to.store new.store one.entry.name one.entry.date
+    to = append_goes a b to.unit.tape new.unit.tape (new_source from.store from.unit number) one.source to.store new.store one.entry.name
+        one.entry.date
         (volume_length from.store.words one.entry) one.appended one.ends;
     to_words = one.format.words;
   }
@@ -367,11 +380,13 @@ module _ {A B : Type 0} (a : tapes.Meaning A) (b : tapes.Meaning B) (number : �
             more = does.added;
           }
       by_answer (Err f) is =
-          let no : Ok bytes ≡ append_answer (Err f) one.source.fault = sym ok ∙ one.is ∙ ap (λ (r : Result Appended StoreFault). append_answer r one.source.fault) is in absurd (cc)
+          let no : Ok bytes ≡ append_answer (Err f) one.source.fault = sym ok ∙ one.is ∙ ap (λ (r : Result Appended StoreFault).
+          append_answer r one.source.fault) is in absurd (cc)
 
 -- ---- volumes one after the other
 
-pub lines_more : (number : ℕ) (xs : List ℕ) (y : ℕ) → copied_lines number (xs ++ y ∷ []) ≡ copied_lines number xs ++ copied_line (number + length xs) y
+pub lines_more : (number : ℕ) (xs : List ℕ) (y : ℕ) → copied_lines number (xs ++ y ∷ []) ≡ copied_lines number xs ++ copied_line
+    (number + length xs) y
 lines_more number [] y =
     let same : number + 0 ≡ number = omega arith in rw same (append-nil (copied_line number y))
 lines_more number (x ∷ xs) y =
@@ -381,23 +396,25 @@ lines_more number (x ∷ xs) y =
     ∙ ap (λ (k : ℕ). (copied_line number x ++ copied_lines (number + 1) xs) ++ copied_line k y) same
 
 -- what so many copies did
-pub record Chained {A B K : Type 0} (a : tapes.Meaning A) (b : tapes.Meaning B) (k : sinks.Meaning K) (old mid : CopyView A B K) : Type 0 where
-  pub from : tapes.Done a old.from.unit.tape mid.from.unit.tape []
-  pub words : mid.from.store.words ≡ old.from.store.words
-  pub entries : mid.from.store.entries ≡ old.from.store.entries
-  pub from_fits : SideFits a mid.from
-  pub to : GoesOn b old.to.unit.tape mid.to.unit.tape
-  pub stood : b.faults mid.to.unit.tape ≡ b.faults old.to.unit.tape
-  pub to_words : mid.to.store.words ≡ old.to.store.words
-  pub to_fits : SideFits b mid.to
-  pub more : List Entry
-  pub to_entries : mid.to.store.entries ≡ old.to.store.entries ++ more
-  pub lengths : List ℕ
-  pub many : length lengths ≡ length more
-  pub took : k.took old.sink (copied_lines (next_number old) lengths) mid.sink
-  pub later : k.faults mid.sink ≡ k.faults old.sink
+pub record Chained {A B K : Type 0} (a : tapes.Meaning A) (b : tapes.Meaning B) (k : sinks.Meaning K) (old mid : CopyView A B K) : Type 0
+  where
+    pub from : tapes.Done a old.from.unit.tape mid.from.unit.tape []
+    pub words : mid.from.store.words ≡ old.from.store.words
+    pub entries : mid.from.store.entries ≡ old.from.store.entries
+    pub from_fits : SideFits a mid.from
+    pub to : GoesOn b old.to.unit.tape mid.to.unit.tape
+    pub stood : b.faults mid.to.unit.tape ≡ b.faults old.to.unit.tape
+    pub to_words : mid.to.store.words ≡ old.to.store.words
+    pub to_fits : SideFits b mid.to
+    pub more : List Entry
+    pub to_entries : mid.to.store.entries ≡ old.to.store.entries ++ more
+    pub lengths : List ℕ
+    pub many : length lengths ≡ length more
+    pub took : k.took old.sink (copied_lines (next_number old) lengths) mid.sink
+    pub later : k.faults mid.sink ≡ k.faults old.sink
 
-module _ {A B K : Type 0} (a : tapes.Meaning A) (b : tapes.Meaning B) (k : sinks.Meaning K) (both : TakesBoth k) (nothing : (z : K) → k.took z [] z) where
+module _ {A B K : Type 0} (a : tapes.Meaning A) (b : tapes.Meaning B) (k : sinks.Meaning K) (both : TakesBoth k) (nothing : (z : K) →
+    k.took z [] z) where
   chain_more : (old mid new : CopyView A B K) → Chained a b k old mid → HasCopied a b k mid new → Chained a b k old new
   chain_more old mid new chain has =
       let goes = one_goes a b (next_number mid) mid.from new.from mid.to new.to (Ok has.bytes) has.one in
@@ -417,16 +434,20 @@ module _ {A B K : Type 0} (a : tapes.Meaning A) (b : tapes.Meaning B) (k : sinks
         to_words = goes.to_words ∙ chain.to_words;
         to_fits = done.fits;
         more = chain.more ++ done.entry ∷ [];
-        to_entries = done.more ∙ ap (λ (es : List Entry). es ++ done.entry ∷ []) chain.to_entries ∙ append_assoc old.to.store.entries chain.more (done.entry ∷ []);
+        to_entries = done.more ∙ ap (λ (es : List Entry). es ++ done.entry ∷ []) chain.to_entries ∙ append_assoc old.to.store.entries
+            chain.more (done.entry ∷ []);
         lengths = chain.lengths ++ has.bytes ∷ [];
         many = omega (arith, one_more, one_longer, chain.many);
         took = subst (λ (text : List ℕ). k.took old.sink text new.sink)
-            (ap (λ (n : ℕ). copied_lines (next_number old) chain.lengths ++ copied_line n has.bytes) number ∙ sym (lines_more (next_number old) chain.lengths has.bytes))
-            (both old.sink mid.sink new.sink (copied_lines (next_number old) chain.lengths) (copied_line (next_number mid) has.bytes) chain.took has.line.took);
+            (ap (λ (n : ℕ). copied_lines (next_number old) chain.lengths ++ copied_line n has.bytes) number ∙
+            sym (lines_more (next_number old) chain.lengths has.bytes))
+            (both old.sink mid.sink new.sink (copied_lines (next_number old) chain.lengths) (copied_line (next_number mid) has.bytes)
+            chain.took has.line.took);
         later = has.line.later ∙ chain.later;
       }
 
-  pub chained : (count : ℕ) (old mid : CopyView A B K) → SideFits a old.from → SideFits b old.to → HaveCopied a b k count old mid → Chained a b k old mid
+  pub chained : (count : ℕ) (old mid : CopyView A B K) → SideFits a old.from → SideFits b old.to → HaveCopied a b k count old mid →
+      Chained a b k old mid
   chained zero old mid source target same =
       subst (Chained a b k old) (sym same) (record {
         from = Done-nothing a old.from.unit.tape;
@@ -494,7 +515,8 @@ module _ {A B K : Type 0} (a : tapes.Meaning A) (b : tapes.Meaning B) (k : sinks
             sink_count = sink_behind counts;
           }
 
-      count_later : (found : CopyStatus) → PrintsCount k ends.mid.sink new.sink (length ends.mid.to.store.entries) found → k.faults ends.mid.sink ≤ k.faults new.sink
+      count_later : (found : CopyStatus) → PrintsCount k ends.mid.sink new.sink (length ends.mid.to.store.entries) found →
+          k.faults ends.mid.sink ≤ k.faults new.sink
       count_later status.Done wrote = let stood = wrote.later in omega (arith, stood)
       count_later status.SinkFault broke = broke.later
       count_later found none = absurd none

@@ -1,5 +1,6 @@
 -- The length of a volume fits the 32 bits in which an append is promised it.
-use Rattle.std.proofs.Common.{◌≡◌, ℕ, zero, suc, ◌+◌, ◌-◌, ◌*◌, ◌^◌, ◌<◌, ◌≤◌, Bool, true, false, List, [], ◌∷◌, Option, Some, None, IsSomeAnd, slice_get, refl, subst, arith}
+use Rattle.std.proofs.Common.{◌≡◌, ℕ, zero, suc, ◌+◌, ◌-◌, ◌*◌, ◌^◌, ◌<◌, ◌≤◌, Bool, true, false, List, [], ◌∷◌, Option, Some, None}
+use Rattle.std.proofs.Common.{IsSomeAnd, slice_get, refl, subst, arith}
 use Rattle.std.proofs.lemmas.Bool.{leb-true}
 use Rattle.std.proofs.lemmas.Option.{same_Some}
 use Rattle.std.specs.Prelude.{◌&&◌, ◌==◌, if◌then◌else◌, nat_le}
@@ -22,7 +23,8 @@ by_fit false c size all fits = omega arith
 
 length_most : (words : List ℕ) (e : Entry) → volume_length words e ≤ capacity_between words e.start e.end
 length_most words e =
-    let all : ℕ = capacity_between words e.start e.end in by_fit (e.directory == 0) (nat_le e.size all) e.size all (λ fits. leb-true e.size all fits)
+    let all : ℕ = capacity_between words e.start e.end in by_fit (e.directory == 0) (nat_le e.size all) e.size all
+    (λ fits. leb-true e.size all fits)
 
 -- segments from one on, behind another
 capacity_most : (words : List ℕ) (e : Entry) → 1 ≤ e.start → capacity_between words e.start e.end ≤ 29696 * (e.end + 1)
@@ -31,14 +33,16 @@ capacity_most words e some =
     let start : e.start - 1 + 1 ≡ e.start = omega arith in
     subst (λ (n : ℕ). capacity_between words n e.end ≤ 29696 * (e.end + 1)) start (room_most words (behind ∷ []) e.end)
 
-start_some : (entries : List Entry) (before last i : ℕ) (e : Entry) → LieBehind before last entries → slice_get entries i ≡ Some e → 1 ≤ e.start
+start_some : (entries : List Entry) (before last i : ℕ) (e : Entry) → LieBehind before last entries → slice_get entries i ≡ Some e →
+    1 ≤ e.start
 start_some [] before last i e order at = absurd (cc)
 start_some (x ∷ xs) before last zero e order at =
     let same : x ≡ e = same_Some x e at in
     let here : 1 ≤ x.start = omega (arith, order.0) in subst (λ (y : Entry). 1 ≤ y.start) same here
 start_some (x ∷ xs) before last (suc i) e order at = start_some xs x.end last i e order.3 at
 
-end_within : (entries : List Entry) (before last i : ℕ) (e : Entry) → LieBehind before last entries → slice_get entries i ≡ Some e → e.end ≤ last
+end_within : (entries : List Entry) (before last i : ℕ) (e : Entry) → LieBehind before last entries → slice_get entries i ≡ Some e →
+    e.end ≤ last
 end_within [] before last i e order at = absurd (cc)
 end_within (x ∷ xs) before last zero e order at = subst (λ (y : Entry). y.end ≤ last) (same_Some x e at) order.2
 end_within (x ∷ xs) before last (suc i) e order at = end_within xs x.end last i e order.3 at
@@ -50,13 +54,16 @@ length_fits words e last some within most =
     let bound : capacity_between words e.start e.end ≤ 29696 * (e.end + 1) = capacity_most words e some in
     omega (arith, long, bound, within, most)
 
-few_segments : (cartridge : Option TapeInfo) (n : ℕ) → HasLength cartridge → IsSomeAnd cartridge (λ info. info.segments_per_track ≡ n) → n ≤ LONGEST
+few_segments : (cartridge : Option TapeInfo) (n : ℕ) → HasLength cartridge → IsSomeAnd cartridge (λ info. info.segments_per_track ≡ n) →
+    n ≤ LONGEST
 few_segments None n long there = absurd there
 few_segments (Some info) n long there = subst (λ (k : ℕ). k ≤ LONGEST) there long.longest
 
 -- a volume of a store that fits a unit
-pub length_of_fits : {T : Type 0} (m : Meaning T) (store : StoreView) (u : UnitView T) (i : ℕ) (e : Entry) → StoreFits m store u → slice_get store.entries i ≡ Some e → volume_length store.words e < 2 ^ 32
+pub length_of_fits : {T : Type 0} (m : Meaning T) (store : StoreView) (u : UnitView T) (i : ℕ) (e : Entry) → StoreFits m store u →
+    slice_get store.entries i ≡ Some e → volume_length store.words e < 2 ^ 32
 length_of_fits m store u i e fits at =
     let n : ℕ = segments_of store.host in
     let few : n ≤ LONGEST = few_segments u.drive.deck.cartridge n fits.host.sound.drive.deck.long fits.host.cartridge in
-    length_fits store.words e (28 * n - 1) (start_some store.entries 2 (28 * n - 1) i e fits.list at) (end_within store.entries 2 (28 * n - 1) i e fits.list at) (omega (arith, few))
+    length_fits store.words e (28 * n - 1) (start_some store.entries 2 (28 * n - 1) i e fits.list at)
+    (end_within store.entries 2 (28 * n - 1) i e fits.list at) (omega (arith, few))

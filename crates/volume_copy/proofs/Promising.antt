@@ -1,8 +1,10 @@
 -- What a copy promises, by how its calls ended.
-use Rattle.std.proofs.Common.{◌≡◌, ◌≢◌, ◌⊎◌, ◌↔◌, ℕ, true, false, List, [], ◌∷◌, length, map, arith, Option, Some, None, IfSome, refl, ap, sym, subst, ◌∙◌, inl, inr}
+use Rattle.std.proofs.Common.{◌≡◌, ◌≢◌, ◌⊎◌, ◌↔◌, ℕ, true, false, List, [], ◌∷◌, length, map, arith, Option, Some, None, IfSome, refl, ap}
+use Rattle.std.proofs.Common.{sym, subst, ◌∙◌, inl, inr}
 use Rattle.std.specs.Prelude.{◌==◌}
 use Rattle.std.proofs.lemmas.Bool.{eqb-true}
-use Rattle.command_spec.specs.CopyPromises.{CopyEnds, CopyPromises, Decks, FromAnswers, HasKind, HasRisen, IsUnasked, PrintsCopies, TargetGrows, TargetLives, ToAnswers, ToLeaves}
+use Rattle.command_spec.specs.CopyPromises.{CopyEnds, CopyPromises, Decks, FromAnswers, HasKind, HasRisen, IsUnasked, PrintsCopies}
+use Rattle.command_spec.specs.CopyPromises.{TargetGrows, TargetLives, ToAnswers, ToLeaves}
 use Rattle.command_spec.specs.Headline.{EachLeft}
 use Rattle.command_spec.specs.declared.copy_status.CopyStatus.{CopyStatus}
 use Rattle.qic_base.specs.Cartridge.{Cartridge}
@@ -17,7 +19,8 @@ use Rattle.command_spec.specs.declared.copy_status.CopyStatus.TheVariants as sta
 use Rattle.qic_base.specs.Sink as sinks
 use Rattle.qic_base.specs.Tape as tapes
 
-if_told : (o : Option (Option Cartridge)) (P : Option Cartridge → Type 0) → ((held : Option Cartridge) → o ≡ Some held → P held) → IfSome o P
+if_told : (o : Option (Option Cartridge)) (P : Option Cartridge → Type 0) → ((held : Option Cartridge) → o ≡ Some held → P held) →
+    IfSome o P
 if_told None P each = tt
 if_told (Some held) P each = each held refl
 
@@ -54,7 +57,8 @@ of_unasked : (P : CopyStatus → Type 0) (answer : CopyStatus) → P status.Usag
 of_unasked P answer usage memory (inl is) = subst P (sym is) usage
 of_unasked P answer usage memory (inr is) = subst P (sym is) memory
 
-module _ {A B K : Type 0} (a : tapes.Meaning A) (b : tapes.Meaning B) (k : sinks.Meaning K) (words : List (List ℕ)) (old new : Units A B K) (answer : CopyStatus) (laws : AtStart a b k (decks_of old))
+module _ {A B K : Type 0} (a : tapes.Meaning A) (b : tapes.Meaning B) (k : sinks.Meaning K) (words : List (List ℕ)) (old new : Units A B K)
+    (answer : CopyStatus) (laws : AtStart a b k (decks_of old))
     (usage : (answer ≡ status.Usage) ↔ (words ≢ [])) where
   abbrev before : Decks A B K
   before = decks_of old
@@ -63,7 +67,8 @@ module _ {A B K : Type 0} (a : tapes.Meaning A) (b : tapes.Meaning B) (k : sinks
   after = decks_of new
 
   -- the clauses that hold whether a drive was asked or not
-  left_alive : Ended a b k before after laws answer → (from : Option Cartridge) → a.told before.from ≡ Some from → EachLeft b before.to after.to (ToLeaves from)
+  left_alive : Ended a b k before after laws answer → (from : Option Cartridge) → a.told before.from ≡ Some from → EachLeft b before.to
+      after.to (ToLeaves from)
   left_alive ended from told = to_left a b k before after laws answer ended from told
 
   -- nothing was done, or a drive was asked
@@ -91,15 +96,19 @@ module _ {A B K : Type 0} (a : tapes.Meaning A) (b : tapes.Meaning B) (k : sinks
             (record { from = refl; to = refl; sink = refl }) unasked);
         kind = of_unasked HasKind answer tt tt unasked;
         short = λ promised read is. absurd (no_short promised read is unasked);
-        source = if_told (a.told before.from) (λ held. FromAnswers held answer) (λ held told. of_unasked (FromAnswers held) answer tt tt unasked);
+        source = if_told (a.told before.from) (λ held. FromAnswers held answer) (λ held told. of_unasked (FromAnswers held) answer tt tt
+            unasked);
         target = if_told (b.told before.to) (λ held. ToAnswers held answer) (λ held told. of_unasked (ToAnswers held) answer tt tt unasked);
         printed = subst (λ (decks : Decks A B K). PrintsCopies k answer before.sink decks.sink) (sym still)
             (record { text = []; is_text = no_text answer (other unasked); took = laws.nothing before.sink });
         from_left = from_left a b k old new laws answer (inl same);
         from_stays = from_stays a b k old new laws answer (from_left a b k old new laws answer (inl same));
-        to_left = if_told (a.told before.from) (λ from. EachLeft b before.to after.to (ToLeaves from)) (λ from told. left_alive ended from told);
-        to_lives = if_told (a.told before.from) (λ from. EachLeft b before.to after.to TargetLives) (λ from told. to_lives a b k before after laws answer from (left_alive ended from told));
-        to_grows = if_told (a.told before.from) (λ from. EachLeft b before.to after.to (TargetGrows from)) (λ from told. to_grows a b k before after laws answer from told (left_alive ended from told));
+        to_left = if_told (a.told before.from) (λ from. EachLeft b before.to after.to (ToLeaves from)) (λ from told. left_alive ended from
+            told);
+        to_lives = if_told (a.told before.from) (λ from. EachLeft b before.to after.to TargetLives) (λ from told. to_lives a b k before
+            after laws answer from (left_alive ended from told));
+        to_grows = if_told (a.told before.from) (λ from. EachLeft b before.to after.to (TargetGrows from))
+            (λ from told. to_grows a b k before after laws answer from told (left_alive ended from told));
         over = λ c one d other from_told to_told alike. over a b k before after laws answer c one d other from_told to_told ended alike;
         done = λ c one d other from_told to_told stands standing like is. absurd (no_done is unasked);
         joins = none_joins a b k before after still;
@@ -127,25 +136,34 @@ module _ {A B K : Type 0} (a : tapes.Meaning A) (b : tapes.Meaning B) (k : sinks
       record {
         usage = usage;
         untouched = λ is. absurd (never_unasked answer asked is);
-        ends = λ some. if_told (a.told before.from) _ (λ from from_told. if_told (b.told before.to) _ (λ to to_told. ends from to from_told to_told));
-        complete = λ none quiet c one d other from_told to_told can. inr (complete a b k before after laws answer c one d other from_told to_told ends risen quiet can);
+        ends = λ some. if_told (a.told before.from) _ (λ from from_told. if_told (b.told before.to) _ (λ to to_told. ends from to from_told
+            to_told));
+        complete = λ none quiet c one d other from_told to_told can. inr (complete a b k before after laws answer c one d other from_told
+            to_told ends risen quiet can);
         cause = risen;
         kind = run_kind a b k laws.both laws.nothing old new answer runs;
         short = λ promised read is. run_short a b k old new laws answer runs promised read is;
-        source = if_told (a.told before.from) (λ held. FromAnswers held answer) (λ held told. run_source a b k old new laws answer held told runs);
-        target = if_told (b.told before.to) (λ held. ToAnswers held answer) (λ held told. run_target a b k old new laws answer held told runs);
+        source = if_told (a.told before.from) (λ held. FromAnswers held answer) (λ held told. run_source a b k old new laws answer held told
+            runs);
+        target = if_told (b.told before.to) (λ held. ToAnswers held answer) (λ held told. run_target a b k old new laws answer held told
+            runs);
         printed = run_printed a b k laws.both laws.nothing old new answer runs;
         from_left = from_left a b k old new laws answer (inr runs);
         from_stays = from_stays a b k old new laws answer (from_left a b k old new laws answer (inr runs));
-        to_left = if_told (a.told before.from) (λ from. EachLeft b before.to after.to (ToLeaves from)) (λ from told. left_alive ended from told);
-        to_lives = if_told (a.told before.from) (λ from. EachLeft b before.to after.to TargetLives) (λ from told. to_lives a b k before after laws answer from (left_alive ended from told));
-        to_grows = if_told (a.told before.from) (λ from. EachLeft b before.to after.to (TargetGrows from)) (λ from told. to_grows a b k before after laws answer from told (left_alive ended from told));
+        to_left = if_told (a.told before.from) (λ from. EachLeft b before.to after.to (ToLeaves from)) (λ from told. left_alive ended from
+            told);
+        to_lives = if_told (a.told before.from) (λ from. EachLeft b before.to after.to TargetLives) (λ from told. to_lives a b k before
+            after laws answer from (left_alive ended from told));
+        to_grows = if_told (a.told before.from) (λ from. EachLeft b before.to after.to (TargetGrows from))
+            (λ from told. to_grows a b k before after laws answer from told (left_alive ended from told));
         over = λ c one d other from_told to_told alike. over a b k before after laws answer c one d other from_told to_told ended alike;
-        done = λ c one d other from_told to_told stands standing like is. done a b k before after laws answer c one d other from_told to_told ends stands standing like is;
+        done = λ c one d other from_told to_told stands standing like is. done a b k before after laws answer c one d other from_told
+            to_told ends stands standing like is;
         joins = run_joins a b k laws.both laws.nothing old new answer runs;
       }
     where
-      ends : (from to : Option Cartridge) → a.told before.from ≡ Some from → b.told before.to ≡ Some to → CopyEnds a b k before after answer from to
+      ends : (from to : Option Cartridge) → a.told before.from ≡ Some from → b.told before.to ≡ Some to → CopyEnds a b k before after answer
+          from to
       ends from to from_told to_told = run_ended a b k old new laws from to from_told to_told answer runs
 
       risen : HasRisen a b k before after answer
@@ -162,7 +180,8 @@ module _ {A B K : Type 0} (a : tapes.Meaning A) (b : tapes.Meaning B) (k : sinks
       untouched (inr is) = subst (CopyRuns a b k old new) is runs
 
   pub prints_lines : CopyRuns a b k old new answer → PrintsLines a b k before after answer
-  prints_lines runs c one d other from_told to_told alike = prints a b k before after laws answer c one d other from_told to_told ended alike
+  prints_lines runs c one d other from_told to_told alike = prints a b k before after laws answer c one d other from_told to_told ended
+      alike
     where
       untouched : IsUnasked answer → new ≡ old
       untouched (inl is) = subst (CopyRuns a b k old new) is runs

@@ -11,14 +11,16 @@ use Rattle.qic_base.specs.TapeCalls.{Tells}
 use Rattle.segment_io.proofs.Going.{tells_always}
 use Rattle.volume_store.specs.Mounting.{StoreView, StoreFits}
 use Rattle.volume_copy.proofs.Bytes.{given_is}
-use Rattle.volume_copy.specs.Source.{SourceView, IsHeld, IsSoundSource, KeepsVolume, FirstRead, IsRefusal, left_where, new_source, pieces_of_number}
+use Rattle.volume_copy.specs.Source.{SourceView, IsHeld, IsSoundSource, KeepsVolume, FirstRead, IsRefusal, left_where, new_source}
+use Rattle.volume_copy.specs.Source.{pieces_of_number}
 
 there_at : {A : Type 0} (xs : List A) (i : ℕ) → i < length xs → (x : A) × (slice_get xs i ≡ Some x)
 there_at [] i below = absurd (omega arith)
 there_at (x ∷ xs) zero below = (x, refl)
 there_at (x ∷ xs) (suc i) below = there_at xs i (omega arith)
 
-volume_there : (entries : List Entry) (number : ℕ) → 0 < number → number ≤ length entries → (e : Entry) × (volume_at entries number ≡ Some e)
+volume_there : (entries : List Entry) (number : ℕ) → 0 < number → number ≤ length entries → (e : Entry) ×
+    (volume_at entries number ≡ Some e)
 volume_there entries zero some within = absurd (omega arith)
 volume_there entries (suc n) some within = there_at entries n (omega arith)
 
@@ -50,11 +52,13 @@ module _ {T : Type 0} (m : Meaning T) (store : StoreView) (unit : UnitView T) (n
   new_given = by_told (m.told unit.tape) refl
     where
       by_told : (o : Option (Option Cartridge)) → m.told unit.tape ≡ o → IfSome o (λ h. IfSome h (λ c.
-          IsSomeAnd (left_where (new_source store unit number) (m.told unit.tape)) (GivenBytes c store.words (pieces_of_number store number))))
+          IsSomeAnd (left_where (new_source store unit number) (m.told unit.tape))
+          (GivenBytes c store.words (pieces_of_number store number))))
       by_told None is = tt
       by_told (Some None) is = tt
       by_told (Some (Some c)) is =
-          subst (λ (o : Option (Option Cartridge)). IsSomeAnd (left_where (new_source store unit number) o) (GivenBytes c store.words (pieces_of_number store number)))
+          subst (λ (o : Option (Option Cartridge)). IsSomeAnd (left_where (new_source store unit number) o)
+          (GivenBytes c store.words (pieces_of_number store number)))
           (sym is) (given_is c store.words (pieces_of_number store number))
 
 -- ---- bytes were given

@@ -13,7 +13,8 @@ use Rattle.qic_base.specs.Tape as tapes
 
 -- The sink took a front of the lines of the missing volumes with the count of all behind them, and all of that at Done;
 -- and the target has at least the volumes whose lines were written whole.
-pub record PrintsMissing {A B K : Type 0} (b : tapes.Meaning B) (k : sinks.Meaning K) (old new : Decks A B K) (answer : CopyStatus) (from to : Plain) : Type 0 where
+pub record PrintsMissing {A B K : Type 0} (b : tapes.Meaning B) (k : sinks.Meaning K) (old new : Decks A B K) (answer : CopyStatus)
+    (from to : Plain) : Type 0 where
   pub text : List ℕ
   pub rest : List ℕ
   pub parts : text ++ rest ≡ lines_upto from to (length from.volumes) ++ count_line (length from.volumes)
@@ -22,7 +23,8 @@ pub record PrintsMissing {A B K : Type 0} (b : tapes.Meaning B) (k : sinks.Meani
   pub printed : ToldNow b new.to (StandsPrinted from to (length text))
 
 -- .. over what both tapes tell
-abbrev pub PrintsLines : {A B K : Type 0} (a : tapes.Meaning A) (b : tapes.Meaning B) (k : sinks.Meaning K) (old new : Decks A B K) → CopyStatus → Type 0
+abbrev pub PrintsLines : {A B K : Type 0} (a : tapes.Meaning A) (b : tapes.Meaning B) (k : sinks.Meaning K) (old new : Decks A B K) →
+    CopyStatus → Type 0
 PrintsLines a b k old new answer =
     (c : Cartridge) (one : Plain) (d : Cartridge) (other : Plain) → a.told old.from ≡ Some (Some c) → b.told old.to ≡ Some (Some d) →
     StandAlike c one d other → PrintsMissing b k old new answer one other

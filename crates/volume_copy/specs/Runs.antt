@@ -1,5 +1,6 @@
 -- How a copy ended, call by call (this project's own).
-use Rattle.std.specs.Prelude.{◌≡◌, ◌≢◌, ◌⊎◌, ℕ, zero, suc, ◌+◌, Option, Some, None, Result, Ok, Err, Bool, length, slice_get, true, false, ◌↔◌, ◌<◌, ◌^◌}
+use Rattle.std.specs.Prelude.{◌≡◌, ◌≢◌, ◌⊎◌, ℕ, zero, suc, ◌+◌, Option, Some, None, Result, Ok, Err, Bool, length, slice_get, true, false}
+use Rattle.std.specs.Prelude.{◌↔◌, ◌<◌, ◌^◌}
 use Rattle.cartridge_spec.specs.Formatting.{IsLabel}
 use Rattle.cartridge_spec.specs.Table.{Entry}
 use Rattle.cartridge_spec.specs.Volumes.{volume_length}
@@ -56,7 +57,8 @@ append_answer (Err why) refused = Err (append_status why refused)
 
 -- A volume of the source was appended to the target, or an append of it came to nothing: by its name and its date word, with its
 -- length promised, and with the source's bytes.
-pub record CopiesOne {A B : Type 0} (a : tapes.Meaning A) (b : tapes.Meaning B) (number : ℕ) (from after : SideView A) (to new : SideView B) (result : Result ℕ CopyStatus) : Type 0 where
+pub record CopiesOne {A B : Type 0} (a : tapes.Meaning A) (b : tapes.Meaning B) (number : ℕ) (from after : SideView A) (to new : SideView B)
+    (result : Result ℕ CopyStatus) : Type 0 where
   pub entry : Entry
   pub numbered : volume_at from.store.entries number ≡ Some entry
   pub label : IsLabel entry.name
@@ -65,7 +67,8 @@ pub record CopiesOne {A B : Type 0} (a : tapes.Meaning A) (b : tapes.Meaning B) 
   pub appended : Result Appended StoreFault
   pub ends : AppendEnds b (source_means a) (reading to.unit.tape (new_source from.store from.unit number)) (reading new.unit.tape source)
       to.store new.store entry.name entry.date (Some (volume_length from.store.words entry)) appended
-  pub unread : FaultsUnread b (source_means a) (reading to.unit.tape (new_source from.store from.unit number)) (reading new.unit.tape source) appended
+  pub unread : FaultsUnread b (source_means a) (reading to.unit.tape (new_source from.store from.unit number))
+      (reading new.unit.tape source) appended
   pub order : InOrder b (source_means a) (reading to.unit.tape (new_source from.store from.unit number)) (reading new.unit.tape source)
       to.store (Some (volume_length from.store.words entry)) appended
   pub free : (appended ≡ Err fault.Protected) ↔ (is_protected to.unit.drive.deck ≡ true)
@@ -91,24 +94,29 @@ abbrev pub next_number : {A B K : Type 0} → CopyView A B K → ℕ
 next_number s = length s.to.store.entries + 1
 
 -- the next volume was copied, and its line was printed
-pub record HasCopied {A B K : Type 0} (a : tapes.Meaning A) (b : tapes.Meaning B) (k : sinks.Meaning K) (old new : CopyView A B K) : Type 0 where
-  pub bytes : ℕ
-  pub one : CopiesOne a b (next_number old) old.from new.from old.to new.to (Ok bytes)
-  pub line : sinks.Wrote k old.sink new.sink (copied_line (next_number old) bytes)
+pub record HasCopied {A B K : Type 0} (a : tapes.Meaning A) (b : tapes.Meaning B) (k : sinks.Meaning K) (old new : CopyView A B K) : Type 0
+  where
+    pub bytes : ℕ
+    pub one : CopiesOne a b (next_number old) old.from new.from old.to new.to (Ok bytes)
+    pub line : sinks.Wrote k old.sink new.sink (copied_line (next_number old) bytes)
 
 -- so many were, one after the other
-abbrev pub HaveCopied : {A B K : Type 0} (a : tapes.Meaning A) (b : tapes.Meaning B) (k : sinks.Meaning K) (count : ℕ) (old new : CopyView A B K) → Type 0
+abbrev pub HaveCopied : {A B K : Type 0} (a : tapes.Meaning A) (b : tapes.Meaning B) (k : sinks.Meaning K) (count : ℕ)
+    (old new : CopyView A B K) → Type 0
 HaveCopied a b k zero old new = new ≡ old
-HaveCopied {A = A} {B = B} {K = K} a b k (suc count) old new = (mid : CopyView A B K) × HaveCopied a b k count old mid × HasCopied a b k mid new
+HaveCopied {A = A} {B = B} {K = K} a b k (suc count) old new = (mid : CopyView A B K) × HaveCopied a b k count old mid × HasCopied a b k mid
+    new
 
 -- .. and the next one is refused
-pub record IsRefused {A B K : Type 0} (a : tapes.Meaning A) (b : tapes.Meaning B) (mid new : CopyView A B K) (answer : CopyStatus) : Type 0 where
-  pub missing : length mid.to.store.entries ≢ length mid.from.store.entries
-  pub one : CopiesOne a b (next_number mid) mid.from new.from mid.to new.to (Err answer)
-  pub sink : new.sink ≡ mid.sink
+pub record IsRefused {A B K : Type 0} (a : tapes.Meaning A) (b : tapes.Meaning B) (mid new : CopyView A B K) (answer : CopyStatus) : Type 0
+  where
+    pub missing : length mid.to.store.entries ≢ length mid.from.store.entries
+    pub one : CopiesOne a b (next_number mid) mid.from new.from mid.to new.to (Err answer)
+    pub sink : new.sink ≡ mid.sink
 
 -- .. or it is copied, and the sink didn't take its line
-pub record IsUnprinted {A B K : Type 0} (a : tapes.Meaning A) (b : tapes.Meaning B) (k : sinks.Meaning K) (mid new : CopyView A B K) (answer : CopyStatus) : Type 0 where
+pub record IsUnprinted {A B K : Type 0} (a : tapes.Meaning A) (b : tapes.Meaning B) (k : sinks.Meaning K) (mid new : CopyView A B K)
+    (answer : CopyStatus) : Type 0 where
   pub bytes : ℕ
   pub one : CopiesOne a b (next_number mid) mid.from new.from mid.to new.to (Ok bytes)
   pub line : sink_calls.BrokeOff k mid.sink new.sink (copied_line (next_number mid) bytes)
@@ -128,7 +136,8 @@ pub record IsCounted {A B K : Type 0} (k : sinks.Meaning K) (mid new : CopyView 
   pub count : PrintsCount k mid.sink new.sink (length mid.to.store.entries) answer
 
 -- so a copy of the missing volumes ended
-pub record MissingEnds {A B K : Type 0} (a : tapes.Meaning A) (b : tapes.Meaning B) (k : sinks.Meaning K) (old new : CopyView A B K) (answer : CopyStatus) : Type 0 where
+pub record MissingEnds {A B K : Type 0} (a : tapes.Meaning A) (b : tapes.Meaning B) (k : sinks.Meaning K) (old new : CopyView A B K)
+    (answer : CopyStatus) : Type 0 where
   pub count : ℕ
   pub mid : CopyView A B K
   pub copied : HaveCopied a b k count old mid
@@ -139,23 +148,28 @@ pub record MissingEnds {A B K : Type 0} (a : tapes.Meaning A) (b : tapes.Meaning
 -- whether the volumes at this index of both lists are alike
 abbrev pub ArePaired : (from to : StoreView) → (index : ℕ) → Bool → Type 0
 ArePaired from to index alike =
-    (e e' : Entry) → slice_get from.entries index ≡ Some e → slice_get to.entries index ≡ Some e' → alike ≡ is_alike from.words e to.words e'
+    (e e' : Entry) → slice_get from.entries index ≡ Some e → slice_get to.entries index ≡ Some e' → alike ≡ is_alike from.words e to.words
+    e'
 
 -- both were opened, and the target is protected, or a volume of it differs
 abbrev pub IsUnlike : (from to : StoreView) → CopyStatus → Type 0
 IsUnlike from to answer =
     ((is_protected (deck_of to.host) ≡ true) × (answer ≡ status.To copy.Protected))
-    ⊎ ((is_protected (deck_of to.host) ≡ false) × ((number : ℕ) × (difference from.words from.entries to.words to.entries 1 ≡ Some number) × (answer ≡ status.Differs number)))
+    ⊎ ((is_protected (deck_of to.host) ≡ false) × ((number : ℕ) × (difference from.words from.entries to.words to.entries 1 ≡ Some number) ×
+    (answer ≡ status.Differs number)))
 
 -- one of them can't be opened, the target once the source was, or they aren't copied
-abbrev pub BothRefused : {A B : Type 0} (a : tapes.Meaning A) (b : tapes.Meaning B) (from : A) (from' : UnitView A) (to to' : UnitView B) → CopyStatus → Type 0
+abbrev pub BothRefused : {A B : Type 0} (a : tapes.Meaning A) (b : tapes.Meaning B) (from : A) (from' : UnitView A) (to to' : UnitView B) →
+    CopyStatus → Type 0
 BothRefused a b from from' to to' answer =
     ((why : OpenFault) × OpenFails a from from'.tape why × (to' ≡ to) × (answer ≡ from_status why))
-    ⊎ ((source : StoreView) × (why : OpenFault) × HasOpened a from from' source × OpenFails b to.tape to'.tape why × (answer ≡ to_status why))
+    ⊎ ((source : StoreView) × (why : OpenFault) × HasOpened a from from' source × OpenFails b to.tape to'.tape why ×
+    (answer ≡ to_status why))
     ⊎ ((source target : StoreView) × HasOpened a from from' source × HasOpened b to.tape to' target × IsUnlike source target answer)
 
 -- how the opening of both ended
-pub record AreOpened {A B : Type 0} (a : tapes.Meaning A) (b : tapes.Meaning B) (from : A) (from' : UnitView A) (to : B) (to' : UnitView B) (source target : StoreView) : Type 0 where
+pub record AreOpened {A B : Type 0} (a : tapes.Meaning A) (b : tapes.Meaning B) (from : A) (from' : UnitView A) (to : B) (to' : UnitView B)
+    (source target : StoreView) : Type 0 where
   pub opened_source : HasOpened a from from' source
   pub opened_target : HasOpened b to to' target
   pub free : is_protected (deck_of target.host) ≡ false
@@ -170,7 +184,8 @@ pub record Units (A B K : Type 0) : Type 0 where
   pub sink : K
 
 -- all was opened, and the missing volumes were copied
-pub record HasRun {A B K : Type 0} (a : tapes.Meaning A) (b : tapes.Meaning B) (k : sinks.Meaning K) (old new : Units A B K) (answer : CopyStatus) : Type 0 where
+pub record HasRun {A B K : Type 0} (a : tapes.Meaning A) (b : tapes.Meaning B) (k : sinks.Meaning K) (old new : Units A B K)
+    (answer : CopyStatus) : Type 0 where
   pub begun : CopyView A B K
   pub ended : CopyView A B K
   pub opened : AreOpened a b old.from.tape begun.from.unit old.to.tape begun.to.unit begun.from.store begun.to.store
@@ -179,7 +194,8 @@ pub record HasRun {A B K : Type 0} (a : tapes.Meaning A) (b : tapes.Meaning B) (
   pub left : new ≡ record { from = ended.from.unit; to = ended.to.unit; sink = ended.sink }
 
 -- how a run in working objects that are there ended
-abbrev pub RunEnds : {A B K : Type 0} (a : tapes.Meaning A) (b : tapes.Meaning B) (k : sinks.Meaning K) (old new : Units A B K) → CopyStatus → Type 0
+abbrev pub RunEnds : {A B K : Type 0} (a : tapes.Meaning A) (b : tapes.Meaning B) (k : sinks.Meaning K) (old new : Units A B K) →
+    CopyStatus → Type 0
 RunEnds a b k old new answer =
     (BothRefused a b old.from.tape new.from old.to new.to answer × (new.sink ≡ old.sink))
     ⊎ HasRun a b k old new answer
@@ -191,7 +207,8 @@ is_asked status.NoMemory = false
 is_asked answer = true
 
 -- .. of the top call: without words, and where there is memory
-abbrev pub CopyRuns : {A B K : Type 0} (a : tapes.Meaning A) (b : tapes.Meaning B) (k : sinks.Meaning K) (old new : Units A B K) → CopyStatus → Type 0
+abbrev pub CopyRuns : {A B K : Type 0} (a : tapes.Meaning A) (b : tapes.Meaning B) (k : sinks.Meaning K) (old new : Units A B K) →
+    CopyStatus → Type 0
 CopyRuns a b k old new status.Usage = new ≡ old
 CopyRuns a b k old new status.NoMemory = new ≡ old
 CopyRuns a b k old new answer = RunEnds a b k old new answer

@@ -5,7 +5,7 @@ use Rattle.cartridge_spec.specs.Mounting.{Mounted, Mounts}
 use Rattle.command_laws.proofs.CommandClean.{bare_writable, Clean, writable_leaves, appends_leave}
 use Rattle.command_laws.proofs.CommandComplete.{where_some, append_goes}
 use Rattle.command_laws.proofs.CommandKeeping.{same_stands}
-use Rattle.command_laws.proofs.CommandPlainLaws.{writable_unformatted, appending_leaves, writable_is_function, appends_one, writable_locked}
+use Rattle.command_laws.proofs.CommandPlainLaws.{appending_leaves, writable_is_function, appends_one, writable_locked}
 use Rattle.command_laws.proofs.CommandSteps.{writable_none, appends_none}
 use Rattle.command_laws.proofs.CommandTexts.{plain_texts}
 use Rattle.command_laws.proofs.CommandTotals.{writable_answers, appends_answers}
@@ -54,7 +54,6 @@ append_laws name date = record {
   one = λ held input a b one other. writable_is_function (Appends name date input) (appends_one name date input) held a b one other;
   none_held = λ is input outcome plain. plain;
   locked = λ is c input outcome locked plain. writable_locked (Appends name date input) c outcome locked plain;
-  unformatted = λ is c input outcome free bare plain. writable_unformatted (Appends name date input) c outcome free bare plain;
   in_front = λ is c segment input outcome free first plain. absurd (cc);
   done = λ held input outcome whole values. where_some (λ c. IsUnprotected c × CanTake c input) held
       (λ h. AppendOutcome name date h input outcome → outcome.status ≡ status.Done)

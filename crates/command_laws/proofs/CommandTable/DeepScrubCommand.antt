@@ -8,7 +8,7 @@ use Rattle.cartridge_spec.specs.Settling.{changed_by}
 use Rattle.cartridge_spec.specs.Volumes.{Plain, Stands}
 use Rattle.command_laws.proofs.CommandClean.{GoesLeaving, bare_writable, leaves_by, writable_leaves}
 use Rattle.command_laws.proofs.CommandComplete.{goes_on, is_opened, status_of, where_some}
-use Rattle.command_laws.proofs.CommandPlainLaws.{IsOne, writable_is_function, writable_locked, writable_unformatted}
+use Rattle.command_laws.proofs.CommandPlainLaws.{IsOne, writable_is_function, writable_locked}
 use Rattle.command_laws.proofs.CommandSteps.{AreNoRenew, GoesWithNone, by_outcome, none_both, none_in_look, settled_none, writable_none}
 use Rattle.command_laws.proofs.CommandTexts.{plain_texts}
 use Rattle.command_laws.proofs.CommandTotals.{Answers, writable_answers}
@@ -86,7 +86,6 @@ deep_scrub_laws = record {
   one = λ held input a b one other. writable_is_function MendsDeep deep_is_one held a b one other;
   none_held = λ is input outcome plain. plain;
   locked = λ is c input outcome locked plain. writable_locked MendsDeep c outcome locked plain;
-  unformatted = λ is c input outcome free bare plain. writable_unformatted MendsDeep c outcome free bare plain;
   in_front = λ is c segment input outcome free first plain. absurd (cc);
   done = λ held input outcome whole values. where_some (λ c. IsUnprotected c × CanBeMounted c) held
       (λ h. DeepScrubOutcome h outcome → outcome.status ≡ status.Done) (λ c can does. deep_goes c can.1.0 outcome can.0 can.1.1 does);

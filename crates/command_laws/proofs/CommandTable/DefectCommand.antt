@@ -58,7 +58,6 @@ defect_laws segment sector = record {
   one = λ held input a b one other. defect_is_function segment sector held a b one other;
   none_held = λ is input outcome plain. plain;
   locked = λ is c input outcome locked plain. absurd (cc);
-  unformatted = λ is c input outcome free bare plain. absurd (cc);
   in_front = λ is c segment input outcome free first plain. absurd (cc);
   done = λ held input outcome whole values. where_some (λ c. HasPlace c segment sector × (spoil_answer (view_at c segment sector) ≡ true))
       held (λ h. DefectOutcome segment sector h outcome → outcome.status ≡ status.Done)

@@ -51,7 +51,6 @@ format_laws label date = record {
   one = λ held input a b one other. format_is_function label date held a b one other;
   none_held = λ is input outcome plain. plain;
   locked = λ is c input outcome locked plain. format_locked label date c outcome locked plain;
-  unformatted = λ is c input outcome free bare plain. absurd (cc);
   in_front = λ is c segment input outcome free first plain. format_in_front label date c segment outcome free first plain;
   done = λ held input outcome whole values. where_some (λ c. IsUnprotected c × HasNoDefectInFront c) held
       (λ h. FormatOutcome label date h outcome → outcome.status ≡ status.Done)

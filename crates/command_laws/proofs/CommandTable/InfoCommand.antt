@@ -4,7 +4,7 @@ use Rattle.cartridge_spec.specs.Mounting.{Mounted}
 use Rattle.command_laws.proofs.CommandClean.{bare_open, Clean, open_leaves, shows_leave}
 use Rattle.command_laws.proofs.CommandComplete.{where_some, shows_done}
 use Rattle.command_laws.proofs.CommandKeeping.{open_stands, open_mounts}
-use Rattle.command_laws.proofs.CommandPlainLaws.{open_unformatted, opening_leaves, open_is_function, shows_one}
+use Rattle.command_laws.proofs.CommandPlainLaws.{opening_leaves, open_is_function, shows_one}
 use Rattle.command_laws.proofs.CommandSteps.{open_none, shows_none}
 use Rattle.command_laws.proofs.CommandTexts.{plain_texts}
 use Rattle.command_laws.proofs.CommandTotals.{open_answers, shows_answers}
@@ -35,7 +35,6 @@ info_laws = record {
   one = λ held input a b one other. open_is_function (Shows telling) (shows_one telling) held a b one other;
   none_held = λ is input outcome plain. plain;
   locked = λ is c input outcome locked plain. absurd (cc);
-  unformatted = λ is c input outcome free bare plain. open_unformatted (Shows telling) c outcome bare plain;
   in_front = λ is c segment input outcome free first plain. absurd (cc);
   done = λ held input outcome whole values. where_some (CanBeMounted) held (λ h. InfoOutcome h outcome → outcome.status ≡ status.Done)
       (λ c can does. shows_done telling c can.0 outcome can.1 does);

@@ -56,7 +56,6 @@ lose_laws segment sector = record {
   one = λ held input a b one other. lose_is_function segment sector held a b one other;
   none_held = λ is input outcome plain. plain;
   locked = λ is c input outcome locked plain. absurd (cc);
-  unformatted = λ is c input outcome free bare plain. absurd (cc);
   in_front = λ is c segment input outcome free first plain. absurd (cc);
   done = λ held input outcome whole values. where_some (λ c. HasPlace c segment sector) held
       (λ h. LoseOutcome segment sector h outcome → outcome.status ≡ status.Done)

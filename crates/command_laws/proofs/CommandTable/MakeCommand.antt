@@ -5,7 +5,7 @@ use Rattle.cartridge_spec.specs.Mounting.{Mounted, Mounts}
 use Rattle.command_laws.proofs.CommandClean.{bare_writable, Clean, writable_leaves, making_leaves}
 use Rattle.command_laws.proofs.CommandComplete.{where_some, make_goes}
 use Rattle.command_laws.proofs.CommandKeeping.{same_stands}
-use Rattle.command_laws.proofs.CommandPlainLaws.{writable_unformatted, appending_leaves, writable_is_function, making_one, writable_locked}
+use Rattle.command_laws.proofs.CommandPlainLaws.{appending_leaves, writable_is_function, making_one, writable_locked}
 use Rattle.command_laws.proofs.CommandSteps.{writable_none, making_none}
 use Rattle.command_laws.proofs.CommandTotals.{writable_answers, making_answers}
 use Rattle.command_laws.proofs.CommandUnread.{writable_unread}
@@ -57,14 +57,13 @@ make_laws seed count = record {
   one = λ held input a b one other. writable_is_function (Making seed count) (making_one seed count) held a b one other;
   none_held = λ is input outcome plain. plain;
   locked = λ is c input outcome locked plain. writable_locked (Making seed count) c outcome locked plain;
-  unformatted = λ is c input outcome free bare plain. writable_unformatted (Making seed count) c outcome free bare plain;
   in_front = λ is c segment input outcome free first plain. absurd (cc);
   done = λ held input outcome whole values needs.
       where_some (λ c. IsUnprotected c × CanMake c seed count) held
       (λ h. IfSome h IsCartridge → MakeOutcome seed count h outcome → outcome.status ≡ status.Done)
       (λ c can known does. make_goes seed count c outcome values known can.0 can.1 does) needs whole;
   texts = record {
-    none_printed = λ answer. inl refl;
+    none_printed = λ answer other. inl refl;
     nothing_front = tt;
     text_front = λ text prints. tt;
     shorter_front = λ front rest text parts prints. tt;

@@ -34,7 +34,6 @@ new_laws segments = record {
   one = λ held input a b one other. one ∙ sym other;
   none_held = λ is input outcome plain. absurd (cc);
   locked = λ is c input outcome locked plain. absurd (cc);
-  unformatted = λ is c input outcome free bare plain. absurd (cc);
   in_front = λ is c segment input outcome free first plain. absurd (cc);
   done = λ held input outcome whole values needs does. ap status_of does;
   texts = plain_texts _ _ refl;

@@ -37,11 +37,10 @@ pulses_laws = record {
   one = λ held input a b one other. sent_is_function held input a b one other;
   none_held = λ is input outcome plain. absurd (cc);
   locked = λ is c input outcome locked plain. absurd (cc);
-  unformatted = λ is c input outcome free bare plain. absurd (cc);
   in_front = λ is c segment input outcome free first plain. absurd (cc);
   done = λ held input outcome whole values needs does. pulses_go held input outcome needs does;
   texts =
-      fronted AreLevels (λ answer text. AreLevels text) _ (None, ([], refl)) (λ answer. (None, ([], refl)))
+      fronted AreLevels (λ answer text. AreLevels text) _ (None, ([], refl)) (λ answer other. (None, ([], refl)))
       (λ answer front levels. ([], subst AreLevels (sym (append-nil front)) levels));
   blind = λ is. absurd (cc);
   stands = λ c plain keeps stood input outcome left does torn. pulses_stand c plain left stood

@@ -4,7 +4,7 @@ use Rattle.cartridge_spec.specs.Mounting.{Mounted}
 use Rattle.command_laws.proofs.CommandClean.{bare_open, Clean, open_leaves, gives_leave}
 use Rattle.command_laws.proofs.CommandComplete.{where_some, restore_goes}
 use Rattle.command_laws.proofs.CommandKeeping.{open_stands, open_mounts}
-use Rattle.command_laws.proofs.CommandPlainLaws.{open_unformatted, restoring_leaves, open_is_function, gives_one}
+use Rattle.command_laws.proofs.CommandPlainLaws.{restoring_leaves, open_is_function, gives_one}
 use Rattle.command_laws.proofs.CommandSteps.{open_none, gives_none}
 use Rattle.command_laws.proofs.CommandTexts.{fronted}
 use Rattle.command_laws.proofs.CommandTotals.{open_answers, gives_answers}
@@ -44,11 +44,10 @@ restore_laws number = record {
   one = λ held input a b one other. open_is_function (Gives number) (gives_one number) held a b one other;
   none_held = λ is input outcome plain. plain;
   locked = λ is c input outcome locked plain. absurd (cc);
-  unformatted = λ is c input outcome free bare plain. open_unformatted (Gives number) c outcome bare plain;
   in_front = λ is c segment input outcome free first plain. absurd (cc);
   done = λ held input outcome whole values. where_some (λ c. CanGive c number) held
       (λ h. RestoreOutcome number h outcome → outcome.status ≡ status.Done) (λ c can does. restore_goes number c outcome can does);
-  texts = fronted _ restore_refused [] tt may_print_nothing (λ answer front prints. ([], tt));
+  texts = fronted _ restore_refused [] tt (λ answer other. may_print_nothing answer) (λ answer front prints. ([], tt));
   blind = λ is. record {
     any = λ held input other outcome plain. plain;
     no_append = refl;

@@ -6,7 +6,7 @@ use Rattle.cartridge_spec.specs.Volumes.{Plain, Stands}
 use Rattle.cartridge_laws.specs.HeaderTerms.{NeitherReads}
 use Rattle.command_laws.proofs.CommandComplete.{where_some, goes_on, status_of}
 use Rattle.command_laws.proofs.CommandLooking.{TakesNoStep, open_takes_none, still_so, puts_in_none, steps_in_all}
-use Rattle.command_laws.proofs.CommandPlainLaws.{IsOne, open_unformatted, open_is_function}
+use Rattle.command_laws.proofs.CommandPlainLaws.{IsOne, open_is_function}
 use Rattle.command_laws.proofs.CommandTexts.{plain_texts}
 use Rattle.command_laws.proofs.CommandTotals.{Answers, open_answers}
 use Rattle.command_laws.proofs.CommandWhole.{some_whole}
@@ -53,7 +53,6 @@ room_laws = record {
   one = λ held input a b one other. open_is_function TellsRoom tells_one held a b one other;
   none_held = λ is input outcome plain. plain;
   locked = λ is c input outcome locked plain. absurd (cc);
-  unformatted = λ is c input outcome free bare plain. open_unformatted TellsRoom c outcome bare plain;
   in_front = λ is c segment input outcome free first plain. absurd (cc);
   done = λ held input outcome whole values. where_some (CanBeMounted) held
       (λ h. OpenOutcome TellsRoom h outcome → outcome.status ≡ status.Done) (λ c can does. tells_done c can.0 outcome can.1 does);

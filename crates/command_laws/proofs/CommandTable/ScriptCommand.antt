@@ -2,7 +2,7 @@
 use Rattle.std.proofs.Common.{[], ◌≡◌, refl, ℕ, List, arith, codes}
 use Rattle.command_laws.proofs.CommandClean.{bare_open, Clean, open_leaves, scripting_leaves}
 use Rattle.command_laws.proofs.CommandComplete.{where_some, script_goes}
-use Rattle.command_laws.proofs.CommandPlainLaws.{open_unformatted, open_is_function, scripting_one}
+use Rattle.command_laws.proofs.CommandPlainLaws.{open_is_function, scripting_one}
 use Rattle.command_laws.proofs.CommandSteps.{open_none, scripting_none}
 use Rattle.command_laws.proofs.CommandTexts.{fronted}
 use Rattle.command_laws.proofs.CommandTotals.{open_answers, scripting_answers}
@@ -38,12 +38,12 @@ script_laws = record {
   one = λ held input a b one other. open_is_function (Scripting input) (scripting_one input) held a b one other;
   none_held = λ is input outcome plain. plain;
   locked = λ is c input outcome locked plain. absurd (cc);
-  unformatted = λ is c input outcome free bare plain. open_unformatted (Scripting input) c outcome bare plain;
   in_front = λ is c segment input outcome free first plain. absurd (cc);
   done = λ held input outcome whole values needs.
       where_some CanBeMounted held (λ h. ScriptOutcome h input outcome → outcome.status ≡ status.Done)
       (λ c can does. script_goes input c can.0 outcome can.1 needs.1 does) needs.0;
-  texts = fronted _ script_refused end_line ([], refl) may_print_nothing (λ answer front prints. (end_line, (front, refl)));
+  texts = fronted _ script_refused end_line ([], refl) (λ answer other. may_print_nothing answer) (λ answer front prints.
+      (end_line, (front, refl)));
   blind = λ is. absurd (cc);
   stands = λ c plain keeps. absurd keeps;
   mounts = λ c header words table entries keeps. absurd keeps;

@@ -5,7 +5,7 @@ use Rattle.cartridge_spec.specs.Says.{Mismatch}
 use Rattle.command_laws.proofs.CommandClean.{bare_writable, Clean, writable_leaves, mends_leave}
 use Rattle.command_laws.proofs.CommandComplete.{where_some, scrub_goes}
 use Rattle.command_laws.proofs.CommandKeeping.{scrub_stands, scrub_mounts}
-use Rattle.command_laws.proofs.CommandPlainLaws.{writable_unformatted, scrubbing_leaves, writable_is_function, mends_one, writable_locked}
+use Rattle.command_laws.proofs.CommandPlainLaws.{scrubbing_leaves, writable_is_function, mends_one, writable_locked}
 use Rattle.command_laws.proofs.CommandSteps.{writable_none, mends_none}
 use Rattle.command_laws.proofs.CommandTexts.{plain_texts}
 use Rattle.command_laws.proofs.CommandTotals.{writable_answers, mends_answers}
@@ -66,7 +66,6 @@ scrub_laws = record {
   one = λ held input a b one other. writable_is_function Mends mends_one held a b one other;
   none_held = λ is input outcome plain. plain;
   locked = λ is c input outcome locked plain. writable_locked Mends c outcome locked plain;
-  unformatted = λ is c input outcome free bare plain. writable_unformatted Mends c outcome free bare plain;
   in_front = λ is c segment input outcome free first plain. absurd (cc);
   done = λ held input outcome whole values. where_some (λ c. IsUnprotected c × CanBeMounted c) held
       (λ h. ScrubOutcome h outcome → outcome.status ≡ status.Done) (λ c can does. scrub_goes c can.1.0 outcome can.0 can.1.1 does);

@@ -93,7 +93,6 @@ upgrade_laws = record {
   one = λ held input a b is was. step_is_one Upgrade line held a b is was;
   none_held = λ is input outcome plain. plain;
   locked = λ is c input outcome locked plain. absurd (cc);
-  unformatted = λ is c input outcome free bare plain. absurd (cc);
   in_front = λ is c segment input outcome free first plain. absurd (cc);
   done = λ held input outcome whole values. where_some (λ c. Unit {0}) held (λ h. UpgradeOutcome h outcome → outcome.status ≡ status.Done)
       (λ c can does. ap status_of does);

@@ -52,7 +52,7 @@ returns-in-Err-NoCartridge g c =
     (IsInfoOf _) c.in_default.ensures.did c.in_default.ensures.inserted.known.told in
     let same = c.spoil.ensures.untouched (inl is) in
     turned_down g.T.Tape.means g.K.Sink.means (Defect c.args.segment c.args.sector) is_blind c.args.unit.now.tape c.spoil.new.self.tape
-    c.args.sink.now status.NoCartridge g.met.K.Sink.took_nothing refl (λ other. cc)
+    c.args.sink.now status.NoCartridge g.met.K.Sink.took_nothing refl refl (λ other. cc)
     (told_map _ (IsInfoOf _) (λ h. Rules (Defect c.args.segment c.args.sector) h (refused status.NoCartridge)) before
     (λ held known. λ input. defect_absent c.args.segment c.args.sector held (sym none ∙ known)))
     (subst (λ (u : UnitView _). tapes.Done g.T.Tape.means c.args.unit.now.tape u.tape []) (sym same) c.in_default.ensures.did)
@@ -67,7 +67,7 @@ returns-in-Err-BadPlace g c =
     (IsInfoOf _) c.in_default.ensures.did c.in_default.ensures.inserted.known.told in
     let same = c.spoil.ensures.untouched (inr is) in
     turned_down g.T.Tape.means g.K.Sink.means (Defect c.args.segment c.args.sector) is_blind c.args.unit.now.tape c.spoil.new.self.tape
-    c.args.sink.now status.BadPlace g.met.K.Sink.took_nothing refl (λ other. cc)
+    c.args.sink.now status.BadPlace g.met.K.Sink.took_nothing refl refl (λ other. cc)
     (told_map _ (IsInfoOf _) (λ h. Rules (Defect c.args.segment c.args.sector) h (refused status.BadPlace)) before
     (λ held known. λ input. defect_misplaced c.args.segment c.args.sector out.info held (sym out.known ∙ known) out.none))
     (subst (λ (u : UnitView _). tapes.Done g.T.Tape.means c.args.unit.now.tape u.tape []) (sym same) c.in_default.ensures.did)
@@ -82,7 +82,7 @@ returns-in-Err-NotBlank g c =
     (IsInfoOf _) c.in_default.ensures.did c.in_default.ensures.inserted.known.told in
     let kept = rw is at came.fact in
     turned_behind g.T.Tape.means g.K.Sink.means (Defect c.args.segment c.args.sector) is_blind c.args.unit.now.tape c.spoil.new.self.tape
-    c.args.sink.now status.NotBlank (Spoil c.args.segment c.args.sector ∷ []) g.met.K.Sink.took_nothing refl (λ other. cc)
+    c.args.sink.now status.NotBlank (Spoil c.args.segment c.args.sector ∷ []) g.met.K.Sink.took_nothing refl refl (λ other. cc)
     (told_map _ _ (λ h. Rules (Defect c.args.segment c.args.sector) h
     (refused_behind (Spoil c.args.segment c.args.sector ∷ []) status.NotBlank))
     (told_both _ (IsInfoOf _) (λ h. IfSome h (λ k. spoil_answer (view_at k c.args.segment c.args.sector) ≡ false)) before

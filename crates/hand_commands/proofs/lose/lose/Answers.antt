@@ -47,7 +47,7 @@ returns-in-Err-NoCartridge g c =
     (IsInfoOf _) c.in_default.ensures.did c.in_default.ensures.inserted.known.told in
     let same = c.wear.ensures.untouched (inl is) in
     turned_down g.T.Tape.means g.K.Sink.means (Lose c.args.segment c.args.sector) is_blind c.args.unit.now.tape c.wear.new.self.tape
-    c.args.sink.now status.NoCartridge g.met.K.Sink.took_nothing refl (λ other. cc)
+    c.args.sink.now status.NoCartridge g.met.K.Sink.took_nothing refl refl (λ other. cc)
     (told_map _ (IsInfoOf _) (λ h. Rules (Lose c.args.segment c.args.sector) h (refused status.NoCartridge)) before
     (λ held known. λ input. lose_absent c.args.segment c.args.sector held (sym none ∙ known)))
     (subst (λ (u : UnitView _). tapes.Done g.T.Tape.means c.args.unit.now.tape u.tape []) (sym same) c.in_default.ensures.did)
@@ -62,7 +62,7 @@ returns-in-Err-BadPlace g c =
     (IsInfoOf _) c.in_default.ensures.did c.in_default.ensures.inserted.known.told in
     let same = c.wear.ensures.untouched (inr is) in
     turned_down g.T.Tape.means g.K.Sink.means (Lose c.args.segment c.args.sector) is_blind c.args.unit.now.tape c.wear.new.self.tape
-    c.args.sink.now status.BadPlace g.met.K.Sink.took_nothing refl (λ other. cc)
+    c.args.sink.now status.BadPlace g.met.K.Sink.took_nothing refl refl (λ other. cc)
     (told_map _ (IsInfoOf _) (λ h. Rules (Lose c.args.segment c.args.sector) h (refused status.BadPlace)) before
     (λ held known. λ input. lose_misplaced c.args.segment c.args.sector out.info held (sym out.known ∙ known) out.none))
     (subst (λ (u : UnitView _). tapes.Done g.T.Tape.means c.args.unit.now.tape u.tape []) (sym same) c.in_default.ensures.did)

@@ -46,7 +46,7 @@ returns-in-Err-NoCartridge g c =
     let before = told_back g.T.Tape.means c.args.unit.now.tape c.insert.new.self.tape
     (IsInfoOf _) c.in_default.ensures.did c.in_default.ensures.inserted.known.told in
     turned_down g.T.Tape.means g.K.Sink.means Upgrade is_blind c.args.unit.now.tape c.upgrade.new.self.tape c.args.sink.now
-    status.NoCartridge g.met.K.Sink.took_nothing refl (λ other. cc)
+    status.NoCartridge g.met.K.Sink.took_nothing refl refl (λ other. cc)
     (told_map _ (IsInfoOf _) (λ h. Rules Upgrade h (refused status.NoCartridge)) before
     (λ held known. λ input. upgrade_absent held (sym none.known ∙ known)))
     (subst (λ (u : UnitView _). tapes.Done g.T.Tape.means c.args.unit.now.tape u.tape []) (sym none.same) c.in_default.ensures.did)

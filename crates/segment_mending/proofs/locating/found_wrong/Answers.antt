@@ -2,8 +2,7 @@ use Rattle.std.proofs.Common.{◌≡◌, ℕ, ◌<◌, List, arith, subst, sym, 
 use Rattle.cartridge_laws.proofs.Places.{count_below, usable_small}
 use Rattle.cartridge_spec.specs.Shape.{usable_count}
 use Rattle.cartridge_spec.specs.Volumes.{worn}
-use Rattle.command_spec.specs.Scrub.{Looked, cells_at, reads, HasFound}
-use Rattle.command_spec.specs.declared.depth.Depth.TheVariants as depths
+use Rattle.command_spec.specs.Scrub.{Looked, cells_at, reads, HasFoundBy}
 use Rattle.segment_io.specs.Gathered.{NamesUnreadable}
 use Rattle.segment_mending.specs.Locating.{data_in}
 use Rattle.segment_mending.proofs.Finding as finding
@@ -15,7 +14,7 @@ returns-then-not-can_be_read-clause-found c =
     let l : Looked = record { segment = c.args.segment; mask = c.args.usable } in
     let block : List (List ℕ) = take (usable_count c.args.usable) c.args.work.now in
     let unfit : reads l (data_in l c.args.work.now) ≡ false = c.if-not-can_be_read.ensures c.args.usable c.requires.whole in
-    record { finds = finding.found_unfit depths.Deep c' l c.args.place block deep unfit; places = tt }
+    record { finds = finding.found_unfit (Unit {0}) c' l c.args.place block deep unfit; places = tt }
 
 pub with_place-requires : goal.with_place-requires
 with_place-requires c = omega (arith, count_below c.args.usable 32, c.requires.place)
@@ -27,8 +26,8 @@ returns-clause-found c =
     let block : List (List ℕ) = take (usable_count c.args.usable) c.args.work.now in
     let can : reads l (data_in l c.args.work.now) ≡ true = c.if-not-can_be_read.ensures c.args.usable c.requires.whole in
     record {
-      finds = subst (λ (sector : ℕ). HasFound depths.Deep c' l (data_in l c.args.work.now) (Some sector)) (sym c.index_at.ensures)
-          (finding.found_wrong depths.Deep c' l c.args.place block c.requires.searched c.requires.place deep can);
+      finds = subst (λ (sector : ℕ). HasFoundBy (Unit {0}) c' l (data_in l c.args.work.now) (Some sector)) (sym c.index_at.ensures)
+          (finding.found_wrong (Unit {0}) c' l c.args.place block tt c.requires.place deep can);
       places = subst (λ (sector : ℕ). NamesUnreadable (cells_at (worn c.args.segment sector c') l) c.with_place.result)
           (sym c.index_at.ensures)
           (finding.names_with_wrong c' l c.args.place c.args.lost c.with_place.result c.requires.place names c.with_place.ensures.more
@@ -45,5 +44,5 @@ returns-clause-may c =
       within = c.with_place.ensures.below (usable_count c.args.usable) c.requires.place c.requires.within;
       code = c.requires.code;
       can_be_read = can;
-      may = (c.requires.searched, can, small);
+      may = (tt, small);
     }

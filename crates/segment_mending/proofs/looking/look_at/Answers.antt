@@ -6,7 +6,7 @@ use Rattle.qic_base.specs.TapeCalls.{Tells}
 use Rattle.cartridge_laws.proofs.Places.{count_below}
 use Rattle.cartridge_spec.specs.Shape.{usable_count}
 use Rattle.cartridge_laws.specs.Segment.{sectors_of}
-use Rattle.command_spec.specs.Scrub.{Counts, Looked, reads}
+use Rattle.command_spec.specs.Scrub.{Counts, IsSearched, Looked, reads}
 use Rattle.segment_io.proofs.Going.{OnOk-then}
 use Rattle.segment_mending.specs.declared.fault.ScrubFault.{ScrubFault}
 use Rattle.segment_mending.specs.declared.locating.Found.TheVariants.{Reads, Fails}
@@ -46,7 +46,7 @@ returns-in-Reads-clause-looks g c =
     let after : Counts = reported c.count_mended.new.self in
     let told : Tells g.T.Tape.means c.args.unit.now.tape (λ c'. IsFound c.args.progress.now.depth c' l (Reads places wrong) work) =
     rw c.in-Reads.is at c.in_ok-found.ensures.found in
-    let may : MayMend c.args.progress.now.depth l places wrong work = rw c.in-Reads.is at c.in_ok-found.ensures.may in
+    let may : MayMend (IsSearched c.args.progress.now.depth l) l places wrong work = rw c.in-Reads.is at c.in_ok-found.ensures.may in
     let room : usable_count c.args.usable ≤ length work = omega (arith, count_below c.args.usable 32, c.in_ok-found.ensures.room) in
     looks_once g.T.Tape.means g.K.Sink.means c.args.progress.now.depth l (around c.args.unit.now.tape c.args.sink.now)
     (around c.mend.new.unit.tape c.mend.new.sink)

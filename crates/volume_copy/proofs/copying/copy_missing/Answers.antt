@@ -72,7 +72,14 @@ loop-store-preserved g c =
     record {
       source = more.source;
       target = more.target;
-      few = omega (arith, more.more, ap length more.entries, c.count.ensures.count, c.count-in-loop-store.ensures.count, c.loop-store-test.true);
+      few = omega (
+        arith,
+        more.more,
+        ap length more.entries,
+        c.count.ensures.count,
+        c.count-in-loop-store.ensures.count,
+        c.loop-store-test.true,
+      );
       count = c.loop-store.invariant.count + 1;
       copied = copied_more g.A.Tape.means g.B.Tape.means g.K.Sink.means c.loop-store.invariant.count
           (record {

@@ -14,8 +14,10 @@ pub overflow_cast-length : goal.overflow_cast-length
 overflow_cast-length g c =
     let store = c.args.from.store in
     let e : Entry = entry_of c.entry-entry.result.now in
-    let long : c.length-length.result ≡ volume_length store.words e = length_there store (c.args.number - 1) e c.length-length.result c.entry-entry.ensures c.length-length.ensures in
-    let short : volume_length store.words e < 2 ^ 32 = length_of_fits g.A.Tape.means store c.args.from.unit (c.args.number - 1) e c.requires.source c.entry-entry.ensures in
+    let long : c.length-length.result ≡ volume_length store.words e = length_there store (c.args.number - 1) e c.length-length.result
+    c.entry-entry.ensures c.length-length.ensures in
+    let short : volume_length store.words e < 2 ^ 32 = length_of_fits g.A.Tape.means store c.args.from.unit (c.args.number - 1) e
+    c.requires.source c.entry-entry.ensures in
     let fits : c.length-length.result < 2 ^ 32 = subst (λ (n : ℕ). n < 2 ^ 32) (sym long) short in
     omega (arith, fits)
 
@@ -25,7 +27,8 @@ returns g c =
     let b = g.B.Tape.means in
     let store = c.args.from.store in
     let e : Entry = entry_of c.entry-entry.result.now in
-    let long : c.length-length.result ≡ volume_length store.words e = length_there store (c.args.number - 1) e c.length-length.result c.entry-entry.ensures c.length-length.ensures in
+    let long : c.length-length.result ≡ volume_length store.words e = length_there store (c.args.number - 1) e c.length-length.result
+    c.entry-entry.ensures c.length-length.ensures in
     let made : c.new-bytes.result ≡ new_source store c.args.from.unit c.args.number = c.new-bytes.ensures.is in
     record {
       entry = e;
@@ -34,11 +37,15 @@ returns g c =
       word = omega arith;
       source = c.append.new.source;
       appended = c.append.result;
-      ends = ends_as a b c.args.unit.now.tape c.append.new.unit.tape c.new-bytes.result (new_source store c.args.from.unit c.args.number) c.append.new.source
-          c.args.store.now c.append.new.self e.name e.date c.length-length.result (volume_length store.words e) c.append.result made long c.append.ensures.ends;
-      unread = unread_as a b c.args.unit.now.tape c.append.new.unit.tape c.new-bytes.result (new_source store c.args.from.unit c.args.number) c.append.new.source
+      ends = ends_as a b c.args.unit.now.tape c.append.new.unit.tape c.new-bytes.result (new_source store c.args.from.unit c.args.number)
+          c.append.new.source
+          c.args.store.now c.append.new.self e.name e.date c.length-length.result (volume_length store.words e) c.append.result made long
+          c.append.ensures.ends;
+      unread = unread_as a b c.args.unit.now.tape c.append.new.unit.tape c.new-bytes.result (new_source store c.args.from.unit
+          c.args.number) c.append.new.source
           c.append.result made c.append.ensures.unread;
-      order = order_as a b c.args.unit.now.tape c.append.new.unit.tape c.new-bytes.result (new_source store c.args.from.unit c.args.number) c.append.new.source
+      order = order_as a b c.args.unit.now.tape c.append.new.unit.tape c.new-bytes.result (new_source store c.args.from.unit c.args.number)
+          c.append.new.source
           c.args.store.now c.length-length.result (volume_length store.words e) c.append.result made long c.append.ensures.order;
       free = c.append.ensures.protected;
       kept = subst (λ s. KeepsVolume a s c.append.new.source) made c.append.ensures.kept;

@@ -12,7 +12,8 @@ use Rattle.volume_copy.specs.Source.{SourceView, KeepsVolume, left_where, unread
 use Rattle.volume_copy.proofs.source.VolumeSource.fill.Goals as goal
 
 -- the source as it was before the piece, from its parts
-abbrev seen : {T : Type 0} → StoreView → UnitView T → (number done : ℕ) → (unread : List ℕ) → (faults : ℕ) → Option StoreFault → SourceView T
+abbrev seen : {T : Type 0} → StoreView → UnitView T → (number done : ℕ) → (unread : List ℕ) → (faults : ℕ) → Option StoreFault →
+    SourceView T
 seen store unit number done unread faults fault = record {
   store = store;
   unit = unit;
@@ -26,7 +27,8 @@ seen store unit number done unread faults fault = record {
 pub returns-then-self-clause-some : goal.returns-then-self-clause-some
 returns-then-self-clause-some g c = λ is.
     let i = c.self.inside in
-    subst (λ (s : SourceView g.row.T.Denot). 0 < length s.unread) c.self.view_is (some_unread i.store.part i.held i.given c.self.invariant.0 c.if-self.true)
+    subst (λ (s : SourceView g.row.T.Denot). 0 < length s.unread) c.self.view_is (some_unread i.store.part i.held i.given c.self.invariant.0
+    c.if-self.true)
 
 pub invariant_of-self-in-Ok-Some : goal.invariant_of-self-in-Ok-Some
 invariant_of-self-in-Ok-Some g c =
@@ -36,10 +38,12 @@ invariant_of-self-in-Ok-Some g c =
     let store = c.part.new.self in
     let unit = c.part.new.unit in
     let count = c.in-Ok-Some.bytes in
-    let part : ReadsPart m v.store store v.number v.done v.unit.tape unit.tape (Ok (Some count)) = rw c.in-Ok-Some.field-0-is at c.in-Ok-Some.ensures.ends in
+    let part : ReadsPart m v.store store v.number v.done v.unit.tape unit.tape (Ok (Some count)) = rw c.in-Ok-Some.field-0-is at
+    c.in-Ok-Some.ensures.ends in
     let read = part_reads m v store unit (Ok (Some count)) part in (
       part_held m v store unit c.part.ensures.store c.part.ensures.fits read c.self.invariant.1 count part,
-      some_sound m v store unit c.part.ensures.store c.part.ensures.fits read c.self.invariant.1 count part (take count (bytes_in store.part)),
+      some_sound m v store unit c.part.ensures.store c.part.ensures.fits read c.self.invariant.1 count part
+          (take count (bytes_in store.part)),
     )
 
 pub invariant_of-self-in-Ok-None : goal.invariant_of-self-in-Ok-None
@@ -49,7 +53,8 @@ invariant_of-self-in-Ok-None g c =
     let v = seen i.store i.unit i.number i.next (unread_in i.store.part i.held i.given) i.refusals i.fault in
     let store = c.part.new.self in
     let unit = c.part.new.unit in
-    let part : ReadsPart m v.store store v.number v.done v.unit.tape unit.tape (Ok None) = rw c.in-Ok-None.field-0-is at c.in-Ok-None.ensures.ends in
+    let part : ReadsPart m v.store store v.number v.done v.unit.tape unit.tape (Ok None) = rw c.in-Ok-None.field-0-is at
+    c.in-Ok-None.ensures.ends in
     let read = part_reads m v store unit (Ok None) part in (
       none_held i.store.part store.part i.held i.given c.self.invariant.0 c.if-self.false,
       none_sound m v store unit c.part.ensures.store c.part.ensures.fits read c.self.invariant.1 (unread_in store.part i.held i.given),
@@ -66,7 +71,8 @@ invariant_of-self-in-Err g c =
     let part : ReadsPart m v.store store v.number v.done v.unit.tape unit.tape (Err why) = c.in-Err.ensures.ends in
     let read = part_reads m v store unit (Err why) part in (
       none_held i.store.part store.part i.held i.given c.self.invariant.0 c.if-self.false,
-      refused_sound m v store unit c.part.ensures.store c.part.ensures.fits read c.self.invariant.1 why part (unread_in store.part i.held i.given)
+      refused_sound m v store unit c.part.ensures.store c.part.ensures.fits read c.self.invariant.1 why part
+          (unread_in store.part i.held i.given)
           c.saturating_add-self-inside-in-Err.result c.saturating_add-self-inside-in-Err.ensures,
     )
 
@@ -107,7 +113,8 @@ returns-in-Ok-Some-clause-kept g c =
     let store = c.part.new.self in
     let unit = c.part.new.unit in
     let count = c.in-Ok-Some.bytes in
-    let part : ReadsPart m v.store store v.number v.done v.unit.tape unit.tape (Ok (Some count)) = rw c.in-Ok-Some.field-0-is at c.in-Ok-Some.ensures.ends in
+    let part : ReadsPart m v.store store v.number v.done v.unit.tape unit.tape (Ok (Some count)) = rw c.in-Ok-Some.field-0-is at
+    c.in-Ok-Some.ensures.ends in
     let read = part_reads m v store unit (Ok (Some count)) part in
     let next : SourceView g.row.T.Denot = after m v store unit (v.done + 1) (take count (bytes_in store.part)) v.faults v.fault in
     subst (λ (s : SourceView g.row.T.Denot). KeepsVolume m s next) c.self.view_is
@@ -122,11 +129,13 @@ returns-in-Ok-Some-clause-left g c =
     let store = c.part.new.self in
     let unit = c.part.new.unit in
     let count = c.in-Ok-Some.bytes in
-    let part : ReadsPart m v.store store v.number v.done v.unit.tape unit.tape (Ok (Some count)) = rw c.in-Ok-Some.field-0-is at c.in-Ok-Some.ensures.ends in
+    let part : ReadsPart m v.store store v.number v.done v.unit.tape unit.tape (Ok (Some count)) = rw c.in-Ok-Some.field-0-is at
+    c.in-Ok-Some.ensures.ends in
     let read = part_reads m v store unit (Ok (Some count)) part in
     let next : SourceView g.row.T.Denot = after m v store unit (v.done + 1) (take count (bytes_in store.part)) v.faults v.fault in
     subst (λ (s : SourceView g.row.T.Denot). left_where next (m.told unit.tape) ≡ left_where s (m.told s.unit.tape)) c.self.view_is
-    (some_left m v store unit c.part.ensures.store c.part.ensures.fits read c.self.invariant.1 count part (none_unread i.store.part i.held i.given c.if-self.false))
+    (some_left m v store unit c.part.ensures.store c.part.ensures.fits read c.self.invariant.1 count part
+    (none_unread i.store.part i.held i.given c.if-self.false))
 
 pub returns-in-Ok-Some-clause-some : goal.returns-in-Ok-Some-clause-some
 returns-in-Ok-Some-clause-some g c = λ is.
@@ -136,7 +145,8 @@ returns-in-Ok-Some-clause-some g c = λ is.
     let store = c.part.new.self in
     let unit = c.part.new.unit in
     let count = c.in-Ok-Some.bytes in
-    let part : ReadsPart m v.store store v.number v.done v.unit.tape unit.tape (Ok (Some count)) = rw c.in-Ok-Some.field-0-is at c.in-Ok-Some.ensures.ends in
+    let part : ReadsPart m v.store store v.number v.done v.unit.tape unit.tape (Ok (Some count)) = rw c.in-Ok-Some.field-0-is at
+    c.in-Ok-Some.ensures.ends in
     let read = part_reads m v store unit (Ok (Some count)) part in
     part_some m v store unit c.part.ensures.store c.part.ensures.fits read c.self.invariant.1 count part
 
@@ -147,7 +157,8 @@ returns-in-Ok-None-clause-kept g c =
     let v = seen i.store i.unit i.number i.next (unread_in i.store.part i.held i.given) i.refusals i.fault in
     let store = c.part.new.self in
     let unit = c.part.new.unit in
-    let part : ReadsPart m v.store store v.number v.done v.unit.tape unit.tape (Ok None) = rw c.in-Ok-None.field-0-is at c.in-Ok-None.ensures.ends in
+    let part : ReadsPart m v.store store v.number v.done v.unit.tape unit.tape (Ok None) = rw c.in-Ok-None.field-0-is at
+    c.in-Ok-None.ensures.ends in
     let read = part_reads m v store unit (Ok None) part in
     let next : SourceView g.row.T.Denot = after m v store unit v.done (unread_in store.part i.held i.given) v.faults v.fault in
     subst (λ (s : SourceView g.row.T.Denot). KeepsVolume m s next) c.self.view_is
@@ -161,10 +172,12 @@ returns-in-Ok-None-clause-ended g c = λ is.
     let v = seen i.store i.unit i.number i.next (unread_in i.store.part i.held i.given) i.refusals i.fault in
     let store = c.part.new.self in
     let unit = c.part.new.unit in
-    let part : ReadsPart m v.store store v.number v.done v.unit.tape unit.tape (Ok None) = rw c.in-Ok-None.field-0-is at c.in-Ok-None.ensures.ends in
+    let part : ReadsPart m v.store store v.number v.done v.unit.tape unit.tape (Ok None) = rw c.in-Ok-None.field-0-is at
+    c.in-Ok-None.ensures.ends in
     let read = part_reads m v store unit (Ok None) part in
     none_ended m v store unit c.part.ensures.store c.part.ensures.fits read c.self.invariant.1 part
-    (none_unread i.store.part i.held i.given c.if-self.false) (unread_in store.part i.held i.given) (none_unread store.part i.held i.given c.if-self.false)
+    (none_unread i.store.part i.held i.given c.if-self.false) (unread_in store.part i.held i.given) (none_unread store.part i.held i.given
+    c.if-self.false)
 
 pub returns-in-Err-clause-kept : goal.returns-in-Err-clause-kept
 returns-in-Err-clause-kept g c =
@@ -195,7 +208,8 @@ returns-in-Err-clause-left g c =
     let read = part_reads m v store unit (Err why) part in
     let faults = c.saturating_add-self-inside-in-Err.result in
     let unread : List ℕ = unread_in store.part i.held i.given in
-    let same : unread ≡ v.unread = none_unread store.part i.held i.given c.if-self.false ∙ sym (none_unread i.store.part i.held i.given c.if-self.false) in
+    let same : unread ≡ v.unread = none_unread store.part i.held i.given c.if-self.false ∙
+    sym (none_unread i.store.part i.held i.given c.if-self.false) in
     let next : SourceView g.row.T.Denot = after m v store unit v.done unread faults (Some why) in
     subst (λ (s : SourceView g.row.T.Denot). left_where next (m.told unit.tape) ≡ left_where s (m.told s.unit.tape)) c.self.view_is
     (left_still m v store unit c.part.ensures.store c.part.ensures.fits read c.self.invariant.1 unread same faults (Some why))

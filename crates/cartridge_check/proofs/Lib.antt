@@ -1,0 +1,6 @@
+pub mod Ending
+pub mod Joining
+pub mod Parts
+pub mod Stages
+pub mod Table
+pub mod Telling

@@ -1,0 +1,27 @@
+use Rattle.std.proofs.Common.{◌≡◌, ◌∙◌, ℕ, Bool, ap, arith, sym, true}
+use Rattle.std.specs.Prelude.{◌&&◌, nat_lt, not}
+use Rattle.std.proofs.lemmas.Bool.{lt-ltb}
+use Rattle.cartridge_spec.specs.TableSegment.{table_cells}
+use Rattle.command_spec.specs.Check.{is_last_used, is_named}
+use Rattle.command_spec.specs.Scrub.{whole_segment}
+use Rattle.qic_base.proofs.Steps.{Tells-map}
+use Rattle.segment_io.proofs.Going.{front_segment}
+use Rattle.segment_io.specs.Gathered.{Gathered}
+use Rattle.cartridge_check.proofs.Table.{named_by}
+use Rattle.cartridge_check.proofs.verdicts.names_sector.Goals as goal
+
+pub collect-requires-clause-segment : goal.collect-requires-clause-segment
+collect-requires-clause-segment g c = front_segment 2 c.requires.ready.fits c.requires.referenced (omega arith)
+
+pub returns-then-from-lt-DATA_SECTORS-clause-named : goal.returns-then-from-lt-DATA_SECTORS-clause-named
+returns-then-from-lt-DATA_SECTORS-clause-named g c =
+    let sector : ℕ = c.args.sector in
+    let low : nat_lt sector 29 ≡ true = lt-ltb sector 29 (omega (arith, c.if-from-lt-DATA_SECTORS.true, c.from.ensures)) in
+    Tells-map g.T.Tape.means c.args.unit.now.tape (λ c'. Gathered (table_cells c') c.in-Ok.lost c.collect.new.work)
+    (λ c'. is_named c' (whole_segment 2) sector ≡ not c.is_last_used.result)
+    (λ c' gathered.
+    named_by c' c.in-Ok.lost c.last_used-used.result c.data_sectors.result.now c.collect.new.work sector gathered
+    c.data_sectors.ensures.size c.data_sectors.ensures.value c.last_used-used.ensures.cells
+    ∙ ap (λ (b : Bool). b && not (is_last_used c.last_used-used.result sector)) low
+    ∙ sym (ap not c.is_last_used.ensures))
+    c.in-Ok.ensures.gathered
