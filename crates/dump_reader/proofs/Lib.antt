@@ -1,0 +1,9 @@
+pub mod CellsRead
+pub mod Counting
+pub mod Filling
+pub mod HeaderFound
+pub mod Laying
+pub mod Looking
+pub mod Sectors
+pub mod SetsBelow
+pub mod Signed

@@ -1,0 +1,4 @@
+pub mod Found
+pub mod Laid
+pub mod Missing
+pub mod Piece

@@ -1,0 +1,5 @@
+pub mod Counted
+pub mod Informed
+pub mod Listed
+pub mod Slotted
+pub mod Walking

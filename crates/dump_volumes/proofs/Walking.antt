@@ -1,0 +1,71 @@
+-- A walk over the volumes of a table.
+use Rattle.std.proofs.Common.{◌≡◌, ℕ, suc, ◌+◌, ◌-◌, ◌<◌, ◌==◌, ◌⊎◌, inl, inr, Bool, true, false, List, [], ◌∷◌}
+use Rattle.std.proofs.Common.{drop, length, slice_get, Some, None, refl, sym, ap, ◌∙◌, arith}
+use Rattle.std.proofs.lemmas.Bool.{ne_eqb}
+use Rattle.std.proofs.lemmas.List.{length-drop, length-map, drop_more}
+use Rattle.std.proofs.lemmas.Option.{slice_get-get_or, slice_get_past}
+use Rattle.dump_spec.specs.Answers.{numbered}
+use Rattle.dump_spec.specs.Volumes.{slots, volume_slots, volumes_of, volume_in, counted_volumes}
+use Rattle.dump_spec.specs.Volumes as volumes
+use Rattle.dump_volumes.specs.Volume.{told_volume, first_behind, told_volumes}
+
+-- the volume of the first of some slots, and those behind it
+pub told_more : (counts : Bool) (first : ℕ) (bytes : List ℕ) (more : List (List ℕ)) →
+    told_volumes counts first (bytes ∷ more) ≡ told_volume counts first bytes ∷ told_volumes counts (first_behind counts first bytes) more
+told_more false first bytes more = refl
+told_more true first bytes more = refl
+
+pub told_none : (counts : Bool) (first : ℕ) → told_volumes counts first [] ≡ []
+told_none false first = refl
+told_none true first = refl
+
+pub told_all : (counts : Bool) (segment : ℕ) (area : List (List ℕ)) →
+    told_volumes counts (segment + 1) (volume_slots (slots area)) ≡ volumes_of counts segment area
+told_all false segment area = refl
+told_all true segment area = refl
+
+-- each slot of a volume tells one
+told_count : (counts : Bool) (first : ℕ) (used : List (List ℕ)) → length (told_volumes counts first used) ≡ length used
+told_count false first used = length-map used volume_in
+told_count true first [] = refl
+told_count true first (bytes ∷ more) = ap suc (told_count true (first_behind true first bytes) more)
+
+pub count_same : (counts : Bool) (segment : ℕ) (area : List (List ℕ)) →
+    length (volumes_of false 0 area) ≡ length (volumes_of counts segment area)
+count_same counts segment area =
+    told_count false 1 (volume_slots (slots area)) ∙ sym (ap length (sym (told_all counts segment area))
+    ∙ told_count counts (segment + 1) (volume_slots (slots area)))
+
+-- ---- so many volumes were given
+
+drop_some : {A : Type 0} (xs : List A) (i : ℕ) (x : A) (more : List A) → drop i xs ≡ x ∷ more → i < length xs
+drop_some xs i x more here = let n = length-drop i xs in let m = ap length here in omega arith
+
+both_same : {A : Type 0} (x y : A) (xs ys : List A) → x ∷ xs ≡ y ∷ ys → (x ≡ y) × (xs ≡ ys)
+both_same x y xs ys e = (cc, cc)
+
+-- the next one is that of this place, and those behind it are left
+pub drop_next : {A : Type 0} (xs : List A) (i : ℕ) (x : A) (more : List A) → drop i xs ≡ x ∷ more →
+    (slice_get xs i ≡ Some x) × (more ≡ drop (i + 1) xs)
+drop_next xs i x more here =
+    let within : i < length xs = drop_some xs i x more here in
+    let parts = both_same _ _ _ _ (sym (drop_more xs i x within) ∙ here) in (
+      slice_get-get_or xs i x within ∙ ap (λ y. Some y) parts.0,
+      sym parts.1,
+    )
+
+pub found_number : (vs : List volumes.Volume) (given number : ℕ) (volume : volumes.Volume) (more : List volumes.Volume) →
+    drop given vs ≡ volume ∷ more → given + 1 ≡ number → Some volume ≡ numbered vs number
+found_number vs given number volume more here is =
+    let other : (number == 0) ≡ false = ne_eqb number 0 (λ e. omega arith) in
+    let place : number - 1 ≡ given = omega arith in
+    rw (other, place) (sym (drop_next vs given volume more here).0)
+
+pub no_number : (vs : List volumes.Volume) (given number : ℕ) → drop given vs ≡ [] → (number ≡ 0) ⊎ (given < number) →
+    None ≡ numbered vs number
+no_number vs given number none (inl zero) = rw zero refl
+no_number vs given number none (inr over) =
+    let other : (number == 0) ≡ false = ne_eqb number 0 (λ e. omega arith) in
+    let long = length-drop given vs in
+    let all = ap length none in
+    rw other (sym (slice_get_past vs (number - 1) (omega arith)))

@@ -1,0 +1,139 @@
+//! What a check counts and prints.
+
+ghost use Rattle.std.specs.Prelude.{◌≡◌, ◌+◌, ◌<◌, ◌≤◌, ◌^◌, if◌then◌else◌};
+ghost use Rattle.qic_base.specs.SinkCalls.{Writes};
+ghost use Rattle.dump_spec.specs.Check.{finding_line, check_line, is_weak, is_unread};
+ghost use Rattle.segment_salvage.specs.Finding.{told};
+
+use dump_spec::Status;
+use qic_base::{Sink, SinkFailed};
+use segment_salvage::Finding;
+use tape_script::{TextLine, number_text, place_text, write_text};
+
+/// What a check counted.
+#[derive(Clone, Copy, Debug, Drop)]
+pub struct CheckCounts {
+    /// The segments that were looked at.
+    pub segments: u32,
+    /// Those of them that can be mended.
+    pub weak: u32,
+    /// Those that can't.
+    pub bad: u32,
+    ghost weak_within: { weak ≤ segments },
+    ghost bad_within: { bad ≤ segments },
+}
+
+/// Whether the segment can be mended.
+fn is_weak(finding: Finding) -> bool
+    ensures { result ≡ is_weak (told finding) }
+{
+    matches!(finding, Finding::Weak { .. } | Finding::Wrong { .. })
+}
+
+/// Whether the segment does not read.
+fn is_unread(finding: Finding) -> bool
+    ensures { result ≡ is_unread (told finding) }
+{
+    matches!(finding, Finding::Mismatch | Finding::Lost { .. })
+}
+
+/// One more, where it counts.
+fn with_one(count: u32, counts: bool) -> u32
+    requires { count < 2 ^ 31 }
+    ensures more { result ≡ count + (if counts then 1 else 0) }
+    ensures most { result ≤ count + 1 }
+{
+    if counts { count + 1 } else { count }
+}
+
+impl CheckCounts {
+    ghost use Rattle.std.specs.Prelude.{◌++◌, ◌∷◌, [], List};
+    ghost use Rattle.dump_spec.specs.Answers.{check_status};
+    ghost use Rattle.dump_spec.specs.Check as checks;
+    ghost use Rattle.dump_volumes.specs.Counts.{HasCounted};
+
+    /// Nothing was looked at.
+    pub fn new() -> CheckCounts
+        ensures { HasCounted result [] }
+    {
+        CheckCounts {
+            segments: 0,
+            weak: 0,
+            bad: 0,
+        }
+    }
+
+    /// Counts a segment of which this was found; there are fewer than 2^31.
+    pub fn count(&mut self, finding: Finding)
+        requires { self.old.segments < 2 ^ 31 }
+        ensures { (findings : List checks.Finding) → HasCounted self.old findings →
+            HasCounted self.new (findings ++ told finding ∷ []) }
+    {
+        *self = CheckCounts {
+            segments: self.segments + 1,
+            weak: with_one(self.weak, is_weak(finding)),
+            bad: with_one(self.bad, is_unread(finding)),
+        };
+    }
+
+    /// How the check ends.
+    pub fn status(&self) -> Status
+        ensures { (findings : List checks.Finding) → HasCounted self.now findings → result ≡ check_status findings }
+    {
+        if self.weak == 0 && self.bad == 0 {
+            Status::Done
+        } else {
+            Status::Damaged {
+                weak: self.weak,
+                bad: self.bad,
+            }
+        }
+    }
+}
+
+/// The line of a segment, empty where it is well.
+fn finding_text(segment: u16, finding: Finding) -> TextLine
+    ensures { result ≡ finding_line segment (told finding) }
+{
+    let segment = u64::from(segment);
+    match finding {
+        Finding::Well => TextLine::new(),
+        Finding::Weak { lost } => place_text(b"weak", segment, u64::from(lost)),
+        Finding::Wrong { index } => place_text(b"wrong", segment, u64::from(index)),
+        Finding::Mismatch => number_text(b"mismatch", segment),
+        Finding::Lost { lost } => place_text(b"lost", segment, u64::from(lost)),
+    }
+}
+
+/// How many segments were looked at, how many of them can be mended, and how many can't.
+fn check_text(counts: CheckCounts) -> TextLine
+    ensures { result ≡ check_line counts.segments counts.weak counts.bad }
+{
+    let mut line = TextLine::new();
+    line.push_text(b"check ");
+    line.push_number(u64::from(counts.segments));
+    line.push_text(b" ");
+    line.push_number(u64::from(counts.weak));
+    line.push_text(b" ");
+    line.push_number(u64::from(counts.bad));
+    line.push_text(b"\n");
+    line
+}
+
+/// Writes what a check found of a segment; nothing where it is well.
+pub fn write_finding<K: Sink>(
+    segment: u16,
+    finding: Finding,
+    sink: &mut K,
+) -> Result<(), SinkFailed>
+    ensures { Writes K.means sink.old sink.new (finding_line segment (told finding)) result }
+{
+    write_text(finding_text(segment, finding).bytes(), sink)
+}
+
+/// Writes the last line of a check: how many segments were looked at, how many of them can be mended, and how many can't.
+pub fn write_check<K: Sink>(counts: CheckCounts, sink: &mut K) -> Result<(), SinkFailed>
+    ensures { Writes K.means sink.old sink.new (check_line counts.segments counts.weak counts.bad) result }
+{
+    write_text(check_text(counts).bytes(), sink)
+}
