@@ -113,16 +113,6 @@ defect-view l q old new only whole on =
     (byte-kept l DefectByte q old new only whole on GateByte q on (inl (λ e. cc)))
     (data-kept l DefectByte q old new only whole on q on (inl (λ e. cc)))
 
-pub bytes-view : (l : Layout) (q : ℕ) (old new : List ℕ) → OnlyIn (place l Data q) 1024 old new → end_of l ≤ length old →
-    q < sectors l.segments_per_track
-    → view_in l new q ≡ view_by (slice_index old (place l DefectByte q)) (slice_index old (place l FormedByte q))
-    (slice_index old (place l GateByte q)) (sector_bytes l new q)
-bytes-view l q old new only whole on =
-    view_in-is l new q
-    ∙ cell-is _ _ _ _ _ _ _ _ (byte-kept l Data q old new only whole on DefectByte q on (inl (λ e. cc)))
-    (byte-kept l Data q old new only whole on FormedByte q on (inl (λ e. cc)))
-    (byte-kept l Data q old new only whole on GateByte q on (inl (λ e. cc))) refl
-
 -- the head
 
 -- bytes that keep their head and their length are an image as before

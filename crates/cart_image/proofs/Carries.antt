@@ -4,11 +4,10 @@ use Rattle.std.proofs.Common.{Err}
 use Rattle.std.specs.Option.{option_map}
 use Rattle.qic_base.specs.Cartridge.{Cartridge}
 use Rattle.qic_base.specs.Step.{Step, effects, Torn}
-use Rattle.qic_base.specs.Tape.{Meaning as TapeMeaning}
+use Rattle.qic_base.specs.Tape.{Meaning as TapeMeaning, Stops}
 use Rattle.qic_base.specs.Disk.{Meaning, DiskStep, Look, IsSettled, Failed}
 use Rattle.cart_image.specs.Image.{cartridge_of}
 use Rattle.cart_image.specs.Run.{Looks, Ran, Halted, Carried, after_steps, Crashed}
-use Rattle.cart_image.specs.Several.{StopsIn}
 use Rattle.cart_image.specs.Tape.{disk_means}
 use Rattle.cart_image.proofs.Runs.{Passes, Passes-Passes, Looks-Passes, Failed-Passes, Ran-Passes, Halted-Passes, Ran-told, Ran-since}
 use Rattle.cart_image.proofs.Runs.{Halted-since, Halted-told}
@@ -19,46 +18,26 @@ some_bytes : (told : Option (List ℕ)) (held : Option Cartridge) → option_map
 some_bytes None held is = cc
 some_bytes (Some bytes) held is = (bytes, refl, (let e : Some (cartridge_of bytes) ≡ Some held = is in cc))
 
--- what a call makes of the cartridge, and what a stop before it, inside or behind it leaves
-abbrev pub Change : Type 0
-Change = Option Cartridge → Option Cartridge
+-- What came of a call, apart from the counts of faults. All of its steps were done, ..
+pub record Finished {S : Type 0} (m : TapeMeaning S) (old new : S) (steps : List Step) : Type 0 where
+  pub told : m.told new ≡ option_map (effects steps) (m.told old)
+  pub stops : Stops m old new steps
 
-abbrev pub Leaves : Type 1
-Leaves = Option Cartridge → Option Cartridge → Type 0
-
--- What came of a call, apart from the counts of faults. All of it was done, ..
-pub record FinishedBy {S : Type 0} (m : TapeMeaning S) (old new : S) (effect : Change) (leaves : Leaves) : Type 0 where
-  pub told : m.told new ≡ option_map effect (m.told old)
-  pub stops : StopsIn m old new leaves
-
--- .. or it was broken off, ..
-pub record CutShortBy {S : Type 0} (m : TapeMeaning S) (old new : S) (leaves : Leaves) : Type 0 where
+-- .. or they were broken off, ..
+pub record CutShort {S : Type 0} (m : TapeMeaning S) (old new : S) (steps : List Step) : Type 0 where
   pub tells : is_some (m.told new) ≡ is_some (m.told old)
-  pub torn : (held left : Option Cartridge) → m.told old ≡ Some held → m.told new ≡ Some left → leaves held left
-  pub stops : StopsIn m old new leaves
+  pub torn : (held left : Option Cartridge) → m.told old ≡ Some held → m.told new ≡ Some left → Torn steps held left
+  pub stops : Stops m old new steps
 
 -- .. by its answer.
-abbrev pub OutcomeBy : {S T E : Type 0} (m : TapeMeaning S) (old new : S) (effect : Change) (leaves : Leaves) (result : Result T E) → Type 0
-OutcomeBy m old new effect leaves (Ok x) = FinishedBy m old new effect leaves
-OutcomeBy m old new effect leaves (Err e) = CutShortBy m old new leaves
-
--- What a run makes of the cartridge: at the end this, and in a crash one of these.
-pub record MeansBy (run : List DiskStep) (effect : Change) (leaves : Leaves) (bytes : List ℕ) : Type 0 where
-  pub done : cartridge_of (after_steps run bytes) ≡ effect (cartridge_of bytes)
-  pub torn : (left : List ℕ) → Crashed (λ b. b ≡ bytes) bytes run left → leaves (cartridge_of bytes) (cartridge_of left)
-
--- the same of a call that is a list of steps
-abbrev pub Finished : {S : Type 0} (m : TapeMeaning S) (old new : S) (steps : List Step) → Type 0
-Finished m old new steps = FinishedBy m old new (effects steps) (Torn steps)
-
-abbrev pub CutShort : {S : Type 0} (m : TapeMeaning S) (old new : S) (steps : List Step) → Type 0
-CutShort m old new steps = CutShortBy m old new (Torn steps)
-
 abbrev pub Outcome : {S T E : Type 0} (m : TapeMeaning S) (old new : S) (steps : List Step) (result : Result T E) → Type 0
-Outcome m old new steps result = OutcomeBy m old new (effects steps) (Torn steps) result
+Outcome m old new steps (Ok x) = Finished m old new steps
+Outcome m old new steps (Err e) = CutShort m old new steps
 
-abbrev pub Means : (run : List DiskStep) (steps : List Step) (bytes : List ℕ) → Type 0
-Means run steps bytes = MeansBy run (effects steps) (Torn steps) bytes
+-- What a run makes of the cartridge: at the end the effect of these steps, and in a crash what a stop in them leaves.
+pub record Means (run : List DiskStep) (steps : List Step) (bytes : List ℕ) : Type 0 where
+  pub done : cartridge_of (after_steps run bytes) ≡ effects steps (cartridge_of bytes)
+  pub torn : (left : List ℕ) → Crashed (λ b. b ≡ bytes) bytes run left → Torn steps (cartridge_of bytes) (cartridge_of left)
 
 is_some-both : (a b : Option (List ℕ)) → is_some a ≡ is_some b → is_some (option_map cartridge_of a) ≡ is_some (option_map cartridge_of b)
 is_some-both None None same = refl
@@ -66,13 +45,13 @@ is_some-both None (Some b) same = cc
 is_some-both (Some a) None same = cc
 is_some-both (Some a) (Some b) same = refl
 
-module _ (effect : Change) (torn : Leaves) (nothing : (held : Option Cartridge) → torn held held) where
+module _ (steps : List Step) where
   -- each crash since then left what a stop in the call leaves
   abbrev LeavesTorn : {D : Type 0} (m : Meaning D) (old new : D) → Type 0
   LeavesTorn m old new = (bytes left : List ℕ) (t : ℕ) → m.told old ≡ Some bytes → t ≤ m.moment old → m.left_since new t left →
-      m.left_since old t left ⊎ torn (cartridge_of bytes) (cartridge_of left)
+      m.left_since old t left ⊎ Torn steps (cartridge_of bytes) (cartridge_of left)
 
-  Stops-carried : {D : Type 0} {m : Meaning D} {old new : D} → Passes m old new → LeavesTorn m old new → StopsIn (disk_means m) old new torn
+  Stops-carried : {D : Type 0} {m : Meaning D} {old new : D} → Passes m old new → LeavesTorn m old new → Stops (disk_means m) old new steps
   Stops-carried {m = m} {old = old} {new = new} passes each = record {
     telling = passes.telling;
     clock = passes.clock;
@@ -87,30 +66,31 @@ module _ (effect : Change) (torn : Leaves) (nothing : (held : Option Cartridge) 
         elim (each b.0 is.0 t b.1 early is.1) [
           | inl was ↦ inl (is.0, was, is.2)
           | inr stopped ↦ inr (
-              let P : Option Cartridge → Type 0 = λ h. torn h left in
-              let Q : Option Cartridge → Type 0 = λ l. torn (cartridge_of b.0) l in
+              let P : Option Cartridge → Type 0 = λ h. Torn steps h left in
+              let Q : Option Cartridge → Type 0 = λ l. Torn steps (cartridge_of b.0) l in
               subst P b.2 (subst Q (sym is.2) stopped))
         ];
   }
 
   -- a crash in the looks at a settled disk leaves what was there
   Looks-torn : {D : Type 0} {m : Meaning D} {old : D} (bytes left : List ℕ) → IsSettled m old → m.told old ≡ Some bytes →
-      m.may_leave old left → torn (cartridge_of bytes) (cartridge_of left)
+      m.may_leave old left → Torn steps (cartridge_of bytes) (cartridge_of left)
   Looks-torn bytes left settled told is =
       let same : left ≡ bytes = settled.only bytes left told is in
-      let Q : List ℕ → Type 0 = λ l. torn (cartridge_of bytes) (cartridge_of l) in
-      subst Q (sym same) (nothing (cartridge_of bytes))
+      let Q : List ℕ → Type 0 = λ l. Torn steps (cartridge_of bytes) (cartridge_of l) in
+      subst Q (sym same) (Torn-nothing steps (cartridge_of bytes))
 
   ends : (bytes after : List ℕ) (held left : Option Cartridge) → cartridge_of bytes ≡ held → cartridge_of after ≡ left →
-      torn (cartridge_of bytes) (cartridge_of after) → torn held left
+      Torn steps (cartridge_of bytes) (cartridge_of after) → Torn steps held left
   ends bytes after held left reads now is =
-      let P : Option Cartridge → Type 0 = λ h. torn h left in
-      let Q : Option Cartridge → Type 0 = λ l. torn (cartridge_of bytes) l in
+      let P : Option Cartridge → Type 0 = λ h. Torn steps h left in
+      let Q : Option Cartridge → Type 0 = λ l. Torn steps (cartridge_of bytes) l in
       subst P reads (subst Q now is)
 
   told_by : (was now : Option (List ℕ)) → is_some now ≡ is_some was
-      → ((bytes : List ℕ) → was ≡ Some bytes → (left : List ℕ) × (now ≡ Some left) × (cartridge_of left ≡ effect (cartridge_of bytes)))
-      → option_map cartridge_of now ≡ option_map effect (option_map cartridge_of was)
+      → ((bytes : List ℕ) → was ≡ Some bytes →
+      (left : List ℕ) × (now ≡ Some left) × (cartridge_of left ≡ effects steps (cartridge_of bytes)))
+      → option_map cartridge_of now ≡ option_map (effects steps) (option_map cartridge_of was)
   told_by None None same told = refl
   told_by None (Some left) same told = cc
   told_by (Some bytes) now same told = let w = told bytes refl in rw w.1 (ap Some w.2)
@@ -128,7 +108,7 @@ module _ (effect : Change) (torn : Leaves) (nothing : (held : Option Cartridge) 
     ]
 
     then_since : (mid new : D) (Inner : List ℕ → List ℕ → Type 0) → Looks m old mid
-        → ((bytes left : List ℕ) → m.told old ≡ Some bytes → Inner bytes left → torn (cartridge_of bytes) (cartridge_of left))
+        → ((bytes left : List ℕ) → m.told old ≡ Some bytes → Inner bytes left → Torn steps (cartridge_of bytes) (cartridge_of left))
         → ((bytes left : List ℕ) (t : ℕ) → m.told old ≡ Some bytes → t ≤ m.moment mid → m.left_since new t left → m.left_since mid t left
         ⊎ Inner bytes left)
         → LeavesTorn m old new
@@ -140,8 +120,8 @@ module _ (effect : Change) (torn : Leaves) (nothing : (held : Option Cartridge) 
 
     Ran-finished : (mid new : D) (ran : List DiskStep) (plan : List ℕ → List DiskStep) → Looks m old mid → Ran m mid new ran
         → ((bytes : List ℕ) → m.told old ≡ Some bytes → ran ≡ plan bytes)
-        → ((bytes : List ℕ) → m.told old ≡ Some bytes → MeansBy (plan bytes) effect torn bytes)
-        → FinishedBy (disk_means m) old new effect torn
+        → ((bytes : List ℕ) → m.told old ≡ Some bytes → Means (plan bytes) steps bytes)
+        → Finished (disk_means m) old new steps
     Ran-finished mid new ran plan looks runs planned means =
         let passes : Passes m old new = Passes-Passes (Looks-Passes looks) (Ran-Passes m mid new ran runs) in
         record {
@@ -157,34 +137,14 @@ module _ (effect : Change) (torn : Leaves) (nothing : (held : Option Cartridge) 
               (may_only bytes told mid looks) runs t left early is));
         }
 
-    pub FailedBy-cut : (mid new : D) → Looks m old mid → Failed m mid new Look → CutShortBy (disk_means m) old new torn
-    FailedBy-cut mid new looks failed =
-        let passes : Passes m old new = Passes-Passes (Looks-Passes looks) (Failed-Passes failed) in
-        record {
-          tells = is_some-both (m.told new) (m.told old) passes.tells;
-          torn = λ held left before after.
-              let was = some_bytes (m.told old) held before in
-              let now = some_bytes (m.told new) left after in
-              let inside = failed.torn now.0 now.1 in
-              let may : m.may_leave old now.0 = looks.leaves now.0 (subst (m.may_leave mid) (sym inside.2) inside.1) in
-              ends was.0 now.0 held left was.2 now.2 (Looks-torn was.0 now.0 settled was.1 may);
-          stops = Stops-carried passes (then_since mid new (λ bytes left. left ≡ bytes) looks
-              (λ bytes left told same. let Q : List ℕ → Type 0 = λ l. torn (cartridge_of bytes) (cartridge_of l) in
-              subst Q (sym same) (nothing (cartridge_of bytes)))
-              (λ bytes left t told early is. elim (failed.crashes.since t left early is) [
-                | inl was ↦ inl was
-                | inr inside ↦ inr (may_only bytes told mid looks left (subst (m.may_leave mid) (sym inside.2) inside.1))
-              ]));
-        }
-
     Halted-cut : (mid new : D) (ran : List DiskStep) (plan : List ℕ → List DiskStep) → Looks m old mid → Halted m mid new ran
         → ((bytes : List ℕ) → m.told old ≡ Some bytes → ran ≡ plan bytes)
-        → ((bytes : List ℕ) → m.told old ≡ Some bytes → MeansBy (plan bytes) effect torn bytes)
-        → CutShortBy (disk_means m) old new torn
+        → ((bytes : List ℕ) → m.told old ≡ Some bytes → Means (plan bytes) steps bytes)
+        → CutShort (disk_means m) old new steps
     Halted-cut mid new ran plan looks halted planned means =
         let passes : Passes m old new = Passes-Passes (Looks-Passes looks) (Halted-Passes m mid new ran halted) in
         let at_plan : (bytes left : List ℕ) → m.told old ≡ Some bytes → Crashed (λ b. b ≡ bytes) bytes ran left →
-        torn (cartridge_of bytes) (cartridge_of left) =
+        Torn steps (cartridge_of bytes) (cartridge_of left) =
         λ bytes left told crashed. (means bytes told).torn left
         (let P : List DiskStep → Type 0 = λ ss. Crashed (λ b. b ≡ bytes) bytes ss left in subst P (planned bytes told) crashed) in
         record {
@@ -201,27 +161,37 @@ module _ (effect : Change) (torn : Leaves) (nothing : (held : Option Cartridge) 
               (may_only bytes told mid looks) halted t left early is));
         }
 
-  -- what a call did to the cartridge, by its answer
-  pub OutcomeBy-carried : {D T E : Type 0} (m : Meaning D) (old new : D) (plan : List ℕ → List DiskStep) (result : Result T E) →
-      IsSettled m old → Carried m old new plan result
-      → ((bytes : List ℕ) → m.told old ≡ Some bytes → MeansBy (plan bytes) effect torn bytes) → OutcomeBy (disk_means m) old new effect torn
-      result
-  OutcomeBy-carried m old new plan (Ok x) settled carried means =
-      Ran-finished m old settled carried.went.0 new carried.steps plan carried.went.1 carried.went.2 carried.planned means
-  OutcomeBy-carried m old new plan (Err e) settled carried means =
-      elim carried.went.2 [
-        | inl failed ↦ FailedBy-cut m old settled carried.went.0 new carried.went.1 failed
-        | inr halted ↦ Halted-cut m old settled carried.went.0 new carried.steps plan carried.went.1 halted carried.planned means
-      ]
-
--- .. where it is a list of steps
-pub Outcome-carried : {D T E : Type 0} (m : Meaning D) (old new : D) (plan : List ℕ → List DiskStep) (steps : List Step)
-    (result : Result T E) → IsSettled m old → Carried m old new plan result
-    → ((bytes : List ℕ) → m.told old ≡ Some bytes → Means (plan bytes) steps bytes) → Outcome (disk_means m) old new steps result
-Outcome-carried m old new plan steps result settled carried means =
-    OutcomeBy-carried (effects steps) (Torn steps) (Torn-nothing steps) m old new plan result settled carried means
-
+-- the calls looked, and the disk failed in that
 pub Failed-cut : {D : Type 0} (m : Meaning D) (old : D) → IsSettled m old → (mid new : D) (steps : List Step) → Looks m old mid →
     Failed m mid new Look → CutShort (disk_means m) old new steps
 Failed-cut m old settled mid new steps looks failed =
-    FailedBy-cut (effects steps) (Torn steps) (Torn-nothing steps) m old settled mid new looks failed
+    let passes : Passes m old new = Passes-Passes (Looks-Passes looks) (Failed-Passes failed) in
+    record {
+      tells = is_some-both (m.told new) (m.told old) passes.tells;
+      torn = λ held left before after.
+          let was = some_bytes (m.told old) held before in
+          let now = some_bytes (m.told new) left after in
+          let inside = failed.torn now.0 now.1 in
+          let may : m.may_leave old now.0 = looks.leaves now.0 (subst (m.may_leave mid) (sym inside.2) inside.1) in
+          ends steps was.0 now.0 held left was.2 now.2 (Looks-torn steps was.0 now.0 settled was.1 may);
+      stops = Stops-carried steps passes (then_since steps m old settled mid new (λ bytes left. left ≡ bytes) looks
+          (λ bytes left told same. let Q : List ℕ → Type 0 = λ l. Torn steps (cartridge_of bytes) (cartridge_of l) in
+          subst Q (sym same) (Torn-nothing steps (cartridge_of bytes)))
+          (λ bytes left t told early is. elim (failed.crashes.since t left early is) [
+            | inl was ↦ inl was
+            | inr inside ↦ inr (may_only steps m old settled bytes told mid looks left
+                (subst (m.may_leave mid) (sym inside.2) inside.1))
+          ]));
+    }
+
+-- what a call did to the cartridge, by its answer
+pub Outcome-carried : {D T E : Type 0} (m : Meaning D) (old new : D) (plan : List ℕ → List DiskStep) (steps : List Step)
+    (result : Result T E) → IsSettled m old → Carried m old new plan result
+    → ((bytes : List ℕ) → m.told old ≡ Some bytes → Means (plan bytes) steps bytes) → Outcome (disk_means m) old new steps result
+Outcome-carried m old new plan steps (Ok x) settled carried means =
+    Ran-finished steps m old settled carried.went.0 new carried.steps plan carried.went.1 carried.went.2 carried.planned means
+Outcome-carried m old new plan steps (Err e) settled carried means =
+    elim carried.went.2 [
+      | inl failed ↦ Failed-cut m old settled carried.went.0 new steps carried.went.1 failed
+      | inr halted ↦ Halted-cut steps m old settled carried.went.0 new carried.steps plan carried.went.1 halted carried.planned means
+    ]

@@ -1,5 +1,5 @@
 -- What a change of one sector's parts makes of the cartridge that the bytes are read as.
-use Rattle.std.proofs.Common.{◌≡◌, ◌≢◌, ℕ, ◌<◌, ◌≤◌, ◌⊎◌, inl, inr, ⊎_elim, List, length, get_or, refl, sym, ◌∙◌, ap, arith, Some}
+use Rattle.std.proofs.Common.{◌≡◌, ◌≢◌, ℕ, ◌<◌, ◌≤◌, ◌⊎◌, inl, inr, ⊎_elim, List, length, get_or, sym, ◌∙◌, ap, arith, Some}
 use Rattle.std.specs.Prelude.{slice_set}
 use Rattle.std.proofs.lemmas.Bool.{cases_lt}
 use Rattle.std.proofs.lemmas.List.{same_lists, get_or-set_same, get_or-set_other, length-set, set-get_or}
@@ -34,16 +34,6 @@ pub record Beside (l : Layout) (sector : ℕ) (old new : List ℕ) : Type 0 wher
   pub size : length new ≡ length old
   pub head : head_of new ≡ head_of old
   pub others : (k : ℕ) → k < sectors l.segments_per_track → sector ≢ k → view_in l new k ≡ view_in l old k
-
-pub Beside-all : (l : Layout) (sector : ℕ) (bytes : List ℕ) → Beside l sector bytes bytes
-Beside-all l sector bytes = record { size = refl; head = refl; others = λ k on ne. refl }
-
-pub Beside-Beside : {l : Layout} {sector : ℕ} {a b c : List ℕ} → Beside l sector a b → Beside l sector b c → Beside l sector a c
-Beside-Beside first next = record {
-  size = next.size ∙ first.size;
-  head = next.head ∙ first.head;
-  others = λ k on ne. next.others k on ne ∙ first.others k on ne;
-}
 
 pub Beside-part : (l : Layout) (p : Part) (sector : ℕ) (old new : List ℕ) → end_of l ≤ length old → sector < sectors l.segments_per_track →
     OnlyIn (place l p sector) (width p) old new → Beside l sector old new

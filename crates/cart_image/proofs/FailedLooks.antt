@@ -1,22 +1,12 @@
 -- A look that failed over a disk in which nothing was pending, and what was looked at before and behind it.
-use Rattle.std.proofs.Common.{◌≡◌, ℕ, ◌≤◌, arith, inl, inr, true, false, List, length, refl, sym, ◌∙◌, ap, Option, Some, None, IfSome}
+use Rattle.std.proofs.Common.{◌≡◌, ℕ, arith, inl, inr, true, false, List, refl, sym, ◌∙◌, ap, Option, Some, None, IfSome}
 use Rattle.std.proofs.Common.{is_some, subst, Result, Ok, Err}
 use Rattle.std.specs.Prelude.{IfOk}
-use Rattle.qic_base.specs.declared.tape.SectorRead.{SectorRead}
-use Rattle.qic_base.specs.declared.tape.SectorView.{SectorView}
 use Rattle.qic_base.specs.Disk.{Meaning, Look, IsSettled, Stores, Failed}
 use Rattle.qic_base.proofs.Disks.{told-look}
-use Rattle.qic_base.proofs.Steps.{Rose-before}
-use Rattle.qic_base.specs.TapeCalls.{Reads}
-use Rattle.cart_image.specs.declared.layout.Layout.{Layout}
-use Rattle.cart_image.specs.declared.reading.SectorState.{SectorState}
-use Rattle.cart_image.specs.Image.{view_in}
-use Rattle.cart_image.specs.Layout.{end_of}
 use Rattle.cart_image.specs.Run.{Looks}
-use Rattle.cart_image.specs.State.{state_of}
 use Rattle.cart_image.proofs.Known.{told-same}
-use Rattle.cart_image.proofs.Runs.{Failed-Passes, Looks-Looks, Looks-Passes, Looks-settled, Passes-Passes}
-use Rattle.cart_image.proofs.States.{whole-other}
+use Rattle.cart_image.proofs.Runs.{Failed-Passes, Looks-Looks, Looks-settled}
 
 -- it tells what was told
 failed-told : {D : Type 0} {m : Meaning D} {a b : D} → IsSettled m a → Failed m a b Look → (was now : Option (List ℕ)) → m.told a ≡ was →
@@ -74,40 +64,6 @@ Looks-tried m a b (Ok x) settled stored = record {
 -- looks of which the last one failed
 pub Looks-broken : {D : Type 0} {m : Meaning D} {a b : D} → IsSettled m a → ((mid : D) × Looks m a mid × Failed m mid b Look) → Looks m a b
 Looks-broken settled looked = Looks-Looks looked.1 (Looks-failed (Looks-settled looked.1 settled) looked.2)
-
--- a look that failed, and then looks of which none did, are one that failed
-pub failed-looks : {D : Type 0} {m : Meaning D} {a b c : D} → Failed m a b Look → Looks m b c → m.faults c ≡ m.faults b → Failed m a c Look
-failed-looks {m = m} {a = a} {b = b} {c = c} failed looks stood =
-    let both = Passes-Passes (Failed-Passes failed) (Looks-Passes looks) in
-    record {
-      cause = Rose-before (m.faults a) (m.faults b) (m.faults c) failed.cause stood;
-      later = both.later;
-      changes = looks.changes ∙ failed.changes;
-      tells = both.tells;
-      torn = λ left told. failed.torn left (sym looks.told ∙ told);
-      leaves = λ left is. failed.leaves left (looks.leaves left is);
-      settled = Looks-settled looks failed.settled;
-      crashes = record {
-        telling = both.telling;
-        clock = both.clock;
-        kept = both.kept;
-        parted = both.parted;
-        since = λ t left early is. elim (looks.since t left (let f = Failed-Passes failed in let e = f.clock in omega arith) is) [
-          | inl earlier ↦ failed.crashes.since t left early earlier
-          | inr was ↦ inr (failed.leaves left was)
-        ];
-      };
-    }
-
--- a sector that holds no readable bytes is answered by its state bytes, read behind a look that changed nothing
-pub state-behind : (told t1 : Option (List ℕ)) (l : Layout) (q : ℕ) (old new : List ℕ) (s t : SectorState) (answer : SectorRead) →
-    t1 ≡ told → new ≡ old → IfSome t1 (λ b. end_of l ≤ length b → s ≡ state_of (view_in l b q)) → s ≡ t
-    → ((v : SectorView) → t ≡ state_of v → Reads v old old answer) →
-    IfSome told (λ b. end_of l ≤ length b → Reads (view_in l b q) old new answer)
-state-behind told t1 l q old new s t answer same kept seen is reads =
-    let P : List ℕ → Type 0 = λ into. IfSome told (λ b. end_of l ≤ length b → Reads (view_in l b q) old into answer) in
-    subst P (sym kept) (whole-other told l q old s t answer (told-same (λ b. end_of l ≤ length b → s ≡ state_of (view_in l b q)) same seen)
-    is reads)
 
 -- what a result says of the bytes that were told behind it, it says of those that were told before
 pub ok-behind : {T E : Type 0} (r : Result T E) (told t1 : Option (List ℕ)) (P : T → List ℕ → Type 0) → t1 ≡ told →

@@ -15,7 +15,7 @@ use Rattle.cart_image.specs.declared.reading.SectorState.{SectorState}
 use Rattle.cart_image.specs.declared.reading.SectorState.TheVariants as state
 use Rattle.cart_image.specs.Image.{view_by, view_in, sector_bytes}
 use Rattle.cart_image.specs.Layout.{place, end_of, touches, open_gate, formed_byte, defect_byte}
-use Rattle.cart_image.specs.Several.{is_readable, is_blank, bytes_read, ReadsSectors, KeepsOthers}
+use Rattle.qic_base.specs.TapeCalls.{is_readable, is_blank, bytes_read, ReadsSectors, KeepsOthers}
 use Rattle.cart_image.specs.State.{state_of, AreStatesOf, GotBytes}
 use Rattle.cart_image.proofs.Known.{cell-at, told-same}
 use Rattle.cart_image.proofs.Layouts.{in-row, laid_out}

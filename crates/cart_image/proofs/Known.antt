@@ -323,14 +323,6 @@ pub state-at : (x : SectorState) (l : Layout) (q r : ℕ) (new : Option (List �
 state-at x l q r None same each = tt
 state-at x l q r (Some bytes) same each = each bytes refl ∙ ap (λ j. state_of (view_in l bytes j)) (sym same)
 
-pub view-read : (l : Layout) (q r : ℕ) (P : SectorView → Type 0) (old new : Option (List ℕ)) → q ≡ r → new ≡ old →
-    IfSome new (λ bytes. end_of l ≤ length bytes → P (view_in l bytes q)) →
-    IfSome old (λ bytes. end_of l ≤ length bytes → P (view_in l bytes r))
-view-read l q r P old new same told fact =
-    let Q : ℕ → Type 0 = λ j. IfSome old (λ bytes. end_of l ≤ length bytes → P (view_in l bytes j)) in
-    let R : Option (List ℕ) → Type 0 = λ o. IfSome o (λ bytes. end_of l ≤ length bytes → P (view_in l bytes q)) in
-    subst Q same (subst R told fact)
-
 pub known-segment : (known : Option SegmentStates) (states : SegmentStates) (segment : ℕ) → known ≡ Some states → states.segment ≡ segment →
     IfSome known (λ k. k.segment ≡ segment)
 known-segment None states segment is of = tt

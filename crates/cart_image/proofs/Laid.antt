@@ -1,5 +1,5 @@
 -- Each call but `renew` and `upgrade` leaves the layout of the image as it was.
-use Rattle.std.proofs.Common.{◌≡◌, ℕ, ◌+◌, ◌*◌, ◌<◌, ◌≤◌, inl, inr, ⊎_elim, Bool, true, false, List, [], ◌∷◌, ◌++◌, length, refl, sym, ◌∙◌}
+use Rattle.std.proofs.Common.{◌≡◌, ℕ, ◌+◌, ◌*◌, ◌<◌, ◌≤◌, inl, inr, ⊎_elim, Bool, true, false, List, [], ◌∷◌, length, refl, sym, ◌∙◌}
 use Rattle.std.proofs.Common.{ap, arith, Option, Some, None, is_some, subst, Result, Ok, Err}
 use Rattle.std.specs.Prelude.{◌==◌, if◌then◌else◌}
 use Rattle.qic_base.specs.declared.tape.SectorView.{SectorView}
@@ -10,9 +10,10 @@ use Rattle.cart_image.specs.declared.layout.Part.{Part}
 use Rattle.cart_image.specs.declared.layout.Part.TheVariants.{GateByte, FormedByte, DefectByte, Data}
 use Rattle.cart_image.specs.Image.{layout_of}
 use Rattle.cart_image.specs.Layout.{sectors, end_of, width, place, put, mark_byte, open_gate, closed_gate, formed_byte, defect_byte, fill}
-use Rattle.cart_image.specs.Layout.{fill_writes, even, those, is_open, is_usable, is_unformed, write_sector_steps, wear_steps, spoil_steps}
+use Rattle.cart_image.specs.Layout.{fill_writes, even, those, is_open, is_usable, is_unformed, wear_steps, spoil_steps}
 use Rattle.cart_image.specs.Layout.{mark_steps, format_plan, format_segment_steps, chosen_by, overwrite_all}
-use Rattle.cart_image.specs.Several.{is_readable, takes_write}
+use Rattle.qic_base.specs.TapeCalls.{is_readable}
+use Rattle.cart_image.specs.Several.{takes_write}
 use Rattle.cart_image.specs.Layout.{write_sectors_steps}
 use Rattle.cart_image.specs.Run.{Carried, Went, after_steps}
 use Rattle.cart_image.specs.Several.{AreSectors}
@@ -48,18 +49,6 @@ module _ (l : Layout) (len : ℕ) (room : end_of l ≤ len) where
       let behind = (laid_out l).behind p q on in
       let before = (laid_out l).before p q on in
       put-spares len (place l p q) part behind (omega arith)
-
-  pub write-spares : (q : ℕ) (from : List ℕ) (v : SectorView) → q < sectors l.segments_per_track → length from ≡ 1024 →
-      Spares TellsLayout len (write_sector_steps l q from v)
-  write-spares q from Blank on long = tt
-  write-spares q from Defect on long = tt
-  write-spares q from Lost on long = Spares-both TellsLayout len (put (place l Data q) from) (put (place l GateByte q) (open_gate ∷ []))
-      (part-spares Data q from on long) (part-spares GateByte q (open_gate ∷ []) on refl)
-  write-spares q from (Holds old) on long =
-      Spares-both TellsLayout len (put (place l GateByte q) (closed_gate ∷ []))
-      (put (place l Data q) from ++ put (place l GateByte q) (open_gate ∷ [])) (part-spares GateByte q (closed_gate ∷ []) on refl)
-      (Spares-both TellsLayout len (put (place l Data q) from) (put (place l GateByte q) (open_gate ∷ [])) (part-spares Data q from on long)
-      (part-spares GateByte q (open_gate ∷ []) on refl))
 
   pub wear-spares : (q : ℕ) (v : SectorView) → q < sectors l.segments_per_track → Spares TellsLayout len (wear_steps l q v)
   wear-spares q Blank on = tt

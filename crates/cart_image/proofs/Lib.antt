@@ -4,6 +4,7 @@ mod Carries
 pub mod Changes
 mod Choices
 mod Copies
+mod EachSector
 pub mod Exits
 mod FailedLooks
 mod Fills
@@ -15,9 +16,8 @@ mod Known
 mod Laid
 mod Layouts
 pub mod Loops
-mod OneSector
-mod OneSteps
 mod Overwrites
+mod Places
 pub mod Renews
 pub mod Runs
 mod Sectors

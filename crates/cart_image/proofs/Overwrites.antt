@@ -1,41 +1,39 @@
 -- What the writes of several sectors of a segment make of the cartridge, at the end and in a crash.
 use Rattle.std.proofs.Common.{◌≡◌, ◌≢◌, ℕ, zero, suc, ◌+◌, ◌*◌, ◌-◌, ◌<◌, ◌≤◌, ◌⊎◌, inl, inr, Bool, true, false, List, [], ◌∷◌, ◌++◌}
-use Rattle.std.proofs.Common.{length, get_or, map, refl, sym, ◌∙◌, ap, arith, Option, Some, None, subst}
-use Rattle.std.specs.Prelude.{slice_index_or, ◌==◌, ◌&&◌, if◌then◌else◌}
-use Rattle.std.specs.Option.{option_map}
-use Rattle.std.specs.List.{flat_map, range_with_len}
+use Rattle.std.proofs.Common.{length, get_or, refl, sym, ◌∙◌, ap, arith, Option, Some, subst}
+use Rattle.std.specs.Prelude.{slice_index_or, ◌==◌, ◌&&◌}
+use Rattle.std.specs.List.{flat_map}
 use Rattle.std.proofs.lemmas.List.{same_lists, get_or_default, length-append, get_or_append_left, get_or-append_right}
 use Rattle.std.proofs.lemmas.List.Edits.{length-between, get_or-between}
 use Rattle.std.proofs.lemmas.List.FromFn.{length-map-range_with_len, get_or-map-range_with_len}
 use Rattle.qic_base.specs.declared.tape.SectorView.{SectorView}
-use Rattle.qic_base.specs.declared.tape.SectorView.TheVariants.{Blank, Defect, Lost, Holds}
-use Rattle.qic_base.specs.Cartridge.{Cartridge, view_at}
+use Rattle.qic_base.specs.declared.tape.SectorView.TheVariants.{Blank, Holds}
+use Rattle.qic_base.specs.Cartridge.{Cartridge}
 use Rattle.qic_base.specs.CartridgeTerms.{is_lost, place_of}
 use Rattle.qic_base.specs.Disk.{DiskStep}
-use Rattle.qic_base.specs.Step.{written_view, ClosingView}
+use Rattle.qic_base.specs.Step.{Step, WriteSectors, written_view, ClosingView, AreClosing, AreOpening, Halfway, Torn, effects}
+use Rattle.qic_base.specs.TapeCalls.{is_readable, is_blank, AreBlank, chosen}
 use Rattle.cart_image.specs.declared.layout.Head.{Head}
 use Rattle.cart_image.specs.declared.layout.Layout.{Layout}
 use Rattle.cart_image.specs.declared.layout.Part.TheVariants.{GateByte, FormedByte, Data}
 use Rattle.cart_image.specs.declared.reading.SectorState.{SectorState}
 use Rattle.cart_image.specs.declared.reading.SectorState.TheVariants as state
 use Rattle.cart_image.specs.Layout.{sectors, width, place, end_of, open_gate, closed_gate, synced, fill_writes, even}
-use Rattle.cart_image.specs.Several.{is_readable, takes_write}
+use Rattle.cart_image.specs.Several.{takes_write}
 use Rattle.cart_image.specs.Layout.{chosen_by, overwrite_all, write_sectors_steps}
-use Rattle.cart_image.specs.Several.{is_blank}
-use Rattle.cart_image.specs.Image.{head_of, view_in, segment_views, sector_bytes, read_as, cartridge_of}
+use Rattle.cart_image.specs.Image.{head_of, view_in, views_in, segment_views, sector_bytes, read_as, cartridge_of}
 use Rattle.cart_image.specs.Run.{after_steps, Crashed}
-use Rattle.cart_image.specs.Several.{AreSectors, is_refused, AreRefused, content_at, content_of, contents_of, written_with, sectors_written}
-use Rattle.cart_image.specs.Several.{SectorsBecame, ClosingSector}
-use Rattle.cart_image.specs.Several.{TakingView, OpeningSector, HalfWritten, TornSectors}
+use Rattle.cart_image.specs.Several.{AreSectors}
 use Rattle.cart_image.specs.State.{state_of, AreStatesOf}
-use Rattle.cart_image.specs.Whole.{cartridge_of-read}
-use Rattle.cart_image.proofs.Carries.{MeansBy}
-use Rattle.cart_image.proofs.Changes.{view_at-read}
+use Rattle.cart_image.specs.Whole.{cartridge_of-read, length-views}
+use Rattle.cart_image.proofs.Carries.{Means}
+use Rattle.cart_image.proofs.EachSector.{TakingView, WhereWritten, BecameOf, closing-became, opening-became, written-became}
+use Rattle.cart_image.proofs.EachSector.{chosen-lie, chosen-became}
 use Rattle.cart_image.proofs.Fills.{OffChosen, fill-kept, fill-value, fill-crash, length-even, get_or-even}
 use Rattle.cart_image.proofs.Layouts.{laid_out}
 use Rattle.cart_image.proofs.Stages.{shown, bad_in, formed_in, open_in, closing, closed, Stage, Stage-all, byte-spared, data-spared}
 use Rattle.cart_image.proofs.Stages.{next-stage}
-use Rattle.cart_image.proofs.Stages.{became, changed-views, read-with, shows, end-at}
+use Rattle.cart_image.proofs.Stages.{became, shows, end-at}
 use Rattle.cart_image.proofs.Writes.{SameAt, after-both, after-synced, Crashed-synced}
 
 -- ---- sectors joined
@@ -130,12 +128,6 @@ pub get_or-chosen : (written : ℕ) (views : List SectorView) (f : SectorView �
 get_or-chosen written views f i less =
     get_or-map-range_with_len (λ i. is_lost written i && f (slice_index_or views i Blank)) 0 32 i i false less (omega arith)
 
-pub get_or-contents : (written : ℕ) (sectors : List (List ℕ)) (i : ℕ) → i < 32 →
-    content_at (contents_of written sectors) i ≡ content_of written sectors i
-unfolding contents_of
-get_or-contents written sectors i less =
-    get_or-map-range_with_len (content_of written sectors) 0 32 i i None less (omega arith)
-
 pub get_or-segment_views : (l : Layout) (segment : ℕ) (bytes : List ℕ) (i : ℕ) → i < 32 →
     slice_index_or (segment_views l segment bytes) i Blank ≡ view_in l bytes (32 * segment + i)
 unfolding segment_views
@@ -164,23 +156,14 @@ overwrite-planned l segment bytes written from closes takes c t =
     ap (λ xs. overwrite_all l segment from xs takes) c
     ∙ ap (λ xs. overwrite_all l segment from (chosen_by written (segment_views l segment bytes) is_readable) xs) t
 
--- the word of those that are refused
-pub refused-are : (l : Layout) (segment : ℕ) (bytes : List ℕ) (written : ℕ) (states : List SectorState) (from : List (List ℕ)) (blank : ℕ) →
+-- the set of those that were never formatted
+pub blank-are : (l : Layout) (segment : ℕ) (bytes : List ℕ) (written : ℕ) (states : List SectorState) (blank : ℕ) →
     AreStatesOf l segment written bytes states
     → ((view : SectorView) (i : ℕ) → i < 32 → (is_lost written i ≡ true → slice_index_or states i state.Blank ≡ state_of view) →
     is_lost blank i ≡ (is_lost written i && is_blank view)) →
-    AreRefused blank (contents_of written from) (λ i. view_in l bytes (place_of segment i))
-refused-are l segment bytes written states from blank are each i less =
+    AreBlank written blank (λ i. view_in l bytes (place_of segment i))
+blank-are l segment bytes written states blank are each i less =
     each (view_in l bytes (32 * segment + i)) i less (λ bit. are i less bit)
-    ∙ by_bit (is_lost written i) (view_in l bytes (32 * segment + i))
-    ∙ sym (ap (λ c. is_refused c (view_in l bytes (32 * segment + i))) (get_or-contents written from i less))
-  where
-    by_bit : (b : Bool) (v : SectorView) → (b && is_blank v) ≡ is_refused (if b then Some (slice_index_or from i []) else None) v
-    by_bit true Blank = refl
-    by_bit true Defect = refl
-    by_bit true Lost = refl
-    by_bit true (Holds bytes) = refl
-    by_bit false v = refl
 
 not-chosen : (chosen : List Bool) (first i : ℕ) → get_or chosen i false ≡ false → (j : ℕ) → get_or chosen j false ≡ true →
     first + j ≢ first + i
@@ -199,8 +182,9 @@ module _ (h : Head) (bytes : List ℕ) (segment : ℕ) (is : head_of bytes ≡ S
   within : first + 32 ≤ sectors l.segments_per_track
   within = omega arith
 
-  abbrev contents : List (Option (List ℕ))
-  contents = contents_of written from
+  -- the step of the call
+  abbrev step : Step
+  step = WriteSectors segment (chosen written from)
 
   abbrev views : List SectorView
   views = segment_views l segment bytes
@@ -259,45 +243,37 @@ module _ (h : Head) (bytes : List ℕ) (segment : ℕ) (is : head_of bytes ≡ S
   few : (f : SectorView → Bool) → length (chosen_by written views f) ≤ 32
   few f = let n = length-chosen written views f in omega arith
 
-  content-is : (i : ℕ) (b : Bool) → i < 32 → is_lost written i ≡ b →
-      content_at contents i ≡ (if b then Some (get_or from i []) else None)
-  content-is i b less bit = get_or-contents written from i less ∙ ap (λ b. if b then Some (get_or from i []) else None) bit
-
   half : (left : List ℕ) → Stage l first bytes left
-      → (SectorsBecame (λ i. ClosingSector (content_at contents i)) segment (read_as h bytes) (read_as h left)
-      ⊎ SectorsBecame (λ i. OpeningSector (content_at contents i)) segment (read_as h bytes) (read_as h left))
-      → TornSectors segment contents (cartridge_of bytes) (cartridge_of left)
+      → (AreClosing segment (chosen written from) (read_as h bytes) (read_as h left)
+      ⊎ AreOpening segment (chosen written from) (read_as h bytes) (read_as h left))
+      → Torn (step ∷ []) (cartridge_of bytes) (cartridge_of left)
   half left stage halves =
-      let P : Option Cartridge → Type 0 = λ c. HalfWritten segment contents c (cartridge_of left) in
-      let Q : Option Cartridge → Type 0 = λ c. HalfWritten segment contents (Some (read_as h bytes)) c in
+      let P : Option Cartridge → Type 0 = λ c. Halfway step c (cartridge_of left) in
+      let Q : Option Cartridge → Type 0 = λ c. Halfway step (Some (read_as h bytes)) c in
       inr (inl (subst P (sym (cartridge_of-read bytes h is)) (subst Q (sym (cartridge_of-read left h (stage.head ∙ is))) halves)))
 
+  long : 32 * segment + 32 ≤ length (views_in l bytes)
+  long = let n = length-views l bytes in omega arith
+
   -- what became of each sector, where those that are not written stayed
-  each-became : (Became : Option (List ℕ) → SectorView → SectorView → Type 0) (left : List ℕ) → Stage l first bytes left
-      → ((view : SectorView) → Became None view view)
+  each-became : (Became : List ℕ → SectorView → SectorView → Type 0) (left : List ℕ) → Stage l first bytes left
       → ((i : ℕ) → i < 32 → is_lost written i ≡ false → shown (bad i) (formed left i) (opened left i) (held left i) ≡ shown
       (bad i) (formed bytes i) (opened bytes i) (held bytes i))
-      → ((i : ℕ) → i < 32 → is_lost written i ≡ true → Became (Some (get_or from i []))
+      → ((i : ℕ) → i < 32 → is_lost written i ≡ true → Became (get_or from i [])
       (shown (bad i) (formed bytes i) (opened bytes i) (held bytes i)) (shown (bad i) (formed left i) (opened left i) (held left i)))
-      → SectorsBecame (λ i. Became (content_at contents i)) segment (read_as h bytes) (read_as h left)
-  each-became Became left stage stays same each =
-      became h bytes segment is whole on (λ i. Became (content_at contents i)) left stage (λ i less.
-      let P : SectorView → Type 0 = λ u. Became (content_at contents i) u (view_in l left (first + i)) in
-      let Q : SectorView → Type 0 = λ u. Became (content_at contents i) (shown (bad i) (formed bytes i) (opened bytes i) (held bytes i)) u
-      in
-      subst P (sym (shows_in bytes staged i less)) (subst Q (sym (shows_in left stage i less)) (by_bit i less (is_lost written i) refl)))
+      → BecameOf Became segment (chosen written from) (read_as h bytes) (read_as h left)
+  each-became Became left stage same each =
+      chosen-became Became segment written from (read_as h bytes) (read_as h left) long
+      (became h bytes segment is whole on (λ i. WhereWritten (is_lost written i) (Became (get_or from i []))) left stage (λ i less.
+      let P : SectorView → Type 0 = λ u. WhereWritten (is_lost written i) (Became (get_or from i [])) u (view_in l left (first + i)) in
+      let Q : SectorView → Type 0 = λ u. WhereWritten (is_lost written i) (Became (get_or from i []))
+      (shown (bad i) (formed bytes i) (opened bytes i) (held bytes i)) u in
+      subst P (sym (shows_in bytes staged i less)) (subst Q (sym (shows_in left stage i less)) (by_bit i less (is_lost written i) refl))))
     where
-      by_bit : (i : ℕ) → i < 32 → (b : Bool) → is_lost written i ≡ b → Became (content_at contents i)
+      by_bit : (i : ℕ) → i < 32 → (b : Bool) → is_lost written i ≡ b → WhereWritten b (Became (get_or from i []))
           (shown (bad i) (formed bytes i) (opened bytes i) (held bytes i)) (shown (bad i) (formed left i) (opened left i) (held left i))
-      by_bit i less true bit =
-          let P : Option (List ℕ) → Type 0 = λ c. Became c (shown (bad i) (formed bytes i) (opened bytes i) (held bytes i))
-          (shown (bad i) (formed left i) (opened left i) (held left i)) in
-          subst P (sym (content-is i true less bit)) (each i less bit)
-      by_bit i less false bit =
-          let P : Option (List ℕ) → Type 0 = λ c. Became c (shown (bad i) (formed bytes i) (opened bytes i) (held bytes i))
-          (shown (bad i) (formed left i) (opened left i) (held left i)) in
-          let Q : SectorView → Type 0 = λ v. Became None (shown (bad i) (formed bytes i) (opened bytes i) (held bytes i)) v in
-          subst P (sym (content-is i false less bit)) (subst Q (sym (same i less bit)) (stays _))
+      by_bit i less true bit = each i less bit
+      by_bit i less false bit = same i less bit
 
   -- ---- the gates are closed
   abbrev b1 : List ℕ
@@ -323,8 +299,9 @@ module _ (h : Head) (bytes : List ℕ) (segment : ℕ) (is : head_of bytes ≡ S
         (length-chosen written views is_readable) within whole kept GateByte (first + i) (omega arith)
         (inr (not-chosen closes first i out)))
 
-    gates-torn : TornSectors segment contents (cartridge_of bytes) (cartridge_of left)
-    gates-torn = half left gates-stage (inl (each-became ClosingSector left gates-stage (λ view. refl)
+    gates-torn : Torn (step ∷ []) (cartridge_of bytes) (cartridge_of left)
+    gates-torn = half left gates-stage (inl (closing-became segment (chosen written from) (read_as h bytes) (read_as h left)
+        (chosen-lie segment written from (read_as h bytes) long) (each-became (λ from. ClosingView) left gates-stage
         (λ i less out. shown-same (bad i) _ _ _ _ _ _ (gates-formed i less) (gates-same i less (unwritten is_readable i less out))
         (gates-data i less))
         (λ i less bit.
@@ -335,7 +312,7 @@ module _ (h : Head) (bytes : List ℕ) (segment : ℕ) (is : head_of bytes ≡ S
         (λ was. gates-same i less (picked is_readable i false less bit (readable-shut (bad i) (formed bytes i) (opened bytes i)
         (held bytes i) was))
         ∙ was)
-        (gates-data i less)))))
+        (gates-data i less))))))
 
   kept1 : SameAt (OffChosen l GateByte first closes) bytes b1
   kept1 = fill-kept l GateByte (even GateByte closed_gate) (length bytes) whole first (length-even GateByte closed_gate) within closes
@@ -383,8 +360,9 @@ module _ (h : Head) (bytes : List ℕ) (segment : ℕ) (is : head_of bytes ≡ S
     data-same i less out = data-spared l Data first takes b1 left (length-chosen written views takes_write) within end1 kept
         (first + i) (omega arith) (inr (not-chosen takes first i out)) ∙ gates-data b1 kept1 i less
 
-    data-torn : TornSectors segment contents (cartridge_of bytes) (cartridge_of left)
-    data-torn = half left data-stage (inl (each-became ClosingSector left data-stage (λ view. refl)
+    data-torn : Torn (step ∷ []) (cartridge_of bytes) (cartridge_of left)
+    data-torn = half left data-stage (inl (closing-became segment (chosen written from) (read_as h bytes) (read_as h left)
+        (chosen-lie segment written from (read_as h bytes) long) (each-became (λ from. ClosingView) left data-stage
         (λ i less out. shown-same (bad i) _ _ _ _ _ _ (data-formed i less)
         (data-gates i less ∙ gates-same b1 kept1 i less (unwritten is_readable i less out))
         (data-same i less (unwritten takes_write i less out)))
@@ -393,7 +371,7 @@ module _ (h : Head) (bytes : List ℕ) (segment : ℕ) (is : head_of bytes ≡ S
         (shown (bad i) f (opened left i) (held left i)) in
         subst P (sym (data-formed i less))
         (closed (bad i) (formed bytes i) (opened bytes i) (opened left i) (held bytes i) (held left i)
-        (λ good formed_is. data-gates i less ∙ shut1 i less bit good formed_is)))))
+        (λ good formed_is. data-gates i less ∙ shut1 i less bit good formed_is))))))
 
   kept2 : SameAt (OffChosen l Data first takes) b1 b2
   kept2 = fill-kept l Data values (length b1) end1 first length-values within takes (few takes_write) b1 refl
@@ -462,14 +440,15 @@ module _ (h : Head) (bytes : List ℕ) (segment : ℕ) (is : head_of bytes ≡ S
         (open-same i less (unwritten takes_write i less out) ∙ gates-same b1 kept1 i less (unwritten is_readable i less out))
         (open-data i less ∙ data-same b2 kept2 i less (unwritten takes_write i less out))
 
-    open-torn : TornSectors segment contents (cartridge_of bytes) (cartridge_of left)
-    open-torn = half left open-stage (inr (each-became OpeningSector left open-stage (λ view. refl) open-unwritten
+    open-torn : Torn (step ∷ []) (cartridge_of bytes) (cartridge_of left)
+    open-torn = half left open-stage (inr (opening-became segment (chosen written from) (read_as h bytes) (read_as h left)
+        (chosen-lie segment written from (read_as h bytes) long) (each-became TakingView left open-stage open-unwritten
         (λ i less bit.
         let P : Bool → Type 0 = λ f. TakingView (get_or from i []) (shown (bad i) (formed bytes i) (opened bytes i) (held bytes i))
         (shown (bad i) f (opened left i) (held left i)) in
         subst P (sym (open-formed i less))
         (taking (bad i) (formed bytes i) (opened bytes i) (opened left i) (held bytes i) (held left i) (get_or from i [])
-        (open-put i less bit)))))
+        (open-put i less bit))))))
 
   kept3 : SameAt (OffChosen l GateByte first takes) b2 b3
   kept3 = fill-kept l GateByte (even GateByte open_gate) (length b2) end2 first (length-even GateByte open_gate) within takes
@@ -486,33 +465,17 @@ module _ (h : Head) (bytes : List ℕ) (segment : ℕ) (is : head_of bytes ≡ S
       (place l GateByte (first + i)) (omega arith) (omega arith)
       ∙ get_or-even GateByte open_gate _ (omega arith))
 
-  -- ---- each sector in the end
-  abbrev after : ℕ → SectorView
-  after i = written_with (content_at contents i) (view_at (read_as h bytes) segment i)
-
-  view3 : (i : ℕ) → i < 32 → view_in l b3 (first + i) ≡ after i
-  view3 i less =
-      shows_in b3 stage3 i less
-      ∙ by_bit (is_lost written i) refl
-      ∙ sym (ap (written_with (content_at contents i)) (view_at-read h bytes segment i (omega arith) ∙ shows_in bytes staged i less))
-    where
-      by_bit : (b : Bool) → is_lost written i ≡ b → shown (bad i) (formed b3 i) (opened b3 i) (held b3 i) ≡ written_with
-          (content_at contents i) (shown (bad i) (formed bytes i) (opened bytes i) (held bytes i))
-      by_bit true bit =
-          ap (λ f. shown (bad i) f (opened b3 i) (held b3 i)) (open-formed b3 kept3 i less)
-          ∙ taken-view (bad i) (formed bytes i) (opened bytes i) (opened b3 i) (held bytes i) (held b3 i) (get_or from i [])
-          (opened3 i less bit) (open-put b3 kept3 i less bit)
-          ∙ sym (ap (λ c. written_with c (shown (bad i) (formed bytes i) (opened bytes i) (held bytes i))) (content-is i true less bit))
-      by_bit false bit =
-          open-unwritten b3 kept3 i less bit
-          ∙ sym (ap (λ c. written_with c (shown (bad i) (formed bytes i) (opened bytes i) (held bytes i))) (content-is i false less bit))
-
-  written3 : cartridge_of b3 ≡ option_map (sectors_written segment contents) (cartridge_of bytes)
+  -- ---- in the end
+  written3 : cartridge_of b3 ≡ effects (step ∷ []) (cartridge_of bytes)
   written3 =
-      read-with h bytes segment is whole on b3 _ stage3
-      (changed-views h bytes segment is whole on b3 (map after (range_with_len 0 32)) stage3 (length-map-range_with_len after 0 32)
-      (λ i d less. view3 i less ∙ sym (get_or-map-range_with_len after 0 32 i i d less (omega arith))))
-      ∙ ap (option_map (sectors_written segment contents)) (sym (cartridge_of-read bytes h is))
+      cartridge_of-read b3 h (stage3.head ∙ is)
+      ∙ ap Some (sym (written-became segment (chosen written from) (read_as h bytes) (read_as h b3)
+      (chosen-lie segment written from (read_as h bytes) long)
+      (each-became (λ from old now. now ≡ written_view from old) b3 stage3 (open-unwritten b3 kept3) (λ i less bit.
+      ap (λ f. shown (bad i) f (opened b3 i) (held b3 i)) (open-formed b3 kept3 i less)
+      ∙ taken-view (bad i) (formed bytes i) (opened bytes i) (opened b3 i) (held bytes i) (held b3 i) (get_or from i [])
+      (opened3 i less bit) (open-put b3 kept3 i less bit)))))
+      ∙ sym (ap (effects (step ∷ [])) (cartridge_of-read bytes h is))
 
   abbrev f1 : List DiskStep
   f1 = fill_writes l GateByte (even GateByte closed_gate) first 0 closes 0
@@ -527,8 +490,7 @@ module _ (h : Head) (bytes : List ℕ) (segment : ℕ) (is : head_of bytes ≡ S
   run = synced f1 ++ (synced f2 ++ synced f3)
 
   -- the call writes these sectors, and a crash in it leaves what a stop of it leaves
-  pub write_sectors-means : MeansBy (write_sectors_steps l segment written from views) (option_map (sectors_written segment contents))
-      (TornSectors segment contents) bytes
+  pub write_sectors-means : Means (write_sectors_steps l segment written from views) (step ∷ []) bytes
   unfolding overwrite_all
   write_sectors-means = record { done = ap cartridge_of ran ∙ written3; torn = torn }
     where
@@ -538,8 +500,7 @@ module _ (h : Head) (bytes : List ℕ) (segment : ℕ) (is : head_of bytes ≡ S
           ∙ after-both (synced f2) (synced f3) b1 ∙ ap (after_steps (synced f3)) (after-synced f2 b1)
           ∙ after-synced f3 b2
 
-      torn : (left : List ℕ) → Crashed (λ b. b ≡ bytes) bytes run left → TornSectors segment contents (cartridge_of bytes)
-          (cartridge_of left)
+      torn : (left : List ℕ) → Crashed (λ b. b ≡ bytes) bytes run left → Torn (step ∷ []) (cartridge_of bytes) (cartridge_of left)
       torn left crashed =
           elim (Crashed-synced f1 (synced f2 ++ synced f3) bytes left crashed) [
             | inl in1 ↦ gates-torn left (fill-crash l GateByte (even GateByte closed_gate) (length bytes) whole first

@@ -8,20 +8,20 @@ use Rattle.qic_base.specs.Cartridge.{Cartridge, with_view, view_at}
 use Rattle.qic_base.specs.CartridgeTerms.{place_of}
 use Rattle.qic_base.specs.Disk.{DiskStep, TornRange}
 use Rattle.qic_base.specs.Field.{overwritten}
-use Rattle.qic_base.specs.Step.{Step, WriteSector, Wear, Spoil, effect, written_view, worn_view, spoiled_view, Torn}
-use Rattle.qic_base.proofs.FieldLaws.{get_or-overwritten, slice_range-overwritten}
+use Rattle.qic_base.specs.Step.{Step, Wear, Spoil, effect, worn_view, spoiled_view, Torn}
+use Rattle.qic_base.proofs.FieldLaws.{get_or-overwritten}
 use Rattle.cart_image.specs.declared.layout.Head.{Head}
 use Rattle.cart_image.specs.declared.layout.Layout.{Layout}
-use Rattle.cart_image.specs.declared.layout.Part.TheVariants.{GateByte, FormedByte, DefectByte, Data}
-use Rattle.cart_image.specs.Layout.{sectors, place, end_of, open_gate, closed_gate, formed_byte, defect_byte, put, write_sector_steps}
+use Rattle.cart_image.specs.declared.layout.Part.TheVariants.{GateByte, FormedByte, DefectByte}
+use Rattle.cart_image.specs.Layout.{sectors, place, end_of, open_gate, closed_gate, formed_byte, defect_byte, put}
 use Rattle.cart_image.specs.Layout.{wear_steps, spoil_steps}
 use Rattle.cart_image.specs.Image.{head_of, view_by, view_in, sector_bytes, read_as, cartridge_of}
 use Rattle.cart_image.specs.Run.{Crashed}
 use Rattle.cart_image.specs.Whole.{cartridge_of-read}
 use Rattle.cart_image.proofs.Carries.{Means}
-use Rattle.cart_image.proofs.Bytes.{OnlyIn, OnlyIn-torn, OnlyIn-written, byte-kept, data-kept, gate-view, defect-view, bytes-view}
+use Rattle.cart_image.proofs.Bytes.{OnlyIn, OnlyIn-torn, OnlyIn-written, byte-kept, data-kept, gate-view, defect-view}
 use Rattle.cart_image.proofs.Bytes.{view_in-is}
-use Rattle.cart_image.proofs.Changes.{Beside, Beside-all, Beside-Beside, Beside-part, cartridge-beside, same-view, view_at-read}
+use Rattle.cart_image.proofs.Changes.{Beside, Beside-part, cartridge-beside, same-view, view_at-read}
 use Rattle.cart_image.proofs.Layouts.{laid_out}
 
 -- a crash in a put, or behind it
@@ -96,35 +96,6 @@ module _ (l : Layout) (sector : ℕ) (on : sector < sectors l.segments_per_track
       by_gate true is shown = inr (shown ∙ ap (λ b. if b then Holds holds else Lost) is)
       by_gate false is shown = inl (shown ∙ ap (λ b. if b then Holds holds else Lost) is)
 
-  bytes-onlyin : (part : List ℕ) → length part ≡ 1024 → OnlyIn (place l Data sector) 1024 bytes
-      (overwritten bytes (place l Data sector) part)
-  bytes-onlyin part long =
-      let w = f.whole in
-      let b = (laid_out l).before Data sector on in
-      subst (λ (count : ℕ). OnlyIn (place l Data sector) count bytes (overwritten bytes (place l Data sector) part)) long
-      (OnlyIn-written (place l Data sector) bytes part (omega arith))
-
-  bytes-put : (part : List ℕ) → length part ≡ 1024 → Formed l sector (overwritten bytes (place l Data sector) part) gate part
-  bytes-put part long =
-      let w = f.whole in
-      let only = bytes-onlyin part long in
-      let size = only.size in
-      let b = (laid_out l).before Data sector on in
-      record {
-        whole = omega arith;
-        defect = ap (λ b. b == defect_byte) (byte-kept l Data sector bytes _ only w on DefectByte sector on (inl (λ e. cc))) ∙ f.defect;
-        formed = ap (λ b. b == formed_byte) (byte-kept l Data sector bytes _ only w on FormedByte sector on (inl (λ e. cc))) ∙ f.formed;
-        gate_is = byte-kept l Data sector bytes _ only w on GateByte sector on (inl (λ e. cc)) ∙ f.gate_is;
-        holds_is = slice_range-overwritten bytes part (place l Data sector) (place l Data sector + 1024) (omega arith) (omega arith);
-      }
-
-  bytes-torn : (left : List ℕ) → (gate == open_gate) ≡ false → TornRange (place l Data sector) 1024 bytes left →
-      view_in l left sector ≡ Lost
-  bytes-torn left closed torn =
-      bytes-view l sector bytes left (OnlyIn-torn _ _ _ _ torn) f.whole on ∙ view_by-gated _ _ _ _ f.defect f.formed
-      ∙ ap (λ g. gated g (sector_bytes l left sector)) f.gate_is
-      ∙ ap (λ b. if b then Holds (sector_bytes l left sector) else Lost) closed
-
 -- from its view
 formed_by : (bd bf bg : Bool) (s : List ℕ) (v : SectorView) →
     (if bd then Defect else (if bf then (if bg then Holds s else Lost) else Blank)) ≡ v → v ≢ Blank → v ≢ Defect
@@ -132,10 +103,6 @@ formed_by : (bd bf bg : Bool) (s : List ℕ) (v : SectorView) →
 formed_by true bf bg s v is blank defect = absurd (defect (sym is))
 formed_by false false bg s v is blank defect = absurd (blank (sym is))
 formed_by false true bg s v is blank defect = (refl, refl, is)
-
-not_open : (bg : Bool) (s : List ℕ) → (if bg then Holds s else Lost) ≡ Lost → bg ≡ false
-not_open true s is = cc
-not_open false s is = refl
 
 opened : (bg : Bool) (s old : List ℕ) → (if bg then Holds s else Lost) ≡ Holds old → Holds s ≡ Holds old
 opened true s old is = is
@@ -185,145 +152,6 @@ module _ (head : Head) (bytes : List ℕ) (segment sector : ℕ) (is : head_of b
   put-view s f v puts view =
       ap (λ w. Some (with_view (read_as head bytes) segment sector (f w))) (sym (viewed v view)) ∙ sym (puts (read_as head bytes))
       ∙ ap (effect s) (sym (cartridge_of-read bytes head is))
-
-  -- writing a sector: it stays, or is lost, or holds the new bytes
-  module _ (from : List ℕ) (long : length from ≡ 1024) where
-    write-ends : (left : List ℕ) (v w : SectorView) → view_in head.layout bytes (place_of segment sector) ≡ v → v ≢ Blank → v ≢ Defect →
-        Beside head.layout (place_of segment sector) bytes left
-        → view_in head.layout left (place_of segment sector) ≡ w → (w ≡ v) ⊎ (w ≡ Lost) ⊎ (w ≡ Holds from) →
-        Torn (WriteSector segment sector from ∷ []) (cartridge_of bytes) (cartridge_of left)
-    write-ends left v w view blank defect beside now (inl old) = inl (becomes left v beside (now ∙ old) ∙ stays v view)
-    write-ends left v w view blank defect beside now (inr (inl lost)) =
-        inr (inl (becomes left Lost beside (now ∙ lost) ∙ ap (λ u. Some (with_view (read_as head bytes) segment sector u))
-        (sym (worn v blank defect)) ∙ put-view (Wear segment sector) worn_view v (λ c. refl) view))
-      where
-        worn : (v : SectorView) → v ≢ Blank → v ≢ Defect → worn_view v ≡ Lost
-        worn Blank blank defect = absurd (blank refl)
-        worn Defect blank defect = absurd (defect refl)
-        worn Lost blank defect = refl
-        worn (Holds old) blank defect = refl
-    write-ends left v w view blank defect beside now (inr (inr new)) =
-        inr (inr (becomes left (Holds from) beside (now ∙ new) ∙ ap (λ u. Some (with_view (read_as head bytes) segment sector u))
-        (sym (written v blank defect)) ∙ put-view (WriteSector segment sector from) (written_view from) v (λ c. refl) view))
-      where
-        written : (v : SectorView) → v ≢ Blank → v ≢ Defect → written_view from v ≡ Holds from
-        written Blank blank defect = absurd (blank refl)
-        written Defect blank defect = absurd (defect refl)
-        written Lost blank defect = refl
-        written (Holds old) blank defect = refl
-
-    -- the writes behind a closed gate
-    write-tail : (s : List ℕ) (g : ℕ) (h : List ℕ) → Formed head.layout (place_of segment sector) s g h → (g == open_gate) ≡ false →
-        Beside head.layout (place_of segment sector) bytes s → (left : List ℕ)
-        → Crashed (λ b. b ≡ s) s (put (place head.layout Data (place_of segment sector)) from ++ put
-        (place head.layout GateByte (place_of segment sector)) (open_gate ∷ [])) left
-        → Beside head.layout (place_of segment sector) bytes left
-        × ((view_in head.layout left (place_of segment sector) ≡ Lost)
-        ⊎ (view_in head.layout left (place_of segment sector) ≡ Holds from))
-    write-tail s g h f closed beside left crashed =
-        elim (Crashed-put (place head.layout Data (place_of segment sector)) from s left
-        (put (place head.layout GateByte (place_of segment sector)) (open_gate ∷ [])) crashed) [
-          | inl torn ↦
-              let at_once : TornRange (place head.layout Data (place_of segment sector)) 1024 s left =
-              subst (λ (count : ℕ). TornRange (place head.layout Data (place_of segment sector)) count s left) long torn in (
-                Beside-Beside beside (Beside-part head.layout Data (place_of segment sector) s left f.whole on
-                    (OnlyIn-torn _ _ _ _ at_once)),
-                inl (bytes-torn head.layout (place_of segment sector) on s g h f left closed at_once),
-              )
-          | inr behind ↦ elim (Crashed-put (place head.layout GateByte (place_of segment sector)) (open_gate ∷ [])
-              (overwritten s (place head.layout Data (place_of segment sector)) from) left [] behind) [
-                | inl torn ↦
-                    let t : Formed head.layout (place_of segment sector)
-                    (overwritten s (place head.layout Data (place_of segment sector)) from)
-                    g from = bytes-put head.layout (place_of segment sector) on s g h f from long in
-                    let there : Beside head.layout (place_of segment sector) s
-                    (overwritten s (place head.layout Data (place_of segment sector)) from) =
-                    Beside-part head.layout Data (place_of segment sector) s _ f.whole on
-                    (bytes-onlyin head.layout (place_of segment sector) on s g h f from long) in (
-                      Beside-Beside beside (Beside-Beside there
-                          (Beside-part head.layout GateByte (place_of segment sector) _ left t.whole on (OnlyIn-torn _ _ _ _ torn))),
-                      gate-torn head.layout (place_of segment sector) on _ g from t left torn,
-                    )
-                | inr none ↦ absurd none
-              ]
-        ]
-
-    write-tail-done : (s : List ℕ) (g : ℕ) (h : List ℕ) → Formed head.layout (place_of segment sector) s g h →
-        Beside head.layout (place_of segment sector) bytes s
-        → Beside head.layout (place_of segment sector) bytes
-        (overwritten (overwritten s (place head.layout Data (place_of segment sector)) from)
-        (place head.layout GateByte (place_of segment sector)) (open_gate ∷ []))
-        × (view_in head.layout (overwritten (overwritten s (place head.layout Data (place_of segment sector)) from)
-        (place head.layout GateByte (place_of segment sector)) (open_gate ∷ [])) (place_of segment sector) ≡ Holds from)
-    write-tail-done s g h f beside =
-        let t : Formed head.layout (place_of segment sector) (overwritten s (place head.layout Data (place_of segment sector)) from) g
-        from = bytes-put head.layout (place_of segment sector) on s g h f from long in
-        let there : Beside head.layout (place_of segment sector) s (overwritten s (place head.layout Data (place_of segment sector)) from) =
-        Beside-part head.layout Data (place_of segment sector) s _ f.whole on
-        (bytes-onlyin head.layout (place_of segment sector) on s g h f from long) in (
-          Beside-Beside beside (Beside-Beside there
-              (Beside-part head.layout GateByte (place_of segment sector) _ _ t.whole on
-              (gate-onlyin head.layout (place_of segment sector) on _ g from t open_gate))),
-          view-gated (gate-put head.layout (place_of segment sector) on _ g from t open_gate),
-        )
-
-    -- the call leaves the effect of its step, and a crash in it leaves a stop of it
-    pub write-means : (v : SectorView) → view_in head.layout bytes (place_of segment sector) ≡ v →
-        Means (write_sector_steps head.layout (place_of segment sector) from v) (WriteSector segment sector from ∷ []) bytes
-    write-means Blank view = record {
-      done = sym (stays Blank view) ∙ put-view (WriteSector segment sector from) (written_view from) Blank
-          (λ c. refl) view;
-      torn = λ left crashed. absurd crashed;
-    }
-    write-means Defect view = record {
-      done = sym (stays Defect view) ∙ put-view (WriteSector segment sector from)
-          (written_view from) Defect (λ c. refl) view;
-      torn = λ left crashed. absurd crashed;
-    }
-    write-means Lost view =
-        let f = formed-here Lost view (λ e. cc) (λ e. cc) in
-        let closed = not_open _ _ f.1 in
-        let done = write-tail-done bytes _ _ f.0 (Beside-all _ _ _) in
-        record {
-          done = becomes _ (Holds from) done.0 done.1 ∙ put-view (WriteSector segment sector from) (written_view from) Lost
-              (λ c. refl) view;
-          torn = λ left crashed.
-              let t = write-tail bytes _ _ f.0 closed (Beside-all _ _ _) left crashed in
-              elim t.1 [
-                | inl lost ↦ write-ends left Lost Lost view (λ e. cc) (λ e. cc) t.0 lost (inl refl)
-                | inr new ↦ write-ends left Lost (Holds from) view (λ e. cc) (λ e. cc) t.0 new (inr (inr refl))
-              ];
-        }
-    write-means (Holds old) view =
-        let f = formed-here (Holds old) view (λ e. cc) (λ e. cc) in
-        let shut = gate-put head.layout (place_of segment sector) on bytes _ _ f.0 closed_gate in
-        let there : Beside head.layout (place_of segment sector) bytes
-        (overwritten bytes (place head.layout GateByte (place_of segment sector)) (closed_gate ∷ [])) =
-        Beside-part head.layout GateByte (place_of segment sector) bytes _ whole on
-        (gate-onlyin head.layout (place_of segment sector) on bytes _ _ f.0 closed_gate) in
-        let done = write-tail-done _ _ _ shut there in
-        record {
-          done = becomes _ (Holds from) done.0 done.1 ∙ put-view (WriteSector segment sector from) (written_view from) (Holds old)
-              (λ c. refl) view;
-          torn = λ left crashed.
-              elim (Crashed-put (place head.layout GateByte (place_of segment sector)) (closed_gate ∷ []) bytes left
-              (put (place head.layout Data (place_of segment sector)) from ++ put (place head.layout GateByte (place_of segment sector))
-              (open_gate ∷ [])) crashed) [
-                | inl torn ↦
-                    let near = Beside-part head.layout GateByte (place_of segment sector) bytes left whole on (OnlyIn-torn _ _ _ _ torn) in
-                    elim (gate-torn head.layout (place_of segment sector) on bytes _ _ f.0 left torn) [
-                      | inl lost ↦ write-ends left (Holds old) Lost view (λ e. cc) (λ e. cc) near lost (inr (inl refl))
-                      | inr same ↦ write-ends left (Holds old) (Holds old) view (λ e. cc) (λ e. cc) near (same ∙ opened _ _ old f.1)
-                          (inl refl)
-                    ]
-                | inr behind ↦
-                    let t = write-tail _ _ _ shut refl there left behind in
-                    elim t.1 [
-                      | inl lost ↦ write-ends left (Holds old) Lost view (λ e. cc) (λ e. cc) t.0 lost (inr (inl refl))
-                      | inr new ↦ write-ends left (Holds old) (Holds from) view (λ e. cc) (λ e. cc) t.0 new (inr (inr refl))
-                    ]
-              ];
-        }
 
   -- making a sector unreadable: it stays or is lost
   pub wear-means : (v : SectorView) → view_in head.layout bytes (place_of segment sector) ≡ v →

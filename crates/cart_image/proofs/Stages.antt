@@ -17,7 +17,7 @@ use Rattle.cart_image.specs.declared.layout.Part.{Part}
 use Rattle.cart_image.specs.declared.layout.Part.TheVariants.{GateByte, FormedByte, DefectByte, Data}
 use Rattle.cart_image.specs.Layout.{version_of, sectors, width, place, end_of, open_gate, formed_byte, defect_byte}
 use Rattle.cart_image.specs.Image.{head_of, info_by, view_in, views_in, sector_bytes, read_as, cartridge_of}
-use Rattle.cart_image.specs.Several.{SectorsBecame}
+use Rattle.cart_image.proofs.EachSector.{SectorsBecame}
 use Rattle.cart_image.specs.Whole.{cartridge_of-read, length-views}
 use Rattle.cart_image.proofs.Bytes.{head-same, range-same, view-same, view_in-is}
 use Rattle.cart_image.proofs.Changes.{get_or-views, view_at-read}

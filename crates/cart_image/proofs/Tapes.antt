@@ -1,5 +1,5 @@
 -- From what a call does to the disk under a tape to what it does to the tape.
-use Rattle.std.proofs.Common.{◌≡◌, ℕ, ◌^◌, ◌<◌, ◌≤◌, inl, Bool, true, false, List, [], ◌∷◌, length, refl, sym, ◌∙◌, ap, arith, Option, Some}
+use Rattle.std.proofs.Common.{◌≡◌, ℕ, ◌^◌, ◌<◌, ◌≤◌, Bool, true, false, List, [], ◌∷◌, length, refl, sym, ◌∙◌, ap, arith, Option, Some}
 use Rattle.std.proofs.Common.{None, IfSome, IsSome, IsSomeAnd, subst, Result, Ok, Err}
 use Rattle.std.proofs.lemmas.Option.{IfSome_then, same_Some}
 use Rattle.std.specs.Prelude.{slice_index, slice_index_or, ◌&&◌}
@@ -12,8 +12,9 @@ use Rattle.qic_base.specs.Cartridge.{Cartridge, IsPlace, IsLength, view_at}
 use Rattle.qic_base.specs.CartridgeTerms.{is_lost, place_of}
 use Rattle.qic_base.specs.Disk as disk
 use Rattle.qic_base.specs.Disk.{DiskStep, Look, Failed, IsSettled}
-use Rattle.qic_base.specs.Step.{Step, WriteSector, FormatSegment, SetReferenced, SetProtected, Renew, Wear, Spoil, Upgrade, effect, Torn}
-use Rattle.qic_base.specs.TapeCalls.{Tells}
+use Rattle.qic_base.specs.Step.{Step, WriteSectors, FormatSegment, SetReferenced, SetProtected}
+use Rattle.qic_base.specs.Step.{Renew, Wear, Spoil, Upgrade, effect}
+use Rattle.qic_base.specs.TapeCalls.{Tells, ReadsSectors, AreBlank, chosen, is_readable, is_blank, bytes_read}
 use Rattle.qic_base.specs.Tape.{Rose, Done, Broke, Stops}
 use Rattle.cart_image.specs.declared.layout.Head.{Head}
 use Rattle.cart_image.specs.declared.layout.Kind.TheVariants.{Planes, Cells, CellsBehind}
@@ -23,35 +24,32 @@ use Rattle.cart_image.specs.declared.segment.SegmentStates.{SegmentStates}
 use Rattle.cart_image.specs.declared.tape.ImageTape.{ImageTape}
 use Rattle.cart_image.specs.Image.{cartridge_of, head_of, layout_of, info_by, view_in, segment_views, read_as}
 use Rattle.cart_image.specs.ImageTape.{image_means, size_by}
-use Rattle.cart_image.specs.Layout.{sectors, end_of, image_len, protected_place, referenced_place, write_sector_steps, wear_steps}
+use Rattle.cart_image.specs.Layout.{sectors, end_of, image_len, protected_place, referenced_place, wear_steps}
 use Rattle.cart_image.specs.Layout.{spoil_steps, mark_steps, format_plan, renew_steps, touches, upgrade_plan, upgrade_steps, upgraded_len}
 use Rattle.cart_image.specs.Layout.{version_of, write_sectors_steps}
 use Rattle.cart_image.specs.Run.{Looks, Looked, Ran, Carried, CarriedBy, Planned, after_steps}
-use Rattle.cart_image.specs.Several.{AreSectors, StopsIn, ChangeDone, ChangeBroke, content_at, contents_of, is_refused, AreRefused}
-use Rattle.cart_image.specs.Several.{sectors_written}
-use Rattle.cart_image.specs.Several.{TornSectors, ReadsSectors, is_readable, is_blank, bytes_read}
+use Rattle.cart_image.specs.Several.{AreSectors}
 use Rattle.cart_image.specs.State.{AreStates}
 use Rattle.cart_image.specs.Tape.{disk_means}
 use Rattle.cart_image.specs.Whole.{IsHeadIn, some_head, head_of-parts, cartridge_of-read, info_of-cartridge, layout_of-read}
-use Rattle.cart_image.proofs.Carries.{Change, Leaves, FinishedBy, CutShortBy, OutcomeBy, MeansBy, OutcomeBy-carried}
 use Rattle.cart_image.proofs.Carries.{Finished, CutShort, Outcome, Means, Outcome-carried}
 use Rattle.cart_image.proofs.Changes.{view_at-read}
 use Rattle.cart_image.proofs.Exits.{Carried-looked, Carried-runs, CarriedBy-layout, told-fact}
 use Rattle.cart_image.proofs.Formats.{format-means}
 use Rattle.cart_image.proofs.Heads.{protected-means, referenced-means, TellsLayout}
 use Rattle.cart_image.proofs.Known.{on-tape, on-segment, head-under, long-under}
-use Rattle.cart_image.proofs.Laid.{carried-laid, carried-passes, some_told, write-spares, wear-spares, spoil-spares, format-spares}
+use Rattle.cart_image.proofs.Laid.{carried-laid, carried-passes, some_told, wear-spares, spoil-spares, format-spares}
 use Rattle.cart_image.proofs.Laid.{mark-spares, overwrite-spares}
 use Rattle.cart_image.proofs.Overwrites.{write_sectors-means}
 use Rattle.cart_image.proofs.Renews.{renew-means, renew-laid}
 use Rattle.cart_image.proofs.Upgrades.{upgrade-means, upgrade-laid}
 use Rattle.cart_image.proofs.Runs.{Looks-settled, Looks-nothing, Ran-told}
-use Rattle.cart_image.proofs.Sectors.{write-means, wear-means, spoil-means}
+use Rattle.cart_image.proofs.Sectors.{wear-means, spoil-means}
 use Rattle.cart_image.proofs.Writes.{Spares}
 use Rattle.qic_base.proofs.Steps.{Rose-some}
 
 Tape-stops : {D : Type 0} {g : Ghosts D} (old new : ImageTape D g) (steps : List Step) →
-    StopsIn (disk_means g.means) old.disk new.disk (Torn steps) → Stops (image_means {g = g}) old new steps
+    Stops (disk_means g.means) old.disk new.disk steps → Stops (image_means {g = g}) old new steps
 Tape-stops old new steps s = record { telling = s.telling; clock = s.clock; kept = s.kept; parted = s.parted; since = s.since }
 
 pub Tape-done : {D : Type 0} {g : Ghosts D} (old new : ImageTape D g) (steps : List Step) →
@@ -68,40 +66,6 @@ Tape-broke old new steps b rose fits = record {
   tells = b.tells;
   torn = b.torn;
   stops = Tape-stops old new steps b.stops;
-}
-
--- .. of a call with this effect, and these stops
-pub Change-done : {D : Type 0} {g : Ghosts D} (old new : ImageTape D g) (change : Change) (leaves : Leaves) →
-    FinishedBy (disk_means g.means) old.disk new.disk change leaves → new.faults ≡ old.faults →
-    ChangeDone (image_means {g = g}) old new change leaves
-Change-done old new change leaves d stood = record {
-  told = d.told;
-  later = stood;
-  stops = record {
-    telling = d.stops.telling;
-    clock = d.stops.clock;
-    kept = d.stops.kept;
-    parted = d.stops.parted;
-    since = d.stops.since;
-  };
-}
-
-pub Change-broke : {D : Type 0} {g : Ghosts D} (old new : ImageTape D g) (leaves : Leaves) →
-    CutShortBy (disk_means g.means) old.disk new.disk leaves → Rose old.faults new.faults → old.faults < 2 ^ 64 →
-    ChangeBroke (image_means {g = g}) old new leaves
-Change-broke old new leaves b rose fits = record {
-  cause = rose;
-  later = omega arith;
-  last = Rose-some old.faults new.faults rose;
-  tells = b.tells;
-  torn = b.torn;
-  stops = record {
-    telling = b.stops.telling;
-    clock = b.stops.clock;
-    kept = b.stops.kept;
-    parted = b.stops.parted;
-    since = b.stops.since;
-  };
 }
 
 -- nothing is pending under a tape
@@ -140,14 +104,6 @@ module _ {D : Type 0} {g : Ghosts D} (s : ImageTape D g) (l : Layout) (segment s
       subst Q h.2 (holds h.0 bytes h.1 (head_of-parts bytes h.0 h.1).fits.long
       (let o = on in let e = ap (λ (y : Layout). y.segments_per_track) h.2 in omega arith))
 
-  pub write-at : (from : List ℕ) → length from ≡ 1024 → (bytes : List ℕ) → g.means.told s.disk ≡ Some bytes
-      → Means (write_sector_steps l (place_of segment sector) from (view_in l bytes (place_of segment sector)))
-      (WriteSector segment sector from ∷ []) bytes
-  write-at from long =
-      at-head (λ y bytes. Means (write_sector_steps y (place_of segment sector) from (view_in y bytes (place_of segment sector)))
-      (WriteSector segment sector from ∷ []) bytes)
-      (λ h bytes is whole there. write-means h bytes segment sector is whole there from long _ refl)
-
   pub wear-at : (bytes : List ℕ) → g.means.told s.disk ≡ Some bytes →
       Means (wear_steps l (place_of segment sector) (view_in l bytes (place_of segment sector))) (Wear segment sector ∷ []) bytes
   wear-at =
@@ -167,15 +123,6 @@ module _ {D : Type 0} {g : Ghosts D} (s : ImageTape D g) (l : Layout) (segment s
 
   long-at : (bytes : List ℕ) → g.means.told s.disk ≡ Some bytes → end_of l ≤ length bytes
   long-at bytes told = long-under s l segment sector layout place bytes told
-
-  pub write-plans : (q : ℕ) → q ≡ place_of segment sector → (from : List ℕ) → length from ≡ 1024 →
-      Plans s (λ bytes. write_sector_steps l q from (view_in l bytes q))
-  write-plans q is-q from long bytes told =
-      let e = long-at bytes told in (
-        far l (length bytes) least e,
-        write-spares l (length bytes) e q from (view_in l bytes q)
-            (let o = on in omega arith) long,
-      )
 
   pub wear-plans : (q : ℕ) → q ≡ place_of segment sector → Plans s (λ bytes. wear_steps l q (view_in l bytes q))
   wear-plans q is-q bytes told =
@@ -220,15 +167,6 @@ module _ {D : Type 0} {g : Ghosts D} (s : ImageTape D g) (l : Layout) (segment s
 
   -- what each call of a sector did to the disk's cartridge, by its answer; q is the sector's number
   module _ {T E : Type 0} (new : D) (result : Result T E) (q : ℕ) (is-q : q ≡ place_of segment sector) where
-    pub write-outcome : (from : List ℕ) → length from ≡ 1024 →
-        Carried g.means s.disk new (λ bytes. write_sector_steps l q from (view_in l bytes q)) result →
-        Outcome (disk_means g.means) s.disk new (WriteSector segment sector from ∷ []) result
-    write-outcome from long carried =
-        let C : ℕ → Type 0 = λ k. Carried g.means s.disk new (λ bytes. write_sector_steps l k from (view_in l bytes k)) result in
-        Outcome-carried g.means s.disk new
-        (λ bytes. write_sector_steps l (place_of segment sector) from (view_in l bytes (place_of segment sector)))
-        (WriteSector segment sector from ∷ []) result (tape-settled s) (subst C is-q carried) (write-at from long)
-
     pub wear-outcome : Carried g.means s.disk new (λ bytes. wear_steps l q (view_in l bytes q)) result →
         Outcome (disk_means g.means) s.disk new (Wear segment sector ∷ []) result
     wear-outcome carried =
@@ -275,16 +213,15 @@ module _ {D : Type 0} {g : Ghosts D} (s : ImageTape D g) (l : Layout) (segment s
 
     pub sectors-outcome : {T E : Type 0} (new : D) (result : Result T E) →
         Carried g.means s.disk new (λ bytes. write_sectors_steps l segment written from (segment_views l segment bytes)) result →
-        OutcomeBy (disk_means g.means) s.disk new (option_map (sectors_written segment (contents_of written from)))
-        (TornSectors segment (contents_of written from)) result
+        Outcome (disk_means g.means) s.disk new (WriteSectors segment (chosen written from) ∷ []) result
     sectors-outcome new result carried =
-        OutcomeBy-carried (option_map (sectors_written segment (contents_of written from))) (TornSectors segment (contents_of written from))
-        (λ held. inl refl) g.means s.disk new
-        (λ bytes. write_sectors_steps l segment written from (segment_views l segment bytes)) result (tape-settled s) carried
+        Outcome-carried g.means s.disk new
+        (λ bytes. write_sectors_steps l segment written from (segment_views l segment bytes))
+        (WriteSectors segment (chosen written from) ∷ []) result (tape-settled s) carried
         (λ bytes told.
         let h = head-under s l segment sector layout place bytes told in
-        let P : Layout → Type 0 = λ y. MeansBy (write_sectors_steps y segment written from (segment_views y segment bytes))
-        (option_map (sectors_written segment (contents_of written from))) (TornSectors segment (contents_of written from)) bytes in
+        let P : Layout → Type 0 = λ y. Means (write_sectors_steps y segment written from (segment_views y segment bytes))
+        (WriteSectors segment (chosen written from) ∷ []) bytes in
         subst P h.2 (write_sectors-means h.0 bytes segment h.1 (head_of-parts bytes h.0 h.1).fits.long
         (let o = on-segment s l segment sector layout place in let e = ap (λ (y : Layout). y.segments_per_track) h.2 in omega arith)
         written from are))
@@ -313,23 +250,23 @@ module _ {D : Type 0} {g : Ghosts D} (s : ImageTape D g) (l : Layout) (segment s
             bytes = λ i less. fact.bytes i less ∙ ap (λ v. bytes_read (is_lost wanted i) v (slice_index_or old i [])) (view i less);
           })
 
-  -- the word of those that took no write
-  pub refused-fact : (blank written : ℕ) (from : List (List ℕ)) →
-      IfSome (g.means.told s.disk) (λ bytes. AreRefused blank (contents_of written from) (λ i. view_in l bytes (place_of segment i)))
-      → Tells (image_means {g = g}) s (λ c. AreRefused blank (contents_of written from) (view_at c segment))
-  refused-fact blank written from fact = by_told (g.means.told s.disk) refl fact
+  -- the set of those that took no write
+  pub blank-fact : (written blank : ℕ) →
+      IfSome (g.means.told s.disk) (λ bytes. AreBlank written blank (λ i. view_in l bytes (place_of segment i)))
+      → Tells (image_means {g = g}) s (λ c. AreBlank written blank (view_at c segment))
+  blank-fact written blank fact = by_told (g.means.told s.disk) refl fact
     where
       by_told : (told : Option (List ℕ)) → g.means.told s.disk ≡ told →
-          IfSome told (λ bytes. AreRefused blank (contents_of written from) (λ i. view_in l bytes (place_of segment i))) →
-          IfSome (option_map cartridge_of told) (λ h. IfSome h (λ c. AreRefused blank (contents_of written from) (view_at c segment)))
+          IfSome told (λ bytes. AreBlank written blank (λ i. view_in l bytes (place_of segment i))) →
+          IfSome (option_map cartridge_of told) (λ h. IfSome h (λ c. AreBlank written blank (view_at c segment)))
       by_told None told fact = tt
       by_told (Some bytes) told fact =
           let h = head-under s l segment sector layout place bytes told in
-          let Q : Option Cartridge → Type 0 = λ c. IfSome c (λ c. AreRefused blank (contents_of written from) (view_at c segment)) in
+          let Q : Option Cartridge → Type 0 = λ c. IfSome c (λ c. AreBlank written blank (view_at c segment)) in
           subst Q (sym (cartridge_of-read bytes h.0 h.1)) (λ i less.
           let o = on-segment s l segment sector layout place in
           let e = ap (λ (y : Layout). y.segments_per_track) h.2 in
-          let V : SectorView → Type 0 = λ v. is_lost blank i ≡ is_refused (content_at (contents_of written from) i) v in
+          let V : SectorView → Type 0 = λ v. is_lost blank i ≡ (is_lost written i && is_blank v) in
           subst V (sym (view_at-read h.0 bytes segment i (omega arith) ∙ ap (λ y. view_in y bytes (place_of segment i)) h.2)) (fact i less))
 
 -- what is known of a segment is right of the disk's bytes

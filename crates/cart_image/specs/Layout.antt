@@ -8,7 +8,8 @@ use Rattle.qic_base.specs.declared.tape.SectorView.TheVariants.{Blank, Defect, L
 use Rattle.qic_base.specs.CartridgeTerms.{is_lost}
 use Rattle.qic_base.specs.Disk.{DiskStep, Look, WriteAt, SetLen, Sync}
 use Rattle.qic_base.specs.Field.{little_endian_bytes}
-use Rattle.cart_image.specs.Several.{is_readable, takes_write}
+use Rattle.qic_base.specs.TapeCalls.{is_readable}
+use Rattle.cart_image.specs.Several.{takes_write}
 use Rattle.cart_image.specs.declared.layout.Kind.{Kind}
 use Rattle.cart_image.specs.declared.layout.Kind.TheVariants.{Planes, Cells, CellsBehind}
 use Rattle.cart_image.specs.declared.layout.Layout.{Layout}
@@ -178,21 +179,8 @@ fill l part values first chosen = synced (fill_writes l part values first 0 chos
 unfoldable pub even : (part : Part) (value : ℕ) → List ℕ
 even part value = replicate (width part * 32) value
 
--- What each call writes, by the view of its sector. No byte whose meaning stays is written: a gate is closed only where
+-- What each call of one sector writes, by its view. No byte whose meaning stays is written: a gate is closed only where
 -- it is open.
-abbrev pub close_steps : (l : Layout) (sector : ℕ) (was_open : Bool) → List DiskStep
-close_steps l sector was_open = if was_open then put (place l GateByte sector) (closed_gate ∷ []) else []
-
-abbrev pub overwrite_steps : (l : Layout) (sector : ℕ) (was_open : Bool) (bytes : List ℕ) → List DiskStep
-overwrite_steps l sector was_open bytes =
-    close_steps l sector was_open ++ (put (place l Data sector) bytes ++ put (place l GateByte sector) (open_gate ∷ []))
-
-abbrev pub write_sector_steps : (l : Layout) (sector : ℕ) (bytes : List ℕ) → SectorView → List DiskStep
-write_sector_steps l sector bytes Blank = []
-write_sector_steps l sector bytes Defect = []
-write_sector_steps l sector bytes Lost = overwrite_steps l sector false bytes
-write_sector_steps l sector bytes (Holds old) = overwrite_steps l sector true bytes
-
 abbrev pub wear_steps : (l : Layout) (sector : ℕ) → SectorView → List DiskStep
 wear_steps l sector Blank = []
 wear_steps l sector Defect = []

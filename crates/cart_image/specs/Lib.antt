@@ -3,7 +3,6 @@ pub mod ImageTape
 pub mod Layout
 pub mod Run
 pub mod Several
-pub mod SeveralLaws
 pub mod State
 pub mod Tape
 pub mod Whole

@@ -4,7 +4,6 @@
 
 mod filling;
 mod formatting;
-mod laws;
 mod layout;
 mod reading;
 mod renewing;
@@ -16,7 +15,5 @@ mod upgrading;
 mod wanted;
 mod writing;
 
-pub use laws::{one_sector_has_its_steps, one_sector_is_a_write};
 pub use layout::{HEAD_LEN, MARK, SIGNATURE};
-pub use segment::SectorsRead;
 pub use tape::ImageTape;

@@ -1,8 +1,7 @@
 //! What an image file tells: its head, and what it holds of its sectors.
-ghost use Rattle.std.specs.Prelude.{◌≡◌, ◌≢◌, ℕ, ◌+◌, ◌*◌, ◌<◌, ◌≤◌, List, length, slice_index, slice_index_or, slice_range, IfOk, IfSome, OnErr, false};
+ghost use Rattle.std.specs.Prelude.{◌≡◌, ℕ, ◌+◌, ◌*◌, ◌<◌, ◌≤◌, List, length, slice_index, slice_index_or, slice_range, IfOk, IfSome, OnErr, false};
 ghost use Rattle.qic_base.specs.Cause.{HasCause};
 ghost use Rattle.qic_base.specs.Disk.{IsSettled};
-ghost use Rattle.qic_base.specs.TapeCalls.{Reads};
 ghost use Rattle.cart_image.specs.Image.{base_kind, kind_by, layout_by, head_by as head_told, head_of, view_by, view_in, sector_bytes};
 ghost use Rattle.cart_image.specs.Layout.{sectors, end_of, touches};
 ghost use Rattle.cart_image.specs.Run.{Looked};
@@ -13,7 +12,7 @@ use crate::layout::{
     DEFECT, FORMED, HEAD_LEN, Head, Kind, Layout, MARK, OPEN, Part, SIGNATURE, image_len,
 };
 use crate::segment::SegmentMarks;
-use qic_base::{Disk, DiskFailed, LONGEST, SECTOR, Sector, SectorRead, read_u16, read_u64};
+use qic_base::{Disk, DiskFailed, LONGEST, SECTOR, Sector, read_u16, read_u64};
 
 /// The fewest segments per track of a cartridge.
 const SHORTEST: u16 = 3;
@@ -176,18 +175,6 @@ fn read_flags<D: Disk>(disk: &mut D, place: u64) -> Result<[u8; 3], DiskFailed>
     ensures seen { D.means.seen_len disk.new ≡ D.means.seen_len disk.old }
 {
     let mut part = [0; 3];
-    disk.read_at(place, &mut part)?;
-    Ok(part)
-}
-
-/// A sector in a cell: those three, and its 1,024 bytes behind them.
-fn read_cell<D: Disk>(disk: &mut D, place: u64) -> Result<[u8; 1027], DiskFailed>
-    ensures looked { Looked D.means disk.old disk.new result }
-    ensures bytes { IfOk result (λ part. IfSome (D.means.told disk.old) (λ bytes.
-        place + 1027 ≤ length bytes → part ≡ slice_range bytes place (place + 1027))) }
-    ensures seen { D.means.seen_len disk.new ≡ D.means.seen_len disk.old }
-{
-    let mut part = [0; 1027];
     disk.read_at(place, &mut part)?;
     Ok(part)
 }
@@ -391,91 +378,4 @@ pub fn read_bytes<D: Disk>(
     } else {
         None
     })
-}
-
-/// Reads a sector of which the state bytes say this. `into` is unchanged unless the answer is `Good`.
-pub fn read_sector<D: Disk>(
-    disk: &mut D,
-    layout: Layout,
-    sector: u64,
-    state: SectorState,
-    into: &mut Sector,
-) -> Result<SectorRead, DiskFailed>
-    requires place { sector < sectors layout.segments_per_track }
-    requires state { IfSome (D.means.told disk.old) (λ bytes.
-        state ≡ state_of (view_in layout bytes sector)) }
-    ensures looked { Looked D.means disk.old disk.new result }
-    ensures view { IfOk result (λ answer. IfSome (D.means.told disk.old) (λ bytes.
-        end_of layout ≤ length bytes →
-        Reads (view_in layout bytes sector) into.old into.new answer)) }
-    ensures unchanged { result ≢ Ok SectorRead.Good → into.new ≡ into.old }
-    ensures seen { D.means.seen_len disk.new ≡ D.means.seen_len disk.old }
-{
-    match state {
-        SectorState::Blank => Ok(SectorRead::Blank),
-        SectorState::Defect | SectorState::Lost => Ok(SectorRead::Lost),
-        SectorState::Readable => match read_bytes(disk, layout, sector)? {
-            Some(bytes) => {
-                *into = bytes;
-                Ok(SectorRead::Good)
-            }
-            None => Ok(SectorRead::Lost),
-        },
-    }
-}
-
-/// Reads a sector in a cell, its state bytes and its bytes at once. `into` is unchanged unless the answer is `Good`.
-fn read_at_once<D: Disk>(
-    disk: &mut D,
-    layout: Layout,
-    sector: u64,
-    into: &mut Sector,
-) -> Result<SectorRead, DiskFailed>
-    requires place { sector < sectors layout.segments_per_track }
-    requires cells { touches layout.kind ≡ false }
-    ensures looked { Looked D.means disk.old disk.new result }
-    ensures view { IfOk result (λ answer. IfSome (D.means.told disk.old) (λ bytes.
-        end_of layout ≤ length bytes →
-        Reads (view_in layout bytes sector) into.old into.new answer)) }
-    ensures unchanged { result ≢ Ok SectorRead.Good → into.new ≡ into.old }
-    ensures seen { D.means.seen_len disk.new ≡ D.means.seen_len disk.old }
-{
-    let cell = read_cell(disk, layout.place(Part::GateByte, sector))?;
-    match state_by(cell[2], cell[1], cell[0]) {
-        SectorState::Blank => Ok(SectorRead::Blank),
-        SectorState::Defect | SectorState::Lost => Ok(SectorRead::Lost),
-        SectorState::Readable => {
-            into.copy_from_slice(&cell[3..]);
-            Ok(SectorRead::Good)
-        }
-    }
-}
-
-/// Reads a sector in a cell: all of it at once, and where the disk fails in that its state bytes alone. So it fails only
-/// where the disk fails in these, or in the bytes of a sector that they say is readable. `into` is unchanged unless the
-/// answer is `Good`.
-pub fn read_whole<D: Disk>(
-    disk: &mut D,
-    layout: Layout,
-    sector: u64,
-    into: &mut Sector,
-) -> Result<SectorRead, DiskFailed>
-    requires place { sector < sectors layout.segments_per_track }
-    requires cells { touches layout.kind ≡ false }
-    requires settled { IsSettled D.means disk.old }
-    ensures looked { Looked D.means disk.old disk.new result }
-    ensures view { IfOk result (λ answer. IfSome (D.means.told disk.old) (λ bytes.
-        end_of layout ≤ length bytes →
-        Reads (view_in layout bytes sector) into.old into.new answer)) }
-    ensures unchanged { result ≢ Ok SectorRead.Good → into.new ≡ into.old }
-    ensures seen { D.means.seen_len disk.new ≡ D.means.seen_len disk.old }
-{
-    match read_at_once(disk, layout, sector, into) {
-        Ok(read) => Ok(read),
-        Err(failed) => match read_state(disk, layout, sector)? {
-            SectorState::Blank => Ok(SectorRead::Blank),
-            SectorState::Defect | SectorState::Lost => Ok(SectorRead::Lost),
-            SectorState::Readable => Err(failed),
-        },
-    }
 }

@@ -1,19 +1,12 @@
 //! What the state bytes say of the sectors of one segment, and what a call makes of it.
-ghost use Rattle.std.specs.Prelude.{◌≡◌, ℕ, ◌<◌, List, slice_index_or, slice_set};
+ghost use Rattle.std.specs.Prelude.{◌≡◌, ◌<◌, slice_index_or, slice_set};
 ghost use Rattle.qic_base.specs.declared.tape.SectorView.{SectorView};
 ghost use Rattle.qic_base.specs.CartridgeTerms.{is_lost};
-ghost use Rattle.qic_base.specs.Step.{written_view, worn_view, spoiled_view};
+ghost use Rattle.qic_base.specs.Step.{worn_view, spoiled_view};
 ghost use Rattle.cart_image.specs.State.{state_of};
 
 use crate::reading::SectorState;
-
-/// What a read of several sectors of a segment found: the word of those that were read, and of those that were never
-/// formatted. The other ones that were asked for are lost, or defects.
-#[derive(Clone, Copy, Debug, PartialEq, Eq)]
-pub struct SectorsRead {
-    pub good: u32,
-    pub blank: u32,
-}
+use qic_base::LostSet;
 
 /// The state bytes of the sectors of a segment.
 #[derive(Clone, Copy, Debug)]
@@ -55,18 +48,7 @@ impl SegmentStates {
 }
 
 impl SectorState {
-    /// What the state bytes say of a sector that was written.
-    pub fn written(self) -> SectorState
-        ensures { (from : List ℕ) (view : SectorView) →
-            self ≡ state_of view → result ≡ state_of (written_view from view) }
-    {
-        match self {
-            SectorState::Blank | SectorState::Defect => self,
-            SectorState::Lost | SectorState::Readable => SectorState::Readable,
-        }
-    }
-
-    /// What they say of one that was worn.
+    /// What the state bytes say of a sector that was worn.
     pub fn worn(self) -> SectorState
         ensures { (view : SectorView) →
             self ≡ state_of view → result ≡ state_of (worn_view view) }
@@ -89,10 +71,10 @@ impl SectorState {
     }
 }
 
-/// Whether a sector is in a word of sectors.
-pub fn is_in(set: u32, sector: usize) -> bool
+/// Whether a sector is in a set of sectors.
+pub fn is_in(set: LostSet, sector: usize) -> bool
     requires { sector < 32 }
     ensures { result ≡ is_lost set sector }
 {
-    set >> sector & 1 == 1
+    set.mask() >> sector & 1 == 1
 }

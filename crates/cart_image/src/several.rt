@@ -6,32 +6,37 @@ ghost use Rattle.qic_base.specs.Disk.{IsSettled};
 ghost use Rattle.cart_image.specs.Image.{segment_views, view_in};
 ghost use Rattle.cart_image.specs.Layout.{end_of, overwrite_all, write_sectors_steps};
 ghost use Rattle.cart_image.specs.Run.{Runs, Carried};
-ghost use Rattle.cart_image.specs.Several.{is_readable, takes_write, is_blank, contents_of, AreRefused, AreSectors};
+ghost use Rattle.qic_base.specs.TapeCalls.{is_readable, is_blank, AreBlank};
+ghost use Rattle.cart_image.specs.Several.{takes_write, AreSectors};
 ghost use Rattle.cart_image.specs.State.{state_of, AreStatesOf};
 
 use crate::filling::fill;
 use crate::layout::{CLOSED, Layout, OPEN, Part};
 use crate::reading::SectorState;
 use crate::segment::is_in;
-use qic_base::{Disk, DiskFailed, Sector};
+use qic_base::{Disk, DiskFailed, LostSet, Sector};
 
 /// Which of the sectors of a segment that are to be written have their gates closed first, and which take the write; and
-/// the word of those that were never formatted.
+/// those that were never formatted.
 #[derive(Clone, Copy, Debug)]
 struct Chosen {
     readable: [bool; 32],
     taking: [bool; 32],
-    blank: u32,
+    blank: LostSet,
 }
 
-/// The word with a sector more, where that is to be.
-pub fn with_sector(set: u32, sector: usize, is_more: bool) -> u32
+/// The set with a sector more, where that is to be.
+pub fn with_sector(set: LostSet, sector: usize, is_more: bool) -> LostSet
     requires place { sector < 32 }
     requires new { is_lost set sector ≡ false }
     ensures same { is_lost result sector ≡ is_more }
     ensures others { (i : ℕ) → i ≢ sector → is_lost result i ≡ is_lost set i }
 {
-    if is_more { set | 1 << sector } else { set }
+    if is_more {
+        LostSet::from_mask(set.mask() | 1 << sector)
+    } else {
+        set
+    }
 }
 
 /// Whether a sector in this state is to be written and has an open gate.
@@ -68,7 +73,7 @@ pub fn refuses(is_written: bool, state: SectorState) -> bool
 }
 
 /// Chooses among the sectors that are to be written, by their states.
-fn choose(states: &[SectorState; 32], written: u32) -> Chosen
+fn choose(states: &[SectorState; 32], written: LostSet) -> Chosen
     ensures readable { (view : SectorView) (i : ℕ) → i < 32 →
         (is_lost written i ≡ true → slice_index_or states.now i SectorState.Blank ≡ state_of view) →
         slice_index_or result.readable i false ≡ (is_lost written i && is_readable view) }
@@ -81,7 +86,7 @@ fn choose(states: &[SectorState; 32], written: u32) -> Chosen
 {
     let mut readable = [false; 32];
     let mut taking = [false; 32];
-    let mut blank: u32 = 0;
+    let mut blank = LostSet::from_mask(0);
     for i in 0..32 {
         let is_written = is_in(written, i);
         readable[i] = closes(is_written, states[i]);
@@ -140,16 +145,16 @@ fn overwrite<D: Disk>(
     )
 }
 
-/// Writes the sectors of a segment that are in a word, of which the state bytes say this, each with its entry. Answers
-/// the word of those that take none since they were never formatted.
+/// Writes the sectors of a segment that are in a set, of which the state bytes say this, each with its entry. Answers
+/// those that take none since they were never formatted.
 pub fn write_sectors<D: Disk>(
     disk: &mut D,
     layout: Layout,
     segment: u32,
     states: &[SectorState; 32],
-    written: u32,
+    written: LostSet,
     from: &[Sector],
-) -> Result<u32, DiskFailed>
+) -> Result<LostSet, DiskFailed>
     requires count { length from.now ≡ 32 }
     requires place { segment < 28 * layout.segments_per_track }
     requires covers { end_of layout ≤ D.means.seen_len disk.old }
@@ -159,8 +164,7 @@ pub fn write_sectors<D: Disk>(
     ensures carried { Carried D.means disk.old disk.new (λ bytes. write_sectors_steps
         layout segment written from.now (segment_views layout segment bytes)) result }
     ensures answer { IfOk result (λ blank. IfSome (D.means.told disk.old) (λ bytes.
-        AreRefused blank (contents_of written from.now)
-        (λ i. view_in layout bytes (place_of segment i)))) }
+        AreBlank written blank (λ i. view_in layout bytes (place_of segment i)))) }
     ensures sectors { AreSectors from.now }
     ensures settled { IsSettled D.means disk.new }
     ensures seen { D.means.seen_len disk.new ≡ D.means.seen_len disk.old }

@@ -1,12 +1,13 @@
 //! A tape over any disk: its calls, as reads and writes of the image.
 
-ghost use Rattle.std.specs.Prelude.{◌≡◌, ◌≢◌, ◌<◌, ◌≤◌, ℕ, List, [], ◌∷◌, true, Some, None, length, slice_index, IsSome, IfOk, IfSome, OnOk, OnErr};
+ghost use Rattle.std.specs.Prelude.{◌≡◌, ◌<◌, ◌≤◌, ℕ, List, [], ◌∷◌, true, Some, None, length, slice_index, IsSome, IfOk, IfSome, OnOk, OnErr};
 ghost use Rattle.std.specs.Option.{option_map};
 ghost use Rattle.qic_base.specs.Cartridge.{IsLength, view_at, info_of};
 ghost use Rattle.qic_base.specs.CartridgeTerms.{IsVersion, place_of};
 ghost use Rattle.qic_base.specs.Disk.{IsSettled};
-ghost use Rattle.qic_base.specs.Step.{WriteSector, FormatSegment, SetReferenced, SetProtected, Renew, Wear, Spoil, Upgrade};
-ghost use Rattle.qic_base.specs.TapeCalls.{Does, Tells, IsPlaceOf, Reads, write_answer};
+ghost use Rattle.qic_base.specs.Step.{WriteSectors, FormatSegment, SetReferenced, SetProtected, Renew, Wear, Spoil, Upgrade};
+ghost use Rattle.qic_base.specs.TapeCalls.{Does, Tells, IsPlaceOf};
+ghost use Rattle.qic_base.specs.TapeCalls.{ReadsSectors, KeepsOthers, chosen, AreBlank};
 ghost use Rattle.qic_base.specs.Tape.{spoil_answer};
 ghost use Rattle.qic_base.specs.declared.TheConstants.{LONGEST};
 ghost use Rattle.cart_image.specs.Image.{cartridge_of, layout_of, view_in, segment_views, info_by as info_told};
@@ -17,9 +18,9 @@ ghost use Rattle.cart_image.specs.declared.segment.SegmentStates.{SegmentStates}
 
 use crate::layout::{Head, Kind, Layout, PROTECTED_PLACE, REFERENCED_PLACE};
 use crate::reading::SectorState;
-use crate::segment::{SectorsRead, SegmentStates};
+use crate::segment::SegmentStates;
 use crate::{formatting, reading, renewing, several, upgrading, wanted, writing};
-use qic_base::{Disk, DiskFailed, Sector, SectorRead, SectorWrite, Tape, TapeFailed, TapeInfo};
+use qic_base::{Disk, DiskFailed, LostSet, Sector, SectorsRead, Tape, TapeFailed, TapeInfo};
 
 /// A tape in an image file on a disk.
 #[derive(Drop)]
@@ -48,9 +49,7 @@ pub struct ImageTape<D: Disk> {
 
 impl<D: Disk> ImageTape<D> {
     ghost use Rattle.cart_image.specs.ImageTape.{disk_of, layout_at, known_of, faults_of, image_means};
-    ghost use Rattle.cart_image.specs.Layout.{write_sectors_steps};
-    ghost use Rattle.cart_image.specs.Run.{Looked, CarriedBy};
-    ghost use Rattle.cart_image.specs.Several.{contents_of, AreRefused, WritesSectors, ReadsSectors, KeepsOthers};
+    ghost use Rattle.cart_image.specs.Run.{Looked};
 
     /// A tape in this file, of which nothing is known yet. It makes no call of the disk.
     pub fn open(disk: D) -> ImageTape<D>
@@ -147,7 +146,7 @@ impl<D: Disk> ImageTape<D> {
         &mut self,
         layout: Layout,
         segment: u32,
-        wanted: u32,
+        wanted: LostSet,
     ) -> Result<[SectorState; 32], DiskFailed>
         requires place { IsPlaceOf image_means self.old segment 0 }
         requires layout { layout_at self.old ≡ Some layout }
@@ -166,67 +165,12 @@ impl<D: Disk> ImageTape<D> {
         }
     }
 
-    /// Reads a sector in planes: its state bytes are known or read first.
-    fn read_in_planes(
-        &mut self,
-        layout: Layout,
-        segment: u32,
-        sector: u8,
-        into: &mut Sector,
-    ) -> Result<SectorRead, DiskFailed>
-        requires place { IsPlaceOf image_means self.old segment sector }
-        requires layout { layout_at self.old ≡ Some layout }
-        ensures looked { Looked D.means (disk_of self.old) (disk_of self.new) result }
-        ensures view { IfOk result (λ answer. IfSome (D.means.told (disk_of self.old))
-            (λ bytes. end_of layout ≤ length bytes →
-            Reads (view_in layout bytes (place_of segment sector)) into.old into.new answer)) }
-        ensures unchanged { result ≢ Ok SectorRead.Good → into.new ≡ into.old }
-        ensures layout { layout_at self.new ≡ layout_at self.old }
-        ensures faults { faults_of self.new ≡ faults_of self.old }
-    {
-        let states = self.look_at_segment(layout, segment)?;
-        let place = sector_number(segment, sector);
-        match reading::read_sector(&mut self.disk, layout, place, states.of(sector), into) {
-            Ok(read) => Ok(read),
-            Err(failed) => {
-                self.known = None;
-                Err(failed)
-            }
-        }
-    }
-
-    /// Reads a sector: in a cell all of it at once, and its state bytes alone where the disk fails in that.
-    fn read_at(
-        &mut self,
-        layout: Layout,
-        segment: u32,
-        sector: u8,
-        into: &mut Sector,
-    ) -> Result<SectorRead, DiskFailed>
-        requires place { IsPlaceOf image_means self.old segment sector }
-        requires layout { layout_at self.old ≡ Some layout }
-        ensures looked { Looked D.means (disk_of self.old) (disk_of self.new) result }
-        ensures view { IfOk result (λ answer. IfSome (D.means.told (disk_of self.old))
-            (λ bytes. end_of layout ≤ length bytes →
-            Reads (view_in layout bytes (place_of segment sector)) into.old into.new answer)) }
-        ensures unchanged { result ≢ Ok SectorRead.Good → into.new ≡ into.old }
-        ensures layout { layout_at self.new ≡ layout_at self.old }
-        ensures faults { faults_of self.new ≡ faults_of self.old }
-    {
-        if layout.touches() {
-            self.read_in_planes(layout, segment, sector, into)
-        } else {
-            self.known = None;
-            reading::read_whole(&mut self.disk, layout, sector_number(segment, sector), into)
-        }
-    }
-
     /// Reads the wanted sectors of a segment in planes: its state bytes are known or read first.
     fn read_wanted_in_planes(
         &mut self,
         layout: Layout,
         segment: u32,
-        wanted: u32,
+        wanted: LostSet,
         into: &mut [Sector],
     ) -> Result<SectorsRead, DiskFailed>
         requires place { IsPlaceOf image_means self.old segment 0 }
@@ -263,7 +207,7 @@ impl<D: Disk> ImageTape<D> {
         &mut self,
         layout: Layout,
         segment: u32,
-        wanted: u32,
+        wanted: LostSet,
         into: &mut [Sector],
     ) -> Result<SectorsRead, DiskFailed>
         requires place { IsPlaceOf image_means self.old segment 0 }
@@ -284,87 +228,11 @@ impl<D: Disk> ImageTape<D> {
             wanted::read_in_cells(&mut self.disk, layout, segment, wanted, into)
         }
     }
-
-    /// Reads the sectors of a segment whose bits of `wanted` are 1, bit `i` for sector `i`, each into its entry of
-    /// `into`. An entry is unchanged unless its sector's bit of `good` is 1.
-    pub fn read_sectors(
-        &mut self,
-        segment: u32,
-        wanted: u32,
-        into: &mut [Sector; 32],
-    ) -> Result<SectorsRead, TapeFailed>
-        requires { IsPlaceOf image_means self.old segment 0 }
-        ensures did { Does image_means self.old self.new [] result }
-        ensures reads { IfOk result (λ read. Tells image_means self.old (λ c.
-            ReadsSectors wanted read.good read.blank (view_at c segment) into.old into.new)) }
-        ensures kept { IfOk result (λ read. KeepsOthers read.good into.old into.new) }
-        ensures unchanged { OnErr result (into.new ≡ into.old) }
-        ensures size { image_means.size self.new ≡ image_means.size self.old }
-
-        // It only looks at the disk.
-        ensures looked { Looked D.means (disk_of self.old) (disk_of self.new) result }
-        ensures changes { OnOk result (D.means.failed_changes (disk_of self.new)
-            ≡ D.means.failed_changes (disk_of self.old)) }
-    {
-        let layout = self.layout();
-        let mut found = *into;
-        match self.read_wanted(layout, segment, wanted, &mut found) {
-            Ok(read) => {
-                *into = found;
-                Ok(read)
-            }
-            Err(DiskFailed) => {
-                self.faults = self.faults.saturating_add(1);
-                Err(TapeFailed)
-            }
-        }
-    }
-
-    /// Writes the sectors of a segment whose bits of `written` are 1, bit `i` for sector `i`, each with its entry of
-    /// `from`. Answers the word of those that were never formatted and took no write; a defect takes its write and keeps
-    /// nothing. A call that fails leaves each sector as a stop in it does.
-    pub fn write_sectors(
-        &mut self,
-        segment: u32,
-        written: u32,
-        from: &[Sector; 32],
-    ) -> Result<u32, TapeFailed>
-        requires { IsPlaceOf image_means self.old segment 0 }
-        ensures did { WritesSectors image_means self.old self.new segment
-            (contents_of written from.now) result }
-        ensures answer { IfOk result (λ blank. Tells image_means self.old (λ c.
-            AreRefused blank (contents_of written from.now) (view_at c segment))) }
-        ensures size { image_means.size self.new ≡ image_means.size self.old }
-
-        // The disk's steps, in order.
-        ensures steps { CarriedBy D.means (disk_of self.old) (disk_of self.new)
-            (layout_at self.old) (λ l bytes. write_sectors_steps l segment written from.now
-            (segment_views l segment bytes)) result }
-        ensures changes { OnOk result (D.means.failed_changes (disk_of self.new)
-            ≡ D.means.failed_changes (disk_of self.old)) }
-    {
-        let layout = self.layout();
-        let states = match self.look_at_sectors(layout, segment, written) {
-            Ok(states) => states,
-            Err(DiskFailed) => {
-                self.faults = self.faults.saturating_add(1);
-                return Err(TapeFailed);
-            }
-        };
-        self.known = None;
-        match several::write_sectors(&mut self.disk, layout, segment, &states, written, from) {
-            Ok(blank) => Ok(blank),
-            Err(DiskFailed) => {
-                self.faults = self.faults.saturating_add(1);
-                Err(TapeFailed)
-            }
-        }
-    }
 }
 
 impl<D: Disk> Tape for ImageTape<D> {
     ghost use Rattle.cart_image.specs.ImageTape.{disk_of, layout_at, image_means, image-size_fits, image-told_right, image-left_now};
-    ghost use Rattle.cart_image.specs.Layout.{write_sector_steps, format_plan, renew_steps, wear_steps, spoil_steps, mark_steps, protected_place, referenced_place, upgrade_plan};
+    ghost use Rattle.cart_image.specs.Layout.{write_sectors_steps, format_plan, renew_steps, wear_steps, spoil_steps, mark_steps, protected_place, referenced_place, upgrade_plan};
     ghost use Rattle.cart_image.specs.Run.{Looked, Carried, CarriedBy};
 
     ghost means = { image_means };
@@ -401,17 +269,18 @@ impl<D: Disk> Tape for ImageTape<D> {
         }
     }
 
-    fn read_sector(
+    fn read_sectors(
         &mut self,
         segment: u32,
-        sector: u8,
-        into: &mut Sector,
-    ) -> Result<SectorRead, TapeFailed>
-        requires { IsPlaceOf image_means self.old segment sector }
+        wanted: LostSet,
+        into: &mut [Sector; 32],
+    ) -> Result<SectorsRead, TapeFailed>
+        requires { IsPlaceOf image_means self.old segment 0 }
         ensures did { Does image_means self.old self.new [] result }
-        ensures view { IfOk result (λ answer. Tells image_means self.old (λ c.
-            Reads (view_at c segment sector) into.old into.new answer)) }
-        ensures unchanged { result ≢ Ok SectorRead.Good → into.new ≡ into.old }
+        ensures reads { IfOk result (λ read. Tells image_means self.old (λ c.
+            ReadsSectors wanted read.good read.blank (view_at c segment) into.old into.new)) }
+        ensures kept { IfOk result (λ read. KeepsOthers read.good into.old into.new) }
+        ensures unchanged { OnErr result (into.new ≡ into.old) }
         ensures size { image_means.size self.new ≡ image_means.size self.old }
 
         // It only looks at the disk.
@@ -420,8 +289,12 @@ impl<D: Disk> Tape for ImageTape<D> {
             ≡ D.means.failed_changes (disk_of self.old)) }
     {
         let layout = self.layout();
-        match self.read_at(layout, segment, sector, into) {
-            Ok(read) => Ok(read),
+        let mut found = *into;
+        match self.read_wanted(layout, segment, wanted, &mut found) {
+            Ok(read) => {
+                *into = found;
+                Ok(read)
+            }
             Err(DiskFailed) => {
                 self.faults = self.faults.saturating_add(1);
                 Err(TapeFailed)
@@ -429,47 +302,38 @@ impl<D: Disk> Tape for ImageTape<D> {
         }
     }
 
-    fn write_sector(
+    fn write_sectors(
         &mut self,
         segment: u32,
-        sector: u8,
-        from: &Sector,
-    ) -> Result<SectorWrite, TapeFailed>
-        requires { IsPlaceOf image_means self.old segment sector }
+        written: LostSet,
+        from: &[Sector; 32],
+    ) -> Result<LostSet, TapeFailed>
+        requires { IsPlaceOf image_means self.old segment 0 }
         ensures did { Does image_means self.old self.new
-            (WriteSector segment sector from.now ∷ []) result }
-        ensures answer { IfOk result (λ answer. Tells image_means self.old (λ c.
-            answer ≡ write_answer (view_at c segment sector))) }
+            (WriteSectors segment (chosen written from.now) ∷ []) result }
+        ensures answer { IfOk result (λ blank. Tells image_means self.old (λ c.
+            AreBlank written blank (view_at c segment))) }
         ensures size { image_means.size self.new ≡ image_means.size self.old }
 
         // The disk's steps, in order.
         ensures steps { CarriedBy D.means (disk_of self.old) (disk_of self.new)
-            (layout_at self.old) (λ l bytes. write_sector_steps l (place_of segment sector)
-            from.now (view_in l bytes (place_of segment sector))) result }
+            (layout_at self.old) (λ l bytes. write_sectors_steps l segment written from.now
+            (segment_views l segment bytes)) result }
         ensures changes { OnOk result (D.means.failed_changes (disk_of self.new)
             ≡ D.means.failed_changes (disk_of self.old)) }
     {
         let layout = self.layout();
-        let state = match self.look(layout, segment, sector) {
-            Ok(state) => state,
+        let states = match self.look_at_sectors(layout, segment, written) {
+            Ok(states) => states,
             Err(DiskFailed) => {
                 self.faults = self.faults.saturating_add(1);
                 return Err(TapeFailed);
             }
         };
-        match writing::write_sector(
-            &mut self.disk,
-            layout,
-            sector_number(segment, sector),
-            state,
-            from,
-        ) {
-            Ok(write) => {
-                self.known = known_with(self.known, sector, state.written());
-                Ok(write)
-            }
+        self.known = None;
+        match several::write_sectors(&mut self.disk, layout, segment, &states, written, from) {
+            Ok(blank) => Ok(blank),
             Err(DiskFailed) => {
-                self.known = None;
                 self.faults = self.faults.saturating_add(1);
                 Err(TapeFailed)
             }

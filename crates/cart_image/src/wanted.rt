@@ -6,16 +6,16 @@ ghost use Rattle.qic_base.specs.Disk.{IsSettled};
 ghost use Rattle.cart_image.specs.Image.{view_in, sector_bytes};
 ghost use Rattle.cart_image.specs.Layout.{sectors, end_of, touches};
 ghost use Rattle.cart_image.specs.Run.{Looks, Looked};
-ghost use Rattle.cart_image.specs.Several.{is_readable, is_blank, ReadsSectors, KeepsOthers};
+ghost use Rattle.qic_base.specs.TapeCalls.{is_readable, is_blank, ReadsSectors, KeepsOthers};
 ghost use Rattle.cart_image.specs.State.{state_of, AreStatesOf, GotBytes};
 
 use crate::layout::{Layout, Part};
 use crate::reading::{
     SectorState, marks_in, read_bytes, read_marks_at_once, read_state, states_by,
 };
-use crate::segment::{SectorsRead, is_in};
+use crate::segment::is_in;
 use crate::several::{closes, refuses, with_sector};
-use qic_base::{Disk, DiskFailed, Sector};
+use qic_base::{Disk, DiskFailed, LostSet, Sector, SectorsRead};
 
 /// What the state bytes of a sector in a cell say, where it is wanted.
 fn read_state_if<D: Disk>(
@@ -43,7 +43,7 @@ fn read_each_state<D: Disk>(
     disk: &mut D,
     layout: Layout,
     segment: u32,
-    wanted: u32,
+    wanted: LostSet,
 ) -> Result<[SectorState; 32], DiskFailed>
     requires place { segment < 28 * layout.segments_per_track }
     requires cells { touches layout.kind ≡ false }
@@ -83,7 +83,7 @@ pub fn read_states<D: Disk>(
     disk: &mut D,
     layout: Layout,
     segment: u32,
-    wanted: u32,
+    wanted: LostSet,
 ) -> Result<[SectorState; 32], DiskFailed>
     requires place { segment < 28 * layout.segments_per_track }
     requires cells { touches layout.kind ≡ false }
@@ -100,7 +100,7 @@ pub fn read_states<D: Disk>(
 }
 
 /// Which of the wanted sectors of a segment can be read, and which were never formatted, by their states.
-fn words(states: &[SectorState; 32], wanted: u32) -> SectorsRead
+fn words(states: &[SectorState; 32], wanted: LostSet) -> SectorsRead
     ensures good { (view : SectorView) (i : ℕ) → i < 32 →
         (is_lost wanted i ≡ true → slice_index_or states.now i SectorState.Blank ≡ state_of view) →
         is_lost result.good i ≡ (is_lost wanted i && is_readable view) }
@@ -108,8 +108,8 @@ fn words(states: &[SectorState; 32], wanted: u32) -> SectorsRead
         (is_lost wanted i ≡ true → slice_index_or states.now i SectorState.Blank ≡ state_of view) →
         is_lost result.blank i ≡ (is_lost wanted i && is_blank view) }
 {
-    let mut good: u32 = 0;
-    let mut blank: u32 = 0;
+    let mut good = LostSet::from_mask(0);
+    let mut blank = LostSet::from_mask(0);
     for i in 0..32 {
         let is_wanted = is_in(wanted, i);
         good = with_sector(good, i, closes(is_wanted, states[i]));
@@ -129,7 +129,7 @@ fn copy_if(is_good: bool, bytes: &[u8], into: &mut Sector)
 }
 
 /// Copies the bytes of the good ones of 32 sectors, which stand among others so far from each other.
-fn copy_good(good: u32, bytes: &[u8], start: usize, stride: usize, into: &mut [Sector])
+fn copy_good(good: LostSet, bytes: &[u8], start: usize, stride: usize, into: &mut [Sector])
     requires count { length into.old ≡ 32 }
     requires fits { (i : ℕ) → i < 32 → start + stride * i + 1024 ≤ length bytes.now }
     ensures count { length into.new ≡ 32 }
@@ -173,15 +173,15 @@ fn read_bytes_if<D: Disk>(
     }
 }
 
-/// Reads the bytes of the good ones of the sectors of a segment, sector by sector. Answers the word of those that `into`
+/// Reads the bytes of the good ones of the sectors of a segment, sector by sector. Answers those that `into`
 /// holds.
 fn read_each_bytes<D: Disk>(
     disk: &mut D,
     layout: Layout,
     segment: u32,
-    good: u32,
+    good: LostSet,
     into: &mut [Sector],
-) -> Result<u32, DiskFailed>
+) -> Result<LostSet, DiskFailed>
     requires place { segment < 28 * layout.segments_per_track }
     requires count { length into.old ≡ 32 }
     ensures looked { Looked D.means disk.old disk.new result }
@@ -192,7 +192,7 @@ fn read_each_bytes<D: Disk>(
     ensures seen { D.means.seen_len disk.new ≡ D.means.seen_len disk.old }
 {
     let first = 32 * segment as u64;
-    let mut got: u32 = 0;
+    let mut got = LostSet::from_mask(0);
     for i in 0..32 {
         let is_got = read_bytes_if(disk, layout, first + i as u64, is_in(good, i), &mut into[i])?;
         got = with_sector(got, i, is_got);
@@ -236,7 +236,7 @@ fn read_apart<D: Disk>(
     disk: &mut D,
     layout: Layout,
     segment: u32,
-    wanted: u32,
+    wanted: LostSet,
     into: &mut [Sector],
 ) -> Result<SectorsRead, DiskFailed>
     requires place { segment < 28 * layout.segments_per_track }
@@ -264,7 +264,7 @@ pub fn read_in_cells<D: Disk>(
     disk: &mut D,
     layout: Layout,
     segment: u32,
-    wanted: u32,
+    wanted: LostSet,
     into: &mut [Sector],
 ) -> Result<SectorsRead, DiskFailed>
     requires place { segment < 28 * layout.segments_per_track }
@@ -297,7 +297,7 @@ pub fn read_in_planes<D: Disk>(
     layout: Layout,
     segment: u32,
     states: &[SectorState; 32],
-    wanted: u32,
+    wanted: LostSet,
     into: &mut [Sector],
 ) -> Result<SectorsRead, DiskFailed>
     requires place { segment < 28 * layout.segments_per_track }

@@ -1,17 +1,16 @@
-//! One sector of an image file written, made unreadable or made a defect, and a mark set or cleared.
+//! One sector of an image file made unreadable or made a defect, and a mark set or cleared.
 ghost use Rattle.std.specs.Prelude.{◌≡◌, ◌<◌, ◌≤◌, [], ◌∷◌, true, false, slice_index, IfOk, IfSome};
 ghost use Rattle.qic_base.specs.Disk.{IsSettled};
-ghost use Rattle.qic_base.specs.TapeCalls.{write_answer};
 ghost use Rattle.qic_base.specs.Tape.{spoil_answer};
 ghost use Rattle.cart_image.specs.Image.{view_in};
-ghost use Rattle.cart_image.specs.Layout.{sectors, place as place_at, end_of, overwrite_steps, write_sector_steps, wear_steps, spoil_steps, mark_steps, put as put_steps};
+ghost use Rattle.cart_image.specs.Layout.{sectors, place as place_at, end_of, wear_steps, spoil_steps, mark_steps, put as put_steps};
 ghost use Rattle.cart_image.specs.Run.{Runs, Carried};
 ghost use Rattle.cart_image.specs.State.{state_of};
 
-use crate::layout::{CLOSED, DEFECT, Layout, MARK, OPEN, Part};
+use crate::layout::{CLOSED, DEFECT, Layout, MARK, Part};
 use crate::reading::{SectorState, read_byte};
 use crate::synced::put;
-use qic_base::{Disk, DiskFailed, Sector, SectorWrite};
+use qic_base::{Disk, DiskFailed};
 
 /// Writes the gate of a sector.
 fn put_gate<D: Disk>(disk: &mut D, layout: Layout, sector: u64, gate: u8) -> Result<(), DiskFailed>
@@ -23,88 +22,6 @@ fn put_gate<D: Disk>(disk: &mut D, layout: Layout, sector: u64, gate: u8) -> Res
     ensures seen { D.means.seen_len disk.new ≡ D.means.seen_len disk.old }
 {
     put(disk, layout.place(Part::GateByte, sector), &[gate])
-}
-
-/// Writes the bytes of a sector.
-fn put_bytes<D: Disk>(
-    disk: &mut D,
-    layout: Layout,
-    sector: u64,
-    from: &Sector,
-) -> Result<(), DiskFailed>
-    requires place { sector < sectors layout.segments_per_track }
-    requires covers { end_of layout ≤ D.means.seen_len disk.old }
-    ensures ran { Runs D.means disk.old disk.new
-        (put_steps (place_at layout Part.Data sector) from.now) result }
-    ensures settled { IsSettled D.means disk.new }
-    ensures seen { D.means.seen_len disk.new ≡ D.means.seen_len disk.old }
-{
-    put(disk, layout.place(Part::Data, sector), from)
-}
-
-/// Writes a sector whose gate is closed, and opens it.
-fn overwrite_closed<D: Disk>(
-    disk: &mut D,
-    layout: Layout,
-    sector: u64,
-    from: &Sector,
-) -> Result<(), DiskFailed>
-    requires place { sector < sectors layout.segments_per_track }
-    requires covers { end_of layout ≤ D.means.seen_len disk.old }
-    ensures ran { Runs D.means disk.old disk.new
-        (overwrite_steps layout sector false from.now) result }
-    ensures settled { IsSettled D.means disk.new }
-    ensures seen { D.means.seen_len disk.new ≡ D.means.seen_len disk.old }
-{
-    put_bytes(disk, layout, sector, from)?;
-    put_gate(disk, layout, sector, OPEN)
-}
-
-/// Closes a sector's gate, writes it, and opens it.
-fn overwrite_open<D: Disk>(
-    disk: &mut D,
-    layout: Layout,
-    sector: u64,
-    from: &Sector,
-) -> Result<(), DiskFailed>
-    requires place { sector < sectors layout.segments_per_track }
-    requires covers { end_of layout ≤ D.means.seen_len disk.old }
-    ensures ran { Runs D.means disk.old disk.new
-        (overwrite_steps layout sector true from.now) result }
-    ensures settled { IsSettled D.means disk.new }
-    ensures seen { D.means.seen_len disk.new ≡ D.means.seen_len disk.old }
-{
-    put_gate(disk, layout, sector, CLOSED)?;
-    overwrite_closed(disk, layout, sector, from)
-}
-
-/// Writes a sector of which the state bytes say this.
-pub fn write_sector<D: Disk>(
-    disk: &mut D,
-    layout: Layout,
-    sector: u64,
-    state: SectorState,
-    from: &Sector,
-) -> Result<SectorWrite, DiskFailed>
-    requires place { sector < sectors layout.segments_per_track }
-    requires covers { end_of layout ≤ D.means.seen_len disk.old }
-    requires settled { IsSettled D.means disk.old }
-    requires state { IfSome (D.means.told disk.old) (λ bytes.
-        state ≡ state_of (view_in layout bytes sector)) }
-    ensures carried { Carried D.means disk.old disk.new (λ bytes. write_sector_steps
-        layout sector from.now (view_in layout bytes sector)) result }
-    ensures answer { IfOk result (λ answer. IfSome (D.means.told disk.old) (λ bytes.
-        answer ≡ write_answer (view_in layout bytes sector))) }
-    ensures settled { IsSettled D.means disk.new }
-    ensures seen { D.means.seen_len disk.new ≡ D.means.seen_len disk.old }
-{
-    match state {
-        SectorState::Blank => return Ok(SectorWrite::Blank),
-        SectorState::Defect => return Ok(SectorWrite::Taken),
-        SectorState::Lost => overwrite_closed(disk, layout, sector, from)?,
-        SectorState::Readable => overwrite_open(disk, layout, sector, from)?,
-    }
-    Ok(SectorWrite::Taken)
 }
 
 /// Makes a sector of which the state bytes say this unreadable, where it is readable.

@@ -14,7 +14,7 @@ use Rattle.cartridge_laws.proofs.Segments.{places_of_whole}
 use Rattle.cartridge_spec.specs.Settling.{block_writes}
 use Rattle.cartridge_front.specs.declared.table_reader.Unread.{Unread}
 use Rattle.cartridge_front.specs.Settling.{collected_block, is_stale, mending_steps}
-use Rattle.qic_base.specs.Step.{Step, WriteSector}
+use Rattle.qic_base.specs.Step.{Step, write_sector}
 use Rattle.command_laws.proofs.ScrubNamed.{filter_more}
 use Rattle.qic_base.specs.CartridgeTerms.{is_lost}
 
@@ -68,7 +68,7 @@ data_kept old new room is =
 -- the writes of some places, and then of others
 writes_both : (block : List (List ℕ)) (ps qs : List ℕ) → block_writes block ps ++ block_writes block qs ≡ block_writes block (ps ++ qs)
 writes_both block [] qs = refl
-writes_both block (p ∷ ps) qs = ap (λ (steps : List Step). WriteSector 2 p (sector_at block p) ∷ steps) (writes_both block ps qs)
+writes_both block (p ∷ ps) qs = ap (λ (steps : List Step). write_sector 2 p (sector_at block p) ∷ steps) (writes_both block ps qs)
 
 pub mend_both : (unread : Unread) (stale : ℕ) (old new : List (List ℕ)) → new ≡ collected_block old →
     ((i : ℕ) → i < 32 → is_lost stale i ≡ is_stale unread.lost old new i) →

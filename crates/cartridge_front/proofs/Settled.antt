@@ -18,7 +18,7 @@ use Rattle.cartridge_spec.specs.Shape.{is_unreadable, sector_at}
 use Rattle.erasure_solve.proofs.Places.{is_lost_from}
 use Rattle.qic_base.specs.Cartridge.{Cartridge, view_at}
 use Rattle.qic_base.specs.CartridgeTerms.{IsLost, is_lost}
-use Rattle.qic_base.specs.Step.{WriteSector, changed}
+use Rattle.qic_base.specs.Step.{write_sector, changed}
 use Rattle.qic_base.specs.declared.tape.SectorView.{SectorView}
 use Rattle.qic_base.specs.declared.tape.SectorView.TheVariants.{Blank, Defect, Lost, Holds}
 use Rattle.segment_io.specs.Gathered.{NamesUnreadable}
@@ -158,4 +158,4 @@ pub writes_info : (places : List ℕ) (sectors : List (List ℕ)) (c : Cartridge
     (changed_by (writes_of segment places sectors) c).info ≡ c.info
 writes_info [] sectors c segment = refl
 writes_info (p ∷ places) [] c segment = refl
-writes_info (p ∷ places) (bytes ∷ sectors) c segment = writes_info places sectors (changed (WriteSector segment p bytes) c) segment
+writes_info (p ∷ places) (bytes ∷ sectors) c segment = writes_info places sectors (changed (write_sector segment p bytes) c) segment

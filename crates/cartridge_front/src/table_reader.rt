@@ -46,7 +46,7 @@ pub fn data_sectors(work: &Workspace) -> &[Sector]
 
 /// Solves the collected sectors by the first of these sets for which a code block agrees with the sectors outside it.
 /// The answer is that set; where there is none, the sectors stay as they were.
-fn solve_first(tried: &Trials, work: &mut Workspace) -> Option<LostSet>
+pub fn solve_first(tried: &Trials, work: &mut Workspace) -> Option<LostSet>
     requires few { tried.now.count ≤ 5 }
     requires room { length work.old ≡ 32 }
     ensures solved { SolvesFirst (take tried.now.count tried.now.sets) work.old work.new result }

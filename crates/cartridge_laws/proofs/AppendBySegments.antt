@@ -14,7 +14,7 @@ use Rattle.qic_base.specs.Step.{Step}
 
 -- ---- bytes in sectors
 
-take_sectors : (n m : ℕ) (bytes : List ℕ) → take n (in_sectors (n + m) bytes) ≡ in_sectors n bytes
+pub take_sectors : (n m : ℕ) (bytes : List ℕ) → take n (in_sectors (n + m) bytes) ≡ in_sectors n bytes
 take_sectors zero m bytes = refl
 take_sectors (suc n) m bytes =
     let more : suc n + m ≡ suc (n + m) = omega arith in

@@ -146,7 +146,10 @@ stands_new c e plain name date bytes ready next reads =
 -- ---- the four writes
 
 pub list_in : (plain : Plain) (volume : Volume) → length plain.volumes < 232 → AreIn OfTable (list_writes plain volume)
-list_in plain volume few = ((refl, omega arith), ((refl, omega arith), ((refl, omega arith), ((refl, omega arith), tt))))
+list_in plain volume few = (
+  ((refl, omega arith), tt),
+  (((refl, omega arith), tt), (((refl, omega arith), tt), (((refl, omega arith), tt), tt))),
+)
 
 table_kept : (c : Cartridge) (plain : Plain) (name : List ℕ) (date : ℕ) (bytes : List ℕ) → MayAppendTo c plain name date bytes →
     AreKeptTo 2 c (changed_by (volume_writes plain bytes (appended_volume plain name date bytes)) c)

@@ -1,30 +1,37 @@
 -- Writes to some sectors change no others, done or stopped.
-use Rattle.std.proofs.Common.{ℕ, ◌<◌, List, [], ◌∷◌, ◌++◌, ◌≡◌, refl, ◌∙◌, sym, subst, Option, Some, IsSomeAnd, inl, inr, suc, length}
+use Rattle.std.proofs.Common.{ℕ, ◌<◌, List, [], ◌∷◌, ◌++◌, ◌≡◌, refl, ◌∙◌, sym, subst, Option, Some, IsSomeAnd, suc, length}
 use Rattle.std.proofs.Common.{get_or, arith, Contains, take, drop, All}
 use Rattle.std.proofs.lemmas.List.Elements.{All-head, All-tail, Contains-get_or, All-weaker}
 use Rattle.cartridge_laws.proofs.FormatViews.{view_of_other_sector}
-use Rattle.cartridge_laws.proofs.FormatWriting.{some_and, some_weaker}
 use Rattle.cartridge_laws.proofs.Places.{AreSmall, usable_small}
+use Rattle.cartridge_laws.proofs.WritesKeep.{KeepsEach, writes_keep, torn_writes_keep}
 use Rattle.cartridge_laws.specs.AppendSteps.{parts_writes}
-use Rattle.cartridge_laws.specs.AppendWrites.{IsWrite, AreWrites}
-use Rattle.cartridge_spec.specs.Appending.{part_writes}
+use Rattle.cartridge_laws.specs.AppendWrites.{EachIs, IsWrite, AreWrites}
+use Rattle.cartridge_spec.specs.Appending.{part_writes, new_sectors}
 use Rattle.cartridge_spec.specs.Says.{with_parity}
-use Rattle.cartridge_spec.specs.Settling.{changed_by, writes_of}
+use Rattle.cartridge_spec.specs.Settling.{changed_by}
 use Rattle.cartridge_spec.specs.Shape.{mask_at, usable_places, data_count}
 use Rattle.cartridge_spec.specs.Volumes.{Part, parts_of}
 use Rattle.qic_base.specs.Cartridge.{Cartridge, view_at, with_view}
-use Rattle.qic_base.specs.Step.{Step, WriteSector, FormatSegment, SetReferenced, SetProtected, Renew, Wear, Spoil, Upgrade, changed}
-use Rattle.qic_base.specs.Step.{written_view, worn_view, Halfway, Torn}
+use Rattle.qic_base.specs.Step.{Step, NewSector, written_view, worn_view, Torn}
 use Rattle.qic_base.specs.declared.tape.SectorView.{SectorView}
 
 -- ---- steps
 
--- a write to such a sector
+-- a sector that may be written
+abbrev pub IsAllowed : (allowed : ℕ → ℕ → Type 0) → (segment sector : ℕ) → List ℕ → Type 0
+IsAllowed allowed segment sector bytes = allowed segment sector × (sector < 32)
+
+-- some of a segment
+abbrev pub EachIn : (allowed : ℕ → ℕ → Type 0) → (segment : ℕ) → List NewSector → Type 0
+EachIn allowed segment new = EachIs (IsAllowed allowed) segment new
+
+-- a write to such sectors
 abbrev pub IsIn : (allowed : ℕ → ℕ → Type 0) → Step → Type 0
-IsIn allowed s = IsWrite (λ segment sector bytes. allowed segment sector × (sector < 32)) s
+IsIn allowed s = IsWrite (IsAllowed allowed) s
 
 abbrev pub AreIn : (allowed : ℕ → ℕ → Type 0) → List Step → Type 0
-AreIn allowed ss = AreWrites (λ segment sector bytes. allowed segment sector × (sector < 32)) ss
+AreIn allowed ss = AreWrites (IsAllowed allowed) ss
 
 pub in_append : (allowed : ℕ → ℕ → Type 0) (xs ys : List Step) → AreIn allowed xs → AreIn allowed ys → AreIn allowed (xs ++ ys)
 in_append allowed [] ys front rear = rear
@@ -35,10 +42,10 @@ pub record IsKeptBut (allowed : ℕ → ℕ → Type 0) (c d : Cartridge) : Type
   pub info : d.info ≡ c.info
   pub others : (s i : ℕ) → i < 32 → (allowed s i → ⊥) → view_at d s i ≡ view_at c s i
 
-kept_begun : (allowed : ℕ → ℕ → Type 0) (c : Cartridge) → IsKeptBut allowed c c
+pub kept_begun : (allowed : ℕ → ℕ → Type 0) (c : Cartridge) → IsKeptBut allowed c c
 kept_begun allowed c = record { info = refl; others = λ s i h other. refl }
 
-kept_then : {allowed : ℕ → ℕ → Type 0} {c d e : Cartridge} → IsKeptBut allowed c d → IsKeptBut allowed d e → IsKeptBut allowed c e
+pub kept_then : {allowed : ℕ → ℕ → Type 0} {c d e : Cartridge} → IsKeptBut allowed c d → IsKeptBut allowed d e → IsKeptBut allowed c e
 kept_then first next = record {
   info = next.info ∙ first.info;
   others = λ s i h other. next.others s i h other ∙ first.others s i h other;
@@ -53,52 +60,34 @@ view_kept allowed c segment sector view is small = record {
       (λ same e. other (subst (λ (t : ℕ). allowed t i) (sym same) (subst (allowed segment) e is)));
 }
 
-step_kept : (allowed : ℕ → ℕ → Type 0) (s : Step) (c : Cartridge) → IsIn allowed s → IsKeptBut allowed c (changed s c)
-step_kept allowed (WriteSector segment sector bytes) c is =
-    view_kept allowed c segment sector (written_view bytes (view_at c segment sector)) is.0 is.1
-step_kept allowed (FormatSegment segment) c is = absurd is
-step_kept allowed SetReferenced c is = absurd is
-step_kept allowed (SetProtected on) c is = absurd is
-step_kept allowed (Renew n) c is = absurd is
-step_kept allowed (Wear segment sector) c is = absurd is
-step_kept allowed (Spoil segment sector) c is = absurd is
-step_kept allowed Upgrade c is = absurd is
-
-step_stopped : (allowed : ℕ → ℕ → Type 0) (s : Step) (c : Cartridge) (left : Option Cartridge) → IsIn allowed s → Halfway s (Some c) left →
-    IsSomeAnd left (IsKeptBut allowed c)
-step_stopped allowed (WriteSector segment sector bytes) c left is half =
-    some_and (IsKeptBut allowed c) (changed (Wear segment sector) c) left
-    (view_kept allowed c segment sector (worn_view (view_at c segment sector)) is.0 is.1) half
-step_stopped allowed (FormatSegment segment) c left is half = absurd is
-step_stopped allowed SetReferenced c left is half = absurd is
-step_stopped allowed (SetProtected on) c left is half = absurd is
-step_stopped allowed (Renew n) c left is half = absurd is
-step_stopped allowed (Wear segment sector) c left is half = absurd is
-step_stopped allowed (Spoil segment sector) c left is half = absurd is
-step_stopped allowed Upgrade c left is half = absurd is
+-- that stays so where one of them is written, or lost
+pub kept_by_each : (allowed : ℕ → ℕ → Type 0) (c : Cartridge) → KeepsEach (IsAllowed allowed) (IsKeptBut allowed c)
+kept_by_each allowed c segment new is = record {
+  worn = λ d kept. kept_then kept (view_kept allowed d segment new.sector (worn_view (view_at d segment new.sector)) is.0 is.1);
+  written = λ d kept.
+      kept_then kept (view_kept allowed d segment new.sector (written_view new.bytes (view_at d segment new.sector)) is.0 is.1);
+}
 
 pub steps_kept : (allowed : ℕ → ℕ → Type 0) (ss : List Step) (c : Cartridge) → AreIn allowed ss → IsKeptBut allowed c (changed_by ss c)
-steps_kept allowed [] c are = kept_begun allowed c
-steps_kept allowed (s ∷ ss) c are = kept_then (step_kept allowed s c are.0) (steps_kept allowed ss (changed s c) are.1)
+steps_kept allowed ss c are =
+    writes_keep (IsAllowed allowed) (IsKeptBut allowed c) ss c (kept_by_each allowed c) are (kept_begun allowed c)
 
 pub steps_stopped : (allowed : ℕ → ℕ → Type 0) (ss : List Step) (c : Cartridge) (left : Option Cartridge) → AreIn allowed ss →
     Torn ss (Some c) left → IsSomeAnd left (IsKeptBut allowed c)
-steps_stopped allowed [] c left are is = some_and (IsKeptBut allowed c) c left (kept_begun allowed c) is
-steps_stopped allowed (s ∷ ss) c left are (inl is) = some_and (IsKeptBut allowed c) c left (kept_begun allowed c) is
-steps_stopped allowed (s ∷ ss) c left are (inr (inl half)) = step_stopped allowed s c left are.0 half
-steps_stopped allowed (s ∷ ss) c left are (inr (inr torn)) =
-    some_weaker left (λ d. kept_then (step_kept allowed s c are.0)) (steps_stopped allowed ss (changed s c) left are.1 torn)
+steps_stopped allowed ss c left are torn =
+    torn_writes_keep (IsAllowed allowed) (IsKeptBut allowed c) ss c left (kept_by_each allowed c) are (kept_begun allowed c) torn
 
 -- ---- the writes of segments
 
-writes_in : (allowed : ℕ → ℕ → Type 0) (segment : ℕ) (places : List ℕ) (sectors : List (List ℕ)) →
+-- new sectors at such places
+pub each_in : (allowed : ℕ → ℕ → Type 0) (segment : ℕ) (places : List ℕ) (sectors : List (List ℕ)) →
     ((k : ℕ) → k < length places → allowed segment (get_or places k 0)) → AreSmall places →
-    AreIn allowed (writes_of segment places sectors)
-writes_in allowed segment [] sectors are small = tt
-writes_in allowed segment (place ∷ places) [] are small = tt
-writes_in allowed segment (place ∷ places) (bytes ∷ sectors) are small = (
+    EachIn allowed segment (new_sectors places sectors)
+each_in allowed segment [] sectors are small = tt
+each_in allowed segment (place ∷ places) [] are small = tt
+each_in allowed segment (place ∷ places) (bytes ∷ sectors) are small = (
   (are 0 (omega arith), small 0 (omega arith)),
-  writes_in allowed segment places sectors (λ k h. are (suc k) (omega arith)) (λ k h. small (suc k) (omega arith)),
+  each_in allowed segment places sectors (λ k h. are (suc k) (omega arith)) (λ k h. small (suc k) (omega arith)),
 )
 
 -- each usable sector of the segment is one
@@ -112,10 +101,12 @@ parts_in allowed words (s ∷ ss) area are =
     let places : List ℕ = usable_places (mask_at words s) in
     let part : Part = record { segment = s; sectors = take (data_count (mask_at words s)) area } in
     let rest : List Part = parts_of words ss (drop (data_count (mask_at words s)) area) in
-    in_append allowed (part_writes words part) (parts_writes words rest)
-    (writes_in allowed s places (with_parity part.sectors)
-    (λ k h. All-head (AllowsUsable allowed words) s ss are (get_or places k 0) (Contains-get_or places k 0 h))
-    (usable_small (mask_at words s)))
+    in_append allowed (part_writes words part) (parts_writes words rest) (
+      each_in allowed s places (with_parity part.sectors)
+          (λ k h. All-head (AllowsUsable allowed words) s ss are (get_or places k 0) (Contains-get_or places k 0 h))
+          (usable_small (mask_at words s)),
+      tt,
+    )
     (parts_in allowed words ss (drop (data_count (mask_at words s)) area) (All-tail (AllowsUsable allowed words) s ss are))
 
 -- whole segments

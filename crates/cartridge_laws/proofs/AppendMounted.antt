@@ -72,8 +72,10 @@ append_in c plain name date bytes ready =
     in_append BehindCopies (volume_writes plain bytes volume) (list_writes plain volume)
     (parts_of_segments (λ s. 2 ≤ s) plain.words segments volume.area
     (All-weaker (λ (s : ℕ). from < s) (λ (s : ℕ). 2 ≤ s) (λ s (past : from < s). omega arith) segments
-    (taken_behind plain.words from last segments (ready_taken c plain name date bytes ready))))
-    ((omega arith, omega arith), ((omega arith, omega arith), ((omega arith, omega arith), ((omega arith, omega arith), tt))))
+    (taken_behind plain.words from last segments (ready_taken c plain name date bytes ready)))) (
+      ((omega arith, omega arith), tt),
+      (((omega arith, omega arith), tt), (((omega arith, omega arith), tt), (((omega arith, omega arith), tt), tt))),
+    )
 
 clean_copy : (c d : Cartridge) (copy : ℕ) (area : List (List ℕ)) → copy < 2 → IsKeptBut BehindCopies c d → IsCleanCopy c copy area →
     IsCleanCopy d copy area
@@ -125,12 +127,12 @@ named_in c plain name date bytes ready =
     (parts_in (IsNamed plain bytes) plain.words segments volume.area
     (All-weaker (Contains segments) (AllowsUsable (IsNamed plain bytes) plain.words) (λ s inside i usable. inr (inside, usable)) segments
     (All-contains_itself segments))) (
-      (inl (refl, Contains-get_or places 0 0 (omega arith)), omega arith),
+      ((inl (refl, Contains-get_or places 0 0 (omega arith)), omega arith), tt),
       (
-        (inl (refl, Contains-get_or places 1 0 (omega arith)), omega arith),
+        ((inl (refl, Contains-get_or places 1 0 (omega arith)), omega arith), tt),
         (
-          (inl (refl, Contains-get_or places 2 0 (omega arith)), omega arith),
-          ((inl (refl, Contains-get_or places 3 0 (omega arith)), omega arith), tt),
+          ((inl (refl, Contains-get_or places 2 0 (omega arith)), omega arith), tt),
+          (((inl (refl, Contains-get_or places 3 0 (omega arith)), omega arith), tt), tt),
         ),
       ),
     )

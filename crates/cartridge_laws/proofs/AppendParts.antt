@@ -13,9 +13,9 @@ use Rattle.cartridge_laws.specs.AppendSteps.{parts_writes}
 use Rattle.cartridge_laws.specs.Shape.{Carries}
 use Rattle.cartridge_spec.specs.Appending.{part_writes, filled_up, in_sectors}
 use Rattle.cartridge_laws.specs.VolumeParts.{PartStands, sectors_in}
-use Rattle.cartridge_spec.specs.Says.{cells_of, Written, with_parity}
-use Rattle.cartridge_spec.specs.Settling.{writes_of, changed_by}
-use Rattle.cartridge_spec.specs.Shape.{mask_at, usable_places, usable_count, data_count}
+use Rattle.cartridge_spec.specs.Says.{cells_of, Written}
+use Rattle.cartridge_spec.specs.Settling.{changed_by}
+use Rattle.cartridge_spec.specs.Shape.{mask_at, usable_count, data_count}
 use Rattle.cartridge_spec.specs.Volumes.{Part, parts_of}
 use Rattle.qic_base.specs.Cartridge.{Cartridge, IsSector}
 use Rattle.qic_base.specs.declared.tape.SectorView.{SectorView}
@@ -32,7 +32,8 @@ part_written c words s sectors carries long =
     let count : length (sectors ++ none) ≡ length sectors + 3 =
     length-append sectors none ∙ ap (λ (n : ℕ). length sectors + n) (length-replicate {A = List ℕ} 3 []) in
     let least : 4 ≤ usable_count mask = carries in
-    subst (λ (xs : List (List ℕ)). Written (cells_of (changed_by (writes_of s (usable_places mask) (with_parity xs)) c) s mask) xs)
+    subst (λ (xs : List (List ℕ)).
+    Written (cells_of (changed_by (part_writes words (record { segment = s; sectors = xs })) c) s mask) xs)
     (take_at sectors none (data_count mask) long)
     (writes_leave_data c s mask (sectors ++ none) carries (omega arith))
 

@@ -10,8 +10,9 @@ use Rattle.cartridge_spec.specs.Appending.{table_writes}
 use Rattle.cartridge_spec.specs.Says.{with_parity}
 use Rattle.cartridge_spec.specs.Settling.{changed_by}
 use Rattle.cartridge_spec.specs.Shape.{sector_at, IsLive}
+use Rattle.qic_base.proofs.SectorsWritten.{torn_write}
 use Rattle.qic_base.specs.Cartridge.{Cartridge, view_at}
-use Rattle.qic_base.specs.Step.{changed, Step, WriteSector, written_view, Wear, worn_view, Torn}
+use Rattle.qic_base.specs.Step.{changed, Step, write_sector, written_view, Wear, worn_view, Torn}
 use Rattle.qic_base.specs.declared.tape.SectorView.{SectorView}
 use Rattle.qic_base.specs.declared.tape.SectorView.TheVariants.{Holds, Lost, Blank, Defect}
 
@@ -33,20 +34,20 @@ abbrev pub Each : ℕ → Type 0
 Each i = Unit {0}
 
 abbrev sector_write : (new : List (List ℕ)) → (i : ℕ) → Step
-sector_write new i = WriteSector 2 i (sector_at (with_parity new) i)
+sector_write new i = write_sector 2 i (sector_at (with_parity new) i)
 
 -- ---- one write
 
 -- a sector that held bytes holds those that were written
 written_here : (c : Cartridge) (i : ℕ) (old bytes : List ℕ) → view_at c 2 i ≡ Holds old →
-    view_at (changed (WriteSector 2 i bytes) c) 2 i ≡ Holds bytes
+    view_at (changed (write_sector 2 i bytes) c) 2 i ≡ Holds bytes
 written_here c i old bytes holds = view_of_sector c 2 i (written_view bytes) refl ∙ ap (written_view bytes) holds
 
 worn_here : (c : Cartridge) (i : ℕ) (old : List ℕ) → view_at c 2 i ≡ Holds old → view_at (changed (Wear 2 i) c) 2 i ≡ Lost
 worn_here c i old holds = view_of_sector c 2 i worn_view refl ∙ ap worn_view holds
 
 pub written_other : (c : Cartridge) (i j : ℕ) (bytes : List ℕ) → i < 32 → j < 32 → j ≢ i →
-    view_at (changed (WriteSector 2 i bytes) c) 2 j ≡ view_at c 2 j
+    view_at (changed (write_sector 2 i bytes) c) 2 j ≡ view_at c 2 j
 written_other c i j bytes small h apart =
     view_of_other_sector c 2 i 2 j (written_view bytes (view_at c 2 i)) small h (λ e same. apart (sym same))
 
@@ -123,11 +124,12 @@ turn_stopped : (c : Cartridge) (old new : List (List ℕ)) (turn : ℕ) (rest : 
     IsAt Each c old new turn →
     (Torn rest (Some (changed (sector_write new turn) c)) left → IsSomeAnd left (λ d. IsTurned d old new)) →
     Torn (sector_write new turn ∷ rest) (Some c) left → IsSomeAnd left (λ d. IsTurned d old new)
-turn_stopped c old new turn rest left from small at then (inl is) =
-    some_and (λ d. IsTurned d old new) c left (is_turned c old new turn from (omega arith) at) is
-turn_stopped c old new turn rest left from small at then (inr (inl is)) =
-    some_and (λ d. IsTurned d old new) (changed (Wear 2 turn) c) left (worn_turned c old new turn from small at) is
-turn_stopped c old new turn rest left from small at then (inr (inr behind)) = then behind
+turn_stopped c old new turn rest left from small at then torn =
+    elim (torn_write 2 turn (sector_at (with_parity new) turn) rest (Some c) left torn) [
+      | inl is ↦ some_and (λ d. IsTurned d old new) c left (is_turned c old new turn from (omega arith) at) is
+      | inr (inl is) ↦ some_and (λ d. IsTurned d old new) (changed (Wear 2 turn) c) left (worn_turned c old new turn from small at) is
+      | inr (inr behind) ↦ then behind
+    ]
 
 parity_stopped : (c : Cartridge) (old new : List (List ℕ)) (left : Option Cartridge) → IsAt Each c old new 29 →
     Torn (sector_write new 29 ∷ sector_write new 30 ∷ sector_write new 31 ∷ []) (Some c) left → IsSomeAnd left (λ d. IsTurned d old new)
@@ -149,12 +151,15 @@ parity_stopped c old new left at torn =
 pub table_stopped : (c : Cartridge) (old new : List (List ℕ)) (k : ℕ) (left : Option Cartridge) → k < 29 → DifferIn old new k →
     IsWhole c old →
     Torn (table_writes k new) (Some c) left → IsSomeAnd left (λ d. Between d old new k)
-table_stopped c old new k left small differ whole (inl is) = some_and (λ d. Between d old new k) c left (inl whole) is
-table_stopped c old new k left small differ whole (inr (inl is)) =
-    some_and (λ d. Between d old new k) (changed (Wear 2 k) c) left (inr (inl (begun c old k small whole))) is
-table_stopped c old new k left small differ whole (inr (inr torn)) =
-    some_weaker left (λ d is. inr (inr is))
-    (parity_stopped (changed (sector_write new k) c) old new left (turned Each c old new k small differ (λ i h is. whole i h)) torn)
+table_stopped c old new k left small differ whole torn =
+    elim (torn_write 2 k (sector_at (with_parity new) k) (sector_write new 29 ∷ sector_write new 30 ∷ sector_write new 31 ∷ [])
+    (Some c) left torn) [
+      | inl is ↦ some_and (λ d. Between d old new k) c left (inl whole) is
+      | inr (inl is) ↦ some_and (λ d. Between d old new k) (changed (Wear 2 k) c) left (inr (inl (begun c old k small whole))) is
+      | inr (inr behind) ↦
+          some_weaker left (λ d is. inr (inr is))
+          (parity_stopped (changed (sector_write new k) c) old new left (turned Each c old new k small differ (λ i h is. whole i h)) behind)
+    ]
 
 -- each sector that held its part of the old data holds that of the new ones
 pub table_written : (of : ℕ → Type 0) (c : Cartridge) (old new : List (List ℕ)) (k : ℕ) → k < 29 → DifferIn old new k → HoldParts of c old →
@@ -177,13 +182,13 @@ live_before bytes Lost live = tt
 live_before bytes (Holds old) live = tt
 
 lived : (c : Cartridge) (k i : ℕ) (bytes : List ℕ) → k < 32 → i < 32 →
-    IsLive (view_at (changed (WriteSector 2 k bytes) c) 2 i) → IsLive (view_at c 2 i)
+    IsLive (view_at (changed (write_sector 2 k bytes) c) 2 i) → IsLive (view_at c 2 i)
 lived c k i bytes small h live =
     elim (cases_eq i k) [
       | inl same ↦
           subst (λ (j : ℕ). IsLive (view_at c 2 j)) (sym same)
           (live_before bytes (view_at c 2 k) (subst IsLive (view_of_sector c 2 k (written_view bytes) refl)
-          (subst (λ (j : ℕ). IsLive (view_at (changed (WriteSector 2 k bytes) c) 2 j)) same live)))
+          (subst (λ (j : ℕ). IsLive (view_at (changed (write_sector 2 k bytes) c) 2 j)) same live)))
       | inr apart ↦ subst IsLive (written_other c k i bytes small h apart) live
     ]
 

@@ -12,10 +12,12 @@ use Rattle.cartridge_laws.specs.ChangeLaws.{StepsKeepLive}
 use Rattle.cartridge_laws.specs.ChangeSteps.{IsNoRenew}
 use Rattle.cartridge_spec.specs.TableSegment.{IsTableLive}
 use Rattle.cartridge_spec.specs.Shape.{IsLive}
+use Rattle.qic_base.proofs.SectorsWritten.{StayWritten, sectors_keep, half_keeps}
 use Rattle.qic_base.specs.Cartridge.{Cartridge, view_at, with_view}
 use Rattle.qic_base.specs.CartridgeTerms.{with_segment, HalfFormatted}
-use Rattle.qic_base.specs.Step.{Step, WriteSector, FormatSegment, SetReferenced, SetProtected, Renew, Wear, Spoil, Upgrade, changed}
-use Rattle.qic_base.specs.Step.{written_view, formatted_view, worn_view, spoiled_view, ClosingView, OpeningView, SegmentBecame, Halfway}
+use Rattle.qic_base.specs.Step.{Step, NewSector, WriteSectors, FormatSegment, SetReferenced, SetProtected, Renew, Wear, Spoil, Upgrade}
+use Rattle.qic_base.specs.Step.{changed, written_view, formatted_view, worn_view, spoiled_view, ClosingView, OpeningView}
+use Rattle.qic_base.specs.Step.{SegmentBecame, Halfway}
 use Rattle.qic_base.specs.declared.tape.SectorView.{SectorView}
 use Rattle.qic_base.specs.declared.tape.SectorView.TheVariants.{Blank, Defect, Lost, Holds}
 
@@ -131,8 +133,19 @@ half_live segment c (Some d) live (inr opening) = became_live segment c d openin
 
 -- ---- steps
 
+-- the table's sectors take writes still while some sectors are written, or lost
+pub stay_live : (segment : ℕ) (new : List NewSector) → StayWritten IsTableLive segment new
+stay_live segment [] = tt
+stay_live segment (new ∷ more) = (
+  record {
+    worn = λ c live. sector_live c segment new.sector worn_view worn_live live;
+    written = λ c live. sector_live c segment new.sector (written_view new.bytes) (written_live new.bytes) live;
+  },
+  stay_live segment more,
+)
+
 step_live : (s : Step) (c : Cartridge) → IsNoRenew s → IsTableLive c → IsTableLive (changed s c)
-step_live (WriteSector segment sector bytes) c none live = sector_live c segment sector (written_view bytes) (written_live bytes) live
+step_live (WriteSectors segment new) c none live = sectors_keep IsTableLive segment new c (stay_live segment new) live
 step_live (FormatSegment segment) c none live = format_live c segment live
 step_live SetReferenced c none live = live
 step_live (SetProtected on) c none live = live
@@ -143,8 +156,7 @@ step_live Upgrade c none live = live
 
 step_stopped : (s : Step) (c : Cartridge) (left : Option Cartridge) → IsNoRenew s → IsTableLive c → Halfway s (Some c) left →
     IsSomeAnd left IsTableLive
-step_stopped (WriteSector segment sector bytes) c left none live half =
-    some_and IsTableLive (changed (Wear segment sector) c) left (sector_live c segment sector worn_view worn_live live) half
+step_stopped (WriteSectors segment new) c left none live half = half_keeps IsTableLive segment new c left (stay_live segment new) live half
 step_stopped (FormatSegment segment) c left none live half = half_live segment c left live half
 step_stopped SetReferenced c left none live half = absurd half
 step_stopped (SetProtected on) c left none live half = absurd half

@@ -8,8 +8,9 @@ use Rattle.cartridge_spec.specs.Formatting.{copy_writes}
 use Rattle.cartridge_spec.specs.Settling.{changed_by, writes_of}
 use Rattle.cartridge_spec.specs.Shape.{sector_at}
 use Rattle.qic_base.proofs.Steps.{Torn-append}
+use Rattle.qic_base.proofs.SectorsWritten.{torn_write}
 use Rattle.qic_base.specs.Cartridge.{Cartridge, view_at}
-use Rattle.qic_base.specs.Step.{Step, changed, effects, WriteSector, written_view, Wear, worn_view, Torn}
+use Rattle.qic_base.specs.Step.{Step, changed, effects, write_sector, written_view, Wear, worn_view, Torn}
 use Rattle.qic_base.specs.declared.tape.SectorView.{SectorView}
 use Rattle.qic_base.specs.declared.tape.SectorView.TheVariants.{Holds, Blank, Defect, Lost}
 
@@ -51,7 +52,7 @@ untouched_then first next = record {
 }
 
 write_untouched : (segment from : ℕ) (bytes : List ℕ) (c : Cartridge) → from < 32 →
-    IsUntouched segment from c (changed (WriteSector segment from bytes) c)
+    IsUntouched segment from c (changed (write_sector segment from bytes) c)
 write_untouched segment from bytes c small = record {
   info = refl;
   version = refl;
@@ -75,20 +76,22 @@ writes_untouched zero from sectors segment c room = untouched segment from c
 writes_untouched (suc m) from [] segment c room = untouched segment from c
 writes_untouched (suc m) from (bytes ∷ sectors) segment c room =
     untouched_then (write_untouched segment from bytes c (omega arith))
-    (writes_untouched m (from + 1) sectors segment (changed (WriteSector segment from bytes) c) (omega arith))
+    (writes_untouched m (from + 1) sectors segment (changed (write_sector segment from bytes) c) (omega arith))
 
 -- a stop among them changes nothing else either
 writes_stopped : (m from : ℕ) (sectors : List (List ℕ)) (segment : ℕ) (c : Cartridge) (left : Option Cartridge) → from + m ≤ 32 →
     Torn (writes_of segment (range_with_len from m) sectors) (Some c) left → IsSomeAnd left (IsUntouched segment from c)
 writes_stopped zero from sectors segment c left room is = some_and (IsUntouched segment from c) c left (untouched segment from c) is
 writes_stopped (suc m) from [] segment c left room is = some_and (IsUntouched segment from c) c left (untouched segment from c) is
-writes_stopped (suc m) from (bytes ∷ sectors) segment c left room (inl is) = some_and (IsUntouched segment from c) c left
-    (untouched segment from c) is
-writes_stopped (suc m) from (bytes ∷ sectors) segment c left room (inr (inl is)) =
-    some_and (IsUntouched segment from c) (changed (Wear segment from) c) left (wear_untouched segment from c (omega arith)) is
-writes_stopped (suc m) from (bytes ∷ sectors) segment c left room (inr (inr torn)) =
-    some_weaker left (λ d. untouched_then (write_untouched segment from bytes c (omega arith)))
-    (writes_stopped m (from + 1) sectors segment (changed (WriteSector segment from bytes) c) left (omega arith) torn)
+writes_stopped (suc m) from (bytes ∷ sectors) segment c left room torn =
+    elim (torn_write segment from bytes (writes_of segment (range_with_len (from + 1) m) sectors) (Some c) left torn) [
+      | inl before ↦ some_and (IsUntouched segment from c) c left (untouched segment from c) before
+      | inr (inl worn) ↦
+          some_and (IsUntouched segment from c) (changed (Wear segment from) c) left (wear_untouched segment from c (omega arith)) worn
+      | inr (inr behind) ↦
+          some_weaker left (λ d. untouched_then (write_untouched segment from bytes c (omega arith)))
+          (writes_stopped m (from + 1) sectors segment (changed (write_sector segment from bytes) c) left (omega arith) behind)
+    ]
 
 -- what is written stands at its place
 pub view_written : (m from j : ℕ) (sectors : List (List ℕ)) (segment : ℕ) (c : Cartridge) → from + m ≤ 32 → length sectors ≡ m → j < m →
@@ -99,17 +102,17 @@ view_written (suc m) from j [] segment c room long h = absurd (omega arith)
 view_written (suc m) from zero (bytes ∷ sectors) segment c room long h =
     let place : from + 0 ≡ from = omega arith in
     subst (λ (i : ℕ). view_at (changed_by (writes_of segment (range_with_len (from + 1) m) sectors)
-    (changed (WriteSector segment from bytes) c)) segment i
+    (changed (write_sector segment from bytes) c)) segment i
     ≡ written_view bytes (view_at c segment i)) (sym place)
-    ((writes_untouched m (from + 1) sectors segment (changed (WriteSector segment from bytes) c) (omega arith)).others
+    ((writes_untouched m (from + 1) sectors segment (changed (write_sector segment from bytes) c) (omega arith)).others
     segment from (omega arith) (λ same. omega arith)
     ∙ view_of_sector c segment from (written_view bytes) refl)
 view_written (suc m) from (suc j) (bytes ∷ sectors) segment c room long h =
     let place : (from + 1) + j ≡ from + suc j = omega arith in
     subst (λ (i : ℕ). view_at (changed_by (writes_of segment (range_with_len (from + 1) m) sectors)
-    (changed (WriteSector segment from bytes) c)) segment i
+    (changed (write_sector segment from bytes) c)) segment i
     ≡ written_view (get_or sectors j []) (view_at c segment i)) place
-    (view_written m (from + 1) j sectors segment (changed (WriteSector segment from bytes) c) (omega arith) (omega arith) (omega arith)
+    (view_written m (from + 1) j sectors segment (changed (write_sector segment from bytes) c) (omega arith) (omega arith) (omega arith)
     ∙ ap (written_view (get_or sectors j []))
     (view_of_other_sector c segment from segment ((from + 1) + j) (written_view bytes (view_at c segment from)) (omega arith) (omega arith)
     (λ same e. absurd (omega arith))))
@@ -178,12 +181,12 @@ worn_written copy bytes rear c long writable =
 
 -- and the end of it
 all_written : (copy : ℕ) (bytes : List ℕ) (rear : List (List ℕ)) (c : Cartridge) → length rear ≡ 31 → IsWritable c copy →
-    IsWritten copy (bytes ∷ rear) c (changed (WriteSector copy 0 bytes) (changed_by (rear_writes copy rear) c))
+    IsWritten copy (bytes ∷ rear) c (changed (write_sector copy 0 bytes) (changed_by (rear_writes copy rear) c))
 all_written copy bytes rear c long writable =
     let d : Cartridge = changed_by (rear_writes copy rear) c in
     let rest = writes_untouched 31 1 rear copy c (omega arith) in
     let write = write_untouched copy 0 bytes d (omega arith) in
-    let first : view_at (changed (WriteSector copy 0 bytes) d) copy 0 ≡ Holds bytes =
+    let first : view_at (changed (write_sector copy 0 bytes) d) copy 0 ≡ Holds bytes =
     view_of_sector d copy 0 (written_view bytes) refl
     ∙ ap (written_view bytes) (rest.others copy 0 (omega arith) (λ same. omega arith))
     ∙ writable.each 0 bytes (omega arith) in
@@ -207,7 +210,7 @@ pub copy_written : (copy : ℕ) (block : List (List ℕ)) (c : Cartridge) → le
     IsWritten copy block c (changed_by (copy_writes copy block) c)
 copy_written copy [] c long writable = absurd (omega arith)
 copy_written copy (bytes ∷ rear) c long writable =
-    subst (IsWritten copy (bytes ∷ rear) c) (sym (changed_by-append (rear_writes copy rear) (WriteSector copy 0 bytes ∷ []) c))
+    subst (IsWritten copy (bytes ∷ rear) c) (sym (changed_by-append (rear_writes copy rear) (write_sector copy 0 bytes ∷ []) c))
     (all_written copy bytes rear c (omega arith) writable)
 
 -- one that was not written to the end: sector 0 and all other segments are as they were, or all is written but that
@@ -217,23 +220,26 @@ IsPartlyWritten copy block c d = IsUntouched copy 1 c d ⊎ IsAlmostWritten copy
 
 last_stopped : (copy : ℕ) (bytes : List ℕ) (rear : List (List ℕ)) (c : Cartridge) (left : Option Cartridge) → length rear ≡ 31 →
     IsWritable c copy →
-    Torn (WriteSector copy 0 bytes ∷ []) (Some (changed_by (rear_writes copy rear) c)) left →
+    Torn (write_sector copy 0 bytes ∷ []) (Some (changed_by (rear_writes copy rear) c)) left →
     IsSomeAnd left (IsPartlyWritten copy (bytes ∷ rear) c)
-last_stopped copy bytes rear c left long writable (inl is) =
-    some_and (IsPartlyWritten copy (bytes ∷ rear) c) (changed_by (rear_writes copy rear) c) left
-    (inl (writes_untouched 31 1 rear copy c (omega arith))) is
-last_stopped copy bytes rear c left long writable (inr (inl is)) =
-    some_and (IsPartlyWritten copy (bytes ∷ rear) c) (changed (Wear copy 0) (changed_by (rear_writes copy rear) c)) left
-    (inr (worn_written copy bytes rear c long writable)) is
-last_stopped copy bytes rear c left long writable (inr (inr is)) =
-    some_and (IsPartlyWritten copy (bytes ∷ rear) c) (changed (WriteSector copy 0 bytes) (changed_by (rear_writes copy rear) c)) left
-    (inr (all_written copy bytes rear c long writable).almost) is
+last_stopped copy bytes rear c left long writable torn =
+    elim (torn_write copy 0 bytes [] (Some (changed_by (rear_writes copy rear) c)) left torn) [
+      | inl before ↦
+          some_and (IsPartlyWritten copy (bytes ∷ rear) c) (changed_by (rear_writes copy rear) c) left
+          (inl (writes_untouched 31 1 rear copy c (omega arith))) before
+      | inr (inl worn) ↦
+          some_and (IsPartlyWritten copy (bytes ∷ rear) c) (changed (Wear copy 0) (changed_by (rear_writes copy rear) c)) left
+          (inr (worn_written copy bytes rear c long writable)) worn
+      | inr (inr behind) ↦
+          some_and (IsPartlyWritten copy (bytes ∷ rear) c) (changed (write_sector copy 0 bytes) (changed_by (rear_writes copy rear) c)) left
+          (inr (all_written copy bytes rear c long writable).almost) behind
+    ]
 
 pub copy_stopped : (copy : ℕ) (block : List (List ℕ)) (c : Cartridge) (left : Option Cartridge) → length block ≡ 32 → IsWritable c copy →
     Torn (copy_writes copy block) (Some c) left → IsSomeAnd left (IsPartlyWritten copy block c)
 copy_stopped copy [] c left long writable torn = absurd (omega arith)
 copy_stopped copy (bytes ∷ rear) c left long writable torn =
-    let rest : List Step = WriteSector copy 0 bytes ∷ [] in
+    let rest : List Step = write_sector copy 0 bytes ∷ [] in
     elim (Torn-append (rear_writes copy rear) rest (Some c) left torn) [
       | inl front ↦ some_weaker left (λ d kept. inl kept) (writes_stopped 31 1 rear copy c left (omega arith) front)
       | inr behind ↦

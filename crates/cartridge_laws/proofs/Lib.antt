@@ -84,6 +84,7 @@ pub mod TableSayings
 pub mod TableSlotLaws
 pub mod TableTotals
 pub mod Whole
+pub mod WritesKeep
 pub mod Writing
 pub mod WrongTable
 pub mod WrongTableLost

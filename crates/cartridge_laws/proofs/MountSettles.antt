@@ -21,7 +21,7 @@ use Rattle.cartridge_laws.specs.TableCells.{is_left_out, is_unsettled}
 use Rattle.cartridge_laws.specs.Segment.{places_where}
 use Rattle.cartridge_spec.specs.Shape.{sector_at, usable_places}
 use Rattle.qic_base.specs.Cartridge.{Cartridge, view_at}
-use Rattle.qic_base.specs.Step.{written_view, WriteSector, changed, Step}
+use Rattle.qic_base.specs.Step.{written_view, write_sector, changed, Step}
 use Rattle.qic_base.specs.declared.tape.SectorView.{SectorView}
 use Rattle.qic_base.specs.declared.tape.SectorView.TheVariants.{Blank, Defect, Lost, Holds}
 use Rattle.cartridge_laws.proofs.AppendTableWrites.{written_other}
@@ -39,7 +39,7 @@ abbrev StaysOutside : (block : List (List ℕ)) → (ps : List ℕ) → Cartridg
 StaysOutside block ps c = (i : ℕ) → i < 32 → IsNoneOf ps i → view_at c 2 i ≡ written_view (sector_at block i) (view_at c 2 i)
 
 abbrev with_part : (block : List (List ℕ)) → (p : ℕ) → Cartridge → Cartridge
-with_part block p c = changed (WriteSector 2 p (sector_at block p)) c
+with_part block p c = changed (write_sector 2 p (sector_at block p)) c
 
 -- once one is written, each takes its part as before
 takes_still : (block : List (List ℕ)) (p i : ℕ) (c : Cartridge) → p < 32 → i < 32 →

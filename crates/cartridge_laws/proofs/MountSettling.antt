@@ -21,8 +21,9 @@ use Rattle.cartridge_spec.specs.Says.{with_parity}
 use Rattle.cartridge_spec.specs.Settling.{block_writes, settling_places, settling_steps}
 use Rattle.cartridge_laws.specs.TableCells.{is_unsettled, is_left_out}
 use Rattle.cartridge_spec.specs.Shape.{is_unreadable, sector_at}
+use Rattle.qic_base.proofs.SectorsWritten.{torn_write}
 use Rattle.qic_base.specs.Cartridge.{Cartridge, view_at}
-use Rattle.qic_base.specs.Step.{Step, WriteSector, changed, written_view, Wear, worn_view, Torn}
+use Rattle.qic_base.specs.Step.{Step, write_sector, changed, written_view, Wear, worn_view, Torn}
 use Rattle.cartridge_laws.proofs.AppendTableWrites.{written_other, worn_other}
 
 -- ---- where a sector of data is unreadable
@@ -75,10 +76,10 @@ apart_base c area m k apart reads kept = record {
 
 -- once it is written, it does
 written_base : (c : Cartridge) (area : List (List ℕ)) (m k : ℕ) → IsApart c area m k → k ≢ m →
-    IsBase (changed (WriteSector 2 k (sector_at (with_parity area) k)) c) area m
+    IsBase (changed (write_sector 2 k (sector_at (with_parity area) k)) c) area m
 written_base c area m k apart other =
     let bytes : List ℕ = sector_at (with_parity area) k in
-    let d : Cartridge = changed (WriteSector 2 k bytes) c in
+    let d : Cartridge = changed (write_sector 2 k bytes) c in
     let small : m < 29 = apart.small in
     let place : k < 29 = apart.place in
     let read = apart.read other in
@@ -109,7 +110,7 @@ written_base c area m k apart other =
     }
 
 written_test : (c : Cartridge) (area : List (List ℕ)) (m k : ℕ) → IsApart c area m k → k ≢ m →
-    IsTest (changed (WriteSector 2 k (sector_at (with_parity area) k)) c) area (is_unsettled c (with_parity area))
+    IsTest (changed (write_sector 2 k (sector_at (with_parity area) k)) c) area (is_unsettled c (with_parity area))
 written_test c area m k apart other =
     let bytes : List ℕ = sector_at (with_parity area) k in
     let place : k < 29 = apart.place in
@@ -167,12 +168,17 @@ apart_stopped c area m k left apart reads out torn =
 
     step : Torn (block_writes (with_parity area) (k ∷ places_that (is_unsettled c (with_parity area)) 0 32)) (Some c) left →
         IsSomeAnd left (λ d. TableIs d area)
-    step (inl before) = some_and (λ d. TableIs d area) c left reads before
-    step (inr (inl inside)) = some_and (λ d. TableIs d area) (changed (Wear 2 k) c) left (worn_reads c area m k apart other) inside
-    step (inr (inr behind)) =
-        let d : Cartridge = changed (WriteSector 2 k (sector_at (with_parity area) k)) c in
-        stopped_from d area (is_unsettled c (with_parity area)) m 32 0 d left (written_base c area m k apart other)
-        (written_test c area m k apart other) (omega arith) (nothing_yet d area) behind
+    step torn =
+        let bytes : List ℕ = sector_at (with_parity area) k in
+        let d : Cartridge = changed (write_sector 2 k bytes) c in
+        let rest : List Step = block_writes (with_parity area) (places_that (is_unsettled c (with_parity area)) 0 32) in
+        elim (torn_write 2 k bytes rest (Some c) left torn) [
+          | inl before ↦ some_and (λ d. TableIs d area) c left reads before
+          | inr (inl worn) ↦ some_and (λ d. TableIs d area) (changed (Wear 2 k) c) left (worn_reads c area m k apart other) worn
+          | inr (inr behind) ↦
+              stopped_from d area (is_unsettled c (with_parity area)) m 32 0 d left (written_base c area m k apart other)
+              (written_test c area m k apart other) (omega arith) (nothing_yet d area) behind
+        ]
 
 far_stopped : (c : Cartridge) (area : List (List ℕ)) (left : Option Cartridge) → TableIs c area → IsFar c area →
     Torn (settling_writes c area) (Some c) left → IsSomeAnd left (λ d. TableIs d area)
@@ -219,19 +225,21 @@ stopped_plainly c area left plain torn =
 
 -- what each write keeps, done or stopped
 pub record IsKeptBy (P : Cartridge → Type 0) (block : List (List ℕ)) : Type 0 where
-  pub written : (i : ℕ) (d : Cartridge) → i < 32 → P d → P (changed (WriteSector 2 i (sector_at block i)) d)
+  pub written : (i : ℕ) (d : Cartridge) → i < 32 → P d → P (changed (write_sector 2 i (sector_at block i)) d)
   pub worn : (i : ℕ) (d : Cartridge) → i < 32 → P d → P (changed (Wear 2 i) d)
 
 places_stopped : (P : Cartridge → Type 0) (block : List (List ℕ)) (ps : List ℕ) (c : Cartridge) (left : Option Cartridge) →
     IsKeptBy P block →
     AreSmall ps → P c → Torn (block_writes block ps) (Some c) left → IsSomeAnd left P
 places_stopped P block [] c left kept small holds torn = some_and P c left holds torn
-places_stopped P block (p ∷ ps) c left kept small holds (inl before) = some_and P c left holds before
-places_stopped P block (p ∷ ps) c left kept small holds (inr (inl inside)) =
-    some_and P (changed (Wear 2 p) c) left (kept.worn p c (small p (inl refl)) holds) inside
-places_stopped P block (p ∷ ps) c left kept small holds (inr (inr behind)) =
-    places_stopped P block ps (changed (WriteSector 2 p (sector_at block p)) c) left kept (rest_small p ps small)
-    (kept.written p c (small p (inl refl)) holds) behind
+places_stopped P block (p ∷ ps) c left kept small holds torn =
+    elim (torn_write 2 p (sector_at block p) (block_writes block ps) (Some c) left torn) [
+      | inl before ↦ some_and P c left holds before
+      | inr (inl worn) ↦ some_and P (changed (Wear 2 p) c) left (kept.worn p c (small p (inl refl)) holds) worn
+      | inr (inr behind) ↦
+          places_stopped P block ps (changed (write_sector 2 p (sector_at block p)) c) left kept (rest_small p ps small)
+          (kept.written p c (small p (inl refl)) holds) behind
+    ]
 
 pub settling_small : (c : Cartridge) (area : List (List ℕ)) → AreSmall (settling_places c area)
 settling_small c area =

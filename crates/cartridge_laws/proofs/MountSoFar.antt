@@ -12,15 +12,16 @@ use Rattle.cartridge_laws.specs.Segment.{IsUnreadable}
 use Rattle.cartridge_spec.specs.Shape.{IsArea, sector_at, is_unreadable}
 use Rattle.cartridge_spec.specs.TableSegment.{TableIs}
 use Rattle.cartridge_spec.specs.Says.{with_parity}
+use Rattle.qic_base.proofs.SectorsWritten.{torn_write}
 use Rattle.qic_base.specs.Cartridge.{Cartridge, view_at}
-use Rattle.qic_base.specs.Step.{WriteSector, changed, written_view, Wear, worn_view, Step, Torn}
+use Rattle.qic_base.specs.Step.{write_sector, changed, written_view, Wear, worn_view, Step, Torn}
 use Rattle.qic_base.specs.declared.tape.SectorView.{SectorView}
 use Rattle.qic_base.specs.declared.tape.SectorView.TheVariants.{Blank, Defect, Lost, Holds}
 use Rattle.cartridge_laws.proofs.AppendTableWrites.{written_other, worn_other}
 
 -- ---- one sector changed
 
-pub written_here : (d : Cartridge) (i : ℕ) (bytes : List ℕ) → view_at (changed (WriteSector 2 i bytes) d) 2 i ≡ written_view bytes
+pub written_here : (d : Cartridge) (i : ℕ) (bytes : List ℕ) → view_at (changed (write_sector 2 i bytes) d) 2 i ≡ written_view bytes
     (view_at d 2 i)
 written_here d i bytes = view_of_sector d 2 i (written_view bytes) refl
 
@@ -170,10 +171,10 @@ so_far_reads c d area n m base far =
 -- ---- one place more
 
 far_written : (c d : Cartridge) (area : List (List ℕ)) (n : ℕ) → n < 32 → IsSoFar c d area n →
-    IsSoFar c (changed (WriteSector 2 n (sector_at (with_parity area) n)) d) area (n + 1)
+    IsSoFar c (changed (write_sector 2 n (sector_at (with_parity area) n)) d) area (n + 1)
 far_written c d area n small far =
     let bytes : List ℕ = sector_at (with_parity area) n in
-    let e : Cartridge = changed (WriteSector 2 n bytes) d in
+    let e : Cartridge = changed (write_sector 2 n bytes) d in
     let here : view_at d 2 n ≡ view_at c 2 n = far.ahead n (omega arith) small in
     record {
       ahead = λ i from h. written_other d n i bytes small h (λ e. omega arith) ∙ far.ahead i (omega arith) h;
@@ -309,7 +310,7 @@ stopped_from c area test m (suc count) n d left base tests room far torn =
     elim (cases_Bool (test n)) [
       | inl passes ↦
           step passes (λ behind.
-          stopped_from c area test m count (n + 1) (changed (WriteSector 2 n (sector_at (with_parity area) n)) d) left base tests
+          stopped_from c area test m count (n + 1) (changed (write_sector 2 n (sector_at (with_parity area) n)) d) left base tests
           (omega arith)
           (far_written c d area n (omega arith) far) behind)
           (subst (λ (ss : List Step). Torn ss (Some d) left) (steps_passes test (with_parity area) n count passes) torn)
@@ -320,12 +321,17 @@ stopped_from c area test m (suc count) n d left base tests room far torn =
     ]
   where
     step : test n ≡ true →
-        (Torn (steps_that test (with_parity area) (n + 1) count) (Some (changed (WriteSector 2 n (sector_at (with_parity area) n)) d))
+        (Torn (steps_that test (with_parity area) (n + 1) count) (Some (changed (write_sector 2 n (sector_at (with_parity area) n)) d))
         left →
         IsSomeAnd left (λ e. TableIs e area)) →
-        Torn (WriteSector 2 n (sector_at (with_parity area) n) ∷ steps_that test (with_parity area) (n + 1) count) (Some d) left →
+        Torn (write_sector 2 n (sector_at (with_parity area) n) ∷ steps_that test (with_parity area) (n + 1) count) (Some d) left →
         IsSomeAnd left (λ e. TableIs e area)
-    step passes then (inl before) = some_and (λ e. TableIs e area) d left (so_far_reads c d area n m base far) before
-    step passes then (inr (inl inside)) =
-        some_and (λ e. TableIs e area) (changed (Wear 2 n) d) left (far_worn c d area test n m base tests (omega arith) passes far) inside
-    step passes then (inr (inr behind)) = then behind
+    step passes then torn =
+        let bytes : List ℕ = sector_at (with_parity area) n in
+        elim (torn_write 2 n bytes (steps_that test (with_parity area) (n + 1) count) (Some d) left torn) [
+          | inl before ↦ some_and (λ e. TableIs e area) d left (so_far_reads c d area n m base far) before
+          | inr (inl worn) ↦
+              some_and (λ e. TableIs e area) (changed (Wear 2 n) d) left
+              (far_worn c d area test n m base tests (omega arith) passes far) worn
+          | inr (inr behind) ↦ then behind
+        ]

@@ -19,25 +19,28 @@ use Rattle.cartridge_spec.specs.Shape.{IsArea, sector_at, is_unreadable, usable_
 use Rattle.cartridge_spec.specs.Says.{ReadsAll, Says, Data, Written, unreadable_count, whole_mask}
 use Rattle.cartridge_spec.specs.Settling.{holds, writes_of, changed_by}
 use Rattle.cartridge_laws.specs.TableCells.{is_unsettled}
+use Rattle.qic_base.proofs.SectorsWritten.{torn_write}
 use Rattle.qic_base.specs.Cartridge.{Cartridge, view_at, with_view}
-use Rattle.qic_base.specs.Step.{WriteSector, Wear, changed, Step, written_view, worn_view, Torn}
+use Rattle.qic_base.specs.Step.{write_sector, Wear, changed, Step, written_view, worn_view, Torn}
 use Rattle.qic_base.specs.declared.tape.SectorView.{SectorView}
 use Rattle.qic_base.specs.declared.tape.SectorView.TheVariants.{Blank, Defect, Lost, Holds}
 
 -- ---- a fact that each write keeps, done or stopped
 
 pub record IsKept (P : Cartridge → Type 0) (test : ℕ → Bool) (block : List (List ℕ)) : Type 0 where
-  pub written : (i : ℕ) (d : Cartridge) → i < 32 → test i ≡ true → P d → P (changed (WriteSector 2 i (sector_at block i)) d)
+  pub written : (i : ℕ) (d : Cartridge) → i < 32 → test i ≡ true → P d → P (changed (write_sector 2 i (sector_at block i)) d)
   pub worn : (i : ℕ) (d : Cartridge) → i < 32 → test i ≡ true → P d → P (changed (Wear 2 i) d)
 
 first_stopped : (P : Cartridge → Type 0) (test : ℕ → Bool) (block : List (List ℕ)) (i : ℕ) (rest : List Step) (c : Cartridge)
     (left : Option Cartridge) → IsKept P test block → i < 32 → test i ≡ true → P c →
-    (Torn rest (Some (changed (WriteSector 2 i (sector_at block i)) c)) left → IsSomeAnd left P) →
-    Torn (WriteSector 2 i (sector_at block i) ∷ rest) (Some c) left → IsSomeAnd left P
-first_stopped P test block i rest c left kept small passes holds then (inl before) = some_and P c left holds before
-first_stopped P test block i rest c left kept small passes holds then (inr (inl inside)) =
-    some_and P (changed (Wear 2 i) c) left (kept.worn i c small passes holds) inside
-first_stopped P test block i rest c left kept small passes holds then (inr (inr behind)) = then behind
+    (Torn rest (Some (changed (write_sector 2 i (sector_at block i)) c)) left → IsSomeAnd left P) →
+    Torn (write_sector 2 i (sector_at block i) ∷ rest) (Some c) left → IsSomeAnd left P
+first_stopped P test block i rest c left kept small passes holds then torn =
+    elim (torn_write 2 i (sector_at block i) rest (Some c) left torn) [
+      | inl before ↦ some_and P c left holds before
+      | inr (inl worn) ↦ some_and P (changed (Wear 2 i) c) left (kept.worn i c small passes holds) worn
+      | inr (inr behind) ↦ then behind
+    ]
 
 steps_stopped : (P : Cartridge → Type 0) (test : ℕ → Bool) (block : List (List ℕ)) (m from : ℕ) (c : Cartridge) (left : Option Cartridge) →
     IsKept P test block → from + m ≤ 32 → P c → Torn (steps_that test block from m) (Some c) left → IsSomeAnd left P
@@ -47,7 +50,8 @@ steps_stopped P test block (suc m) from c left kept room holds torn =
     elim (cases_Bool (test from)) [
       | inl passes ↦
           first_stopped P test block from (steps_that test block (from + 1) m) c left kept (omega arith) passes holds
-          (λ behind. steps_stopped P test block m (from + 1) (changed (WriteSector 2 from (sector_at block from)) c) left kept (omega arith)
+          (λ behind. steps_stopped P test block m (from + 1) (changed (write_sector 2 from (sector_at block from)) c) left kept
+          (omega arith)
           (kept.written from c (omega arith) passes holds) behind)
           (subst (λ (ss : List Step). Torn ss (Some c) left) (steps_passes test block from m passes) torn)
       | inr fails ↦

@@ -18,7 +18,7 @@ use Rattle.cartridge_laws.specs.TableCells.{is_unsettled}
 use Rattle.cartridge_laws.specs.Segment.{places_where}
 use Rattle.cartridge_spec.specs.Shape.{sector_at, usable_places, is_unreadable}
 use Rattle.qic_base.specs.Cartridge.{Cartridge, view_at}
-use Rattle.qic_base.specs.Step.{Step, WriteSector, written_view, changed}
+use Rattle.qic_base.specs.Step.{Step, write_sector, written_view, changed}
 use Rattle.qic_base.specs.declared.tape.SectorView.{SectorView}
 use Rattle.qic_base.specs.declared.tape.SectorView.TheVariants.{Blank, Holds, Defect, Lost}
 use Rattle.qic_base.specs.declared.tape.TapeInfo.{TapeInfo}
@@ -53,7 +53,7 @@ pub steps_none : (test : ℕ → Bool) (block : List (List ℕ)) (from : ℕ) �
 steps_none test block from = ap (λ (ps : List ℕ). block_writes block ps) (places_none test from)
 
 pub steps_passes : (test : ℕ → Bool) (block : List (List ℕ)) (from m : ℕ) → test from ≡ true →
-    steps_that test block from (suc m) ≡ WriteSector 2 from (sector_at block from) ∷ steps_that test block (from + 1) m
+    steps_that test block from (suc m) ≡ write_sector 2 from (sector_at block from) ∷ steps_that test block (from + 1) m
 steps_passes test block from m passes = ap (λ (ps : List ℕ). block_writes block ps) (places_passes test from m passes)
 
 pub steps_fails : (test : ℕ → Bool) (block : List (List ℕ)) (from m : ℕ) → test from ≡ false →
@@ -115,7 +115,7 @@ pub length-writes_of : (places : List ℕ) (sectors : List (List ℕ)) (segment 
 length-writes_of [] sectors segment c = refl
 length-writes_of (place ∷ places) [] segment c = refl
 length-writes_of (place ∷ places) (bytes ∷ sectors) segment c =
-    length-writes_of places sectors segment (changed (WriteSector segment place bytes) c)
+    length-writes_of places sectors segment (changed (write_sector segment place bytes) c)
     ∙ length-set c.views (32 * segment + place) (written_view bytes (view_at c segment place))
 
 range_written : (block : List (List ℕ)) (c : Cartridge) → length block ≡ 32 →

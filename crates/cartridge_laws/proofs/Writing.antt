@@ -9,8 +9,10 @@ use Rattle.std.specs.Option.{option_map}
 use Rattle.std.proofs.lemmas.List.Elements.{All-get_or}
 use Rattle.cartridge_laws.proofs.Cells.{IsReadable, count_of_readable}
 use Rattle.cartridge_laws.proofs.Places.{AreSmall, AreApart, usable_small, usable_apart}
+use Rattle.cartridge_laws.specs.AppendWrites.{AreWrites, EachIs}
 use Rattle.cartridge_laws.specs.Writes.{data_in, block_in, segment_writes}
 use Rattle.cartridge_laws.specs.WritingLaws.{WritesLeaveData, WritesMakeReadable, WritesTouchOnly}
+use Rattle.cartridge_spec.specs.Appending.{new_sectors}
 use Rattle.cartridge_spec.specs.Code.{parity_sectors}
 use Rattle.cartridge_spec.specs.Says.{cells_of, unreadable_count}
 use Rattle.cartridge_spec.specs.Settling.{writes_of, changed_by}
@@ -18,7 +20,7 @@ use Rattle.cartridge_spec.specs.Shape.{usable_count, data_count, usable_places, 
 use Rattle.gf256_qic.proofs.Parities.{length-parity_sectors}
 use Rattle.qic_base.specs.Cartridge.{Cartridge, view_at}
 use Rattle.qic_base.specs.CartridgeTerms.{place_of}
-use Rattle.qic_base.specs.Step.{WriteSector, changed, written_view, Step}
+use Rattle.qic_base.specs.Step.{write_sector, changed, written_view, Step, with_sectors}
 use Rattle.qic_base.specs.declared.tape.SectorView.{SectorView}
 use Rattle.qic_base.specs.declared.tape.SectorView.TheVariants.{Blank, Defect, Lost, Holds}
 use Rattle.qic_base.proofs.Arrays.{slice_get-set_other}
@@ -42,7 +44,7 @@ length-block_in usable sectors least room =
 -- ---- one write
 
 at_written : (c : Cartridge) (segment place : ℕ) (bytes : List ℕ) →
-    view_at (changed (WriteSector segment place bytes) c) segment place ≡ written_view bytes (view_at c segment place)
+    view_at (changed (write_sector segment place bytes) c) segment place ≡ written_view bytes (view_at c segment place)
 at_written c segment place bytes =
     let p : ℕ = place_of segment place in
     let view : SectorView = written_view bytes (view_at c segment place) in
@@ -55,7 +57,7 @@ at_written c segment place bytes =
     ]
 
 at_other : (c : Cartridge) (segment place s i : ℕ) (bytes : List ℕ) → place < 32 → i < 32 → (s ≡ segment → place ≡ i → ⊥) →
-    view_at (changed (WriteSector segment place bytes) c) s i ≡ view_at c s i
+    view_at (changed (write_sector segment place bytes) c) s i ≡ view_at c s i
 at_other c segment place s i bytes small h apart =
     let other : place_of s i ≢ place_of segment place =
     λ e. let same : s ≡ segment = omega arith in let one : place ≡ i = omega arith in apart same one in
@@ -63,6 +65,21 @@ at_other c segment place s i bytes small h apart =
     (slice_get-set_other c.views (place_of segment place) (place_of s i) (written_view bytes (view_at c segment place)) other)
 
 -- ---- several writes
+
+-- sectors that are written in one step are as those that are written one after the other
+pub written_together : (segment : ℕ) (places : List ℕ) (sectors : List (List ℕ)) (c : Cartridge) →
+    with_sectors segment (new_sectors places sectors) c ≡ changed_by (writes_of segment places sectors) c
+written_together segment [] sectors c = refl
+written_together segment (p ∷ places) [] c = refl
+written_together segment (p ∷ places) (bytes ∷ sectors) c =
+    written_together segment places sectors (changed (write_sector segment p bytes) c)
+
+-- what is true of each of the writes is true of each of the sectors
+pub each_together : (of : ℕ → ℕ → List ℕ → Type 0) (segment : ℕ) (places : List ℕ) (sectors : List (List ℕ)) →
+    AreWrites of (writes_of segment places sectors) → EachIs of segment (new_sectors places sectors)
+each_together of segment [] sectors are = tt
+each_together of segment (p ∷ places) [] are = tt
+each_together of segment (p ∷ places) (bytes ∷ sectors) are = (are.0.0, each_together of segment places sectors are.1)
 
 abbrev NamesNot : List ℕ → (segment s i : ℕ) → Type 0
 NamesNot places segment s i = s ≡ segment → (k : ℕ) → k < length places → get_or places k 0 ≡ i → ⊥
@@ -73,7 +90,7 @@ view_kept : (places : List ℕ) (sectors : List (List ℕ)) (c : Cartridge) (seg
 view_kept [] sectors c segment s i small h other = refl
 view_kept (p ∷ places) [] c segment s i small h other = refl
 view_kept (p ∷ places) (bytes ∷ sectors) c segment s i small h other =
-    view_kept places sectors (changed (WriteSector segment p bytes) c) segment s i
+    view_kept places sectors (changed (write_sector segment p bytes) c) segment s i
     (λ k l. small (suc k) (omega arith)) h (λ same k l e. other same (suc k) (omega arith) e)
     ∙ at_other c segment p s i bytes (small 0 (omega arith)) h (λ same e. other same 0 (omega arith) e)
 
@@ -85,12 +102,12 @@ view_after : (places : List ℕ) (sectors : List (List ℕ)) (c : Cartridge) (se
 view_after [] sectors c segment k small apart h room = absurd (omega arith)
 view_after (p ∷ places) [] c segment k small apart h room = absurd (omega arith)
 view_after (p ∷ places) (bytes ∷ sectors) c segment zero small apart h room =
-    view_kept places sectors (changed (WriteSector segment p bytes) c) segment segment p
+    view_kept places sectors (changed (write_sector segment p bytes) c) segment segment p
     (λ k l. small (suc k) (omega arith)) (small 0 (omega arith)) (λ same k l e. apart 0 (suc k) (omega arith) (omega arith) (sym e))
     ∙ at_written c segment p bytes
 view_after (p ∷ places) (bytes ∷ sectors) c segment (suc k) small apart h room =
     let q : ℕ = get_or places k 0 in
-    view_after places sectors (changed (WriteSector segment p bytes) c) segment k
+    view_after places sectors (changed (write_sector segment p bytes) c) segment k
     (λ j l. small (suc j) (omega arith)) (λ i j l m e. apart (suc i) (suc j) (omega arith) (omega arith) e) (omega arith) (omega arith)
     ∙ ap (written_view (get_or sectors k []))
     (at_other c segment p segment q bytes (small 0 (omega arith)) (small (suc k) (omega arith))
@@ -105,7 +122,9 @@ after_all : (c : Cartridge) (segment usable : ℕ) (sectors : List (List ℕ)) (
     ≡ written_view (get_or (block_in usable sectors) k []) (view_at c segment (get_or (usable_places usable) k 0))
 after_all c segment usable sectors k least room h =
     let long : length (block_in usable sectors) ≡ usable_count usable = length-block_in usable sectors least room in
-    view_after (usable_places usable) (block_in usable sectors) c segment k (usable_small usable) (usable_apart usable) h (omega arith)
+    ap (λ (d : Cartridge). view_at d segment (get_or (usable_places usable) k 0))
+    (written_together segment (usable_places usable) (block_in usable sectors) c)
+    ∙ view_after (usable_places usable) (block_in usable sectors) c segment k (usable_small usable) (usable_apart usable) h (omega arith)
 
 -- the cell at a place
 pub cell_at : (c : Cartridge) (segment usable k : ℕ) → k < usable_count usable →
@@ -170,7 +189,7 @@ pub writes_touch_only : WritesTouchOnly
 writes_touch_only c segment places sectors s i small h other = view_kept places sectors c segment s i small h other
 
 pub writes_of_map : (segment : ℕ) (f : ℕ → ℕ) (g : ℕ → List ℕ) (places : List ℕ) →
-    writes_of segment (map f places) (map g places) ≡ map (λ p. WriteSector segment (f p) (g p)) places
+    writes_of segment (map f places) (map g places) ≡ map (λ p. write_sector segment (f p) (g p)) places
 writes_of_map segment f g [] = refl
 writes_of_map segment f g (p ∷ places) =
-    ap (λ (steps : List Step). WriteSector segment (f p) (g p) ∷ steps) (writes_of_map segment f g places)
+    ap (λ (steps : List Step). write_sector segment (f p) (g p) ∷ steps) (writes_of_map segment f g places)

@@ -1,11 +1,16 @@
 -- Lists of steps that are writes of sectors alone, which of them are free, and a cartridge whose front stayed.
 use Rattle.std.specs.Prelude.{ℕ, List, [], ◌∷◌, ◌<◌, ◌≡◌, ◌≤◌}
 use Rattle.qic_base.specs.Cartridge.{IsSector, Cartridge, view_at}
-use Rattle.qic_base.specs.Step.{Step, WriteSector, FormatSegment, SetReferenced, SetProtected, Renew, Wear, Spoil, Upgrade}
+use Rattle.qic_base.specs.Step.{Step, NewSector, WriteSectors, FormatSegment, SetReferenced, SetProtected, Renew, Wear, Spoil, Upgrade}
 
--- a write of which this is true: its segment, its sector index and its bytes
+-- sectors of a segment of which this is true: the segment, the sector's index and its bytes
+abbrev pub EachIs : (of : ℕ → ℕ → List ℕ → Type 0) → (segment : ℕ) → List NewSector → Type 0
+EachIs of segment [] = Unit {0}
+EachIs of segment (new ∷ more) = of segment new.sector new.bytes × EachIs of segment more
+
+-- a write of such sectors
 abbrev pub IsWrite : (of : ℕ → ℕ → List ℕ → Type 0) → Step → Type 0
-IsWrite of (WriteSector segment sector bytes) = of segment sector bytes
+IsWrite of (WriteSectors segment new) = EachIs of segment new
 IsWrite of (FormatSegment segment) = ⊥
 IsWrite of SetReferenced = ⊥
 IsWrite of (SetProtected on) = ⊥

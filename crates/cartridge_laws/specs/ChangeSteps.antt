@@ -1,9 +1,9 @@
 -- Steps that put in no new cartridge.
 use Rattle.std.specs.Prelude.{List, [], ◌∷◌}
-use Rattle.qic_base.specs.Step.{Step, WriteSector, FormatSegment, SetReferenced, SetProtected, Renew, Wear, Spoil, Upgrade}
+use Rattle.qic_base.specs.Step.{Step, WriteSectors, FormatSegment, SetReferenced, SetProtected, Renew, Wear, Spoil, Upgrade}
 
 abbrev pub IsNoRenew : Step → Type 0
-IsNoRenew (WriteSector segment sector bytes) = Unit {0}
+IsNoRenew (WriteSectors segment new) = Unit {0}
 IsNoRenew (FormatSegment segment) = Unit {0}
 IsNoRenew SetReferenced = Unit {0}
 IsNoRenew (SetProtected on) = Unit {0}

@@ -17,7 +17,7 @@ use Rattle.cartridge_spec.specs.Volumes.{volume_length}
 use Rattle.qic_base.specs.Cartridge.{new_cartridge, IsPlace, IsLength}
 use Rattle.qic_base.specs.Field.{date_word, IsDate, filled, IsNameText}
 use Rattle.qic_base.specs.DateTerms.{ShowsDate}
-use Rattle.qic_base.specs.Step.{WriteSector, FormatSegment, SetReferenced}
+use Rattle.qic_base.specs.Step.{write_sector, FormatSegment, SetReferenced}
 use Rattle.qic_base.specs.declared.foreign.ForeignField.TheVariants.{FormatCode}
 use Rattle.qic_base.specs.declared.tape.SectorView.{SectorView}
 use Rattle.qic_base.specs.declared.tape.SectorView.TheVariants as view
@@ -161,7 +161,7 @@ NameWidth = length (filled (codes "made-1")) ≡ 44
 -- a header copy: sectors 1 to 31, ascending, then sector 0
 abbrev pub CopyOrder : Type 0
 CopyOrder = copy_writes 1 (replicate 32 [])
-    ≡ map (λ i. WriteSector 1 i []) (range_with_len 1 31) ++ WriteSector 1 0 [] ∷ []
+    ≡ map (λ i. write_sector 1 i []) (range_with_len 1 31) ++ write_sector 1 0 [] ∷ []
 
 -- with 3 segments per track: the reference bursts, and then 84 segments
 abbrev pub Clearing : Type 0

@@ -1,11 +1,12 @@
 -- Lists of writes to a segment, as steps of a tape (QIC-80-MC: parity behind the data; the lists are this project's
 -- profile).
-use Rattle.std.specs.Prelude.{ℕ, List, take, map, slice_index}
+use Rattle.std.specs.Prelude.{ℕ, List, [], ◌∷◌, take, map, slice_index}
+use Rattle.cartridge_spec.specs.Appending.{new_sectors}
 use Rattle.cartridge_spec.specs.Says.{with_parity}
 use Rattle.cartridge_spec.specs.Settling.{writes_of}
 use Rattle.cartridge_spec.specs.Shape.{data_count, usable_places, sector_at}
 use Rattle.cartridge_laws.specs.Segment.{sectors_of}
-use Rattle.qic_base.specs.Step.{Step}
+use Rattle.qic_base.specs.Step.{Step, WriteSectors}
 
 -- ---- the usable sectors of a segment stand at the first places of a list of sectors
 
@@ -17,9 +18,9 @@ data_in usable sectors = take (data_count usable) sectors
 abbrev pub block_in : (usable : ℕ) → List (List ℕ) → List (List ℕ)
 block_in usable sectors = with_parity (data_in usable sectors)
 
--- all usable sectors, ascending: the data and their parity
+-- all usable sectors at once: the data and their parity
 abbrev pub segment_writes : (segment usable : ℕ) → List (List ℕ) → List Step
-segment_writes segment usable sectors = writes_of segment (usable_places usable) (block_in usable sectors)
+segment_writes segment usable sectors = WriteSectors segment (new_sectors (usable_places usable) (block_in usable sectors)) ∷ []
 
 -- the usable sectors at the places of a set, ascending
 abbrev pub named_writes : (segment usable places : ℕ) → List (List ℕ) → List Step

@@ -3,11 +3,11 @@
 use Rattle.std.specs.Prelude.{ℕ, List, [], ◌∷◌, ◌+◌, length, if◌then◌else◌, nat_lt, ◌-◌, nat_le, ◌&&◌, Bool, ◌++◌, replicate, zero, suc}
 use Rattle.std.specs.Prelude.{take, drop, slice_index, sum_by}
 use Rattle.cartridge_spec.specs.Says.{with_parity}
-use Rattle.cartridge_spec.specs.Settling.{block_writes, writes_of}
+use Rattle.cartridge_spec.specs.Settling.{block_writes}
 use Rattle.cartridge_spec.specs.Shape.{mask_at, capacity, data_count, usable_places}
 use Rattle.cartridge_spec.specs.Table.{Entry, table_with}
 use Rattle.cartridge_spec.specs.Volumes.{carrying, capacity_between, Volume, Part, Plain, entries_of}
-use Rattle.qic_base.specs.Step.{Step}
+use Rattle.qic_base.specs.Step.{Step, NewSector, WriteSectors}
 
 -- the end of the last of some volumes behind a segment, or that segment where there is none
 abbrev pub end_behind : (before : ℕ) → List Entry → ℕ
@@ -58,9 +58,15 @@ entry_behind words entries name date bytes = entry_of_length words entries name 
 abbrev pub table_writes : (changed : ℕ) → (new : List (List ℕ)) → List Step
 table_writes changed new = block_writes (with_parity new) (changed ∷ 29 ∷ 30 ∷ 31 ∷ [])
 
--- all usable sectors of a segment, ascending: its part of an area, and the parity of it
+-- sectors of a segment, by their indexes, with their bytes
+abbrev pub new_sectors : (places : List ℕ) → (sectors : List (List ℕ)) → List NewSector
+new_sectors (place ∷ places) (bytes ∷ sectors) = record { sector = place; bytes = bytes } ∷ new_sectors places sectors
+new_sectors places sectors = []
+
+-- all usable sectors of a segment at once: its part of an area, and the parity of it
 abbrev pub part_writes : (words : List ℕ) → Part → List Step
-part_writes words part = writes_of part.segment (usable_places (mask_at words part.segment)) (with_parity part.sectors)
+part_writes words part =
+    WriteSectors part.segment (new_sectors (usable_places (mask_at words part.segment)) (with_parity part.sectors)) ∷ []
 
 -- ---- the plain cartridge with volumes more
 

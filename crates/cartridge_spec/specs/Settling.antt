@@ -5,13 +5,13 @@ use Rattle.std.specs.Str.{bytes_eq}
 use Rattle.cartridge_spec.specs.Says.{with_parity}
 use Rattle.cartridge_spec.specs.Shape.{sector_at, is_unreadable}
 use Rattle.qic_base.specs.Cartridge.{Cartridge, view_at}
-use Rattle.qic_base.specs.Step.{Step, WriteSector, changed}
+use Rattle.qic_base.specs.Step.{Step, write_sector, changed}
 use Rattle.qic_base.specs.declared.tape.SectorView.{SectorView}
 use Rattle.qic_base.specs.declared.tape.SectorView.TheVariants.{Holds}
 
 -- one write for each of these sector indexes, of its bytes, in order
 abbrev pub writes_of : ℕ → List ℕ → List (List ℕ) → List Step
-writes_of segment (place ∷ places) (bytes ∷ sectors) = WriteSector segment place bytes ∷ writes_of segment places sectors
+writes_of segment (place ∷ places) (bytes ∷ sectors) = write_sector segment place bytes ∷ writes_of segment places sectors
 writes_of segment places sectors = []
 
 -- a cartridge that is there, after these steps

@@ -21,8 +21,8 @@ use Rattle.cartridge_spec.specs.Volumes.{Plain, Stands, entries_of, worn}
 use Rattle.command_laws.specs.Between.{ComesBackOnceFree, FreeMayComeBack, MountsWhileProtected, StepsBetweenCarryOn, without_mark}
 use Rattle.command_spec.specs.OneLoss.{ComesBackAsOneOf}
 use Rattle.qic_base.specs.Cartridge.{Cartridge, view_at, with_view}
-use Rattle.qic_base.specs.Step.{FormatSegment, Renew, SetProtected, SetReferenced, Spoil, Upgrade, Wear, WriteSector, changed, spoiled_view}
-use Rattle.qic_base.specs.Step.{worn_view}
+use Rattle.qic_base.specs.Step.{FormatSegment, Renew, SetProtected, SetReferenced, Spoil, Upgrade, Wear, WriteSectors, changed}
+use Rattle.qic_base.specs.Step.{spoiled_view, worn_view}
 use Rattle.qic_base.specs.declared.tape.SectorView.{SectorView}
 use Rattle.qic_base.specs.declared.tape.SectorView.TheVariants.{Blank, Defect, Holds, Lost}
 use Rattle.qic_base.specs.declared.tape.TapeInfo.{TapeInfo}
@@ -51,7 +51,7 @@ loses_one c lost live small = record {
 
 -- ---- a sector outside the table's segment that is changed
 
-abbrev touched : (change : SectorView → SectorView) (segment sector : ℕ) → Cartridge → Cartridge
+abbrev pub touched : (change : SectorView → SectorView) (segment sector : ℕ) → Cartridge → Cartridge
 touched change segment sector c = with_view c segment sector (change (view_at c segment sector))
 
 -- the sector's view behind that, where so many are there
@@ -71,7 +71,7 @@ touched_here change c s i =
     ]
 
 -- it is the same of two cartridges with as many views, of which the sector is the same
-touched_alike : (change : SectorView → SectorView) (c d : Cartridge) (segment sector s i : ℕ) → sector < 32 → i < 32 →
+pub touched_alike : (change : SectorView → SectorView) (c d : Cartridge) (segment sector s i : ℕ) → sector < 32 → i < 32 →
     length c.views ≡ length d.views →
     view_at c s i ≡ view_at d s i → view_at (touched change segment sector c) s i ≡ view_at (touched change segment sector d) s i
 touched_alike change c d segment sector s i small low long same =
@@ -96,7 +96,7 @@ touched_alike change c d segment sector s i small low long same =
         view_of_other_sector c segment sector s i (change (view_at c segment sector)) small low apart ∙ same
         ∙ sym (view_of_other_sector d segment sector s i (change (view_at d segment sector)) small low apart)
 
-settled_long : (area : List (List ℕ)) (c : Cartridge) → length (settled area c).views ≡ length c.views
+pub settled_long : (area : List (List ℕ)) (c : Cartridge) → length (settled area c).views ≡ length c.views
 settled_long area c = by_mark c.info.protected
   where
     by_mark : (mark : Bool) → length (if mark then c else changed_by (writes_of 2 (usable_places whole_mask) (with_parity area)) c).views ≡
@@ -105,7 +105,7 @@ settled_long area c = by_mark c.info.protected
     by_mark false = length-writes_of (usable_places whole_mask) (with_parity area) 2 c
 
 -- it leaves the sectors of the table's segment
-abbrev LeavesTable : Cartridge → Cartridge → Type 0
+abbrev pub LeavesTable : Cartridge → Cartridge → Type 0
 LeavesTable c d = (i : ℕ) → i < 32 → view_at d 2 i ≡ view_at c 2 i
 
 -- what comes back without the change comes back with it, where what stands still does
@@ -153,7 +153,7 @@ module _ (change : SectorView → SectorView) (c : Cartridge) (segment sector : 
       ]
 
 -- a worn sector behind the table's segment leaves that
-worn_leaves : (c : Cartridge) (segment sector : ℕ) → 3 ≤ segment → sector < 32 → LeavesTable c (worn segment sector c)
+pub worn_leaves : (c : Cartridge) (segment sector : ℕ) → 3 ≤ segment → sector < 32 → LeavesTable c (worn segment sector c)
 worn_leaves c segment sector behind small i h =
     view_of_other c segment sector 2 i (worn_view (view_at c segment sector)) small h (λ is. let low : segment ≡ 2 = sym is in omega arith)
 
@@ -164,7 +164,7 @@ live_stays Defect live = absurd live
 live_stays Lost live = refl
 live_stays (Holds bytes) live = refl
 
-spoiled_leaves : (c : Cartridge) (segment sector : ℕ) → IsTableLive c → LeavesTable c (changed (Spoil segment sector) c)
+pub spoiled_leaves : (c : Cartridge) (segment sector : ℕ) → IsTableLive c → LeavesTable c (changed (Spoil segment sector) c)
 spoiled_leaves c segment sector live i h =
     elim (one_view c segment sector spoiled_view 2 i) [
       | inl stays ↦ stays
@@ -214,13 +214,13 @@ steps_between_carry_on (Spoil segment sector) c one other small may =
           (λ e plain stood. spoiled_stands e plain segment sector stood) one other may.comes;
       live = λ i h. subst IsLive (sym (stays i h)) (may.live i h);
     }
-steps_between_carry_on (WriteSector segment sector bytes) c one other between may = absurd between
+steps_between_carry_on (WriteSectors segment new) c one other between may = absurd between
 steps_between_carry_on (FormatSegment segment) c one other between may = absurd between
 steps_between_carry_on (Renew n) c one other between may = absurd between
 
 -- ---- the mark
 
-freed : (c : Cartridge) → c.info.protected ≡ false → c.info ≡ (without_mark c).info
+pub freed : (c : Cartridge) → c.info.protected ≡ false → c.info ≡ (without_mark c).info
 freed c free = ap (λ (b : Bool). record c.info { protected = b }) free
 
 pub comes_back_once_free : ComesBackOnceFree
@@ -232,7 +232,7 @@ free_may_come_back c one other free live comes = record {
   live = live;
 }
 
-marked : (f : Cartridge) (plain : Plain) → Mounts (without_mark f) (mounted_as plain) → Mounts f (mounted_as plain)
+pub marked : (f : Cartridge) (plain : Plain) → Mounts (without_mark f) (mounted_as plain) → Mounts f (mounted_as plain)
 marked f plain mounts = protected_mounts (without_mark f) f.info.protected plain.header plain.words plain.table_area
     (entries_of plain) mounts
 

@@ -307,7 +307,7 @@ append_done name date input c plain outcome label word content whole stood machi
 
 -- ---- refused
 
-not_done_small : (b : Bool) (need have : ℕ) → cond b status.Done (status.Full need have) ≢ status.Done → b ≡ false
+pub not_done_small : (b : Bool) (need have : ℕ) → cond b status.Done (status.Full need have) ≢ status.Done → b ≡ false
 not_done_small true need have other = absurd (other refl)
 not_done_small false need have other = refl
 

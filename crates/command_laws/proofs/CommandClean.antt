@@ -194,7 +194,7 @@ AreBehind steps = AreIn (λ s i. 1 < s) steps
 
 block_behind : (block : List (List ℕ)) (places : List ℕ) → AreSmall places → AreBehind (block_writes block places)
 block_behind block [] small = tt
-block_behind block (p ∷ ps) small = ((omega arith, small p (inl refl)), block_behind block ps (rest_small p ps small))
+block_behind block (p ∷ ps) small = (((omega arith, small p (inl refl)), tt), block_behind block ps (rest_small p ps small))
 
 steps_where : (b : Bool) (xs ys : List Step) → AreBehind xs → AreBehind ys → AreBehind (cond b xs ys)
 steps_where true xs ys one other = one

@@ -1,7 +1,7 @@
 -- A volume is given back byte for byte by words of restoring.
-use Rattle.std.proofs.Common.{◌≡◌, ◌≢◌, ℕ, List, Some, subst, ap, ◌∙◌, sym, inl, inr, ◌++◌, ◌⊎◌, Option, IfSome, append_assoc, false}
+use Rattle.std.proofs.Common.{◌≡◌, ◌≢◌, ℕ, List, Some, subst, ap, ◌∙◌, sym, inl, inr, ◌++◌, ◌⊎◌, Option, IfSome, append_assoc, false, All}
 use Rattle.cartridge_spec.specs.Volumes.{volume_bytes, Plain, Volume}
-use Rattle.command_laws.proofs.RestoreGivenBack.{given, given_whole, given_lost, given_front}
+use Rattle.command_laws.proofs.RestoreGivenBack.{IsFront, WasLost, WasWhole, given, given_whole, given_lost, given_front}
 use Rattle.command_laws.proofs.TextWords.{one_command}
 use Rattle.command_laws.specs.RunTerms.{Answers}
 use Rattle.command_spec.specs.Headline.{Stepped, IsCut}
@@ -9,7 +9,7 @@ use Rattle.command_spec.specs.Machine.{Spells, Step, IsCutOff, is_fault, fault_o
 use Rattle.command_laws.specs.Outcomes.{RestoreOutcome}
 use Rattle.command_laws.specs.CommandFields.{Yields}
 use Rattle.command_spec.specs.Outcome.{CommandOutcome, output_of}
-use Rattle.command_spec.specs.Restore.{HasNumber}
+use Rattle.command_spec.specs.Restore.{FirstLost, HasNumber, LosesFew, pieces_in}
 use Rattle.command_spec.specs.Volumes.{GivesBack}
 use Rattle.command_spec.specs.declared.status.Status.{Status}
 use Rattle.command_spec.specs.declared.words.Words.{Words}
@@ -22,6 +22,26 @@ use Rattle.qic_base.specs.Sink as sinks
 use Rattle.qic_base.specs.Source as sources
 use Rattle.qic_base.specs.Tape as tapes
 use Rattle.command_spec.specs.declared.words.Words.TheVariants as commands
+
+-- ---- what is given
+
+-- what an outcome of a restore prints of a volume, and answers
+pub record IsGivenSo (c : Cartridge) (plain : Plain) (volume : Volume) (outcome : CommandOutcome) : Type 0 where
+  pub whole : All (LosesFew c plain.words) (pieces_in plain volume) → WasWhole plain volume outcome
+  pub lost : (first : FirstLost c plain.words (pieces_in plain volume)) → WasLost c plain volume first outcome
+  pub front : IsFront (output_of outcome) (volume_bytes plain.words volume)
+
+abbrev pub GivesSo : (number : ℕ) → Cartridge → Plain → Volume → Type 0
+GivesSo number c plain volume = (outcome : CommandOutcome) → RestoreOutcome number (Some c) outcome → IsGivenSo c plain volume outcome
+
+pub stands_gives : (number : ℕ) (c : Cartridge) (plain : Plain) (volume : Volume) → HasNumber c plain number volume →
+    GivesSo number c plain volume
+stands_gives number c plain volume has outcome plainly =
+    let g = given number c plain volume outcome has plainly in record {
+      whole = λ few. given_whole number c plain volume outcome has g few;
+      lost = λ first. given_lost number c plain volume first outcome has g;
+      front = given_front number c plain volume outcome has g;
+    }
 
 -- ---- the run
 
@@ -56,17 +76,17 @@ module _ {T S K : Type 0} (t : tapes.Meaning T) (s : sources.Meaning S) (k : sin
             took = subst (λ (text : List ℕ). k.took old.sink text new.sink) output stepped.took;
           }
 
-  was_cut : (failing : Failing) (plain : Plain) (volume : Volume) → HasNumber c plain number volume →
+  was_cut : (failing : Failing) (plain : Plain) (volume : Volume) → GivesSo number c plain volume →
       Spells words (commands.Restore number) → t.told old.tape ≡ Some (Some c) → IsCut t s k words old new failing →
       TookFront k old.sink new.sink (volume_bytes plain.words volume)
-  was_cut failing plain volume has spells told (command, spelled, over) =
+  was_cut failing plain volume gives spells told (command, spelled, over) =
       let same : command ≡ commands.Restore number = one_command words command (commands.Restore number) spelled spells in
       let here = subst (λ (o : Option (Option Cartridge)). IfSome o (λ held. (input : List ℕ) × IsInput (s.left old.source) input
       × ((outcome : CommandOutcome) × Yields command held input outcome × IsCutOff t s k command old new failing outcome))) told over in
       let cut = here.2 in
       let plainly : RestoreOutcome number (Some c) cut.0 = subst (λ (w : Words). Yields w (Some c) here.0 cut.0) same cut.1 in
       let off : IsCutOff t s k command old new failing cut.0 = cut.2 in
-      let front = given_front number c plain volume cut.0 has (given number c plain volume cut.0 has plainly) in
+      let front = (gives cut.0 plainly).front in
       let took = cut_took_front t s k old new cut.0.acts failing off.cut in
       record {
         front = took.front;
@@ -75,6 +95,26 @@ module _ {T S K : Type 0} (t : tapes.Meaning T) (s : sources.Meaning S) (k : sin
         took = took.took;
       }
 
+-- over one of which each outcome gives it so
+pub gives_back_so : {T S K : Type 0} (t : tapes.Meaning T) (s : sources.Meaning S) (k : sinks.Meaning K) (words : List (List ℕ))
+    (old new : Outside T S K) (answer : Status) →
+    (is_fault answer ≡ false → Answers t s k words old new answer) →
+    ((failing : Failing) → answer ≡ fault_of failing → IsCut t s k words old new failing) →
+    (number : ℕ) (c : Cartridge) (plain : Plain) (volume : Volume) → Spells words (commands.Restore number) →
+    t.told old.tape ≡ Some (Some c) →
+    GivesSo number c plain volume → GivesBack k c plain volume old.sink new.sink answer
+gives_back_so t s k words old new answer carried cut number c plain volume spells told gives = record {
+  whole = λ sound memory few.
+      let was = was_stepped t s k words old new answer number c memory spells told (carried sound) in
+      let is = (gives was.outcome was.plain).whole few in
+      (was.answered ∙ is.0, subst (λ (text : List ℕ). k.took old.sink text new.sink) is.1 was.took);
+  lost = λ first sound memory.
+      let was = was_stepped t s k words old new answer number c memory spells told (carried sound) in
+      let is = (gives was.outcome was.plain).lost first in
+      (was.answered ∙ is.0, subst (λ (text : List ℕ). k.took old.sink text new.sink) is.1 was.took);
+  broken = λ failing is. was_cut t s k words old new answer number c failing plain volume gives spells told (cut failing is);
+}
+
 pub gives_back : {T S K : Type 0} (t : tapes.Meaning T) (s : sources.Meaning S) (k : sinks.Meaning K) (words : List (List ℕ))
     (old new : Outside T S K) (answer : Status) →
     (is_fault answer ≡ false → Answers t s k words old new answer) →
@@ -82,14 +122,5 @@ pub gives_back : {T S K : Type 0} (t : tapes.Meaning T) (s : sources.Meaning S) 
     (number : ℕ) (c : Cartridge) (plain : Plain) (volume : Volume) → Spells words (commands.Restore number) →
     t.told old.tape ≡ Some (Some c) →
     HasNumber c plain number volume → GivesBack k c plain volume old.sink new.sink answer
-gives_back t s k words old new answer carried cut number c plain volume spells told has = record {
-  whole = λ sound memory few.
-      let was = was_stepped t s k words old new answer number c memory spells told (carried sound) in
-      let is = given_whole number c plain volume was.outcome has (given number c plain volume was.outcome has was.plain) few in
-      (was.answered ∙ is.0, subst (λ (text : List ℕ). k.took old.sink text new.sink) is.1 was.took);
-  lost = λ first sound memory.
-      let was = was_stepped t s k words old new answer number c memory spells told (carried sound) in
-      let is = given_lost number c plain volume first was.outcome has (given number c plain volume was.outcome has was.plain) in
-      (was.answered ∙ is.0, subst (λ (text : List ℕ). k.took old.sink text new.sink) is.1 was.took);
-  broken = λ failing is. was_cut t s k words old new answer number c failing plain volume has spells told (cut failing is);
-}
+gives_back t s k words old new answer carried cut number c plain volume spells told has =
+    gives_back_so t s k words old new answer carried cut number c plain volume spells told (stands_gives number c plain volume has)

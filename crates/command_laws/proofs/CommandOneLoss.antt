@@ -1,6 +1,6 @@
 -- A cartridge that an append left, done or stopped, comes back where one sector more of its table's segment is lost.
 use Rattle.std.proofs.Common.{inl, ℕ, ◌≤◌, List, ◌∙◌, ◌⊎◌, inr, ◌++◌, ◌+◌, Option, Some, subst, ◌≡◌, ◌^◌, ◌<◌, true, false, All, IsSomeAnd}
-use Rattle.std.proofs.Common.{refl, [], ◌∷◌, ap, length, min, sym}
+use Rattle.std.proofs.Common.{refl, [], ◌∷◌, ap, length, min, sym, ◌≢◌}
 use Rattle.std.proofs.lemmas.Bool.{cases_Bool}
 use Rattle.cartridge_laws.proofs.AppendReady.{settled_is_ready}
 use Rattle.cartridge_laws.proofs.AppendVolume.{free_writes_stand, last_end_least, stopped_volume}
@@ -20,7 +20,7 @@ use Rattle.cartridge_spec.specs.Mounting.{settled, ComesBackAs}
 use Rattle.cartridge_spec.specs.Settling.{settling_steps, changed_by}
 use Rattle.cartridge_spec.specs.Volumes.{Plain, Stands, entries_of}
 use Rattle.command_laws.proofs.CommandAppends.{behind_settling, segments_acts, table_acts, fits, segments_are_free, no_table, steps_are}
-use Rattle.command_laws.proofs.CommandAppends.{course, kept_of, done_behind, done_fits}
+use Rattle.command_laws.proofs.CommandAppends.{course, kept_of, done_behind, done_fits, not_done_small}
 use Rattle.command_spec.specs.Append.{AppendOutcome, room_in}
 use Rattle.command_spec.specs.OneLoss.{ComesBackAsOneOf}
 use Rattle.command_spec.specs.Outcome.{CommandOutcome}
@@ -128,6 +128,18 @@ module _ (name : List ℕ) (date : ℕ) (input : List ℕ) (c : Cartridge) (plai
             ]
       ]
 
+  -- where there is no room for the volume
+  small_survives : fits plain input ≡ false → (left : Option Cartridge) →
+      Torn (behind_settling c plain (steps_of (segments_acts c plain input ++ table_acts c plain name date input))) (Some c) left →
+      Torn (settling_steps plain.table_area c) (Some c) left ⊎ IsSomeAnd left (ComesBackAsOneOf plain plain)
+  small_survives small left torn =
+      elim (settled_or_not c plain (steps_of (segments_acts c plain input)) left table live
+      (subst (λ (acts : List Act). Torn (behind_settling c plain (steps_of acts)) (Some c) left)
+      (no_table c plain name date input small) torn)) [
+        | inl settling ↦ inl settling
+        | inr behind ↦ inr (free_survives plain left behind)
+      ]
+
   -- once all is done
   pub done_survives : fits plain input ≡ true → (f : Cartridge) (lost : ℕ) →
       LosesOneAlone (changed_by (appends.append_steps_of plain name date input) s) f lost → ComesBackAs f (with_bytes plain name date input)
@@ -178,4 +190,24 @@ done_comes_back name date input c plain outcome label word content whole stood l
           (ap (λ (o : CommandOutcome). effects (steps_of o.acts) (Some c)) run.is
           ∙ ap (λ (steps : List Step). effects (behind_settling c plain steps) (Some c)) (steps_are name date input c plain enough)
           ∙ done_behind c plain (appends.append_steps_of plain name date input) run.table)
+    ]
+
+-- where it was refused, it comes back without the volume
+pub refused_comes_back : (name : List ℕ) (date : ℕ) (input : List ℕ) (c : Cartridge) (plain : Plain) (outcome : CommandOutcome)
+    (left : Option Cartridge) →
+    IsLabel name → date < 2 ^ 32 → All (λ b. b < 256) input → IsCartridge c → Stands c plain → IsTableLive c →
+    AppendOutcome name date (Some c) input outcome → outcome.status ≢ status.Done → Torn (steps_of outcome.acts) (Some c) left →
+    Torn (settling_steps plain.table_area c) (Some c) left ⊎ IsSomeAnd left (ComesBackAsOneOf plain plain)
+refused_comes_back name date input c plain outcome left label word content whole stood live machine other torn =
+    elim (course name date input c plain outcome stood machine) [
+      | inl none ↦
+          inl (nothing_torn c (settling_steps plain.table_area c) left
+          (subst (λ (ss : List Step). Torn ss (Some c) left) (ap (λ (o : CommandOutcome). steps_of o.acts) none.is ∙ none.none) torn))
+      | inr run ↦
+          let have : ℕ = room_in (kept_of c plain) in
+          let small : fits plain input ≡ false =
+          not_done_small (fits plain input) (min (length input) (have + 1)) have
+          (λ is. other (ap (λ (o : CommandOutcome). o.status) run.is ∙ is)) in
+          small_survives name date input c plain label word content whole stood live run.unprotected run.table small left
+          (subst (λ (o : CommandOutcome). Torn (steps_of o.acts) (Some c) left) run.is torn)
     ]

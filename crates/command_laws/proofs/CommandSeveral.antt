@@ -542,7 +542,7 @@ module _ (seed count : ℕ) (few : count ≤ 200) (c : Cartridge) (plain : Plain
       (subst (λ (why : Status). AppendedBy seed count plain.words (entries_of plain) why made.0) is_done made.1) made.2
 
 -- what is left by words of a generated run
-some_made : (told : Option (List ℕ)) (words : List (List ℕ)) (held left : Option Cartridge) →
+pub some_made : (told : Option (List ℕ)) (words : List (List ℕ)) (held left : Option Cartridge) →
     ((command : Words) → Spells words command → HasValues command) → IfSome held IsCartridge →
     WordsLeave told words held left → SomeMade words held left
 some_made told words held left values whole (inl same) seed count c plain is run live =

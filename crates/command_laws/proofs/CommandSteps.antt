@@ -46,7 +46,7 @@ use Rattle.qic117_commands.specs.declared.command.Command.{Command}
 use Rattle.qic_base.proofs.Joins.{steps_of-append}
 use Rattle.qic_base.specs.Acts.{Act, steps_of, text_of}
 use Rattle.qic_base.specs.Cartridge.{Cartridge, view_at, info_of}
-use Rattle.qic_base.specs.Step.{Step, WriteSector, FormatSegment, Wear}
+use Rattle.qic_base.specs.Step.{Step, write_sector, FormatSegment, Wear}
 use Rattle.command_spec.specs.declared.status.Status.{Status}
 use Rattle.command_laws.proofs.ScrubPlain.{as_plain}
 use Rattle.command_laws.specs.ScrubPlain.{looking_acts}
@@ -199,7 +199,7 @@ none_in_mending c segment (place ∷ places) [] = tt
 none_in_mending c segment (place ∷ places) (bytes ∷ sectors) =
     let rest : List Step = mending_writes c segment places sectors in
     let none : HasNoRenew rest = none_in_mending c segment places sectors in
-    none_where (is_unreadable (view_at c segment place)) (WriteSector segment place bytes ∷ rest) rest (tt, none) none
+    none_where (is_unreadable (view_at c segment place)) (write_sector segment place bytes ∷ rest) rest (tt, none) none
 
 pub none_in_look : (c : Cartridge) (l : Looked) (s : Saying) → HasNoRenew (steps_in c l s)
 none_in_look c l (Data sectors) =
@@ -256,7 +256,7 @@ sent_none held input outcome plain =
 -- ---- appending
 
 segment_none : (ws : List ℕ) (s : ℕ) (bytes : List ℕ) → HasNoRenew (segment_act ws s bytes).steps
-segment_none ws s bytes = none_in_writes s (usable_places (mask_at ws s)) _
+segment_none ws s bytes = (tt, tt)
 
 volume_none : (ws segments bytes : List ℕ) → AreNoRenew (volume_acts ws segments bytes)
 volume_none ws [] bytes = tt

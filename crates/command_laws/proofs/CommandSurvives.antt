@@ -1,14 +1,14 @@
 -- What words that append leave comes back where one sector more of the table's segment is lost.
 use Rattle.std.proofs.Common.{◌≤◌, ◌≡◌, ℕ, List, Option, Some, IfSome, refl, ◌∙◌, subst, inl, inr, IsSomeAnd, sym, ap, [], arith, length}
-use Rattle.std.proofs.Common.{◌⊎◌, take, false}
+use Rattle.std.proofs.Common.{◌⊎◌, take, drop, false}
 use Rattle.cartridge_laws.proofs.FormatWriting.{some_weaker}
 use Rattle.cartridge_spec.specs.Appending.{with_bytes}
 use Rattle.cartridge_spec.specs.TableSegment.{IsTableLive, LosesOneAlone}
 use Rattle.cartridge_spec.specs.Mounting.{settled, ComesBackAs}
 use Rattle.cartridge_spec.specs.Settling.{settling_steps}
 use Rattle.cartridge_spec.specs.Volumes.{Plain, Stands}
-use Rattle.command_laws.proofs.CommandComesBack.{make_comes_back, make_comes_done, make_comes_printed, none_answered, script_comes_answered}
-use Rattle.command_laws.proofs.CommandComesBack.{script_comes_back, script_comes_heard}
+use Rattle.command_laws.proofs.CommandComesBack.{lines_come_answered, lines_come_back, lines_come_heard, make_comes_back, make_comes_done}
+use Rattle.command_laws.proofs.CommandComesBack.{make_comes_printed, none_answered}
 use Rattle.command_laws.proofs.CommandEnds.{Laws, told_whole}
 use Rattle.command_laws.proofs.CommandOneLoss.{append_comes_back, nothing_torn, done_comes_back}
 use Rattle.command_laws.proofs.CommandSeveral.{ends_ran, untouched_now, over_any, over_stop}
@@ -20,8 +20,8 @@ use Rattle.command_spec.specs.Headline.{StopLeaves, WordsLeave, EachLeft, ToldNo
 use Rattle.command_spec.specs.Several.{IsHeard, FirstLinesSpare, OverInput, Scripted}
 use Rattle.command_laws.specs.CommandFields.{Yields}
 use Rattle.command_spec.specs.Machine.{HasValues, Spells, CommandEnds, is_fault, IsOfBytes}
-use Rattle.command_spec.specs.OneLoss.{SurvivesOneLoss, AppendingLeaves, AppendingLeft, LeftComesBack, SomeComeBack, with_one}
-use Rattle.command_spec.specs.OneLoss.{StoppedComesBack}
+use Rattle.command_spec.specs.OneLoss.{SurvivesOneLoss, AppendingLeaves, AppendingLeft, SomeComeBack, with_one}
+use Rattle.command_spec.specs.OneLoss.{LinesComeBack, ScriptSettling, StoppedComesBack, lines_before, steps_until}
 use Rattle.command_spec.specs.Volumes.{IsCarriedOut}
 use Rattle.command_spec.specs.declared.status.Status.{Status}
 use Rattle.command_spec.specs.declared.words.Words.{Words}
@@ -46,9 +46,9 @@ use Rattle.command_spec.specs.declared.status.Status.TheVariants as status
 abbrev ScriptComes : List ℕ → List (List ℕ) → Cartridge → Plain → Option Cartridge → Type 0
 ScriptComes input words c plain left =
     (script : Scripted input words c plain) → c.info.protected ≡ false → (count : ℕ) → FirstLinesSpare script count →
-    ItemsSpareTable (take count script.does.items) →
+    (settling : ScriptSettling script count) → ItemsSpareTable (drop (lines_before settling) (take count script.does.items)) →
     CameFurther (settled plain.table_area c) script.does.items script.does.dids script.does.last count left
-    ⊎ LeftComesBack c (with_items plain script.does.items script.does.dids) 0 count left
+    ⊎ LinesComeBack script (lines_before settling) count settling left
 
 -- what stood
 untouched : (told : Option (List ℕ)) (words : List (List ℕ)) (c : Cartridge) (plain : Plain) (left : Option Cartridge) → left ≡ Some c →
@@ -58,7 +58,8 @@ untouched told words c plain left is =
     record {
       append = λ name date spells bytes. (input_of told, input_told told, inl (refl, here));
       make = λ seed count spells. inl (refl, here);
-      script = over_any told (λ input. ScriptComes input words c plain left) (λ script free count spares table. inr (inl (refl, here)));
+      script = over_any told (λ input. ScriptComes input words c plain left) (λ script free count spares settling table.
+          inr (inl (refl, nothing_torn c (steps_until (settling_steps plain.table_area c) settling) left is)));
     }
 
 -- what a stop in a command leaves
@@ -91,8 +92,8 @@ left_by told words command c plain left values whole spelled leaves stood live =
       let l : StopLeaves told other (Some c) left = as_other other spells in
       make_comes_back seed count (values other spells) c plain whole stood live l.outcome left l.plain l.torn;
   script = over_stop told words command (Some c) left (λ input. ScriptComes input words c plain left) spelled leaves
-      (λ l script free count spares table. script_comes_back l.input words c plain whole script live free l.outcome l.plain left count
-      spares table l.torn)
+      (λ l script free count spares settling table. lines_come_back l.input words c plain whole script live free l.outcome l.plain left
+      count spares settling table l.torn)
       (λ other script. absurd (other script.spelled));
 } where
   as_other : (other : Words) → Spells words other → StopLeaves told other (Some c) left
@@ -121,13 +122,15 @@ abbrev AnswersScript : {T K : Type 0} (t : tapes.Meaning T) (k : sinks.Meaning K
 AnswersScript t k words new text c plain input =
     (script : Scripted input words c plain) → c.info.protected ≡ false → (answered count : ℕ) → answered ≤ length script.does.items →
     printed_by script.does.dids answered ≤ length text → GoesNoFurther script.does.items script.does.dids count (length text) →
-    FirstLinesSpare script count → ItemsSpareTable (take count script.does.items) →
-    ToldNow t new (LeftComesBack c (with_items plain script.does.items script.does.dids) answered count)
+    FirstLinesSpare script count → (settling : ScriptSettling script count) → lines_before settling ≤ answered →
+    ItemsSpareTable (drop (lines_before settling) (take count script.does.items)) →
+    ToldNow t new (LinesComeBack script answered count settling)
 
 abbrev HeardScript : {T : Type 0} (t : tapes.Meaning T) (words : List (List ℕ)) (new : T) → Status → Cartridge → Plain → List ℕ → Type 0
 HeardScript t words new answer c plain input =
     (script : Scripted input words c plain) → c.info.protected ≡ false → IsHeard answer →
-    ItemsSpare (settled plain.table_area c) plain script.does.items script.does.dids → ItemsSpareTable script.does.items →
+    ItemsSpare (settled plain.table_area c) plain script.does.items script.does.dids →
+    (settling : ScriptSettling script (length script.does.items)) → ItemsSpareTable (drop (lines_before settling) script.does.items) →
     ToldNow t new (SomeComeBack (with_items plain script.does.items script.does.dids) (length script.does.items) (length script.does.items))
 
 -- the input of a script; of other words nothing is asked
@@ -200,20 +203,20 @@ module _ {T S K : Type 0} (t : tapes.Meaning T) (s : sources.Meaning S) (k : sin
                   broken.each
             ];
         script = over_command (s.left old.source) words command ran.input (ScriptAnswers ran.was.text c plain) spelled ran.is_told ran.bytes
-            (λ script free answered count known written further spares table.
+            (λ script free answered count known written further spares settling behind table.
             now_weaker t old.tape new.tape
-            (λ left is. script_comes_answered ran.input words c plain whole script live free ran.outcome
+            (λ left is. lines_come_answered ran.input words c plain whole script live free ran.outcome
             (as_other commands.Script script.spelled) ran.was.text left
-            answered count known written further spares table is) ran.was.each)
+            answered count known written further spares settling behind table is) ran.was.each)
             (λ other script. absurd (other script.spelled));
         heard = over_command (s.left old.source) words command ran.input (ScriptHeard c plain) spelled ran.is_told ran.bytes
-            (λ script free which spares table.
+            (λ script free which spares settling table.
             let went = ran.heard which in
             now_weaker t old.tape new.tape
             (λ left is. subst (SomeComeBack (with_items plain script.does.items script.does.dids) (length script.does.items)
             (length script.does.items)) (sym is)
-            (script_comes_heard ran.input words c plain whole script live free ran.outcome (as_other commands.Script script.spelled)
-            (subst IsHeard (sym went.0) which) spares table))
+            (lines_come_heard ran.input words c plain whole script live free ran.outcome (as_other commands.Script script.spelled)
+            (subst IsHeard (sym went.0) which) spares settling table))
             (done_now t old.tape new.tape (steps_of ran.outcome.acts) (Some c) went.1 told))
             (λ other script. absurd (other script.spelled));
       }
@@ -239,12 +242,14 @@ none_survives t k told words a x answer right nothing never unheard values leave
     append = λ name date spells bytes which. absurd (never which);
     make = λ seed count spells which. elim which [ inl some ↦ absurd (some refl) | inr carried ↦ absurd (never carried) ];
     script = over_any told (AnswersScript t k words a [] c plain)
-        (λ script free answered count known written further spares table.
-        untouched_now t a c (LeftComesBack c (with_items plain script.does.items script.does.dids) answered count) is
+        (λ script free answered count known written further spares settling behind table.
+        untouched_now t a c (LinesComeBack script answered count settling) is
         (inl (
-          none_answered (settled plain.table_area c) plain (input_of told) script.outcome script.does answered [] known written refl,
-          nothing_torn c (settling_steps plain.table_area c) (Some c) refl,
+          (let none : answered ≡ 0 =
+              none_answered (settled plain.table_area c) plain (input_of told) script.outcome script.does answered [] known written refl in
+              omega arith),
+          nothing_torn c (steps_until (settling_steps plain.table_area c) settling) (Some c) refl,
         )));
-    heard = over_any told (HeardScript t words a answer c plain) (λ script free which spares table. absurd (unheard which));
+    heard = over_any told (HeardScript t words a answer c plain) (λ script free which spares settling table. absurd (unheard which));
   };
 }

@@ -203,7 +203,7 @@ of_bytes None input known is given = given
 of_bytes (Some bytes) input known is given = subst (λ (xs : List ℕ). All (λ b. b < 256) xs) (sym is) known
 
 -- what is left by words of appending
-appended_or_not : (told : Option (List ℕ)) (words : List (List ℕ)) (held left : Option Cartridge) →
+pub appended_or_not : (told : Option (List ℕ)) (words : List (List ℕ)) (held left : Option Cartridge) →
     ((command : Words) → Spells words command → HasValues command) → IfSome held IsCartridge →
     WordsLeave told words held left → AppendedOrNot told words held left
 appended_or_not told words held left values whole (inl same) name date c plain spells is bytes stood live =

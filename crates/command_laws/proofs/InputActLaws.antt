@@ -19,7 +19,7 @@ use Rattle.gf256_qic.proofs.Parities.{parity_sectors-are_sectors}
 use Rattle.qic_base.specs.Acts.{Act, steps_of, text_of}
 use Rattle.qic_base.specs.Cartridge.{IsSector}
 use Rattle.qic_base.specs.Step.{Step}
-use Rattle.cartridge_laws.proofs.AppendWhole.{writes_whole}
+use Rattle.cartridge_laws.proofs.AppendWhole.{sectors_whole}
 use Rattle.qic_base.specs.Disk.{AreBytes}
 
 -- ---- a whole volume
@@ -151,10 +151,12 @@ anywhere (s ∷ ss) = All-cons Anywhere s ss tt (anywhere ss)
 act_whole : (words : List ℕ) (s : ℕ) (bytes : List ℕ) → Anywhere s → AreBytes bytes → AreWrites IsOfSector (segment_act words s bytes).steps
 act_whole words s bytes any are =
     let sectors : List (List ℕ) = in_sectors (data_count (mask_at words s)) bytes in
-    let data_part : All IsSector sectors = are_sectors (data_count (mask_at words s)) bytes are in
-    writes_whole s (usable_places (mask_at words s)) (with_parity sectors)
-    (All-append IsSector sectors (parity_sectors sectors) data_part
-    (parity_sectors-are_sectors sectors data_part))
+    let data_part : All IsSector sectors = are_sectors (data_count (mask_at words s)) bytes are in (
+      sectors_whole s (usable_places (mask_at words s)) (with_parity sectors)
+          (All-append IsSector sectors (parity_sectors sectors) data_part
+          (parity_sectors-are_sectors sectors data_part)),
+      tt,
+    )
 
 bytes_behind : (n : ℕ) (bytes : List ℕ) → AreBytes bytes → AreBytes (drop n bytes)
 bytes_behind n bytes are = All-drop (λ (b : ℕ). b < 256) n bytes are

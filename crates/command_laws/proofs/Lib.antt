@@ -49,13 +49,19 @@ pub mod CopyValues
 pub mod CutRuns
 pub mod DeepScrubEnds
 pub mod DeepScrubKept
+pub mod FirstRuns
 pub mod InputActLaws
+pub mod IntactBehind
 pub mod IntactKeeping
 pub mod IntactMade
 pub mod IntactScript
+pub mod LifeBack
 pub mod LifeFormats
 pub mod LifeGrowing
 pub mod LifeLaws
+pub mod LifeLosing
+pub mod LifeLossKept
+pub mod LifeOneLoss
 pub mod LifeReopened
 pub mod LifeReopening
 pub mod LifeRuns
@@ -133,6 +139,7 @@ pub mod ScrubSeen
 pub mod ScrubSettled
 pub mod ScrubStanding
 pub mod ScrubTurns
+pub mod SettledRuns
 pub mod SilentElse
 pub mod SilentFound
 pub mod SilentMended
@@ -145,6 +152,7 @@ pub mod StoreEnding
 pub mod StoreSettled
 pub mod StoreTaking
 pub mod StoreWorn
+pub mod Sums
 pub mod TextCommands
 pub mod TextDates
 pub mod TextDeciding

@@ -97,7 +97,7 @@ new_and_format_begin segments label date answer input other printed text begun h
 
 -- ---- volumes in a life
 
-grown_none : (plain : Plain) → HasGrown plain plain
+pub grown_none : (plain : Plain) → HasGrown plain plain
 grown_none plain = record { header_area = refl; words = refl; more = []; volumes = sym (append-nil plain.volumes) }
 
 grown_one : (plain : Plain) (name : List ℕ) (date : ℕ) (bytes : List ℕ) → HasGrown plain (with_bytes plain name date bytes)
@@ -108,7 +108,7 @@ grown_one plain name date bytes = record {
   volumes = refl;
 }
 
-grown_both : (a b c : Plain) → HasGrown a b → HasGrown b c → HasGrown a c
+pub grown_both : (a b c : Plain) → HasGrown a b → HasGrown b c → HasGrown a c
 grown_both a b c one other = record {
   header_area = other.header_area ∙ one.header_area;
   words = other.words ∙ one.words;
@@ -122,12 +122,12 @@ all_grow plain (content ∷ more) =
     let next : Plain = with_bytes plain content.name content.date content.bytes in
     grown_both plain next (with_all next more) (grown_one plain content.name content.date content.bytes) (all_grow next more)
 
-record GrownTo (plain : Plain) (after : Option Plain) : Type 0 where
-  later : Plain
-  is : after ≡ Some later
-  grown : HasGrown plain later
+pub record GrownTo (plain : Plain) (after : Option Plain) : Type 0 where
+  pub later : Plain
+  pub is : after ≡ Some later
+  pub grown : HasGrown plain later
 
-same_list : (plain : Plain) (after : Option Plain) → after ≡ Some plain → GrownTo plain after
+pub same_list : (plain : Plain) (after : Option Plain) → after ≡ Some plain → GrownTo plain after
 same_list plain after is = record { later = plain; is = is; grown = grown_none plain }
 
 append_grows : (name : List ℕ) (date : ℕ) (c : Cartridge) (input : List ℕ) (ended : Ended) (plain : Plain) (after : Option Plain) →
@@ -139,7 +139,7 @@ append_grows name date c input (Stopped printed) plain after (inl is) = same_lis
 append_grows name date c input (Stopped printed) plain after (inr is) =
     record { later = _; is = is; grown = grown_one plain name date input }
 
-command_grows : (command : Words) (c : Cartridge) (input : List ℕ) (ended : Ended) (plain : Plain) (after : Option Plain) →
+pub command_grows : (command : Words) (c : Cartridge) (input : List ℕ) (ended : Ended) (plain : Plain) (after : Option Plain) →
     IsKeeping command →
     Becomes command (Some c) input ended (Some plain) after → GrownTo plain after
 command_grows (words.New segments) c input ended plain after keeping is = absurd keeping
@@ -201,7 +201,7 @@ behind_get front rest volume =
     slice_get-get_or (front ++ volume ∷ rest) (length front) volume (omega arith) ∙ ap Some (get_or-append_seam front volume rest volume)
 
 -- a volume has the same number, also with more of them behind
-front_get : (front rest : List Volume) (place : ℕ) (volume : Volume) → slice_get front place ≡ Some volume →
+pub front_get : (front rest : List Volume) (place : ℕ) (volume : Volume) → slice_get front place ≡ Some volume →
     slice_get (front ++ rest) place ≡ Some volume
 front_get front rest place volume at =
     let within : place < length front = slice_get_within front place volume at in
@@ -211,7 +211,7 @@ front_get front rest place volume at =
     ∙ sym (slice_get-get_or front place volume within)
     ∙ at
 
-gives_bytes : (c : Cartridge) (plain later : Plain) (place : ℕ) (volume : Volume) → Stands c later → HasGrown plain later →
+pub gives_bytes : (c : Cartridge) (plain later : Plain) (place : ℕ) (volume : Volume) → Stands c later → HasGrown plain later →
     slice_get plain.volumes place ≡ Some volume →
     GivesBytes c later (suc place) volume (volume_bytes plain.words volume)
 gives_bytes c plain later place volume stood grown at input outcome reads few yields =

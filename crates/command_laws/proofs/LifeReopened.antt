@@ -72,7 +72,8 @@ lost_reopens segment sector begun (Some c) left (Some plain) after sound reads s
 
 -- ---- a life
 
-event_reopens : (event : Event) (begun : Bool) (held left : Option Cartridge) (before after : Option Plain) → IsSound begun held before →
+pub event_reopens : (event : Event) (begun : Bool) (held left : Option Cartridge) (before after : Option Plain) →
+    IsSound begun held before →
     CanReopen held before →
     Happens event begun held left → EventSparesTable event held left → IsSound (begun_behind event begun) left after → CanReopen left after
 event_reopens (Runs run) begun held left before after sound reads ran table now =
@@ -87,7 +88,7 @@ event_reopens (Loses segment sector) begun held left before after sound reads lo
     lost_reopens segment sector begun held left before after sound reads lost.0 lost.1 table
     (lost_sound segment sector begun held left before lost.0 lost.1 lost.2 sound) now
 
-reopens_of : (begun : Bool) (held : Option Cartridge) (plain : Option Plain) → IsSound begun held plain → CanReopen held plain →
+pub reopens_of : (begun : Bool) (held : Option Cartridge) (plain : Option Plain) → IsSound begun held plain → CanReopen held plain →
     Reopens held plain
 reopens_of begun None plain sound reads = tt
 reopens_of begun (Some c) None sound reads = inr (sound.first, sound.second)

@@ -211,21 +211,21 @@ make_reads seed count c input begun plain left outcome few ready reads yields to
 
 -- ---- a script
 
-take_spares : (n : ℕ) (items : List Item) → ItemsSpareTable items → ItemsSpareTable (take n items)
+pub take_spares : (n : ℕ) (items : List Item) → ItemsSpareTable items → ItemsSpareTable (take n items)
 take_spares zero items spares = tt
 take_spares (suc n) [] spares = tt
 take_spares (suc n) (item ∷ items) spares = (spares.0, take_spares n items spares.1)
 
 -- so many lines spare header and table, and it went no further
-record AmongLines (printed : Option (List ℕ)) (c : Cartridge) (plain : Plain) (items : List Item) (dids : List Did) (last : List Act)
+pub record AmongLines (printed : Option (List ℕ)) (c : Cartridge) (plain : Plain) (items : List Item) (dids : List Did) (last : List Act)
     (left : Option Cartridge) : Type 0 where
-  count : ℕ
-  within : count ≤ length items
-  among : StopsAmong printed c items dids last count left
-  spare : FirstSpare c plain items dids count
-  table : ItemsSpareTable (take count items)
+  pub count : ℕ
+  pub within : count ≤ length items
+  pub among : StopsAmong printed c items dids last count left
+  pub spare : FirstSpare c plain items dids count
+  pub table : ItemsSpareTable (take count items)
 
-among_lines : (printed : Option (List ℕ)) (c : Cartridge) (plain : Plain) (items : List Item) (dids : List Did) (last : List Act)
+pub among_lines : (printed : Option (List ℕ)) (c : Cartridge) (plain : Plain) (items : List Item) (dids : List Did) (last : List Act)
     (left : Option Cartridge) →
     LinesSpare (Stopped printed) c plain items dids last left → LinesSpareTable (Stopped printed) c plain items dids last left →
     AmongLines printed c plain items dids last left

@@ -39,7 +39,7 @@ use Rattle.command_spec.specs.declared.words.Words.{Words}
 use Rattle.qic_base.specs.Acts.{Act, steps_of, text_of}
 use Rattle.qic_base.specs.Cartridge.{Cartridge}
 use Rattle.qic_base.specs.CartridgeTerms.{IsCartridge}
-use Rattle.qic_base.specs.Step.{Step, Renew, WriteSector, effect, effects, Halfway, Torn}
+use Rattle.qic_base.specs.Step.{Step, Renew, effect, effects, Halfway, Torn}
 use Rattle.command_laws.proofs.MadeMachineLaws.{done_or_not}
 use Rattle.command_laws.proofs.CommandComplete.{GoesOn}
 use Rattle.cartridge_laws.specs.HeaderTerms.{NeitherReads}
@@ -50,7 +50,7 @@ use Rattle.command_spec.specs.declared.words.Words.TheVariants as words
 -- ---- header data
 
 -- appended volumes leave the header data
-all_header : (plain : Plain) (contents : List Content) → (with_all plain contents).header_area ≡ plain.header_area
+pub all_header : (plain : Plain) (contents : List Content) → (with_all plain contents).header_area ≡ plain.header_area
 all_header plain [] = refl
 all_header plain (content ∷ more) = all_header (with_bytes plain content.name content.date content.bytes) more
 
@@ -128,7 +128,6 @@ effect_of_none (Renew n) none = absurd none
 effect_of_none s none = refl
 
 half_of_none : (s : Step) (left : Option Cartridge) → IsNoRenew s → Halfway s None left → left ≡ None
-half_of_none (WriteSector segment sector bytes) left none half = half
 half_of_none (Renew n) left none half = absurd none
 half_of_none s left none half = absurd half
 
@@ -187,7 +186,7 @@ module _ (name : List ℕ) (date : ℕ) (c : Cartridge) (input : List ℕ) (begu
       ]
 
 -- all acts went
-all_went : (c : Cartridge) (acts : List Act) (left : Option Cartridge) → left ≡ effects (steps_of acts) (Some c) →
+pub all_went : (c : Cartridge) (acts : List Act) (left : Option Cartridge) → left ≡ effects (steps_of acts) (Some c) →
     IsLeftBy c acts (text_of acts) left
 all_went c acts left is = inl (record { front = acts; rest = []; parts = append-nil acts; torn = is; is_text = refl })
 
@@ -277,12 +276,12 @@ module _ (c : Cartridge) (input : List ℕ) (begun : Bool) (plain : Plain) (left
       (λ segments is. cc) tt ready yields torn whole stands
 
   -- the cartridge was refused
-  never_heard : (ended : Ended) → WasTurned outcome → Leaves ended outcome (Some c) left → ¬ (WasHeard ended)
+  pub never_heard : (ended : Ended) → WasTurned outcome → Leaves ended outcome (Some c) left → ¬ (WasHeard ended)
   never_heard (Answered answer printed) turned (is, said, all) heard =
       turned.unheard (subst IsHeard (sym is ∙ ap (λ (o : CommandOutcome). o.status) turned.is) heard)
   never_heard (Stopped printed) turned leaves heard = heard
 
-  never_said : (ended : Ended) → WasTurned outcome → Leaves ended outcome (Some c) left → ¬ (HasPrinted ended)
+  pub never_said : (ended : Ended) → WasTurned outcome → Leaves ended outcome (Some c) left → ¬ (HasPrinted ended)
   never_said (Answered answer printed) turned (is, said, all) some = some (sym said ∙ ap output_of turned.is)
   never_said (Stopped None) turned leaves some = some
   never_said (Stopped (Some text)) turned leaves some =
@@ -318,7 +317,7 @@ module _ (c : Cartridge) (input : List ℕ) (begun : Bool) (plain : Plain) (left
       ∙ ap (λ (ds : List Did). plain_behind plain items ds) (take_all (length items) dids (omega arith))
 
   -- the lines, as words of a script ask for them
-  abbrev as_scripted : (was : GoesOn (Scripting input) c plain outcome) → several.Scripted input (codes "script" ∷ []) c plain
+  abbrev pub as_scripted : (was : GoesOn (Scripting input) c plain outcome) → several.Scripted input (codes "script" ∷ []) c plain
   as_scripted was = record {
     spelled = inl (refl, tt);
     bytes = bytes;

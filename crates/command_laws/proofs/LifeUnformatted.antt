@@ -3,7 +3,9 @@ use Rattle.std.proofs.Common.{◌≡◌, ◌⊎◌, ℕ, inl, inr, List, [], ◌
 use Rattle.cartridge_laws.proofs.FormatWriting.{some_and}
 use Rattle.cartridge_laws.specs.ChangeSteps.{HasNoRenew, IsNoRenew}
 use Rattle.qic_base.specs.Cartridge.{Cartridge}
-use Rattle.qic_base.specs.Step.{Step, WriteSector, FormatSegment, SetReferenced, SetProtected, Renew, Wear, Spoil, Upgrade, changed}
+use Rattle.qic_base.proofs.SectorsWritten.{StayWritten, sectors_keep, half_keeps}
+use Rattle.qic_base.specs.Step.{Step, NewSector, WriteSectors, FormatSegment, SetReferenced, SetProtected, Renew, Wear, Spoil, Upgrade}
+use Rattle.qic_base.specs.Step.{changed}
 use Rattle.qic_base.specs.Step.{Halfway, Torn}
 use Rattle.qic_base.specs.CartridgeTerms.{HalfFormatted}
 
@@ -12,8 +14,14 @@ use Rattle.qic_base.specs.CartridgeTerms.{HalfFormatted}
 abbrev pub IsReferenced : Cartridge → Type 0
 IsReferenced c = c.info.referenced ≡ true
 
+writes_referenced : (segment : ℕ) (new : List NewSector) → StayWritten IsReferenced segment new
+writes_referenced segment [] = tt
+writes_referenced segment (first ∷ more) =
+    (record { worn = λ c is. is; written = λ c is. is }, writes_referenced segment more)
+
 step_referenced : (s : Step) (c : Cartridge) → IsNoRenew s → IsReferenced c → IsReferenced (changed s c)
-step_referenced (WriteSector segment sector bytes) c none is = is
+step_referenced (WriteSectors segment new) c none is =
+    sectors_keep IsReferenced segment new c (writes_referenced segment new) is
 step_referenced (FormatSegment segment) c none is = is
 step_referenced SetReferenced c none is = refl
 step_referenced (SetProtected on) c none is = is
@@ -30,7 +38,8 @@ half_referenced segment c (Some d) is (inr opening) = ap (λ i. i.referenced) op
 
 step_stopped : (s : Step) (c : Cartridge) (left : Option Cartridge) → IsNoRenew s → IsReferenced c → Halfway s (Some c) left →
     IsSomeAnd left IsReferenced
-step_stopped (WriteSector segment sector bytes) c left none is half = some_and IsReferenced (changed (Wear segment sector) c) left is half
+step_stopped (WriteSectors segment new) c left none is half =
+    half_keeps IsReferenced segment new c left (writes_referenced segment new) is half
 step_stopped (FormatSegment segment) c left none is half = half_referenced segment c left is half
 step_stopped SetReferenced c left none is half = absurd half
 step_stopped (SetProtected on) c left none is half = absurd half

@@ -126,7 +126,10 @@ pub record LeavesTable (c d : Cartridge) (last : ℕ) (entries : List Entry) : T
 
 -- the writes of a table lie in its segment
 writes_in_table : (n : ℕ) (area : List (List ℕ)) → n < 232 → AreIn (λ s i. s ≡ 2) (table_writes (slot_sector n) area)
-writes_in_table n area few = ((refl, omega arith), ((refl, omega arith), ((refl, omega arith), ((refl, omega arith), tt))))
+writes_in_table n area few = (
+  ((refl, omega arith), tt),
+  (((refl, omega arith), tt), (((refl, omega arith), tt), (((refl, omega arith), tt), tt))),
+)
 
 module _ (c : Cartridge) (words : List ℕ) (entries : List Entry) (table : List (List ℕ)) (listed : IsListed c words entries)
     (mark : c.info.protected ≡ false) (reads : TableIs c table) where

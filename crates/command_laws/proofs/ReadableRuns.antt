@@ -182,7 +182,8 @@ module _ (told : Option (List ℕ)) (words : List (List ℕ)) where
             let over = (so.so.comes c plain is reads.stands live).script in
             let (script, spares, table) = scripted over.0 over.1 over.2 in
             let count : ℕ = length script.does.items in
-            elim (over.3 script free count spares (subst ItemsSpareTable (sym (take_all count script.does.items (omega arith))) table)) [
+            elim (over.3 script free count spares None (subst ItemsSpareTable (sym (take_all count script.does.items
+            (omega arith))) table)) [
               | inl further ↦ absurd (let more = further.more in omega arith)
               | inr comes ↦ left_can_be_read c (with_items plain script.does.items script.does.dids) 0 count left reads
                   (so.so.live c is live (only commands.Script script.spelled tt)) comes

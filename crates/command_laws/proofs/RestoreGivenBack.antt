@@ -1,5 +1,5 @@
 -- What the machine gives of a volume of a cartridge that stands for a plain one.
-use Rattle.std.proofs.Common.{◌≡◌, ℕ, suc, zero, ◌<◌, List, [], ◌∷◌, slice_get, Some, subst, arith, All, ap, ◌∙◌, ◌≤◌, sym, inl, inr}
+use Rattle.std.proofs.Common.{◌≢◌, ◌≡◌, ℕ, suc, zero, ◌<◌, List, [], ◌∷◌, slice_get, Some, subst, arith, All, ap, ◌∙◌, ◌≤◌, sym, inl, inr}
 use Rattle.std.proofs.Common.{Contains, ◌++◌, refl, take, drop}
 use Rattle.std.proofs.lemmas.Option.{same_Some, slice_get-map, none-some, slice_get_within, get_or_from_slice_get}
 use Rattle.std.proofs.lemmas.List.Elements.{All-nil, All-cons, All-head, All-tail, All-weaker, Contains-get_or}
@@ -25,7 +25,7 @@ use Rattle.command_spec.specs.Outcome.{settling_act, CommandOutcome, Opened, out
 use Rattle.command_spec.specs.Restore.{Piece, pieces_of, piece_cells, pieces_in, LosesFew, GivingEnd, Restores, ending_status, pieces}
 use Rattle.command_spec.specs.Restore.{volume_at, Gives, FirstLost, HasNumber}
 use Rattle.qic_base.specs.Acts.{Act}
-use Rattle.qic_base.specs.Cartridge.{Cartridge}
+use Rattle.qic_base.specs.Cartridge.{Cartridge, view_at}
 use Rattle.qic_base.specs.declared.tape.SectorView.{SectorView}
 use Rattle.command_laws.specs.RestoreTerms.{bytes_held}
 use Rattle.command_laws.specs.Outcomes.{RestoreOutcome}
@@ -50,7 +50,7 @@ pieces_where P words (s ∷ ss) (suc left) each =
 -- ---- the settled cartridge
 
 -- a piece's cells are the same there
-abbrev IsAlike : (c d : Cartridge) (words : List ℕ) → Piece → Type 0
+abbrev pub IsAlike : (c d : Cartridge) (words : List ℕ) → Piece → Type 0
 IsAlike c d words piece = piece_cells d words piece ≡ piece_cells c words piece
 
 -- the place of a volume in the list, counted from 0
@@ -68,25 +68,31 @@ entry_at : (plain : Plain) (number : ℕ) (volume : Volume) → (at : IsAt plain
 entry_at plain number volume at = slice_get-map (λ (v : Volume). v.entry) plain.volumes at.place
     ∙ ap (option_map (λ (v : Volume). v.entry)) at.is
 
-pieces_alike : (number : ℕ) (c : Cartridge) (plain : Plain) (volume : Volume) → HasNumber c plain number volume →
-    TableIs c plain.table_area →
-    All (IsAlike c (settled plain.table_area c) plain.words) (pieces_in plain volume)
-pieces_alike number c plain volume has table =
-    let d : Cartridge = settled plain.table_area c in
-    let at = is_at number c plain volume has in
+-- the pieces of a volume lie behind the table, so they are those of another cartridge that differs in the table alone
+pub pieces_elsewhere : (number : ℕ) (e : Cartridge) (plain : Plain) (volume : Volume) → HasNumber e plain number volume →
+    (c d : Cartridge) → ((segment sector : ℕ) → sector < 32 → segment ≢ 2 → view_at d segment sector ≡ view_at c segment sector) →
+    All (IsAlike c d plain.words) (pieces_in plain volume)
+pieces_elsewhere number e plain volume has c d others =
+    let at = is_at number e plain volume has in
     let first : 2 < volume.entry.start =
-    starts_behind (entries_of plain) 2 (last_segment c) at.place volume.entry
-    (faultless_is_sound plain.table_area (last_segment c) (entries_of plain) has.stands.sound_table has.stands.shown)
+    starts_behind (entries_of plain) 2 (last_segment e) at.place volume.entry
+    (faultless_is_sound plain.table_area (last_segment e) (entries_of plain) has.stands.sound_table has.stands.shown)
     (entry_at plain number volume at) in
     All-weaker (λ (piece : Piece). volume.entry.start ≤ piece.segment) (IsAlike c d plain.words)
     (λ piece behind. same_cells c d piece.segment (mask_at plain.words piece.segment)
-    (λ i small. (settled_keeps_table c plain.table_area table).others piece.segment i small (λ two. omega (arith, first, behind, two))))
+    (λ i small. others piece.segment i small (λ two. omega (arith, first, behind, two))))
     (pieces_in plain volume)
     (pieces_where (λ s. volume.entry.start ≤ s) plain.words (carrying_segments plain.words volume.entry)
     (volume_length plain.words volume.entry)
     (carrying_from plain.words volume.entry.start volume.entry.end))
 
-few_alike : (c d : Cartridge) (words : List ℕ) (ps : List Piece) → All (IsAlike c d words) ps → All (LosesFew c words) ps →
+pieces_alike : (number : ℕ) (c : Cartridge) (plain : Plain) (volume : Volume) → HasNumber c plain number volume →
+    TableIs c plain.table_area →
+    All (IsAlike c (settled plain.table_area c) plain.words) (pieces_in plain volume)
+pieces_alike number c plain volume has table =
+    pieces_elsewhere number c plain volume has c (settled plain.table_area c) (settled_keeps_table c plain.table_area table).others
+
+pub few_alike : (c d : Cartridge) (words : List ℕ) (ps : List Piece) → All (IsAlike c d words) ps → All (LosesFew c words) ps →
     All (LosesFew d words) ps
 few_alike c d words [] alike few = All-nil (LosesFew d words)
 few_alike c d words (p ∷ ps) alike few =
@@ -102,13 +108,14 @@ split_all P (x ∷ xs) ys each =
     (All-cons P x xs (All-head P x (xs ++ ys) each) rest.0, rest.1)
 
 -- the first piece that lost more is the same there, too
-record LostAlike (c d : Cartridge) (words : List ℕ) (needed : List Piece) (first : FirstLost c words needed) : Type 0 where
-  there : FirstLost d words needed
-  front : there.front ≡ first.front
-  piece : there.piece ≡ first.piece
-  count : unreadable_count (piece_cells d words there.piece) ≡ unreadable_count (piece_cells c words first.piece)
+pub record LostAlike (c d : Cartridge) (words : List ℕ) (needed : List Piece) (first : FirstLost c words needed) : Type 0 where
+  pub there : FirstLost d words needed
+  pub front : there.front ≡ first.front
+  pub piece : there.piece ≡ first.piece
+  pub count : unreadable_count (piece_cells d words there.piece) ≡ unreadable_count (piece_cells c words first.piece)
 
-lost_alike : (c d : Cartridge) (words : List ℕ) (needed : List Piece) (first : FirstLost c words needed) → All (IsAlike c d words) needed →
+pub lost_alike : (c d : Cartridge) (words : List ℕ) (needed : List Piece) (first : FirstLost c words needed) →
+    All (IsAlike c d words) needed →
     LostAlike c d words needed first
 lost_alike c d words needed first alike =
     let parts = split_all (IsAlike c d words) first.front (first.piece ∷ first.rest)

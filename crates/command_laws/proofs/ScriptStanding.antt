@@ -7,6 +7,7 @@ use Rattle.cartridge_laws.proofs.AppendVolume.{free_writes_stand}
 use Rattle.cartridge_laws.proofs.FormatWriting.{some_weaker, some_and}
 use Rattle.cartridge_laws.proofs.MountKeeping.{stopped_stands}
 use Rattle.cartridge_laws.proofs.MountSettled.{settled_stands}
+use Rattle.cartridge_laws.proofs.MountSettles.{settling_settles}
 use Rattle.cartridge_laws.proofs.MountStanding.{standing_data}
 use Rattle.cartridge_laws.proofs.MountWhole.{settling_effects}
 use Rattle.cartridge_spec.specs.Appending.{appended_volume, has_room, with_bytes, with_all}
@@ -16,11 +17,12 @@ use Rattle.cartridge_spec.specs.Settling.{changed_by, settling_steps}
 use Rattle.cartridge_spec.specs.Table.{Entry}
 use Rattle.cartridge_spec.specs.Volumes.{Plain, Stands, entries_of, Volume, worn, WearSpares}
 use Rattle.command_laws.proofs.IntactKeeping.{appends_leave_intact, intact_is_one, scrubs_leave_intact, wears_leave_intact}
-use Rattle.command_laws.proofs.IntactKeeping.{whole_needs_no_steps}
+use Rattle.command_laws.proofs.IntactKeeping.{settled_is_intact, whole_needs_no_steps}
 use Rattle.command_laws.proofs.MountedHeld.{held_open, open_held, settled_held, settling_live, scrubbed_held, scrubbed_live, worn_held}
 use Rattle.command_laws.proofs.MountedHeld.{worn_is_live}
 use Rattle.command_laws.proofs.MountedKeeping.{live_kept}
-use Rattle.command_laws.proofs.MountedStanding.{all_writes, kept_appended, open_appended, stopped_appended, same_less}
+use Rattle.command_laws.proofs.MountedStanding.{all_writes, kept_appended, open_appended, stopped_appended, same_less, whole_appended}
+use Rattle.command_laws.proofs.MountedSurviving.{appends_survive}
 use Rattle.command_laws.proofs.RestoreCounts.{framed_in_no_step}
 use Rattle.command_laws.proofs.ScriptActs.{full_acts, full_taking, replied_steps, line_spares}
 use Rattle.command_laws.proofs.ScriptValues.{append_values}
@@ -93,6 +95,12 @@ items_have_bytes input items ending read content = have_bytes 1 0 input items en
 pub record LeavesIntact (c : Cartridge) (plain other : Plain) (did : Did) : Type 0 where
   pub done : IsIntact (changed_by (steps_of did.acts) c) other
   pub stopped : (left : Option Cartridge) → Torn (steps_of did.acts) (Some c) left → IsSomeAnd left (ComesBackAsOneOf plain other)
+
+-- .. once its table was settled, whose data are these
+pub record SettlesLeaves (c : Cartridge) (plain other : Plain) (table : List (List ℕ)) (did : Did) : Type 0 where
+  pub done : IsIntact (changed_by (steps_of did.acts) c) other
+  pub stopped : (left : Option Cartridge) → Torn (steps_of did.acts) (Some c) left →
+      Torn (settling_steps table c) (Some c) left ⊎ IsSomeAnd left (ComesBackAsOneOf plain other)
 
 -- what an item leaves, done or stopped; stopped where each sector of the table's segment takes what is written to it
 pub record ItemLeaves (c : Cartridge) (plain : Plain) (item : Item) (did : Did) : Type 0 where
@@ -247,14 +255,18 @@ module _ (c : Cartridge) (plain : Plain) (name : List ℕ) (date : ℕ) (bytes :
     full_doing : does_by plain.table_area size ≡ line_refused its_acts (entries_of plain) (why.Full size (room_in kept_now))
     full_doing = ap (λ (became : Taking). taken_as kept_now name date its_acts became) (full_taking kept_now name date size small bytes)
 
-    full_stills : (did : Did) → IsOpen c plain → did ≡ line_refused its_acts (entries_of plain) (why.Full size (room_in kept_now)) →
-        Stills (Unit {0}) c plain did
-    full_stills did ready is =
-        let steps : steps_of did.acts ≡ settling_steps plain.table_area c =
+    full_steps : (did : Did) → did ≡ line_refused its_acts (entries_of plain) (why.Full size (room_in kept_now)) →
+        steps_of did.acts ≡ settling_steps plain.table_area c
+    full_steps did is =
         ap (λ (d : Did). steps_of d.acts) is
         ∙ ap (λ (xs : List Act). steps_of (line_refused xs (entries_of plain) (why.Full size (room_in kept_now))).acts)
         (full_acts kept_now name date size small replies bytes)
-        ∙ append-nil (settling_steps plain.table_area c) in
+        ∙ append-nil (settling_steps plain.table_area c)
+
+    full_stills : (did : Did) → IsOpen c plain → did ≡ line_refused its_acts (entries_of plain) (why.Full size (room_in kept_now)) →
+        Stills (Unit {0}) c plain did
+    full_stills did ready is =
+        let steps : steps_of did.acts ≡ settling_steps plain.table_area c = full_steps did is in
         record {
           done = subst (λ (ss : List Step). IsHeld (changed_by ss c) plain) (sym steps) (settled_held c plain ready);
           live = λ live. subst (λ (ss : List Step). IsTableLive (changed_by ss c)) (sym steps) (settling_live c plain ready live);
@@ -284,6 +296,48 @@ module _ (c : Cartridge) (plain : Plain) (name : List ℕ) (date : ℕ) (bytes :
         | inr small ↦ leaves_still c plain (record { line = line.Append name n date; bytes = bytes }) did
             (full_stills small did ready (does ∙ full_doing small))
       ]
+
+  -- one that finds its table: done it leaves that whole, and stopped, while it isn't settled yet, or what comes back
+  pub append_settles : (n : ℕ) (did : Did) (table : List (List ℕ)) → IsAppendable name date bytes → size ≡ n → IsTableLive c →
+      Meets c (Finds table) → did ≡ append_did c plain.words (entries_of plain) name n date bytes (Finds table) →
+      SettlesLeaves c plain (plain_after plain (record { line = line.Append name n date; bytes = bytes }) did) table did
+  append_settles n did table may long live meets is =
+      let item : Item = record { line = line.Append name n date; bytes = bytes } in
+      let ready : IsOpen c plain = held_open c plain table held meets.1 meets.0 in
+      let kept : IsKept c plain = live_kept c plain ready live in
+      let area : table ≡ plain.table_area = standing_data c plain table held.stands meets.1 in
+      let does : did ≡ does_by plain.table_area size = is ∙ same_doing table n area long in
+      subst (λ (t : List (List ℕ)). SettlesLeaves c plain (plain_after plain item did) t did) (sym area)
+      (elim (cases_Bool (has_room plain size)) [
+        | inl enough ↦
+            let all : did ≡ record {
+              acts = its_acts;
+              entries = entries_of plain ++ entry_for kept_now name date bytes ∷ [];
+            } = does ∙ fits_doing enough in
+            let list : did.entries ≡ entries_of plain ++ entry_for kept_now name date bytes ∷ [] = ap (λ (d : Did). d.entries) all in
+            let more : plain_after plain item did ≡ with_bytes plain name date bytes = more_after plain item did
+            (entry_for kept_now name date bytes) list in
+            let steps : steps_of did.acts ≡ settling_steps plain.table_area c ++ appends.append_steps_of plain name date bytes =
+            ap (λ (d : Did). steps_of d.acts) all ∙ fits_steps enough in
+            subst (λ (p : Plain). SettlesLeaves c plain p plain.table_area did) (sym more) (record {
+              done = subst (λ (ss : List Step). IsIntact (changed_by ss c) (with_bytes plain name date bytes)) (sym steps) (record {
+                kept = kept_appended name date bytes may.label may.word may.content c plain kept enough;
+                table = whole_appended name date bytes may.label may.word may.content c plain kept enough;
+              });
+              stopped = λ left torn. appends_survive c plain name date bytes left kept may enough
+                  (subst (λ (ss : List Step). Torn ss (Some c) left) steps torn);
+            })
+        | inr small ↦
+            let full : did ≡ line_refused its_acts (entries_of plain) (why.Full size (room_in kept_now)) = does ∙ full_doing small in
+            let same : plain_after plain item did ≡ plain = same_after plain item did (ap (λ (d : Did). d.entries) full) in
+            let steps : steps_of did.acts ≡ settling_steps plain.table_area c = full_steps small did full in
+            subst (λ (p : Plain). SettlesLeaves c plain p plain.table_area did) (sym same) (record {
+              done = subst (λ (d : Cartridge). IsIntact d plain)
+                  (sym (ap (λ (ss : List Step). changed_by ss c) steps ∙ settling_settles c plain.table_area ready.table))
+                  (settled_is_intact c plain kept);
+              stopped = λ left torn. inl (subst (λ (ss : List Step). Torn ss (Some c) left) steps torn);
+            })
+      ])
 
 -- ---- the other lines
 

@@ -23,7 +23,7 @@ use Rattle.command_laws.specs.ScrubSayings.{SayAtOnce, Rise, acts_at_once}
 use Rattle.command_spec.specs.Scrub.{Looked, cells_at, mending_writes, reads, steps_in, looked_at}
 use Rattle.qic_base.specs.Acts.{steps_of}
 use Rattle.qic_base.specs.Cartridge.{Cartridge, view_at}
-use Rattle.qic_base.specs.Step.{written_view, Step, WriteSector}
+use Rattle.qic_base.specs.Step.{written_view, Step, write_sector}
 use Rattle.qic_base.specs.declared.tape.SectorView.{SectorView}
 use Rattle.qic_base.specs.declared.tape.SectorView.TheVariants.{Blank, Defect, Lost, Holds}
 
@@ -51,7 +51,7 @@ live_readable Lost bytes live = refl
 live_readable (Holds old) bytes live = refl
 
 no_write : (b : Bool) (segment place : ℕ) (bytes : List ℕ) (rest : List Step) → b ≡ false → rest ≡ [] →
-    cond b (WriteSector segment place bytes ∷ rest) rest ≡ []
+    cond b (write_sector segment place bytes ∷ rest) rest ≡ []
 no_write true segment place bytes rest readable none = absurd (cc)
 no_write false segment place bytes rest readable none = none
 

@@ -18,15 +18,15 @@ use Rattle.command_laws.specs.ScrubTerms.{last_act, counts_of, look_act, scrub_a
 use Rattle.qic_base.proofs.Joins.{steps_of-append}
 use Rattle.qic_base.specs.Acts.{Act, steps_of}
 use Rattle.qic_base.specs.Cartridge.{Cartridge, view_at}
-use Rattle.qic_base.specs.Step.{Step, WriteSector}
+use Rattle.qic_base.specs.Step.{Step, write_sector}
 use Rattle.qic_base.specs.declared.tape.SectorView.{SectorView}
 
 -- ---- the writes of a segment
 
 first_or : (of : ℕ → ℕ → List ℕ → Type 0) (b : Bool) (segment place : ℕ) (bytes : List ℕ) (rest : List Step) →
     (b ≡ true → of segment place bytes) →
-    AreWrites of rest → AreWrites of (cond b (WriteSector segment place bytes ∷ rest) rest)
-first_or of true segment place bytes rest first are = (first refl, are)
+    AreWrites of rest → AreWrites of (cond b (write_sector segment place bytes ∷ rest) rest)
+first_or of true segment place bytes rest first are = ((first refl, tt), are)
 first_or of false segment place bytes rest first are = are
 
 -- each is one of which this is true, where it is true of the unreadable places
@@ -74,10 +74,10 @@ mending_alike c d segment [] sectors small same = refl
 mending_alike c d segment (place ∷ places) [] small same = refl
 mending_alike c d segment (place ∷ places) (bytes ∷ sectors) small same =
     let rest = mending_alike c d segment places sectors (λ k h. small (suc k) (omega arith)) same in
-    ap (λ (v : SectorView). cond (is_unreadable v) (WriteSector segment place bytes ∷ mending_writes d segment places sectors)
+    ap (λ (v : SectorView). cond (is_unreadable v) (write_sector segment place bytes ∷ mending_writes d segment places sectors)
     (mending_writes d segment places sectors))
     (same place (small 0 (omega arith)))
-    ∙ ap (λ (ss : List Step). cond (is_unreadable (view_at c segment place)) (WriteSector segment place bytes ∷ ss) ss) rest
+    ∙ ap (λ (ss : List Step). cond (is_unreadable (view_at c segment place)) (write_sector segment place bytes ∷ ss) ss) rest
 
 pub steps_alike : (c d : Cartridge) (l : Looked) (s : Saying) → ((i : ℕ) → i < 32 → view_at d l.segment i ≡ view_at c l.segment i) →
     steps_in d l s ≡ steps_in c l s

@@ -28,22 +28,22 @@ use Rattle.gf256_qic.proofs.Parities.{length-parity_sectors}
 use Rattle.qic_base.proofs.Steps.{Torn-all}
 use Rattle.qic_base.specs.Acts.{steps_of, Act}
 use Rattle.qic_base.specs.Cartridge.{Cartridge, view_at}
-use Rattle.qic_base.specs.Step.{Step, WriteSector, changed, written_view, effects}
+use Rattle.qic_base.specs.Step.{Step, write_sector, changed, written_view, effects}
 
 -- ---- one segment
 
 first_written : (b : Bool) (segment p : ℕ) (bytes : List ℕ) (rest : List Step) (d : Cartridge) → b ≡ true →
     ((e : Cartridge) → view_at (changed_by rest e) segment p ≡ view_at e segment p) →
-    view_at (changed_by (cond b (WriteSector segment p bytes ∷ rest) rest) d) segment p ≡ written_view bytes (view_at d segment p)
+    view_at (changed_by (cond b (write_sector segment p bytes ∷ rest) rest) d) segment p ≡ written_view bytes (view_at d segment p)
 first_written true segment p bytes rest d is kept =
-    kept (changed (WriteSector segment p bytes) d) ∙ view_of_sector d segment p (written_view bytes) refl
+    kept (changed (write_sector segment p bytes) d) ∙ view_of_sector d segment p (written_view bytes) refl
 first_written false segment p bytes rest d is kept = absurd (cc)
 
 later_written : (b : Bool) (segment p q : ℕ) (bytes held : List ℕ) (rest : List Step) (d : Cartridge) → p < 32 → q < 32 → (p ≡ q → ⊥) →
     ((e : Cartridge) → view_at (changed_by rest e) segment q ≡ written_view held (view_at e segment q)) →
-    view_at (changed_by (cond b (WriteSector segment p bytes ∷ rest) rest) d) segment q ≡ written_view held (view_at d segment q)
+    view_at (changed_by (cond b (write_sector segment p bytes ∷ rest) rest) d) segment q ≡ written_view held (view_at d segment q)
 later_written true segment p q bytes held rest d small h apart then =
-    then (changed (WriteSector segment p bytes) d)
+    then (changed (write_sector segment p bytes) d)
     ∙ ap (written_view held) (view_of_other_sector d segment p segment q (written_view bytes (view_at d segment p)) small h
     (λ same e. apart e))
 later_written false segment p q bytes held rest d small h apart then = then d

@@ -7,7 +7,7 @@ use Rattle.cartridge_laws.proofs.AppendWhole.{sector_writes_are_cartridge}
 use Rattle.cartridge_laws.proofs.FormatStanding.{same_cells}
 use Rattle.cartridge_laws.proofs.FormatViews.{view_of_sector, view_of_other_sector}
 use Rattle.cartridge_laws.proofs.FormatWriting.{some_weaker, effects-some, some_and}
-use Rattle.cartridge_laws.specs.AppendWrites.{AreWrites, IsOfSector}
+use Rattle.cartridge_laws.specs.AppendWrites.{AreWrites, EachIs, IsOfSector}
 use Rattle.cartridge_spec.specs.Says.{Saying, Says, Data, with_parity}
 use Rattle.cartridge_spec.specs.Settling.{changed_by}
 use Rattle.cartridge_spec.specs.Shape.{IsLive, is_unreadable, sector_at}
@@ -34,7 +34,8 @@ use Rattle.qic_base.proofs.Steps.{Torn-all}
 use Rattle.qic_base.specs.Acts.{Act, steps_of}
 use Rattle.qic_base.specs.Cartridge.{Cartridge, view_at, with_view}
 use Rattle.qic_base.specs.CartridgeTerms.{IsCartridge}
-use Rattle.qic_base.specs.Step.{Step, WriteSector, FormatSegment, SetReferenced, SetProtected, Renew, Wear, Spoil, Upgrade, changed}
+use Rattle.qic_base.specs.Step.{AreClosing, AreOpening, NewSector, with_sector, with_sectors, with_worn}
+use Rattle.qic_base.specs.Step.{Step, WriteSectors, FormatSegment, SetReferenced, SetProtected, Renew, Wear, Spoil, Upgrade, changed}
 use Rattle.qic_base.specs.Step.{written_view, worn_view, effects, Halfway, Torn}
 use Rattle.qic_base.specs.declared.tape.SectorView.{SectorView}
 use Rattle.qic_base.specs.declared.tape.SectorView.TheVariants.{Blank, Lost, Holds}
@@ -158,9 +159,18 @@ changed_both c e d y s i f blank alike small take behind = record {
           | inr kept ↦ inr (first ∙ kept.0, second ∙ kept.1)
         ]
 
+abbrev pub IsPlacedIn : ℕ → List NewSector → Type 0
+IsPlacedIn segment new = EachIs (λ s i bytes. IsPlaced s i × (i < 32)) segment new
+
+sectors_both : (c e d y : Cartridge) (segment : ℕ) (new : List NewSector) → IsPlacedIn segment new → TakeAlike c e → IsBehind c e d y →
+    IsBehind c e (with_sectors segment new d) (with_sectors segment new y)
+sectors_both c e d y segment [] are take behind = behind
+sectors_both c e d y segment (first ∷ more) are take behind =
+    sectors_both c e (with_sector segment first d) (with_sector segment first y) segment more are.1 take
+    (changed_both c e d y segment first.sector (written_view first.bytes) refl (λ old. refl) are.0.1 take behind)
+
 step_both : (c e d y : Cartridge) (s : Step) → IsIn IsPlaced s → TakeAlike c e → IsBehind c e d y → IsBehind c e (changed s d) (changed s y)
-step_both c e d y (WriteSector segment sector bytes) is take behind =
-    changed_both c e d y segment sector (written_view bytes) refl (λ old. refl) is.1 take behind
+step_both c e d y (WriteSectors segment new) is take behind = sectors_both c e d y segment new is take behind
 step_both c e d y (FormatSegment segment) is take behind = absurd is
 step_both c e d y SetReferenced is take behind = absurd is
 step_both c e d y (SetProtected on) is take behind = absurd is
@@ -180,15 +190,48 @@ pub record StopsBoth (c e y : Cartridge) (ss : List Step) (d : Cartridge) : Type
   pub torn : Torn ss (Some y) (Some other)
   pub behind : IsBehind c e d other
 
+-- the same sectors lost, ..
+closing_both : (c e d y : Cartridge) (segment : ℕ) (new : List NewSector) (left : Cartridge) → IsPlacedIn segment new → TakeAlike c e →
+    IsBehind c e d y → AreClosing segment new d left →
+    (other : Cartridge) × AreClosing segment new y other × IsBehind c e left other
+closing_both c e d y segment [] left are take behind same = (y, refl, subst (λ x. IsBehind c e x y) (sym same) behind)
+closing_both c e d y segment (first ∷ more) left are take behind (inl stood) =
+    let stops = closing_both c e d y segment more left are.1 take behind stood in
+    (stops.0, inl stops.1, stops.2)
+closing_both c e d y segment (first ∷ more) left are take behind (inr worn) =
+    let stops = closing_both c e (with_worn segment first.sector d) (with_worn segment first.sector y) segment more left are.1 take
+    (changed_both c e d y segment first.sector worn_view refl (λ old. refl) are.0.1 take behind) worn in
+    (stops.0, inr stops.1, stops.2)
+
+-- .. or lost and written
+opening_both : (c e d y : Cartridge) (segment : ℕ) (new : List NewSector) (left : Cartridge) → IsPlacedIn segment new → TakeAlike c e →
+    IsBehind c e d y → AreOpening segment new d left →
+    (other : Cartridge) × AreOpening segment new y other × IsBehind c e left other
+opening_both c e d y segment [] left are take behind same = (y, refl, subst (λ x. IsBehind c e x y) (sym same) behind)
+opening_both c e d y segment (first ∷ more) left are take behind (inl worn) =
+    let stops = opening_both c e (with_worn segment first.sector d) (with_worn segment first.sector y) segment more left are.1 take
+    (changed_both c e d y segment first.sector worn_view refl (λ old. refl) are.0.1 take behind) worn in
+    (stops.0, inl stops.1, stops.2)
+opening_both c e d y segment (first ∷ more) left are take behind (inr written) =
+    let stops = opening_both c e (with_sector segment first d) (with_sector segment first y) segment more left are.1 take
+    (changed_both c e d y segment first.sector (written_view first.bytes) refl (λ old. refl) are.0.1 take behind) written in
+    (stops.0, inr stops.1, stops.2)
+
+writes_both : (c e d y : Cartridge) (segment : ℕ) (new : List NewSector) (ss : List Step) (left : Option Cartridge) →
+    IsPlacedIn segment new → TakeAlike c e → IsBehind c e d y → Halfway (WriteSectors segment new) (Some d) left →
+    IsSomeAnd left (StopsBoth c e y (WriteSectors segment new ∷ ss))
+writes_both c e d y segment new ss None are take behind half = absurd half
+writes_both c e d y segment new ss (Some x) are take behind (inl closing) =
+    let stops = closing_both c e d y segment new x are take behind closing in
+    record { other = stops.0; torn = inr (inl (inl stops.1)); behind = stops.2 }
+writes_both c e d y segment new ss (Some x) are take behind (inr opening) =
+    let stops = opening_both c e d y segment new x are take behind opening in
+    record { other = stops.0; torn = inr (inl (inr stops.1)); behind = stops.2 }
+
 half_both : (c e d y : Cartridge) (s : Step) (ss : List Step) (left : Option Cartridge) → IsIn IsPlaced s → TakeAlike c e →
     IsBehind c e d y →
     Halfway s (Some d) left → IsSomeAnd left (StopsBoth c e y (s ∷ ss))
-half_both c e d y (WriteSector segment sector bytes) ss left is take behind half =
-    some_and (StopsBoth c e y (WriteSector segment sector bytes ∷ ss)) (worn segment sector d) left (record {
-      other = worn segment sector y;
-      torn = inr (inl refl);
-      behind = changed_both c e d y segment sector worn_view refl (λ old. refl) is.1 take behind;
-    }) half
+half_both c e d y (WriteSectors segment new) ss left is take behind half = writes_both c e d y segment new ss left is take behind half
 half_both c e d y (FormatSegment segment) ss left is take behind half = absurd is
 half_both c e d y SetReferenced ss left is take behind half = absurd is
 half_both c e d y (SetProtected on) ss left is take behind half = absurd is

@@ -7,7 +7,7 @@ use Rattle.cartridge_laws.proofs.AppendWhole.{sector_writes_are_cartridge}
 use Rattle.cartridge_laws.proofs.FormatViews.{view_of_sector, view_of_other_sector}
 use Rattle.cartridge_laws.proofs.FormatWriting.{some_and, effects-some}
 use Rattle.cartridge_laws.proofs.Places.{usable_small}
-use Rattle.cartridge_laws.specs.AppendWrites.{IsWrite, AreWrites, IsOfSector}
+use Rattle.cartridge_laws.specs.AppendWrites.{IsWrite, AreWrites, EachIs, IsOfSector}
 use Rattle.cartridge_laws.specs.Segment.{IsUnreadable}
 use Rattle.cartridge_spec.specs.Says.{Saying, Says, with_parity}
 use Rattle.cartridge_spec.specs.Settling.{changed_by}
@@ -21,11 +21,13 @@ use Rattle.command_laws.specs.ScrubMended.{IsMended, HasBeenMended, IsBeingMende
 use Rattle.command_laws.specs.ScrubPlain.{looking_acts, Scrubs, SayInTurn}
 use Rattle.command_laws.specs.ScrubSayings.{SayAtOnce, acts_at_once}
 use Rattle.command_spec.specs.Scrub.{Looked, cells_at, steps_in, looked_at}
+use Rattle.qic_base.proofs.SectorsWritten.{StayWritten, sectors_keep, half_keeps}
 use Rattle.qic_base.proofs.Steps.{Torn-all}
 use Rattle.qic_base.specs.Acts.{steps_of, Act}
 use Rattle.qic_base.specs.Cartridge.{Cartridge, view_at, with_view}
 use Rattle.qic_base.specs.CartridgeTerms.{IsCartridge}
-use Rattle.qic_base.specs.Step.{written_view, worn_view, WriteSector, changed, Wear, Step, FormatSegment, SetReferenced, SetProtected}
+use Rattle.qic_base.specs.Step.{written_view, worn_view, write_sector, NewSector, WriteSectors}
+use Rattle.qic_base.specs.Step.{changed, Wear, Step, FormatSegment, SetReferenced, SetProtected}
 use Rattle.qic_base.specs.Step.{Renew, Spoil, Upgrade, effects, Halfway, Torn}
 use Rattle.qic_base.specs.declared.tape.SectorView.{SectorView}
 use Rattle.qic_base.specs.declared.tape.SectorView.TheVariants.{Blank, Defect, Lost, Holds}
@@ -83,7 +85,7 @@ abbrev pub IsNamed : Cartridge → List Looked → ℕ → ℕ → List ℕ → 
 IsNamed c looked segment sector bytes = IsMended c looked segment sector bytes × (sector < 32)
 
 written_more : (looked : List Looked) (c d : Cartridge) (s i : ℕ) (bytes : List ℕ) → IsNamed c looked s i bytes → IsBeingMended looked c d →
-    IsBeingMended looked c (changed (WriteSector s i bytes) d)
+    IsBeingMended looked c (changed (write_sector s i bytes) d)
 written_more looked c d s i bytes named way =
     mended_more looked c d s i bytes (written_view bytes) named.1 refl named.0 (elim (way.each s i named.1) [
       | inl same ↦ elim (written_once (view_at c s i) bytes named.0.unreadable) [
@@ -103,9 +105,21 @@ worn_more looked c d s i bytes named way =
 
 -- ---- steps
 
+named_stay : (looked : List Looked) (c : Cartridge) (segment : ℕ) (new : List NewSector) → EachIs (IsNamed c looked) segment new →
+    StayWritten (IsBeingMended looked c) segment new
+named_stay looked c segment [] are = tt
+named_stay looked c segment (first ∷ more) are = (
+  record {
+    worn = λ d way. worn_more looked c d segment first.sector first.bytes are.0 way;
+    written = λ d way. written_more looked c d segment first.sector first.bytes are.0 way;
+  },
+  named_stay looked c segment more are.1,
+)
+
 step_more : (looked : List Looked) (c d : Cartridge) (s : Step) → IsWrite (IsNamed c looked) s → IsBeingMended looked c d →
     IsBeingMended looked c (changed s d)
-step_more looked c d (WriteSector segment sector bytes) is way = written_more looked c d segment sector bytes is way
+step_more looked c d (WriteSectors segment new) is way =
+    sectors_keep (IsBeingMended looked c) segment new d (named_stay looked c segment new is) way
 step_more looked c d (FormatSegment segment) is way = absurd is
 step_more looked c d SetReferenced is way = absurd is
 step_more looked c d (SetProtected on) is way = absurd is
@@ -117,8 +131,8 @@ step_more looked c d Upgrade is way = absurd is
 step_stopped : (looked : List Looked) (c d : Cartridge) (s : Step) (left : Option Cartridge) → IsWrite (IsNamed c looked) s →
     IsBeingMended looked c d →
     Halfway s (Some d) left → IsSomeAnd left (IsBeingMended looked c)
-step_stopped looked c d (WriteSector segment sector bytes) left is way half =
-    some_and (IsBeingMended looked c) (changed (Wear segment sector) d) left (worn_more looked c d segment sector bytes is way) half
+step_stopped looked c d (WriteSectors segment new) left is way half =
+    half_keeps (IsBeingMended looked c) segment new d left (named_stay looked c segment new is) way half
 step_stopped looked c d (FormatSegment segment) left is way half = absurd is
 step_stopped looked c d SetReferenced left is way half = absurd is
 step_stopped looked c d (SetProtected on) left is way half = absurd is

@@ -22,7 +22,7 @@ use Rattle.command_spec.specs.Scrub.{mending_writes, Looked, cells_at}
 use Rattle.qic_base.proofs.LostSetLaws.{lost_places-above}
 use Rattle.qic_base.specs.Cartridge.{Cartridge, view_at, lost_places}
 use Rattle.qic_base.specs.CartridgeTerms.{IsLost, is_lost}
-use Rattle.qic_base.specs.Step.{Step, WriteSector}
+use Rattle.qic_base.specs.Step.{Step, write_sector}
 use Rattle.qic_base.specs.declared.tape.SectorView.{SectorView}
 
 -- ---- the places of a set
@@ -49,7 +49,7 @@ places_filter set (suc n) =
 -- ---- the writes, place by place
 
 abbrev write_at : (segment : ℕ) → (all : List ℕ) → (sectors : List (List ℕ)) → ℕ → Step
-write_at segment all sectors place = WriteSector segment (get_or all place 0) (sector_at sectors place)
+write_at segment all sectors place = write_sector segment (get_or all place 0) (sector_at sectors place)
 
 length-writes_of_map : (segment : ℕ) (f : ℕ → ℕ) (g : ℕ → List ℕ) (places : List ℕ) →
     length (writes_of segment (map f places) (map g places)) ≡ length places
@@ -102,8 +102,8 @@ writes_follow c segment from all sectors test (u ∷ us) (b ∷ block) follows =
     let bytes : sector_at sectors from ≡ b = ap (sector_at sectors) (sym here) ∙ follows.bytes 0 (omega arith) in
     by_test (test from) (is_unreadable (view_at c segment u)) (write_at segment all sectors) from
     (filter test (range_with_len (from + 1) (length us)))
-    (WriteSector segment u b) (mending_writes c segment us block) (ap test (sym here) ∙ follows.tells 0 (omega arith))
-    (ap (λ (i : ℕ). WriteSector segment i (sector_at sectors from)) index ∙ ap (λ (s : List ℕ). WriteSector segment u s) bytes)
+    (write_sector segment u b) (mending_writes c segment us block) (ap test (sym here) ∙ follows.tells 0 (omega arith))
+    (ap (λ (i : ℕ). write_sector segment i (sector_at sectors from)) index ∙ ap (λ (s : List ℕ). write_sector segment u s) bytes)
     (writes_follow c segment (from + 1) all sectors test us block (later follows))
 
 -- ---- the unreadable places

@@ -23,7 +23,7 @@ use Rattle.gf256_qic.proofs.Parities.{parity_sectors-are_sectors}
 use Rattle.qic_base.proofs.Steps.{Torn-all}
 use Rattle.qic_base.specs.Cartridge.{Cartridge, IsSector, view_at}
 use Rattle.qic_base.specs.CartridgeTerms.{IsCartridge}
-use Rattle.qic_base.specs.Step.{Step, WriteSector, effects}
+use Rattle.qic_base.specs.Step.{Step, write_sector, effects}
 
 -- ---- one list of acts
 
@@ -61,8 +61,8 @@ mending_whole c segment (place ∷ places) [] are = tt
 mending_whole c segment (place ∷ places) (bytes ∷ sectors) are =
     let rest = mending_whole c segment places sectors (All-tail IsSector bytes sectors are) in
     either_writes IsOfSector (is_unreadable (view_at c segment place))
-    (WriteSector segment place bytes ∷ mending_writes c segment places sectors)
-    (mending_writes c segment places sectors) (All-head IsSector bytes sectors are, rest) rest
+    (write_sector segment place bytes ∷ mending_writes c segment places sectors)
+    (mending_writes c segment places sectors) ((All-head IsSector bytes sectors are, tt), rest) rest
 
 block_sectors : (c : Cartridge) (l : Looked) (sectors : List (List ℕ)) → Says (cells_at c l) (Data sectors) →
     All IsSector (with_parity sectors)

@@ -221,8 +221,11 @@ format_steps_leave n area c whole is =
 
 table_whole : (n : ℕ) (area : List (List ℕ)) → n < 232 → IsArea area → AreWrites IsOfSector (table_writes (slot_sector n) area)
 table_whole n area few is = (
-  block_sector area (slot_sector n) is (omega arith),
-  (block_sector area 29 is (omega arith), (block_sector area 30 is (omega arith), (block_sector area 31 is (omega arith), tt))),
+  (block_sector area (slot_sector n) is (omega arith), tt),
+  (
+    (block_sector area 29 is (omega arith), tt),
+    ((block_sector area 30 is (omega arith), tt), ((block_sector area 31 is (omega arith), tt), tt)),
+  ),
 )
 
 where_whole : (b : Bool) (xs : List Act) → AreWrites IsOfSector (steps_of xs) → AreWrites IsOfSector (steps_of (cond b xs []))

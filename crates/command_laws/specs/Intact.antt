@@ -1,6 +1,6 @@
 -- A mounted cartridge whose whole table holds what it should, so that one sector more of the table's segment may be lost; and what
 -- generated runs and scripts leave of it, as facts (this project's own).
-use Rattle.std.specs.Prelude.{◌≡◌, ◌⊎◌, ◌<◌, ◌≤◌, ℕ, List, All, Option, Some, IsSomeAnd, length, take, true, ◌≢◌, ◌++◌, []}
+use Rattle.std.specs.Prelude.{◌≡◌, ◌⊎◌, ◌<◌, ◌≤◌, ℕ, List, All, Option, Some, IsSomeAnd, length, take, drop, true, ◌≢◌, ◌++◌, []}
 use Rattle.cartridge_laws.specs.AppendBetween.{IsWhole}
 use Rattle.cartridge_spec.specs.Appending.{has_room, with_bytes}
 use Rattle.cartridge_spec.specs.Mounting.{settled, ComesBackAs}
@@ -10,7 +10,7 @@ use Rattle.cartridge_spec.specs.Volumes.{Plain, entries_of, worn, WearSpares}
 use Rattle.command_laws.specs.ActStops.{IsLeftBy}
 use Rattle.command_laws.specs.MountedKept.{IsAppendable, IsKept, settle_and_append}
 use Rattle.command_laws.specs.MadeTerms.{Makes}
-use Rattle.command_spec.specs.OneLoss.{ComesBackAsOneOf, SomeComeBack}
+use Rattle.command_spec.specs.OneLoss.{ComesBackAsOneOf, SettlingAppend, SomeComeBack, steps_until}
 use Rattle.command_spec.specs.Script.{ScriptDoes}
 use Rattle.command_spec.specs.Outcome.{CommandOutcome}
 use Rattle.command_spec.specs.ScriptLists.{CameFurther, GoesNoFurther, printed_by, FirstSpare, ItemsSpare, ItemsSpareTable, with_items}
@@ -119,5 +119,42 @@ DoneScriptComesBack =
     (c : Cartridge) (plain : Plain) (input : List ℕ) (outcome : CommandOutcome) → IsIntact c plain →
     (does : ScriptDoes c plain.words (entries_of plain) input outcome) → All (λ b. b < 256) input →
     ItemsSpare c plain does.items does.dids → ItemsSpareTable does.items →
+    SomeComeBack (with_items plain does.items does.dids) (length does.items) (length does.items)
+    (Some (changed_by (steps_of outcome.acts) c))
+
+-- ---- behind an append of a script
+
+-- Where a line is an append that finds its table, so much is asked only of the lines behind it: it settles the table again. The stop
+-- comes before the end of that settling, or it leaves what comes back behind the lines from that one on.
+abbrev pub StoppedBehindAppend : Type 0
+StoppedBehindAppend =
+    (c : Cartridge) (plain : Plain) (input : List ℕ) (outcome : CommandOutcome) (left : Option Cartridge) →
+    IsIntact c plain → (does : ScriptDoes c plain.words (entries_of plain) input outcome) → All (λ b. b < 256) input →
+    (count : ℕ) → count ≤ length does.items → FirstSpare c plain does.items does.dids count →
+    (append : SettlingAppend c does.items does.dids count) → ItemsSpareTable (drop append.at (take count does.items)) →
+    Torn (steps_of outcome.acts) (Some c) left →
+    CameFurther c does.items does.dids does.last count left
+    ⊎ Torn (steps_until [] (Some append)) (Some c) left
+    ⊎ SomeComeBack (with_items plain does.items does.dids) append.at count left
+
+-- So it is where it was cut off once this was written: with the reply to that append it was settled.
+abbrev pub AnsweredBehindAppend : Type 0
+AnsweredBehindAppend =
+    (c : Cartridge) (plain : Plain) (input : List ℕ) (outcome : CommandOutcome) (text : List ℕ) (left : Option Cartridge) →
+    IsIntact c plain → (does : ScriptDoes c plain.words (entries_of plain) input outcome) → All (λ b. b < 256) input →
+    (answered count : ℕ) → answered ≤ length does.items → printed_by does.dids answered ≤ length text →
+    count ≤ length does.items → GoesNoFurther does.items does.dids count (length text) →
+    FirstSpare c plain does.items does.dids count → (append : SettlingAppend c does.items does.dids count) → append.at ≤ answered →
+    ItemsSpareTable (drop append.at (take count does.items)) → IsLeftBy c outcome.acts text left →
+    ((answered ≡ append.at) × Torn (steps_until [] (Some append)) (Some c) left)
+    ⊎ SomeComeBack (with_items plain does.items does.dids) answered count left
+
+-- and all lines, where all of it was done
+abbrev pub DoneBehindAppend : Type 0
+DoneBehindAppend =
+    (c : Cartridge) (plain : Plain) (input : List ℕ) (outcome : CommandOutcome) → IsIntact c plain →
+    (does : ScriptDoes c plain.words (entries_of plain) input outcome) → All (λ b. b < 256) input →
+    ItemsSpare c plain does.items does.dids → (append : SettlingAppend c does.items does.dids (length does.items)) →
+    ItemsSpareTable (drop append.at does.items) →
     SomeComeBack (with_items plain does.items does.dids) (length does.items) (length does.items)
     (Some (changed_by (steps_of outcome.acts) c))

@@ -8,11 +8,13 @@ pub mod CommandRecord
 pub mod CopyLaws
 pub mod CutLaws
 pub mod DeepScrubLaws
+pub mod FirstRuns
 pub mod InputLaws
 pub mod Inputs
 pub mod Intact
 pub mod Life
 pub mod LifeLaws
+pub mod LifeOneLoss
 pub mod LifeReopens
 pub mod MadeLaws
 pub mod MadeTerms
@@ -42,6 +44,7 @@ pub mod ScrubMended
 pub mod ScrubPlain
 pub mod ScrubSayings
 pub mod ScrubTerms
+pub mod SettledRuns
 pub mod SilentLaws
 pub mod SilentSectors
 pub mod SilentSegments

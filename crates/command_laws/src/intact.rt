@@ -1,7 +1,7 @@
 //! What becomes of a cartridge whose whole table holds what it should, so that one sector more of the table's segment may be
 //! lost. Each law is the contract of a function that does nothing; their proofs import the lemmas of this crate's `proofs`.
 
-ghost use Rattle.command_laws.specs.Intact.{SettledIsIntact, IntactComesBack, AppendsLeaveIntact, WearsLeaveIntact, ScrubsLeaveIntact, StoppedMakeComesBack, PrintedMakeComesBack, DoneMakeIsIntact, StoppedScriptComesBack, AnsweredScriptComesBack, DoneScriptComesBack};
+ghost use Rattle.command_laws.specs.Intact.{SettledIsIntact, IntactComesBack, AppendsLeaveIntact, WearsLeaveIntact, ScrubsLeaveIntact, StoppedMakeComesBack, PrintedMakeComesBack, DoneMakeIsIntact, StoppedScriptComesBack, AnsweredScriptComesBack, DoneScriptComesBack, StoppedBehindAppend, AnsweredBehindAppend, DoneBehindAppend};
 ghost use Rattle.command_laws.specs.ReadableLaws.{ComesBackCanBeRead, LeftCanBeRead};
 ghost use Rattle.command_laws.specs.Between.{FreeMayComeBack, StepsBetweenCarryOn, MountsWhileProtected, ComesBackOnceFree};
 
@@ -34,6 +34,14 @@ pub fn a_script_comes_back()
     ensures stopped { StoppedScriptComesBack }
     ensures answered { AnsweredScriptComesBack }
     ensures done { DoneScriptComesBack }
+{}
+
+/// What lines in front of an append wore of the table's segment voids nothing of that, where the append finds its table: it
+/// settles the table again, and only the lines from that append on may wear none of it.
+pub fn a_script_comes_back_behind_an_append()
+    ensures stopped { StoppedBehindAppend }
+    ensures answered { AnsweredBehindAppend }
+    ensures done { DoneBehindAppend }
 {}
 
 /// Up to the next mount of it without its protect mark, a mark that is set or cleared, a newer version, the reference

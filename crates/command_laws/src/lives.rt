@@ -3,7 +3,9 @@
 
 ghost use Rattle.command_laws.specs.Life.{ALife};
 ghost use Rattle.command_laws.specs.LifeLaws.{AnsweredRuns, BackupsAreGivenBack, FormatBegins, NewAndFormatBegin, StoppedRuns, VolumesAreGivenBack, VolumesAreKept};
+ghost use Rattle.command_laws.specs.LifeOneLoss.{ALifeWithOneLoss, VolumesAreGivenBackSo, VolumesAreKeptSo};
 ghost use Rattle.command_laws.specs.LifeReopens.{AReopeningLife};
+ghost use Rattle.command_laws.specs.SettledRuns.{OutcomesOverSettled, RunsOverSettled};
 
 /// Behind each event of a life the cartridge stands for the volumes that the answered commands made, with those of the
 /// command that was stopped or not.
@@ -39,4 +41,21 @@ pub fn runs_of_words_are_of_a_life()
 /// mounts, with just the volumes that it stands for; one without a list is unformatted.
 pub fn a_life_reopens()
     ensures { AReopeningLife }
+{}
+
+/// A run over a cartridge that mounts, of a command that settles its volume table, is one over the settled cartridge: the
+/// same answer, output and bytes taken, and the same is left. Or it was stopped while the table was settled.
+pub fn a_run_is_one_over_the_settled_cartridge()
+    ensures outcomes { OutcomesOverSettled }
+    ensures runs { RunsOverSettled }
+{}
+
+/// One sector more of the table's segment may be lost behind the settling of an append, a script or a generated run: behind
+/// each turn of such a life the cartridge mounts, with just the volumes that the answered commands made, and those of the
+/// one that was stopped or not; and the first run that opens it goes on as over a settled one. Without `new` and `format` no
+/// volume is lost or changed, and each is given back, also by that run.
+pub fn a_life_with_one_loss()
+    ensures becomes { ALifeWithOneLoss }
+    ensures kept { VolumesAreKeptSo }
+    ensures given { VolumesAreGivenBackSo }
 {}

@@ -1,6 +1,7 @@
 //! What follows of the promises of a run and is no clause of them. Each is the contract of a function that does nothing.
 
 ghost use Rattle.command_laws.specs.CutLaws.{CutRunsAreStopped, RunsReopen};
+ghost use Rattle.command_laws.specs.FirstRuns.{FirstRunsOverSettled};
 ghost use Rattle.command_laws.specs.PromiseLaws.{AnswersWhereNoneRose, DeepScrubRunMends, FaultsWhereCountsRose, LeavesAll, ScriptsUntold};
 ghost use Rattle.command_spec.specs.declared.words.Words.TheVariants.{Check, Room};
 ghost use Rattle.command_laws.specs.ReadableLaws.{FormatsLeaveReadable, FormattedCanBeRead, RunsKeepReadable};
@@ -61,4 +62,10 @@ pub fn a_run_that_was_cut_off_is_a_stopped_one<T: Tape, S: Source, K: Sink>()
 /// mounts, with just the list that it stands for.
 pub fn a_run_reopens<T: Tape, S: Source, K: Sink>()
     ensures { RunsReopen T.means S.means K.means }
+{}
+
+/// Of a cartridge that comes back the first run of a command that settles its volume table leaves what it leaves of the
+/// settled one, or it was stopped while the table was settled; and its step is one over the settled one.
+pub fn a_first_run_is_one_over_the_settled_cartridge<T: Tape, S: Source, K: Sink>()
+    ensures { FirstRunsOverSettled T.means S.means K.means }
 {}

@@ -14,8 +14,8 @@ pub const OUTCOMES: [Outcome; 3] = [Outcome::Old, Outcome::Lost, Outcome::New];
 pub const NEW: u64 = 2;
 
 /// The calls of the tape in a formatting: the insertion; the reference bursts; each of the 84 segments formatted; each
-/// of their 2,688 sectors read; and 32 sectors of each copy written.
-pub const FORMATTING: u64 = 2 + 84 + 2688 + 64;
+/// of them read; and 32 sectors of each copy written.
+pub const FORMATTING: u64 = 2 + 84 + 84 + 64;
 
 /// A tape with no cartridge, whose call with this number fails, and leaves this outcome.
 pub fn tape(rt: &impl Abort, alloc: Global, call: u64, outcome: Outcome) -> MemTape {

@@ -12,7 +12,7 @@ use Rattle.cartridge_spec.specs.Volumes.{carrying_segments, worn}
 use Rattle.command_spec.specs.Outcome.{settling_act, CommandOutcome, WritableOutcome}
 use Rattle.qic_base.specs.Acts.{Act, steps_of}
 use Rattle.qic_base.specs.Cartridge.{Cartridge, view_at}
-use Rattle.qic_base.specs.Step.{Step, WriteSector}
+use Rattle.qic_base.specs.Step.{Step, write_sector}
 use Rattle.qic_base.specs.declared.tape.SectorView.{SectorView}
 use Rattle.command_spec.specs.declared.depth.Depth.{Depth}
 use Rattle.command_spec.specs.declared.depth.Depth.TheVariants.{Shallow, Deep}
@@ -54,7 +54,7 @@ reads looked other = false
 -- and a sector that was never formatted have their write as well, and take nothing.
 abbrev pub mending_writes : Cartridge → (segment : ℕ) → (places : List ℕ) → (sectors : List (List ℕ)) → List Step
 mending_writes c segment (place ∷ places) (bytes ∷ sectors) =
-    if is_unreadable (view_at c segment place) then WriteSector segment place bytes ∷ mending_writes c segment places sectors
+    if is_unreadable (view_at c segment place) then write_sector segment place bytes ∷ mending_writes c segment places sectors
     else mending_writes c segment places sectors
 mending_writes c segment places sectors = []
 

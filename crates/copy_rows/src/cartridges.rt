@@ -13,8 +13,8 @@ const NEW: u64 = 2;
 const DEFECT: u64 = 2;
 
 /// The calls of the tape in a formatting: the insertion; the reference bursts; each of the 84 segments formatted; each
-/// of their 2,688 sectors read; and 32 sectors of each copy written.
-const FORMATTING: u64 = 2 + 84 + 2688 + 64;
+/// of them read; and 32 sectors of each copy written.
+const FORMATTING: u64 = 2 + 84 + 84 + 64;
 
 /// The defects of the target: each sector of segment 3 that takes data, so its first volume begins in segment 4.
 const DEFECTS: [(&str, &[u8]); 29] = [

@@ -2,6 +2,7 @@ pub mod AnyDrives
 pub mod Bounds
 pub mod Marks
 pub mod Obeying
+pub mod Passing
 pub mod Places
 pub mod Rows
 pub mod Taken

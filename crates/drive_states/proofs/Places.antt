@@ -113,7 +113,7 @@ Finds-at m old new s i segment index into now result here at found =
     subst (λ (n : ℕ). Finds m old new n index into now result) here
     (subst (λ (n : ℕ). Finds m old new s n into now result) at found)
 
-streams_still : (m : Motion) → is_streaming m ≡ true → is_seeking m ≡ false
+pub streams_still : (m : Motion) → is_streaming m ≡ true → is_seeking m ≡ false
 streams_still Stopped e = cc
 streams_still (Streaming next) e = refl
 streams_still (Seeking left) e = cc

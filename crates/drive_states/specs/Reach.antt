@@ -1,9 +1,12 @@
 -- Which sectors the head can reach, and what a sector call does there (this project's profile of QIC-117).
-use Rattle.std.specs.Prelude.{◌≡◌, ℕ, ◌+◌, ◌*◌, ◌≤◌, ◌⊎◌, Bool, true, false, List, [], ◌∷◌, Result, Ok, Err}
+use Rattle.std.specs.Prelude.{◌≡◌, ℕ, zero, suc, ◌+◌, ◌*◌, ◌%◌, ◌^◌, ◌≤◌, ◌⊎◌, ◌&&◌, not, Bool, true, false, if◌then◌else◌, List, [], ◌∷◌}
+use Rattle.std.specs.Prelude.{Option, Some, None, Result, Ok, Err}
 use Rattle.qic_base.specs.Cartridge.{view_at}
-use Rattle.qic_base.specs.Step.{WriteSector, FormatSegment}
+use Rattle.qic_base.specs.CartridgeTerms.{is_lost}
+use Rattle.qic_base.specs.Step.{write_sector, WriteSectors, FormatSegment}
 use Rattle.qic_base.specs.Tape.{Meaning, Done, Broke}
-use Rattle.qic_base.specs.TapeCalls.{Tells}
+use Rattle.qic_base.specs.TapeCalls.{Tells, ReadsSectors, KeepsOthers, chosen, AreBlank}
+use Rattle.qic_base.specs.declared.tape.SectorsRead.{SectorsRead}
 use Rattle.qic_base.specs.declared.tape.SectorView.TheVariants as view
 use Rattle.qic117_commands.specs.declared.view.Mode.{Mode}
 use Rattle.qic117_commands.specs.declared.view.Mode.TheVariants.{Primary, Format, Verify}
@@ -100,11 +103,11 @@ IsFormatted m tape segment index = Tells m tape (λ c. ¬ (view_at c segment ind
 abbrev pub Writes : {T : Type 0} (m : Meaning T) (old new : DeckAndTape T) (segment index : ℕ) (bytes : List ℕ) → (protected : Bool) →
     Result (Unit {0}) FdcFault → Type 0
 Writes m old new segment index bytes false (Ok done) =
-    (new.deck ≡ passed old.deck index) × Done m old.tape new.tape (WriteSector segment index bytes ∷ [])
+    (new.deck ≡ passed old.deck index) × Done m old.tape new.tape (write_sector segment index bytes ∷ [])
     × IsFormatted m old.tape segment index
 Writes m old new segment index bytes true (Ok done) = ⊥
 Writes m old new segment index bytes false (Err NoAddress) =
-    (new.deck ≡ old.deck) × Done m old.tape new.tape (WriteSector segment index bytes ∷ [])
+    (new.deck ≡ old.deck) × Done m old.tape new.tape (write_sector segment index bytes ∷ [])
     × Tells m old.tape (λ c. view_at c segment index ≡ view.Blank)
 Writes m old new segment index bytes true (Err NoAddress) =
     Stays m old new × Tells m old.tape (λ c. view_at c segment index ≡ view.Blank)
@@ -113,9 +116,70 @@ Writes m old new segment index bytes true (Err Protected) =
     Stays m old new × IsFormatted m old.tape segment index
 Writes m old new segment index bytes protected (Err Unreadable) = ⊥
 Writes m old new segment index bytes false (Err Tape) =
-    (new.deck ≡ old.deck) × Broke m old.tape new.tape (WriteSector segment index bytes ∷ [])
+    (new.deck ≡ old.deck) × Broke m old.tape new.tape (write_sector segment index bytes ∷ [])
 Writes m old new segment index bytes true (Err Tape) =
     (new.deck ≡ old.deck) × Broke m old.tape new.tape []
+
+-- ---- several sectors of the segment under the head, by words with bit i for sector i
+
+-- the last of the asked sectors below a number that isn't blank
+unfoldable pub last_passed : (asked blank below : ℕ) → Option ℕ
+last_passed asked blank zero = None
+last_passed asked blank (suc index) =
+    if is_lost asked index && not (is_lost blank index) then Some index else last_passed asked blank index
+
+abbrev pub motion_behind : (last : Option ℕ) → Motion → Motion
+motion_behind None motion = motion
+motion_behind (Some index) motion = Streaming (index + 1)
+
+-- the head has passed the last of the asked sectors that isn't blank; where there is none, it has passed nothing
+abbrev pub passed_all : Deck → (asked blank : ℕ) → Deck
+passed_all d asked blank = record d { motion = motion_behind (last_passed asked blank 32) d.motion }
+
+-- no asked sector is below the first
+abbrev pub AreFrom : (index asked : ℕ) → Type 0
+AreFrom index asked = asked % 2 ^ index ≡ 0
+
+-- the wanted sectors were read, and the head has passed them
+pub record PassesAll {T : Type 0} (m : Meaning T) (old new : DeckAndTape T) (segment index wanted : ℕ) (into now : List (List ℕ))
+    (read : SectorsRead) : Type 0 where
+  pub first : AreFrom index wanted
+  pub deck : new.deck ≡ passed_all old.deck wanted read.blank
+  pub tape : Done m old.tape new.tape []
+  pub reads : Tells m old.tape (λ c. ReadsSectors wanted read.good read.blank (view_at c segment) into now)
+  pub kept : KeepsOthers read.good into now
+
+-- A read of the wanted sectors of the segment under the head, from an index on, by its answer: the entries that were held
+-- before are in into, those after in now.
+abbrev pub FindsSectors : {T : Type 0} (m : Meaning T) (old new : DeckAndTape T) (segment index wanted : ℕ) (into now : List (List ℕ)) →
+    Result SectorsRead FdcFault → Type 0
+FindsSectors m old new segment index wanted into now (Ok read) = PassesAll m old new segment index wanted into now read
+FindsSectors m old new segment index wanted into now (Err NoAddress) = (new ≡ old) × (now ≡ into) × ¬ (AreFrom index wanted)
+FindsSectors m old new segment index wanted into now (Err Protected) = ⊥
+FindsSectors m old new segment index wanted into now (Err Unreadable) = ⊥
+FindsSectors m old new segment index wanted into now (Err Tape) =
+    (new.deck ≡ old.deck) × Broke m old.tape new.tape [] × (now ≡ into)
+
+-- the sectors were written that aren't blank, and the head has passed them
+pub record WritesAll {T : Type 0} (m : Meaning T) (old new : DeckAndTape T) (segment index written : ℕ) (from : List (List ℕ))
+    (blank : ℕ) : Type 0 where
+  pub first : AreFrom index written
+  pub deck : new.deck ≡ passed_all old.deck written blank
+  pub tape : Done m old.tape new.tape (WriteSectors segment (chosen written from) ∷ [])
+  pub blanks : Tells m old.tape (λ c. AreBlank written blank (view_at c segment))
+
+-- A write to sectors of the segment under the head, from an index on, by its answer. A protected cartridge refuses it as a
+-- write of the first of them.
+abbrev pub WritesSectors : {T : Type 0} (m : Meaning T) (old new : DeckAndTape T) (segment index written : ℕ) (from : List (List ℕ)) →
+    (protected : Bool) → Result ℕ FdcFault → Type 0
+WritesSectors m old new segment index written from false (Ok blank) = WritesAll m old new segment index written from blank
+WritesSectors m old new segment index written from true (Ok blank) = ⊥
+WritesSectors m old new segment index written from false (Err NoAddress) = (new ≡ old) × ¬ (AreFrom index written)
+WritesSectors m old new segment index written from false (Err Protected) = ⊥
+WritesSectors m old new segment index written from false (Err Unreadable) = ⊥
+WritesSectors m old new segment index written from false (Err Tape) =
+    (new.deck ≡ old.deck) × Broke m old.tape new.tape (WriteSectors segment (chosen written from) ∷ [])
+WritesSectors m old new segment index written from true (Err fault) = Writes m old new segment index [] true (Err fault)
 
 -- A format of the segment under the head, by its answer: the head moves on.
 abbrev pub Formats : {T : Type 0} (m : Meaning T) (old new : DeckAndTape T) → Result (Unit {0}) FdcFault → Type 0

@@ -12,6 +12,7 @@ ghost use Rattle.drive_spec.specs.Effects.{ticked, reset};
 ghost use Rattle.drive_states.specs.AnyDrive.{drive_of, state_of};
 ghost use Rattle.drive_states.specs.Errors.{with_error};
 ghost use Rattle.drive_states.specs.Reach.{reads_in, Reaches, ReachesNone, IsFormatting, Finds, Writes, Formats};
+ghost use Rattle.drive_states.specs.Reach.{FindsSectors, WritesSectors};
 ghost use Rattle.drive_states.specs.Sound.{IsSound};
 ghost use Rattle.drive_states.specs.Typed.{IsIn, is_seeking};
 ghost use Rattle.drive_states.specs.Unit.{Knows};
@@ -21,7 +22,7 @@ use crate::drive::{Drive, Ticked};
 use crate::fault::FdcFault;
 use crate::states::{Format, LoadPoint, Primary, Seeking, Verify};
 use drive_spec::Deck;
-use qic_base::{Sector, Tape, TapeFailed};
+use qic_base::{LostSet, Sector, SectorsRead, Tape, TapeFailed};
 use qic117_commands::Mode;
 use tape_geometry::FloppyAddr;
 
@@ -219,6 +220,48 @@ impl<T: Tape> AnyDrive<T> {
         self.reveal();
         match self {
             AnyDrive::Primary(drive) => drive.write_sector(addr, from),
+            _ => Err(FdcFault::NoAddress),
+        }
+    }
+
+    /// Reads the wanted sectors of a segment, by the address of the first, in a state that has the call.
+    pub fn read_sectors(
+        &mut self,
+        addr: FloppyAddr,
+        wanted: LostSet,
+        into: &mut [Sector; 32],
+    ) -> Result<SectorsRead, FdcFault>
+        ensures unreached { ReachesNone reads_in (drive_of self.old).deck addr →
+            (result ≡ Err FdcFault.NoAddress) × (self.new ≡ self.old) × (into.new ≡ into.old) }
+        ensures reached { (segment index : ℕ) → Reaches reads_in (drive_of self.old).deck addr segment index →
+            FindsSectors T.means (drive_of self.old) (drive_of self.new) segment index wanted into.old into.new result }
+        ensures size { T.means.size (drive_of self.new).tape ≡ T.means.size (drive_of self.old).tape }
+    {
+        self.reveal();
+        match self {
+            AnyDrive::Primary(drive) => drive.read_sectors(addr, wanted, into),
+            AnyDrive::Verify(drive) => drive.read_sectors(addr, wanted, into),
+            _ => Err(FdcFault::NoAddress),
+        }
+    }
+
+    /// Writes sectors of a segment, by the address of the first, in a state that has the call.
+    pub fn write_sectors(
+        &mut self,
+        addr: FloppyAddr,
+        written: LostSet,
+        from: &[Sector; 32],
+    ) -> Result<LostSet, FdcFault>
+        ensures unreached { ReachesNone is_primary (drive_of self.old).deck addr →
+            (result ≡ Err FdcFault.NoAddress) × (self.new ≡ self.old) }
+        ensures reached { (segment index : ℕ) → Reaches is_primary (drive_of self.old).deck addr segment index →
+            WritesSectors T.means (drive_of self.old) (drive_of self.new) segment index written from.now
+            (is_protected (drive_of self.old).deck) result }
+        ensures size { T.means.size (drive_of self.new).tape ≡ T.means.size (drive_of self.old).tape }
+    {
+        self.reveal();
+        match self {
+            AnyDrive::Primary(drive) => drive.write_sectors(addr, written, from),
             _ => Err(FdcFault::NoAddress),
         }
     }

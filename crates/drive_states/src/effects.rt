@@ -1,15 +1,15 @@
 //! What commands and gaps do to a deck (this project's profile of QIC-117).
 
-ghost use Rattle.std.specs.Prelude.{◌≡◌, ◌<◌, false};
+ghost use Rattle.std.specs.Prelude.{◌≡◌, ◌<◌, false, IfSome};
 ghost use Rattle.drive_spec.specs.Terms.{streaming, home, entering, referenced, sought, skipped, referenced_as, run_on};
 ghost use Rattle.drive_spec.specs.Effects.{accepted, given, reset, ticked, error_word};
 ghost use Rattle.drive_states.specs.Sound.{IsParameter, IsSound};
-ghost use Rattle.drive_states.specs.Reach.{passed};
+ghost use Rattle.drive_states.specs.Reach.{passed, last_passed, passed_all};
 ghost use Rattle.drive_states.specs.Unreferenced.{unreferenced};
 
 use crate::deck::{ends_early, is_stopped, limit, segments_per_track};
 use drive_spec::{Deck, Motion};
-use qic_base::TapeInfo;
+use qic_base::{LostSet, TapeInfo};
 use qic117_commands::{Command, ErrorCode, Mode};
 
 /// The gaps that a seek takes: to the start of track 0, to a track, and of a skip.
@@ -231,5 +231,30 @@ pub fn passed(deck: Deck, index: u8) -> Deck
     Deck {
         motion: Motion::Streaming { next: index + 1 },
         ..deck
+    }
+}
+
+/// The last of the asked sectors of a segment that isn't blank.
+fn last_passed(asked: LostSet, blank: LostSet) -> Option<u8>
+    ensures last { result ≡ last_passed asked blank 32 }
+    ensures within { IfSome result (λ index. index < 32) }
+{
+    let mut last = None;
+    for index in 0..32 {
+        if asked.contains(index) && !blank.contains(index) {
+            last = Some(index);
+        }
+    }
+    last
+}
+
+/// The deck once the head has passed the asked sectors of the segment under it, but the blank ones, which have no
+/// address: it is behind the last of them, and where there is none it has not moved.
+pub fn passed_all(deck: Deck, asked: LostSet, blank: LostSet) -> Deck
+    ensures { result ≡ passed_all deck asked blank }
+{
+    match last_passed(asked, blank) {
+        Some(index) => passed(deck, index),
+        None => deck,
     }
 }

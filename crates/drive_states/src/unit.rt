@@ -11,6 +11,7 @@ ghost use Rattle.drive_spec.specs.Row.{after_gap, moved_on};
 ghost use Rattle.drive_spec.specs.Steps.{gap_steps};
 ghost use Rattle.drive_states.specs.Hand.{Replaces, Wears, Spoils, Upgrades, IsPlaced, IsNotReached};
 ghost use Rattle.drive_states.specs.Reach.{reads_in, Reaches, ReachesNone, IsFormatting, Finds, Writes, Formats};
+ghost use Rattle.drive_states.specs.Reach.{FindsSectors, WritesSectors};
 ghost use Rattle.drive_states.specs.Unit.{stepped, IsInserted, IsSoundUnit, held};
 ghost use Rattle.drive_states.specs.Unreferenced.{without_reference};
 
@@ -18,7 +19,7 @@ use crate::dialogue::Dialogue;
 use crate::fault::{FdcFault, HandFault};
 use crate::hand::empty;
 use drive_spec::UnderWay;
-use qic_base::{SECTORS, Sector, TRACKS, Tape, TapeFailed};
+use qic_base::{LostSet, SECTORS, Sector, SectorsRead, TRACKS, Tape, TapeFailed};
 use std::marker::Model;
 use tape_geometry::FloppyAddr;
 
@@ -138,6 +139,53 @@ impl<T: Tape> Unit<T> {
         ensures sound { IsSoundUnit T.means self.new }
     {
         let answer = self.dialogue.drive.write_sector(addr, from);
+        self.dialogue.drive.reveal();
+        answer
+    }
+
+    /// Reads the wanted sectors of a segment, by the address of the first, each into its entry of `into`; bit i of
+    /// `wanted` stands for sector i, and none of them is below the first. Where it answers Ok, the head has passed those
+    /// that have an address. An entry is unchanged unless its sector is good.
+    pub fn read_sectors(
+        &mut self,
+        addr: FloppyAddr,
+        wanted: LostSet,
+        into: &mut [Sector; 32],
+    ) -> Result<SectorsRead, FdcFault>
+        // Where the head can reach no sector with that address, nothing is done.
+        ensures unreached { ReachesNone reads_in self.old.drive.deck addr →
+            (result ≡ Err FdcFault.NoAddress) × (self.new ≡ self.old) × (into.new ≡ into.old) }
+        // Where it can reach one, the answer is what the wanted sectors are.
+        ensures reached { (segment index : ℕ) → Reaches reads_in self.old.drive.deck addr segment index →
+            FindsSectors T.means (held self.old) (held self.new) segment index wanted into.old into.new result }
+        ensures cable { self.new.drive ≡ record self.old.drive { deck = self.new.drive.deck } }
+        ensures size { T.means.size self.new.tape ≡ T.means.size self.old.tape }
+        ensures sound { IsSoundUnit T.means self.new }
+    {
+        let answer = self.dialogue.drive.read_sectors(addr, wanted, into);
+        self.dialogue.drive.reveal();
+        answer
+    }
+
+    /// Writes sectors of a segment, by the address of the first, each with its entry of `from`; bit i of `written` stands
+    /// for sector i, and none of them is below the first. Answers those that were never formatted and took no write;
+    /// where it answers Ok, the head has passed the others.
+    pub fn write_sectors(
+        &mut self,
+        addr: FloppyAddr,
+        written: LostSet,
+        from: &[Sector; 32],
+    ) -> Result<LostSet, FdcFault>
+        ensures unreached { ReachesNone is_primary self.old.drive.deck addr →
+            (result ≡ Err FdcFault.NoAddress) × (self.new ≡ self.old) }
+        ensures reached { (segment index : ℕ) → Reaches is_primary self.old.drive.deck addr segment index →
+            WritesSectors T.means (held self.old) (held self.new) segment index written from.now
+            (is_protected self.old.drive.deck) result }
+        ensures cable { self.new.drive ≡ record self.old.drive { deck = self.new.drive.deck } }
+        ensures size { T.means.size self.new.tape ≡ T.means.size self.old.tape }
+        ensures sound { IsSoundUnit T.means self.new }
+    {
+        let answer = self.dialogue.drive.write_sectors(addr, written, from);
         self.dialogue.drive.reveal();
         answer
     }

@@ -3,7 +3,7 @@ use Rattle.std.proofs.Common.{◌≡◌, ℕ, ◌+◌, ◌-◌, ◌*◌, ◌<◌
 use Rattle.std.proofs.Common.{⊎_elim, sym, ◌∙◌, ap, ap₂, subst, arith, length-append}
 use Rattle.std.proofs.Math.ListN.{get_or-append}
 use Rattle.std.proofs.lemmas.Bool.{cases_lt}
-use Rattle.std.proofs.lemmas.List.{take_all, same_lists, get_or_default, length-take-le, get_or-take, get_or-append_right}
+use Rattle.std.proofs.lemmas.List.{same_lists, get_or_default, length-take-le, get_or-take, get_or-append_right}
 use Rattle.std.proofs.lemmas.List.Elements.{All-append}
 use Rattle.std.proofs.lemmas.Option.{unwrap_or-slice_get}
 use Rattle.std.specs.List.{flat_map}
@@ -43,10 +43,10 @@ segment_behind c views more count size before here q within = ⊎_elim
     (cases_lt q (32 * count))
 
 pub segment_more : {T : Type 0} (t : tapes.Meaning T) (first tape : T) (count : ℕ) (text mask : List ℕ) (sectors : List (List ℕ))
-    (word : ℕ) → tapes.Done t first tape [] → length sectors ≡ 32 →
-    SegmentsSeen t first count text mask → AreSeen t tape count 32 sectors word →
+    (word : ℕ) → tapes.Done t first tape [] →
+    SegmentsSeen t first count text mask → AreSeen t tape count sectors word →
     SegmentsSeen t first (count + 1) (text ++ flat_map (λ (b : List ℕ). b) sectors) (mask ++ word ∷ [])
-segment_more t first tape count text mask sectors word did room seen next = record {
+segment_more t first tape count text mask sectors word did seen next = record {
   views = seen.views ++ next.views;
   each = All-append IsView seen.views next.views seen.each next.each;
   size = length-append seen.views next.views ∙ (let a = seen.size in let b = next.size in omega arith);
@@ -55,8 +55,7 @@ segment_more t first tape count text mask sectors word did room seen next = reco
       (λ c. (q : ℕ) → q < 32 * (count + 1) → get_or (seen.views ++ next.views) q Blank ≡ get_or c.views q Blank)
       (λ c before here. segment_behind c seen.views next.views count seen.size before here)
       seen.told (Tells-read (λ c. (k : ℕ) → k < 32 → get_or next.views k Blank ≡ view_at c count k) did next.told);
-  shown = ap₂ (λ (xs ys : List ℕ). xs ++ ys) seen.shown
-      (ap (flat_map (λ (b : List ℕ). b)) (sym (take_all 32 sectors (omega arith))) ∙ next.shown)
+  shown = ap₂ (λ (xs ys : List ℕ). xs ++ ys) seen.shown next.shown
       ∙ sym (views_bytes-append seen.views next.views);
   masked = ap₂ (λ (ws : List ℕ) (w : ℕ). ws ++ w ∷ []) seen.masked next.masked
       ∙ sym (held_words-more count seen.views next.views seen.size next.size);

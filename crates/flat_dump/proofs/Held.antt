@@ -1,12 +1,9 @@
 -- The words of the sectors that hold bytes.
-use Rattle.std.proofs.Common.{◌≡◌, ℕ, zero, suc, ◌+◌, ◌*◌, ◌^◌, ◌%◌, ◌<◌, ◌≤◌, List, [], ◌∷◌, ◌++◌, length, bit_or, bit_and, take, drop, ap}
+use Rattle.std.proofs.Common.{◌≡◌, ℕ, zero, suc, ◌+◌, ◌*◌, ◌^◌, ◌≤◌, List, [], ◌∷◌, ◌++◌, length, take, drop, ap}
 use Rattle.std.proofs.Common.{ap₂, ◌∙◌, arith, length-drop}
 use Rattle.std.proofs.Math.Numerals.{add-one}
 use Rattle.std.proofs.lemmas.List.{take_all, take-append-le, drop-append-le}
 use Rattle.std.proofs.Math.Nat.{pow-suc}
-use Rattle.std.proofs.Math.Pow.{pow-lt}
-use Rattle.std.proofs.lemmas.Nat.{or_disjoint}
-use Rattle.std.proofs.lemmas.Nat.Bits.{and_pow, bit_at_above}
 use Rattle.qic_base.specs.declared.tape.SectorView.{SectorView}
 use Rattle.qic_base.specs.declared.tape.SectorView.TheVariants.{Blank, Defect, Lost, Holds}
 use Rattle.flat_dump.specs.Held.{held_bit, held_word, held_words}
@@ -17,13 +14,6 @@ held_bit-small Defect = omega arith
 held_bit-small Lost = omega arith
 held_bit-small (Holds bytes) = omega arith
 
-pub held_word-small : (views : List SectorView) → held_word views < 2 ^ length views
-held_word-small [] = omega arith
-held_word-small (view ∷ views) =
-    let one = held_bit-small view in
-    let rest = held_word-small views in
-    let p : 2 ^ suc (length views) ≡ 2 ^ length views * 2 = pow-suc 2 (length views) in omega arith
-
 pub held_word-more : (views : List SectorView) (view : SectorView) →
     held_word (views ++ view ∷ []) ≡ held_word views + held_bit view * 2 ^ length views
 held_word-more [] view = omega arith
@@ -32,15 +22,6 @@ held_word-more (first ∷ views) view =
     let p : 2 ^ suc (length views) ≡ 2 ^ length views * 2 = pow-suc 2 (length views) in
     let q : held_bit view * 2 ^ suc (length views) ≡ held_bit view * (2 ^ length views * 2) = ap (λ (n : ℕ). held_bit view * n) p in
     ap (λ (n : ℕ). held_bit first + 2 * n) rest ∙ (omega arith)
-
--- a bit above a word
-pub or_above : (word k : ℕ) → word < 2 ^ k → k < 32 → bit_or word (1 * 2 ^ k % 2 ^ 32) ≡ word + 2 ^ k
-or_above word k below few =
-    let small : 2 ^ k < 2 ^ 32 = pow-lt few in
-    let same : 1 * 2 ^ k % 2 ^ 32 ≡ 2 ^ k = omega arith in
-    let none : bit_and word (2 ^ k) ≡ zero = and_pow word k ∙ ap (λ (b : ℕ). b * 2 ^ k) (bit_at_above word k k below (omega arith))
-    ∙ (omega arith) in
-    ap (bit_or word) same ∙ or_disjoint word (2 ^ k) none
 
 -- the word of a segment more
 pub held_words-more : (count : ℕ) (views more : List SectorView) → length views ≡ 32 * count → length more ≡ 32 →

@@ -1,82 +1,55 @@
--- What a read of a sector shows of it.
-use Rattle.std.proofs.Common.{◌≡◌, ◌≢◌, ℕ, ◌+◌, ◌*◌, ◌%◌, ◌^◌, ◌<◌, List, [], ◌∷◌, ◌++◌, length, get_or, set, take, bit_or, Option, Some}
-use Rattle.std.proofs.Common.{None, IfSome, Bool, true, false, if◌then◌else◌, ⊎_elim, refl, sym, ◌∙◌, ap, ap₂, subst, arith, append_assoc}
-use Rattle.std.proofs.Common.{length-append}
-use Rattle.std.proofs.lemmas.Bool.{cases_lt}
-use Rattle.std.proofs.lemmas.List.{take_more_set}
-use Rattle.std.proofs.lemmas.List.Elements.{All-append, All-cons, All-nil}
-use Rattle.std.proofs.Math.ListN.{get_or-append}
-use Rattle.std.proofs.Math.Seq.{get_or-append_seam}
+-- What a read of a segment shows of its sectors.
+use Rattle.std.proofs.Common.{◌≡◌, ℕ, zero, suc, ◌+◌, ◌*◌, ◌%◌, ◌^◌, ◌<◌, ◌≤◌, List, [], ◌∷◌, ◌++◌, length, get_or, map, replicate, take}
+use Rattle.std.proofs.Common.{All, Option, Some, None, IfSome, Bool, true, false, ◌&&◌, ◌==◌, if◌then◌else◌, refl, sym, ◌∙◌, ap, ap₂, subst}
+use Rattle.std.proofs.Common.{arith, append_assoc, add-one}
+use Rattle.std.proofs.Math.Nat.{mod-one, mod-eq_of_lt}
+use Rattle.std.proofs.lemmas.List.{take_all, take_more, get_or-replicate}
 use Rattle.std.proofs.lemmas.List.Concat.{flat_map-append}
-use Rattle.std.specs.List.{flat_map}
-use Rattle.qic_base.proofs.Steps.{Tells-map, Tells-read, tells_two}
+use Rattle.std.proofs.lemmas.List.Elements.{All-push, All-nil}
+use Rattle.std.proofs.lemmas.List.FromFn.{get_or-map-range_with_len, length-map-range_with_len, map-range_with_len_more}
+use Rattle.std.proofs.lemmas.Nat.{mod-pow-add}
+use Rattle.std.proofs.lemmas.Nat.Bits.{bit_at_ones, bit_at-lt}
+use Rattle.std.specs.Int.{bit_at}
+use Rattle.std.specs.List.{flat_map, range_with_len}
+use Rattle.qic_base.proofs.Steps.{Tells-map}
 use Rattle.qic_base.specs.Cartridge.{Cartridge, IsSector, view_at, zero_sector}
-use Rattle.qic_base.specs.CartridgeTerms.{IsView}
-use Rattle.qic_base.specs.Tape.{Meaning, Done}
-use Rattle.qic_base.specs.TapeCalls.{Tells, Reads}
-use Rattle.qic_base.specs.declared.tape.SectorRead.{SectorRead}
-use Rattle.qic_base.specs.declared.tape.SectorRead.TheVariants as read
+use Rattle.qic_base.specs.CartridgeTerms.{IsView, is_lost}
+use Rattle.qic_base.specs.Tape.{Meaning}
+use Rattle.qic_base.specs.TapeCalls.{Tells, ReadsSectors, KeepsOthers, is_readable, bytes_read}
 use Rattle.qic_base.specs.declared.tape.SectorView.{SectorView}
 use Rattle.qic_base.specs.declared.tape.SectorView.TheVariants.{Blank, Defect, Lost, Holds}
 use Rattle.flat_dump.specs.Dump.{sector_bytes, views_bytes}
 use Rattle.flat_dump.specs.Held.{held_bit, held_word}
-use Rattle.flat_dump.specs.Seen.{IsSeen, AreSeen}
-use Rattle.flat_dump.proofs.Held.{held_word-small, held_word-more, or_above}
+use Rattle.flat_dump.specs.Seen.{AreSeen}
+use Rattle.flat_dump.proofs.Held.{held_word-more}
 
--- a sector that reads well holds what was read
-well_read : (view : SectorView) (old new : List ℕ) → Reads view old new read.Good → Holds new ≡ view
-well_read Blank old new reads = absurd (let e : read.Good ≡ read.Blank = reads.0 in cc)
-well_read Defect old new reads = absurd (let e : read.Good ≡ read.Lost = reads.0 in cc)
-well_read Lost old new reads = absurd (let e : read.Good ≡ read.Lost = reads.0 in cc)
-well_read (Holds bytes) old new reads = ap Holds reads.1
+-- ---- one sector
 
-pub good_seen : {T : Type 0} (t : Meaning T) (tape : T) (segment sector : ℕ) (old new : List ℕ) → IsSector new →
-    Tells t tape (λ c. Reads (view_at c segment sector) old new read.Good) → IsSeen t tape segment sector new true
-good_seen t tape segment sector old new is told = record {
-  view = Holds new;
-  is_view = is;
-  told = Tells-map t tape (λ c. Reads (view_at c segment sector) old new read.Good) (λ c. Holds new ≡ view_at c segment sector)
-      (λ c reads. well_read (view_at c segment sector) old new reads) told;
-  shown = refl;
-  bit = refl;
-}
-
--- a sector that holds nothing
-record HoldsNone (view : SectorView) : Type 0 where
+-- these are the bytes that a sector with this view shows, and whether it holds them
+record Shows (bytes : List ℕ) (held : Bool) (view : SectorView) : Type 0 where
   is_view : IsView view
-  bytes : zero_sector ≡ sector_bytes view
-  bit : held_bit view ≡ 0
+  shown : bytes ≡ sector_bytes view
+  bit : held_bit view ≡ (if held then 1 else 0)
 
-not_read : (view : SectorView) (old new : List ℕ) (answer : SectorRead) → answer ≢ read.Good → Reads view old new answer → HoldsNone view
-not_read Blank old new answer other reads = record { is_view = tt; bytes = refl; bit = refl }
-not_read Defect old new answer other reads = record { is_view = tt; bytes = refl; bit = refl }
-not_read Lost old new answer other reads = record { is_view = tt; bytes = refl; bit = refl }
-not_read (Holds bytes) old new answer other reads = absurd (other reads.0)
+-- a wanted one was read over zero bytes
+shows_read : (view : SectorView) (bytes : List ℕ) (held : Bool) → IsSector bytes → held ≡ is_readable view →
+    bytes ≡ bytes_read true view zero_sector → Shows bytes held view
+shows_read Blank bytes held is e read = record { is_view = tt; shown = read; bit = rw e refl }
+shows_read Defect bytes held is e read = record { is_view = tt; shown = read; bit = rw e refl }
+shows_read Lost bytes held is e read = record { is_view = tt; shown = read; bit = rw e refl }
+shows_read (Holds own) bytes held is e read = record { is_view = subst IsSector read is; shown = read; bit = rw e refl }
 
-pub other_seen : {T : Type 0} (t : Meaning T) (tape : T) (segment sector : ℕ) (old new bytes : List ℕ) (answer : SectorRead) →
-    answer ≢ read.Good →
-    Tells t tape (λ c. Reads (view_at c segment sector) old new answer) → bytes ≡ zero_sector → IsSeen t tape segment sector bytes false
-other_seen {T} t tape segment sector old new bytes answer other reads zero = by_told (t.told tape) refl reads where
-  seen : (view : SectorView) → HoldsNone view → Tells t tape (λ c. view ≡ view_at c segment sector) →
-      IsSeen t tape segment sector bytes false
-  seen view none told = record { view = view; is_view = none.is_view; told = told; shown = zero ∙ none.bytes; bit = none.bit }
+-- the view of one of which nothing is told
+view_by : (held : Bool) (bytes : List ℕ) → SectorView
+view_by held bytes = if held then Holds bytes else Lost
 
-  tells : (view : SectorView) (held : Option (Option Cartridge)) → t.told tape ≡ held →
-      IfSome held (λ h. IfSome h (λ c. view ≡ view_at c segment sector)) →
-      Tells t tape (λ c. view ≡ view_at c segment sector)
-  tells view held e fact = subst (λ (o : Option (Option Cartridge)). IfSome o (λ h. IfSome h (λ c. view ≡ view_at c segment sector)))
-      (sym e) fact
+shows_some : (held : Bool) (bytes : List ℕ) → IsSector bytes → (held ≡ false → bytes ≡ zero_sector) →
+    Shows bytes held (view_by held bytes)
+unfolding view_by
+shows_some true bytes is kept = record { is_view = is; shown = refl; bit = refl }
+shows_some false bytes is kept = record { is_view = tt; shown = kept refl; bit = refl }
 
-  by_told : (held : Option (Option Cartridge)) → t.told tape ≡ held →
-      IfSome held (λ h. IfSome h (λ c. Reads (view_at c segment sector) old new answer)) →
-      IsSeen t tape segment sector bytes false
-  by_told None e r = seen Lost (record { is_view = tt; bytes = refl; bit = refl }) (tells Lost None e tt)
-  by_told (Some None) e r = seen Lost (record { is_view = tt; bytes = refl; bit = refl }) (tells Lost (Some None) e tt)
-  by_told (Some (Some c)) e r =
-      seen (view_at c segment sector) (not_read (view_at c segment sector) old new answer other r)
-      (tells (view_at c segment sector) (Some (Some c)) e refl)
-
--- ---- sectors that are seen one behind the other
+-- ---- the sectors of a segment, one behind the other
 
 pub views_bytes-append : (xs ys : List SectorView) → views_bytes (xs ++ ys) ≡ views_bytes xs ++ views_bytes ys
 views_bytes-append [] ys = refl
@@ -84,48 +57,116 @@ views_bytes-append (x ∷ xs) ys =
     ap (λ (bytes : List ℕ). sector_bytes x ++ bytes) (views_bytes-append xs ys)
     ∙ sym (append_assoc (sector_bytes x) (views_bytes xs) (views_bytes ys))
 
--- a view more, behind others
-view_more : (views : List SectorView) (view : SectorView) (count : ℕ) (at : ℕ → SectorView) → length views ≡ count →
-    ((k : ℕ) → k < count → get_or views k Blank ≡ at k) → view ≡ at count → (k : ℕ) → k < count + 1 →
-    get_or (views ++ view ∷ []) k Blank ≡ at k
-view_more views view count at size before here k within = ⊎_elim
-    (λ below. get_or-append views (view ∷ []) Blank k (omega arith) ∙ before k below)
-    (λ past.
-    let is : k ≡ count = omega arith in
-    ap (λ (j : ℕ). get_or (views ++ view ∷ []) j Blank) (is ∙ sym size) ∙ get_or-append_seam views view [] Blank ∙ here ∙ ap at (sym is))
-    (cases_lt k count)
+-- the views of the first ones, so many
+first_views : (view : ℕ → SectorView) (count : ℕ) → List SectorView
+first_views view count = map view (range_with_len 0 count)
 
-pub next_seen : {T : Type 0} (t : Meaning T) (first tape : T) (segment count : ℕ) (sectors : List (List ℕ)) (bytes : List ℕ) (word next : ℕ)
-    (held : Bool) → count < 32 → length sectors ≡ 32 →
-    Done t first tape [] → AreSeen t first segment count sectors word → IsSeen t tape segment count bytes held →
-    next ≡ (if held then bit_or word (1 * 2 ^ count % 2 ^ 32) else word) → AreSeen t first segment (count + 1)
-    (set sectors count bytes) next
-next_seen t first tape segment count sectors bytes word next held few room did seen one is = record {
-  views = seen.views ++ one.view ∷ [];
-  each = All-append IsView seen.views (one.view ∷ []) seen.each (All-cons IsView one.view [] one.is_view (All-nil IsView));
-  size = length-append seen.views (one.view ∷ []) ∙ ap (λ (n : ℕ). n + 1) seen.size;
-  told = tells_two t first (λ c. (k : ℕ) → k < count → get_or seen.views k Blank ≡ view_at c segment k)
-      (λ c. one.view ≡ view_at c segment count)
-      (λ c. (k : ℕ) → k < count + 1 → get_or (seen.views ++ one.view ∷ []) k Blank ≡ view_at c segment k)
-      (λ c before here. view_more seen.views one.view count (view_at c segment) seen.size before here)
-      seen.told (Tells-read (λ c. one.view ≡ view_at c segment count) did one.told);
-  shown = ap (flat_map (λ (b : List ℕ). b)) (take_more_set sectors count bytes (omega arith))
-      ∙ flat_map-append (λ (b : List ℕ). b) (take count sectors) (bytes ∷ [])
-      ∙ ap₂ (λ (xs ys : List ℕ). xs ++ ys) seen.shown (ap (λ (b : List ℕ). b ++ []) one.shown)
-      ∙ sym (views_bytes-append seen.views (one.view ∷ []));
-  masked = is ∙ by_held held one.bit ∙ sym (held_word-more seen.views one.view);
+-- the first ones show these, and so does the word
+record FirstShow (view : ℕ → SectorView) (sectors : List (List ℕ)) (word count : ℕ) : Type 0 where
+  each : All IsView (first_views view count)
+  shown : flat_map (λ (b : List ℕ). b) (take count sectors) ≡ views_bytes (first_views view count)
+  masked : word % 2 ^ count ≡ held_word (first_views view count)
+
+show_more : (view : ℕ → SectorView) (sectors : List (List ℕ)) (word count : ℕ) → count < length sectors →
+    FirstShow view sectors word count → Shows (get_or sectors count []) (is_lost word count) (view count) →
+    FirstShow view sectors word (count + 1)
+unfolding first_views
+show_more view sectors word count within first next =
+    let more : first_views view (count + 1) ≡ first_views view count ++ view count ∷ [] =
+    map-range_with_len_more view 0 count count (omega arith) in
+    record {
+      each = subst (All IsView) (sym more) (All-push IsView (first_views view count) (view count) first.each next.is_view);
+      shown = ap (flat_map (λ (b : List ℕ). b)) (take_more sectors count [] within)
+          ∙ flat_map-append (λ (b : List ℕ). b) (take count sectors) (get_or sectors count [] ∷ [])
+          ∙ ap₂ (λ (xs ys : List ℕ). xs ++ ys) first.shown (ap (λ (b : List ℕ). b ++ []) next.shown)
+          ∙ sym (views_bytes-append (first_views view count) (view count ∷ []))
+          ∙ ap views_bytes (sym more);
+      masked = masked ∙ sym (held_word-more (first_views view count) (view count)) ∙ ap held_word (sym more);
+    }
+  where
+    by_bit : (bit : ℕ) → bit < 2 → bit ≡ (if bit == 1 then 1 else 0)
+    by_bit zero small = refl
+    by_bit (suc zero) small = refl
+    by_bit (suc (suc n)) small = absurd (omega arith)
+
+    bit : bit_at word count ≡ held_bit (view count)
+    bit = by_bit (bit_at word count) (bit_at-lt word count) ∙ sym next.bit
+
+    masked : word % 2 ^ (count + 1) ≡ held_word (first_views view count) + held_bit (view count) * 2 ^ length (first_views view count)
+    masked =
+        ap (λ (k : ℕ). word % 2 ^ k) (omega arith)
+        ∙ mod-pow-add word 1 count
+        ∙ ap₂ (λ (b w : ℕ). b * 2 ^ count + w) bit first.masked
+        ∙ ap (λ (k : ℕ). held_bit (view count) * 2 ^ k + held_word (first_views view count)) (sym (length-map-range_with_len view 0 count))
+        ∙ (omega arith)
+
+first_show : (view : ℕ → SectorView) (sectors : List (List ℕ)) (word : ℕ) →
+    ((k : ℕ) → k < length sectors → Shows (get_or sectors k []) (is_lost word k) (view k)) → (count : ℕ) → count ≤ length sectors →
+    FirstShow view sectors word count
+unfolding first_views
+first_show view sectors word each zero within = record { each = All-nil IsView; shown = refl; masked = mod-one word }
+first_show view sectors word each (suc count) within =
+    subst (FirstShow view sectors word) (add-one count)
+    (show_more view sectors word count (omega arith) (first_show view sectors word each count (omega arith)) (each count (omega arith)))
+
+-- ---- as the tape tells them
+
+seen_by : {T : Type 0} (t : Meaning T) (tape : T) (segment : ℕ) (sectors : List (List ℕ)) (word : ℕ) (view : ℕ → SectorView) →
+    word < 2 ^ 32 → length sectors ≡ 32 → ((k : ℕ) → k < 32 → Shows (get_or sectors k []) (is_lost word k) (view k)) →
+    Tells t tape (λ c. (k : ℕ) → k < 32 → view k ≡ view_at c segment k) → AreSeen t tape segment sectors word
+unfolding first_views
+seen_by t tape segment sectors word view small long each told = record {
+  views = first_views view 32;
+  each = first.each;
+  size = length-map-range_with_len view 0 32;
+  told = Tells-map t tape (λ c. (k : ℕ) → k < 32 → view k ≡ view_at c segment k)
+      (λ c. (k : ℕ) → k < 32 → get_or (first_views view 32) k Blank ≡ view_at c segment k)
+      (λ c at k within. get_or-map-range_with_len view 0 32 k k Blank within (omega arith) ∙ at k within) told;
+  shown = ap (flat_map (λ (b : List ℕ). b)) (sym (take_all 32 sectors (omega arith))) ∙ first.shown;
+  masked = sym (mod-eq_of_lt small) ∙ first.masked;
 }
   where
-    long : length seen.views ≡ count
-    long = seen.size
+    first : FirstShow view sectors word 32
+    first = first_show view sectors word (λ k within. each k (omega arith)) 32 (omega arith)
 
-    below : word < 2 ^ count
-    below = let s = held_word-small seen.views in
-        subst (λ (n : ℕ). word < 2 ^ n) long (subst (λ (w : ℕ). w < 2 ^ length seen.views) (sym seen.masked) s)
+-- zero bytes lay in each entry, and the sectors that hold bytes were read into theirs
+pub segment_seen : {T : Type 0} (t : Meaning T) (tape : T) (segment wanted good blank : ℕ) (old new : List (List ℕ)) →
+    wanted ≡ 4294967295 → old ≡ replicate 32 zero_sector → good < 2 ^ 32 → length new ≡ 32 →
+    ((k : ℕ) → k < 32 → IsSector (get_or new k [])) → KeepsOthers good old new →
+    Tells t tape (λ c. ReadsSectors wanted good blank (view_at c segment) old new) → AreSeen t tape segment new good
+unfolding view_by
+segment_seen {T} t tape segment wanted good blank old new all zeros small long are kept told = by_told (t.told tape) refl told where
+  tells : (view : ℕ → SectorView) (held : Option (Option Cartridge)) → t.told tape ≡ held →
+      IfSome held (λ h. IfSome h (λ c. (k : ℕ) → k < 32 → view k ≡ view_at c segment k)) →
+      Tells t tape (λ c. (k : ℕ) → k < 32 → view k ≡ view_at c segment k)
+  tells view held e fact =
+      subst (λ (o : Option (Option Cartridge)). IfSome o (λ h. IfSome h (λ c. (k : ℕ) → k < 32 → view k ≡ view_at c segment k)))
+      (sym e) fact
 
-    by_held : (h : Bool) → held_bit one.view ≡ (if h then 1 else 0) →
-        (if h then bit_or word (1 * 2 ^ count % 2 ^ 32) else word) ≡ held_word seen.views + held_bit one.view * 2 ^ length seen.views
-    by_held true bit =
-        or_above word count below few ∙ ap₂ (λ (a b : ℕ). a + b) seen.masked
-        (ap (λ (n : ℕ). 2 ^ n) (sym long) ∙ sym (ap (λ (b : ℕ). b * 2 ^ length seen.views) bit ∙ (omega arith)))
-    by_held false bit = seen.masked ∙ sym (ap (λ (b : ℕ). held_word seen.views + b * 2 ^ length seen.views) bit ∙ (omega arith))
+  lay : (k : ℕ) → k < 32 → get_or old k [] ≡ zero_sector
+  lay k within = ap (λ (ss : List (List ℕ)). get_or ss k []) zeros ∙ get_or-replicate 32 k zero_sector [] within
+
+  asked : (k : ℕ) → k < 32 → is_lost wanted k ≡ true
+  asked k within = ap (λ (w : ℕ). is_lost w k) all ∙ ap (λ (b : ℕ). b == 1) (bit_at_ones 32 k within)
+
+  some : ℕ → SectorView
+  some k = view_by (is_lost good k) (get_or new k [])
+
+  shows : (k : ℕ) → k < 32 → Shows (get_or new k []) (is_lost good k) (some k)
+  shows k within = shows_some (is_lost good k) (get_or new k []) (are k within) (λ other. kept k within other ∙ lay k within)
+
+  shows_told : (c : Cartridge) → ReadsSectors wanted good blank (view_at c segment) old new → (k : ℕ) → k < 32 →
+      Shows (get_or new k []) (is_lost good k) (view_at c segment k)
+  shows_told c reads k within =
+      shows_read (view_at c segment k) (get_or new k []) (is_lost good k) (are k within)
+      (reads.good_are k within ∙ ap (λ (b : Bool). b && is_readable (view_at c segment k)) (asked k within))
+      (reads.bytes k within
+      ∙ ap₂ (λ (b : Bool) (bytes : List ℕ). bytes_read b (view_at c segment k) bytes) (asked k within) (lay k within))
+
+  by_told : (held : Option (Option Cartridge)) → t.told tape ≡ held →
+      IfSome held (λ h. IfSome h (λ c. ReadsSectors wanted good blank (view_at c segment) old new)) → AreSeen t tape segment new good
+  by_told None e reads = seen_by t tape segment new good some small long shows (tells some None e tt)
+  by_told (Some None) e reads = seen_by t tape segment new good some small long shows (tells some (Some None) e tt)
+  by_told (Some (Some c)) e reads =
+      seen_by t tape segment new good (view_at c segment) small long (shows_told c reads)
+      (tells (view_at c segment) (Some (Some c)) e (λ k within. refl))

@@ -1,5 +1,5 @@
 -- What the reading of sectors saw (this project's own).
-use Rattle.std.specs.Prelude.{◌≡◌, ℕ, ◌*◌, ◌<◌, Bool, List, [], length, take, All, Result, Ok, Err, slice_index_or, if◌then◌else◌}
+use Rattle.std.specs.Prelude.{◌≡◌, ℕ, ◌*◌, ◌<◌, List, [], length, All, Result, Ok, Err, slice_index_or}
 use Rattle.std.specs.List.{flat_map}
 use Rattle.qic_base.specs.CartridgeTerms.{IsView}
 use Rattle.qic_base.specs.Cartridge.{view_at}
@@ -10,25 +10,17 @@ use Rattle.qic_base.specs.Tape as tapes
 use Rattle.qic_base.specs.TapeCalls as tape_calls
 use Rattle.flat_dump.specs.declared.exporting.ExportError.{ExportError}
 use Rattle.flat_dump.specs.declared.exporting.ExportError.TheVariants as error
-use Rattle.flat_dump.specs.Dump.{sector_bytes, views_bytes}
+use Rattle.flat_dump.specs.Dump.{views_bytes}
 use Rattle.flat_dump.specs.Export.{TapeBroke, SinkBroke}
-use Rattle.flat_dump.specs.Held.{held_bit, held_word, held_words}
+use Rattle.flat_dump.specs.Held.{held_word, held_words}
 
--- these are the bytes of a sector, and whether it holds them: as the tape tells it, where it does
-pub record IsSeen {T : Type 0} (t : tapes.Meaning T) (tape : T) (segment sector : ℕ) (bytes : List ℕ) (held : Bool) : Type 0 where
-  pub view : SectorView
-  pub is_view : IsView view
-  pub told : tape_calls.Tells t tape (λ c. view ≡ view_at c segment sector)
-  pub shown : bytes ≡ sector_bytes view
-  pub bit : held_bit view ≡ (if held then 1 else 0)
-
--- the first sectors of a segment, so many of them, and their word
-pub record AreSeen {T : Type 0} (t : tapes.Meaning T) (tape : T) (segment count : ℕ) (sectors : List (List ℕ)) (word : ℕ) : Type 0 where
+-- the sectors of a segment, and the word of those that hold bytes: as the tape tells it, where it does
+pub record AreSeen {T : Type 0} (t : tapes.Meaning T) (tape : T) (segment : ℕ) (sectors : List (List ℕ)) (word : ℕ) : Type 0 where
   pub views : List SectorView
   pub each : All IsView views
-  pub size : length views ≡ count
-  pub told : tape_calls.Tells t tape (λ c. (k : ℕ) → k < count → slice_index_or views k Blank ≡ view_at c segment k)
-  pub shown : flat_map (λ bytes. bytes) (take count sectors) ≡ views_bytes views
+  pub size : length views ≡ 32
+  pub told : tape_calls.Tells t tape (λ c. (k : ℕ) → k < 32 → slice_index_or views k Blank ≡ view_at c segment k)
+  pub shown : flat_map (λ bytes. bytes) sectors ≡ views_bytes views
   pub masked : word ≡ held_word views
 
 -- the first segments, so many of them, and their mask

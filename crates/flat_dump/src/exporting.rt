@@ -1,13 +1,13 @@
 //! The export of a cartridge.
 
-ghost use Rattle.std.specs.Prelude.{◌≡◌, ◌≤◌, [], Some, length};
+ghost use Rattle.std.specs.Prelude.{◌≡◌, ◌≤◌, [], Some};
 ghost use Rattle.std.specs.Vec.{vec_capacity};
 ghost use Rattle.rescue_map.specs.Laws.{most_words};
 ghost use Rattle.flat_dump.specs.Export.{Exports};
 ghost use Rattle.flat_dump.specs.Seen.{Dumps};
 
 use crate::segment::read_segment;
-use qic_base::{LONGEST, Sector, Sink, SinkFailed, Tape, TapeFailed, push_within};
+use qic_base::{LONGEST, SECTOR, SECTORS, Sink, SinkFailed, Tape, TapeFailed, push_within};
 use rescue_map::write_bytes;
 
 const TRACKS: u32 = qic_base::TRACKS as u32;
@@ -27,19 +27,18 @@ pub enum ExportError {
 fn export_segments<T: Tape, K: Sink>(
     tape: &mut T,
     segments_per_track: u16,
-    sectors: &mut [Sector],
     mask: &mut Vec<u32>,
     sink: &mut K,
 ) -> Result<(), ExportError>
     requires size { T.means.size tape.old ≡ Some segments_per_track }
     requires long { segments_per_track ≤ LONGEST }
-    requires sectors { length sectors.old ≡ 32 }
     requires words { most_words ≤ vec_capacity mask.old }
     requires empty { mask.old.items ≡ [] }
     ensures { Dumps T.means K.means tape.old tape.new sink.old sink.new segments_per_track mask.new.items result }
 {
+    let mut sectors = [[0; SECTOR]; SECTORS as usize];
     for segment in 0..TRACKS * u32::from(segments_per_track) {
-        match read_segment(tape, segment, sectors) {
+        match read_segment(tape, segment, &mut sectors) {
             Ok(word) => push_within(mask, word),
             Err(TapeFailed) => return Err(ExportError::Tape),
         }
@@ -52,21 +51,19 @@ fn export_segments<T: Tape, K: Sink>(
 }
 
 /// Writes the flat dump of a tape's cartridge to a sink, and makes the mask of the sectors that hold bytes: a word of 32
-/// sectors for each segment. The room is one for the 32 sectors of a segment, and the mask has room for 6,888 words. Of
-/// the tape nothing changes. After an error a front of the dump is written, and the mask holds nothing of use.
+/// sectors for each segment. The mask has room for 6,888 words. Of the tape nothing changes. After an error a front of the
+/// dump is written, and the mask holds nothing of use.
 pub fn export<T: Tape, K: Sink>(
     tape: &mut T,
-    sectors: &mut [Sector],
     mask: &mut Vec<u32>,
     sink: &mut K,
 ) -> Result<(), ExportError>
-    requires sectors { length sectors.old ≡ 32 }
     requires words { most_words ≤ vec_capacity mask.old }
     ensures { Exports T.means K.means tape.old tape.new sink.old sink.new mask.new.items result }
 {
     mask.clear();
     match tape.info() {
-        Ok(Some(info)) => { export_segments(tape, info.segments_per_track, sectors, mask, sink) }
+        Ok(Some(info)) => export_segments(tape, info.segments_per_track, mask, sink),
         Ok(None) => Err(ExportError::NoCartridge),
         Err(TapeFailed) => Err(ExportError::Tape),
     }

@@ -1,22 +1,21 @@
 -- The map of the unreadable sectors, sector by sector.
 use Rattle.std.proofs.Common.{refl, ◌≡◌, ◌≢◌, ◌↔◌, ℕ, ◌+◌, ◌^◌, ◌<◌, inl, inr, sym, ◌∙◌, ap, subst, arith, List, length, get_or, set, max}
-use Rattle.std.proofs.Common.{get_or-set_same, get_or-set_other, w32, Option, Some, None, IfSome}
+use Rattle.std.proofs.Common.{get_or-set_same, get_or-set_other, w32, Option, Some, None, IfSome, Bool, true, false, ◌&&◌, ◌==◌}
 use Rattle.std.specs.Int.{bit_at, trailing_zeros}
 use Rattle.std.proofs.Math.ListN.{length-set}
 use Rattle.std.proofs.Math.Pow.{pow-lt}
-use Rattle.std.proofs.lemmas.Bool.{cases_eq, false≢true}
+use Rattle.std.proofs.lemmas.Bool.{cases_eq, false≢true, true≢false}
 use Rattle.std.proofs.lemmas.Nat.{or_of_32}
-use Rattle.std.proofs.lemmas.Nat.Bits.{bit_at-zero, bit_at-lt, bit_at_or, bit_at-pow_same, bit_at-pow_other, bit_at-trailing_zeros}
+use Rattle.std.proofs.lemmas.Nat.Bits.{bit_at_ones, bit_at-zero, bit_at-lt, bit_at_or}
+use Rattle.std.proofs.lemmas.Nat.Bits.{bit_at-pow_same, bit_at-pow_other, bit_at-trailing_zeros}
 use Rattle.qic_base.specs.Cartridge.{Cartridge, view_at}
-use Rattle.qic_base.specs.CartridgeTerms.{place_of, with_place}
+use Rattle.qic_base.specs.CartridgeTerms.{place_of, with_place, is_lost}
 use Rattle.qic_base.specs.Tape.{Meaning}
-use Rattle.qic_base.specs.TapeCalls.{Tells, Reads}
-use Rattle.qic_base.specs.declared.tape.SectorRead.{SectorRead}
+use Rattle.qic_base.specs.TapeCalls.{Tells, ReadsSectors, is_readable}
 use Rattle.qic_base.specs.declared.tape.SectorView.{SectorView}
 use Rattle.qic_base.specs.declared.tape.SectorView.TheVariants.{Blank, Defect, Lost, Holds}
 use Rattle.cartridge_laws.specs.Segment.{IsUnreadable}
-use Rattle.formatter.specs.Marking.{MarksBelow, HasNoMark, IsMarked}
-use Rattle.qic_base.specs.declared.tape.SectorRead.TheVariants as read
+use Rattle.formatter.specs.Marking.{AreReadable, MarksBelow, HasNoMark, IsMarked}
 
 -- ---- a word with one bit more
 
@@ -112,20 +111,24 @@ marks_bad c words s i there within unreadable m = record {
       | inr other ↦ ap (λ (word : ℕ). bit_at word j) (word_other t other)
     ]
 
--- by the answer of the read
-pub read_good : (view : SectorView) (old now : List ℕ) (answer : SectorRead) → answer ≡ read.Good → Reads view old now answer →
-    ¬ (IsUnreadable view)
-read_good Blank old now answer good r = let no : read.Good ≡ read.Blank = sym good ∙ r.0 in absurd (cc)
-read_good Defect old now answer good r = let no : read.Good ≡ read.Lost = sym good ∙ r.0 in absurd (cc)
-read_good Lost old now answer good r = let no : read.Good ≡ read.Lost = sym good ∙ r.0 in absurd (cc)
-read_good (Holds bytes) old now answer good r = λ bad. false≢true bad
+-- by what a read of all 32 found
+pub good_readable : (wanted good blank : ℕ) (view : ℕ → SectorView) (old new : List (List ℕ)) → wanted ≡ 4294967295 →
+    ReadsSectors wanted good blank view old new → AreReadable good view
+good_readable wanted good blank view old new all reads = λ i within.
+    let asked : is_lost wanted i ≡ true = ap (λ (w : ℕ). is_lost w i) all ∙ ap (λ (b : ℕ). b == 1) (bit_at_ones 32 i within) in
+    reads.good_are i within ∙ ap (λ (b : Bool). b && is_readable (view i)) asked
 
-pub read_bad : (view : SectorView) (old now : List ℕ) (answer : SectorRead) → answer ≢ read.Good → Reads view old now answer →
-    IsUnreadable view
-read_bad Blank old now answer bad r = refl
-read_bad Defect old now answer bad r = refl
-read_bad Lost old now answer bad r = refl
-read_bad (Holds bytes) old now answer bad r = absurd (bad r.0)
+pub readable : (view : SectorView) → is_readable view ≡ true → ¬ (IsUnreadable view)
+readable Blank is = absurd (false≢true is)
+readable Defect is = absurd (false≢true is)
+readable Lost is = absurd (false≢true is)
+readable (Holds bytes) is = λ bad. false≢true bad
+
+pub unreadable : (view : SectorView) → is_readable view ≡ false → IsUnreadable view
+unreadable Blank is = refl
+unreadable Defect is = refl
+unreadable Lost is = refl
+unreadable (Holds bytes) is = absurd (true≢false is)
 
 -- ---- a word by its marks
 

@@ -2,12 +2,18 @@
 -- project's profile).
 use Rattle.std.specs.Prelude.{◌≡◌, ◌↔◌, ℕ, ◌^◌, ◌<◌, List, length, slice_index}
 use Rattle.qic_base.specs.Cartridge.{Cartridge, view_at}
-use Rattle.qic_base.specs.CartridgeTerms.{place_of, IsLost}
+use Rattle.qic_base.specs.CartridgeTerms.{place_of, IsLost, is_lost}
+use Rattle.qic_base.specs.TapeCalls.{is_readable}
+use Rattle.qic_base.specs.declared.tape.SectorView.{SectorView}
 use Rattle.cartridge_laws.specs.Segment.{IsUnreadable}
 
 -- the map has the sector's bit
 abbrev pub IsMarked : (words : List ℕ) (segment sector : ℕ) → Type 0
 IsMarked words segment sector = IsLost (slice_index words segment) sector
+
+-- just the readable sectors of a segment are in the set
+abbrev pub AreReadable : (good : ℕ) → (view : ℕ → SectorView) → Type 0
+AreReadable good view = (sector : ℕ) → sector < 32 → is_lost good sector ≡ is_readable (view sector)
 
 -- of the sectors before a place, segment after segment, just the unreadable ones are marked, and none of the others is
 pub record MarksBelow (c : Cartridge) (words : List ℕ) (place : ℕ) : Type 0 where

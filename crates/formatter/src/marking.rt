@@ -1,28 +1,28 @@
 //! The pass over a formatted tape, which marks the sectors that can't be read.
 
 ghost use Rattle.std.specs.Prelude.{◌≡◌, ◌<◌, ◌≤◌, ◌+◌, ◌*◌, [], true, length, OnOk, IsOkUnless, MatchOption};
-ghost use Rattle.qic_base.specs.CartridgeTerms.{place_of};
+ghost use Rattle.qic_base.specs.Cartridge.{Cartridge, view_at};
 ghost use Rattle.qic_base.specs.TapeCalls.{Does, Tells};
 ghost use Rattle.drive_spec.specs.Deck.{segments_per_track, is_stopped};
 ghost use Rattle.drive_spec.specs.Terms.{is_referenced};
 ghost use Rattle.drive_states.specs.Reach.{reads_in, IsUnder};
 ghost use Rattle.host_driver.specs.Calls.{IsReady, Keeps};
 ghost use Rattle.host_driver.specs.Fits.{AgreesWithTape};
-ghost use Rattle.formatter.specs.Marking.{MarksBelow, MarksUnreadable, IsFirstMarked, HasNoMarkInFront};
+ghost use Rattle.formatter.specs.Marking.{AreReadable, MarksBelow, MarksUnreadable, IsFirstMarked, HasNoMarkInFront};
 
 use crate::TRACKS;
 use crate::track::go_to_track;
 use bad_sector_map::BadMap;
 use drive_states::Unit;
 use host_driver::{Host, HostFault};
-use qic_base::{SECTORS, Sector, SectorRead, Tape};
+use qic_base::{LostSet, SECTORS, Sector, Tape};
 use qic117_commands::Mode;
 
 /// The segments of the header copies and of the volume table.
 const FRONT: u32 = 3;
 
 /// Reads all sectors of all segments, ascending, in Verify mode, and makes the map that marks those that can't be read.
-/// The sectors are read into the first of `sectors`.
+/// The sectors of a segment are read by one call, into `sectors`, of which there are 32.
 pub(crate) fn mark_all<T: Tape>(
     host: &mut Host,
     unit: &mut Unit<T>,
@@ -32,7 +32,7 @@ pub(crate) fn mark_all<T: Tape>(
     requires ready { IsReady T.means host.old unit.old }
     requires stopped { is_stopped unit.old.drive.deck.motion ≡ true }
     requires referenced { is_referenced unit.old.drive.deck ≡ true }
-    requires room { 1 ≤ length sectors.old }
+    requires room { length sectors.old ≡ 32 }
     ensures did { Does T.means unit.old.tape unit.new.tape [] result }
     ensures fault { IsOkUnless result HostFault.Tape }
     ensures marks { OnOk result (Tells T.means unit.old.tape (λ c. MarksUnreadable c map.new)) }
@@ -60,7 +60,7 @@ fn mark_tracks<T: Tape>(
     requires stopped { is_stopped unit.old.drive.deck.motion ≡ true }
     requires referenced { is_referenced unit.old.drive.deck ≡ true }
     requires words { length map.old ≡ 28 * segments_per_track unit.old.drive.deck }
-    requires room { 1 ≤ length sectors.old }
+    requires room { length sectors.old ≡ 32 }
     ensures did { Does T.means unit.old.tape unit.new.tape [] result }
     ensures fault { IsOkUnless result HostFault.Tape }
     ensures marks { OnOk result (Tells T.means unit.old.tape (λ c.
@@ -88,7 +88,7 @@ fn mark_track<T: Tape>(
     requires referenced { is_referenced unit.old.drive.deck ≡ true }
     requires track { track < 28 }
     requires words { length map.old ≡ 28 * segments_per_track unit.old.drive.deck }
-    requires room { 1 ≤ length sectors.old }
+    requires room { length sectors.old ≡ 32 }
     ensures did { Does T.means unit.old.tape unit.new.tape [] result }
     ensures fault { IsOkUnless result HostFault.Tape }
     ensures marks { let n = segments_per_track unit.old.drive.deck in
@@ -107,7 +107,7 @@ fn mark_track<T: Tape>(
     Ok(())
 }
 
-/// Marks the unreadable sectors of the segment in which the tape streams.
+/// Reads the segment in which the tape streams, and marks its unreadable sectors.
 fn mark_segment<T: Tape>(
     host: &mut Host,
     unit: &mut Unit<T>,
@@ -119,7 +119,7 @@ fn mark_segment<T: Tape>(
     requires mode { reads_in unit.old.drive.deck.mode ≡ true }
     requires under { IsUnder unit.old.drive.deck segment 0 }
     requires segment { segment < length map.old }
-    requires room { 1 ≤ length sectors.old }
+    requires room { length sectors.old ≡ 32 }
     ensures did { Does T.means unit.old.tape unit.new.tape [] result }
     ensures fault { IsOkUnless result HostFault.Tape }
     ensures marks { OnOk result (Tells T.means unit.old.tape (λ c.
@@ -128,41 +128,26 @@ fn mark_segment<T: Tape>(
     ensures under { OnOk result (IsUnder unit.new.drive.deck segment 32) }
     ensures keeps { Keeps T.means host.new unit.old unit.new }
 {
-    for index in 0..SECTORS {
-        mark_sector(host, unit, segment, index, map, sectors)?;
-    }
+    let Some(entries) = sectors.as_mut_array() else {
+        unreachable!("there are 32 sectors")
+    };
+    let read = host.read_sectors(unit, segment, LostSet::from_mask(u32::MAX), entries)?;
+    mark_others(map, segment, read.good);
     Ok(())
 }
 
-/// Marks the next sector of the segment in which the tape streams, where that can't be read.
-fn mark_sector<T: Tape>(
-    host: &mut Host,
-    unit: &mut Unit<T>,
-    segment: u32,
-    index: u8,
-    map: &mut BadMap,
-    sectors: &mut [Sector],
-) -> Result<(), HostFault>
-    requires ready { IsReady T.means host.old unit.old }
-    requires mode { reads_in unit.old.drive.deck.mode ≡ true }
-    requires under { IsUnder unit.old.drive.deck segment index }
-    requires index { index < 32 }
-    requires segment { segment < length map.old }
-    requires room { 1 ≤ length sectors.old }
-    ensures did { Does T.means unit.old.tape unit.new.tape [] result }
-    ensures fault { IsOkUnless result HostFault.Tape }
-    ensures marks { OnOk result (Tells T.means unit.old.tape (λ c.
-        MarksBelow c map.old (place_of segment index) →
-        MarksBelow c map.new (place_of segment index + 1))) }
+/// Marks the sectors of a segment that are not good.
+fn mark_others(map: &mut BadMap, segment: u32, good: LostSet)
+    requires { segment < length map.old }
+    ensures marks { (c : Cartridge) → AreReadable good (view_at c segment) →
+        MarksBelow c map.old (32 * segment) → MarksBelow c map.new (32 * (segment + 1)) }
     ensures words { length map.new ≡ length map.old }
-    ensures under { IsUnder unit.new.drive.deck segment (index + 1) }
-    ensures keeps { Keeps T.means host.new unit.old unit.new }
 {
-    match host.read_sector(unit, segment, index, &mut sectors[0])? {
-        SectorRead::Good => {}
-        SectorRead::Lost | SectorRead::Blank => map.mark(segment, index),
+    for index in 0..SECTORS {
+        if !good.contains(index) {
+            map.mark(segment, index);
+        }
     }
-    Ok(())
 }
 
 /// The first of the segments 0 to 2, those of the header copies and of the volume table, that has a marked sector.

@@ -3,10 +3,11 @@ use Rattle.std.proofs.Common.{◌≡◌, ℕ, ◌⊎◌, inl, inr, true, false, 
 use Rattle.std.proofs.Common.{IfSome, IsSomeAnd}
 use Rattle.std.specs.Option.{option_map}
 use Rattle.qic_base.specs.Cartridge.{Cartridge}
-use Rattle.qic_base.specs.Step.{Step, WriteSector, FormatSegment, SetReferenced, Wear, effects, Torn, SegmentBecame, ClosingView}
-use Rattle.qic_base.specs.Step.{OpeningView}
+use Rattle.qic_base.specs.Step.{Step, NewSector, WriteSectors, FormatSegment, SetReferenced, Wear, effects, Torn, SegmentBecame}
+use Rattle.qic_base.specs.Step.{ClosingView, OpeningView}
 use Rattle.qic_base.specs.Tape.{Meaning, Done, Broke}
 use Rattle.qic_base.specs.declared.tape.TapeInfo.{TapeInfo}
+use Rattle.qic_base.proofs.SectorsWritten.{StayWritten, half_keeps, sectors_keep}
 use Rattle.qic_base.proofs.Steps.{Torn-all}
 use Rattle.drive_spec.specs.Terms.{referenced_as}
 use Rattle.drive_states.specs.Unit.{UnitView}
@@ -20,14 +21,19 @@ KeepsInfo steps = (info : TapeInfo) (held left : Option Cartridge) → Torn step
 pub nothing_keeps : KeepsInfo []
 nothing_keeps info held left torn h = subst (λ (o : Option Cartridge). IsSomeAnd o (λ c. c.info ≡ info)) (sym torn) h
 
-pub write_keeps : (segment sector : ℕ) (bytes : List ℕ) → KeepsInfo (WriteSector segment sector bytes ∷ [])
-write_keeps segment sector bytes info None left torn h = absurd h
-write_keeps segment sector bytes info (Some c) left (inl before) h = subst (λ (o : Option Cartridge). IsSomeAnd o (λ c. c.info ≡ info))
+-- no length and mark changes where one sector is worn, and where one is written
+stay_written : (info : TapeInfo) (segment : ℕ) (new : List NewSector) → StayWritten (λ c. c.info ≡ info) segment new
+stay_written info segment [] = tt
+stay_written info segment (first ∷ more) = (record { worn = λ c is. is; written = λ c is. is }, stay_written info segment more)
+
+pub write_keeps : (segment : ℕ) (new : List NewSector) → KeepsInfo (WriteSectors segment new ∷ [])
+write_keeps segment new info None left torn h = absurd h
+write_keeps segment new info (Some c) left (inl before) h = subst (λ (o : Option Cartridge). IsSomeAnd o (λ c. c.info ≡ info))
     (sym before) h
-write_keeps segment sector bytes info (Some c) left (inr (inl inside)) h =
-    subst (λ (o : Option Cartridge). IsSomeAnd o (λ c. c.info ≡ info)) (sym inside) h
-write_keeps segment sector bytes info (Some c) left (inr (inr behind)) h =
-    subst (λ (o : Option Cartridge). IsSomeAnd o (λ c. c.info ≡ info)) (sym behind) h
+write_keeps segment new info (Some c) left (inr (inl inside)) h =
+    half_keeps (λ c. c.info ≡ info) segment new c left (stay_written info segment new) h inside
+write_keeps segment new info (Some c) left (inr (inr behind)) h = subst (λ (o : Option Cartridge). IsSomeAnd o (λ c. c.info ≡ info))
+    (sym behind) (sectors_keep (λ c. c.info ≡ info) segment new c (stay_written info segment new) h)
 
 pub wear_keeps : (segment sector : ℕ) → KeepsInfo (Wear segment sector ∷ [])
 wear_keeps segment sector info None left torn h = absurd h
@@ -37,16 +43,16 @@ wear_keeps segment sector info (Some c) left (inr (inl inside)) h = absurd insid
 wear_keeps segment sector info (Some c) left (inr (inr behind)) h = subst (λ (o : Option Cartridge). IsSomeAnd o (λ c. c.info ≡ info))
     (sym behind) h
 
-half_keeps : (segment : ℕ) (info : TapeInfo) (old new : Cartridge) → SegmentBecame ClosingView segment old new
+half_format_keeps : (segment : ℕ) (info : TapeInfo) (old new : Cartridge) → SegmentBecame ClosingView segment old new
     ⊎ SegmentBecame OpeningView segment old new → old.info ≡ info → new.info ≡ info
-half_keeps segment info old new (inl closing) h = closing.info ∙ h
-half_keeps segment info old new (inr opening) h = opening.info ∙ h
+half_format_keeps segment info old new (inl closing) h = closing.info ∙ h
+half_format_keeps segment info old new (inr opening) h = opening.info ∙ h
 
 pub format_keeps : (segment : ℕ) → KeepsInfo (FormatSegment segment ∷ [])
 format_keeps segment info None left torn h = absurd h
 format_keeps segment info (Some c) left (inl before) h = subst (λ (o : Option Cartridge). IsSomeAnd o (λ c. c.info ≡ info)) (sym before) h
 format_keeps segment info (Some c) None (inr (inl inside)) h = absurd inside
-format_keeps segment info (Some c) (Some new) (inr (inl inside)) h = half_keeps segment info c new inside h
+format_keeps segment info (Some c) (Some new) (inr (inl inside)) h = half_format_keeps segment info c new inside h
 format_keeps segment info (Some c) left (inr (inr behind)) h = subst (λ (o : Option Cartridge). IsSomeAnd o (λ c. c.info ≡ info))
     (sym behind) h
 

@@ -1,11 +1,11 @@
-//! The first sector of segment 4 read, written and worn through a host, where the tape fails. Call 5 of the tape puts the
+//! The first sector of segment 4, and several of it in one call, read, written and worn through a host, where the tape fails.
 //! cartridge in; the way makes none, and 6 is the sector's.
 
 use crate::cable::{Row, begun, first_wrong, put_away, written};
 use crate::trains::{FIRST_OF_FOUR, WRITTEN};
 use drive_states::Unit;
 use host_driver::{HandFault, HostFault};
-use qic_base::{Sector, SectorRead, SectorWrite};
+use qic_base::{LostSet, Sector, SectorRead, SectorWrite, SectorsRead};
 use qic_mem::MemTape;
 
 fn read(unit: &mut Unit<MemTape>, into: &mut Sector) -> Result<SectorRead, HostFault> {
@@ -18,6 +18,36 @@ fn write(unit: &mut Unit<MemTape>, from: &Sector) -> Result<SectorWrite, HostFau
     let mut host = begun(unit)?;
     host.go_to(unit, 4)?;
     host.write_sector(unit, 4, 0, from)
+}
+
+/// Reads sectors of segment 4 in one call.
+fn read_several(
+    unit: &mut Unit<MemTape>,
+    wanted: u32,
+    into: &mut [Sector; 32],
+) -> Result<SectorsRead, HostFault> {
+    let mut host = begun(unit)?;
+    host.go_to(unit, 4)?;
+    host.read_sectors(unit, 4, LostSet::from_mask(wanted), into)
+}
+
+/// Writes sectors of segment 4 in one call.
+fn write_several(
+    unit: &mut Unit<MemTape>,
+    written: u32,
+    from: &[Sector; 32],
+) -> Result<LostSet, HostFault> {
+    let mut host = begun(unit)?;
+    host.go_to(unit, 4)?;
+    host.write_sectors(unit, 4, LostSet::from_mask(written), from)
+}
+
+/// What a read finds where these sectors are good and none is blank.
+fn all_good(good: u32) -> Result<SectorsRead, HostFault> {
+    Ok(SectorsRead {
+        good: LostSet::from_mask(good),
+        blank: LostSet::from_mask(0),
+    })
 }
 
 /// Has a host that knows the cartridge wear a sector.
@@ -50,6 +80,38 @@ fn a_write_that_fails_leaves_the_head_where_it_was(rt: HostRuntime) {
     let seen = (answer, first_wrong(&mut unit, &KEPT));
     put_away(unit);
     assert_eq!(rt; seen, (Err(HostFault::Tape), None));
+}
+
+#[test]
+fn a_read_of_several_that_fails_leaves_the_head_where_it_was(rt: HostRuntime) {
+    let mut unit = written(&rt, rt.alloc(), &[6]);
+    let mut into = [[1; 1024]; 32];
+    let answer = read_several(&mut unit, 3, &mut into);
+    let seen = (answer, into[0], first_wrong(&mut unit, &KEPT));
+    put_away(unit);
+    assert_eq!(rt; seen, (Err(HostFault::Tape), [1; 1024], None));
+}
+
+#[test]
+fn several_sectors_are_read_and_written_in_one_call(rt: HostRuntime) {
+    let mut unit = written(&rt, rt.alloc(), &[]);
+    let mut into = [[1; 1024]; 32];
+    let seen = (
+        wear(&mut unit, 4, 1),
+        read_several(&mut unit, 7, &mut into),
+        write_several(&mut unit, 6, &[[9; 1024]; 32]),
+    );
+    let found = [into[0], into[1], into[2], into[3]];
+    let again = (read_several(&mut unit, 3, &mut into), [into[0], into[1]]);
+    put_away(unit);
+    assert_eq!(rt;
+        (seen, found, again),
+        (
+            (Ok(Ok(())), all_good(5), Ok(LostSet::from_mask(0))),
+            [[WRITTEN; 1024], [1; 1024], [0; 1024], [1; 1024]],
+            (all_good(3), [[WRITTEN; 1024], [9; 1024]]),
+        )
+    );
 }
 
 #[test]

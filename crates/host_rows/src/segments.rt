@@ -143,23 +143,21 @@ fn a_written_segment_is_read_without_three_sectors(rt: HostRuntime) {
     );
 }
 
-/// Call 6 is the first of 28 writes. Call 7 puts the cartridge in again, and call 10 is the third of those that come
-/// then.
+/// Call 6 writes the segment.
 #[test]
-fn a_fault_leaves_the_writes_before_it(rt: HostRuntime) {
-    let mut unit = marked(&rt, rt.alloc(), &[6, 10]);
+fn a_write_that_fails_leaves_the_segment_as_it_was(rt: HostRuntime) {
+    let mut unit = marked(&rt, rt.alloc(), &[6]);
     let mut work = Workspace::new(rt.alloc()).expect(&rt, "memory");
     fill(&mut work, 10);
-    let written = [write(&mut unit, &mut work), write(&mut unit, &mut work)];
-    let gathered = (
-        gather(&mut unit, &mut work),
-        are_filled(&work, 0, 2, 10),
-        are_zero(&work, 2, 28),
-    );
+    let failed = write(&mut unit, &mut work);
+    let left = (gather(&mut unit, &mut work), are_zero(&work, 0, 28));
+    fill(&mut work, 10);
+    let written = write(&mut unit, &mut work);
+    let gathered = (gather(&mut unit, &mut work), are_filled(&work, 0, 25, 10));
     put_both_away(unit, work);
     assert_eq!(rt;
-        (written, gathered),
-        ([Err(SegFault::Tape); 2], (Ok(0), true, true))
+        (failed, left, written, gathered),
+        (Err(SegFault::Tape), (Ok(0), true), Ok(()), (Ok(0), true))
     );
 }
 
@@ -183,11 +181,10 @@ fn a_fault_leaves_the_named_writes_before_it(rt: HostRuntime) {
     );
 }
 
-/// Call 6 is the first of 28 reads, and so is call 8 behind the insertion by call 7; call 37 is the last of those that
-/// come behind the next insertion.
+/// Calls 6, 8 and 10 read the segment, each behind an insertion.
 #[test]
-fn a_fault_among_reads_is_told(rt: HostRuntime) {
-    let mut unit = marked(&rt, rt.alloc(), &[6, 8, 37]);
+fn a_read_that_fails_is_told(rt: HostRuntime) {
+    let mut unit = marked(&rt, rt.alloc(), &[6, 8, 10]);
     let mut work = Workspace::new(rt.alloc()).expect(&rt, "memory");
     let told = [
         gather(&mut unit, &mut work),

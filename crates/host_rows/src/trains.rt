@@ -4,7 +4,7 @@
 ghost use Rattle.std.specs.Prelude.{◌≤◌};
 
 use drive_states::{FloppyAddr, Unit};
-use qic_base::{Tape, TapeFailed};
+use qic_base::{Tape, TapeFailed, write_sector};
 use qic_mem::MemTape;
 
 /// Each byte of the sector that `write_one` writes.
@@ -17,7 +17,7 @@ pub fn write_one(tape: &mut MemTape) -> Result<(), TapeFailed> {
     tape.set_referenced()?;
     tape.format_segment(0)?;
     tape.format_segment(4)?;
-    tape.write_sector(4, 0, &[WRITTEN; 1024])?;
+    write_sector(tape, 4, 0, &[WRITTEN; 1024])?;
     Ok(())
 }
 

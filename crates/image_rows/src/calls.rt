@@ -8,7 +8,7 @@ ghost use Rattle.qic_mem.specs.Disk.{disk_means};
 
 use crate::files::{CLOSED, LENGTH, NEW, OLD, OPEN, sees_three, write_cells, write_image};
 use cart_image::ImageTape;
-use qic_base::Tape;
+use qic_base::{LostSet, Tape, read_sector, write_sector};
 use qic_mem::{DiskChange, DiskEntry, MemDisk};
 use std::alloc::Global;
 use std::test::Fail;
@@ -63,13 +63,13 @@ fn make(tape: &mut ImageTape<MemDisk>, call: Call) -> Result<(), Fail> {
             let _ = tape.info()?;
         }
         Call::Read(sector) if sector < 32 => {
-            let _ = tape.read_sector(2, sector, &mut [0; 1024])?;
+            let _ = read_sector(tape, 2, sector, &mut [0; 1024])?;
         }
         Call::Write(sector) if sector < 32 => {
-            let _ = tape.write_sector(2, sector, &[NEW; 1024])?;
+            let _ = write_sector(tape, 2, sector, &[NEW; 1024])?;
         }
         Call::WriteSectors(written) => {
-            let _ = tape.write_sectors(2, written, &numbered())?;
+            let _ = tape.write_sectors(2, LostSet::from_mask(written), &numbered())?;
         }
         Call::Wear(sector) if sector < 32 => tape.wear(2, sector)?,
         Call::Spoil(sector) if sector < 32 => {
@@ -266,7 +266,8 @@ fn sectors_in_cells_are_written_one_by_one_with_three_syncs(rt: HostRuntime) -> 
 fn refused(alloc: Global) -> Result<u32, Fail> {
     let mut tape = ImageTape::open(after(alloc, Version::Two, &[Call::Spoil(3)])?);
     sees_three(&mut tape)?;
-    Ok(tape.write_sectors(2, 0b1_1001, &numbered())?)
+    let blank = tape.write_sectors(2, LostSet::from_mask(0b1_1001), &numbered())?;
+    Ok(blank.mask())
 }
 
 #[test]
@@ -276,14 +277,14 @@ fn a_sector_that_was_never_formatted_is_answered(rt: HostRuntime) -> Result<(), 
 }
 
 /// What a read of the sectors 0, 1 and 3 of segment 2 finds, where sector 1 is lost and sector 3 was never formatted:
-/// the two words, and the first byte of each of the entries 0 to 3, which was 7.
+/// the masks of both sets, and the first byte of each of the entries 0 to 3, which was 7.
 fn found(alloc: Global, version: Version) -> Result<(u32, u32, [u8; 4]), Fail> {
     let mut tape = ImageTape::open(after(alloc, version, &[Call::Wear(1)])?);
     sees_three(&mut tape)?;
     let mut into = [[7; 1024]; 32];
-    let read = tape.read_sectors(2, 0b1011, &mut into)?;
+    let read = tape.read_sectors(2, LostSet::from_mask(0b1011), &mut into)?;
     let firsts = [into[0][0], into[1][0], into[2][0], into[3][0]];
-    Ok((read.good, read.blank, firsts))
+    Ok((read.good.mask(), read.blank.mask(), firsts))
 }
 
 #[test]

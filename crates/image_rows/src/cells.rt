@@ -6,7 +6,10 @@
 ghost use Rattle.std.specs.Prelude.{◌<◌, ◌^◌};
 
 use crate::calls::{Call, Row, Version, does, first_other};
-use crate::files::{CLOSED, LENGTH, NEW, OPEN};
+use crate::files::{CLOSED, LENGTH, NEW, OPEN, sees_three, write_cells};
+use cart_image::ImageTape;
+use qic_base::{Disk, LostSet, Tape};
+use qic_mem::MemDisk;
 use std::alloc::Global;
 use std::test::Fail;
 
@@ -149,5 +152,22 @@ fn a_new_cartridge_over_cells_is_five_steps(rt: HostRuntime) -> Result<(), Fail>
         Row::Sync,
     ];
     assert!(rt; does(rt.alloc(), Version::Two, &[Call::Renew], &rows)?);
+    Ok(())
+}
+
+/// Whether a segment is read, and the next call of the disk is the one that fails: nine calls made the file, and two told
+/// of it.
+fn is_read_by_one_call(alloc: Global) -> Result<bool, Fail> {
+    let mut file = MemDisk::new(alloc, LENGTH, [12].to_vec(alloc)?)?;
+    write_cells(&mut file)?;
+    let mut tape = ImageTape::open(file);
+    sees_three(&mut tape)?;
+    let read = tape.read_sectors(2, LostSet::from_mask(u32::MAX), &mut [[0; 1024]; 32])?;
+    Ok(read.good == LostSet::from_mask(0b111) && tape.into_disk().len().is_err())
+}
+
+#[test]
+fn the_sectors_of_a_segment_are_read_by_one_call(rt: HostRuntime) -> Result<(), Fail> {
+    assert!(rt; is_read_by_one_call(rt.alloc())?);
     Ok(())
 }

@@ -9,7 +9,9 @@ ghost use Rattle.cart_image.specs.ImageTape.{image_means};
 
 use crate::files::{CLOSED, NEVER, NEW, OLD, OPEN, byte_at, image, sees_three};
 use cart_image::ImageTape;
-use qic_base::{Disk, DiskFailed, SectorRead, SectorWrite, Tape, TapeFailed};
+use qic_base::{
+    Disk, DiskFailed, SectorRead, SectorWrite, Tape, TapeFailed, read_sector, write_sector,
+};
 use qic_mem::MemDisk;
 use std::alloc::Global;
 use std::test::Fail;
@@ -50,7 +52,7 @@ pub fn after_write(mut tape: ImageTape<MemDisk>, fails: bool) -> Result<MemDisk,
     requires { image_means.size tape ≡ Some 3 }
     ensures { IfOk result (IsSettled disk_means) }
 {
-    match tape.write_sector(2, 1, &[NEW; 1024]) {
+    match write_sector(&mut tape, 2, 1, &[NEW; 1024]) {
         Err(TapeFailed) if fails => Ok(tape.into_disk()),
         Ok(SectorWrite::Taken) if !fails => Ok(tape.into_disk()),
         _ => Err(Fail::from("another answer")),
@@ -134,7 +136,7 @@ fn filled(tape: &mut ImageTape<MemDisk>, sector: u8) -> Result<Option<u8>, Fail>
 {
     sees_three(tape)?;
     let mut into = [0; 1024];
-    match tape.read_sector(2, sector, &mut into)? {
+    match read_sector(tape, 2, sector, &mut into)? {
         SectorRead::Good if into == [into[0]; 1024] => Ok(Some(into[0])),
         SectorRead::Lost => Ok(None),
         SectorRead::Good | SectorRead::Blank => Err(Fail::from("another sector")),

@@ -6,7 +6,7 @@ ghost use Rattle.std.specs.Prelude.{◌<◌};
 use crate::files::{image, sees_three};
 use crate::sectors::{after_write, held};
 use cart_image::ImageTape;
-use qic_base::{Sector, SectorRead, Tape};
+use qic_base::{Sector, SectorRead, read_sector};
 use qic_mem::MemDisk;
 use std::alloc::Global;
 use std::test::Fail;
@@ -22,7 +22,7 @@ fn view(
 {
     sees_three(tape)?;
     let mut into = [0; 1024];
-    let read = tape.read_sector(segment, sector, &mut into)?;
+    let read = read_sector(tape, segment, sector, &mut into)?;
     Ok((read, into))
 }
 

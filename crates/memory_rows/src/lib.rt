@@ -11,6 +11,8 @@ mod filling;
 #[cfg(test)]
 mod openings;
 #[cfg(test)]
+mod several;
+#[cfg(test)]
 mod streams;
 #[cfg(test)]
 mod tapes;

@@ -3,7 +3,9 @@
 ghost use Rattle.std.specs.Prelude.{◌≡◌, ◌<◌, Some, IfOk, OnOk};
 ghost use Rattle.qic_mem.specs.Tape.{tape_means};
 
-use qic_base::{NoMemory, SectorRead, SectorWrite, Tape, TapeFailed, TapeInfo};
+use qic_base::{
+    NoMemory, SectorRead, SectorWrite, Tape, TapeFailed, TapeInfo, read_sector, write_sector,
+};
 use qic_mem::{MemTape, Outcome, SureTape};
 use std::alloc::Global;
 use std::test::Fail;
@@ -45,7 +47,7 @@ fn found(tape: &mut MemTape, segment: u32, sector: u8) -> Found
 {
     let mut into = [1; 1024];
     (
-        tape.read_sector(segment, sector, &mut into),
+        read_sector(tape, segment, sector, &mut into),
         into[0],
         into[1023],
     )
@@ -80,7 +82,7 @@ fn written(tape: &mut MemTape) -> Written
     requires { tape_means.size tape.old ≡ Some 3 }
     ensures { tape_means.size tape.new ≡ Some 3 }
 {
-    (tape.write_sector(83, 31, &[7; 1024]), found(tape, 83, 31))
+    (write_sector(tape, 83, 31, &[7; 1024]), found(tape, 83, 31))
 }
 
 /// What the last sectors of a cartridge are, one after another, and the answers to what is done to them.
@@ -138,7 +140,7 @@ fn use_tape(tape: &mut MemTape) -> Result<Around, TapeFailed> {
     tape.renew(3)?;
     Ok((
         tape.format_segment(0),
-        tape.write_sector(0, 0, &[7; 1024]),
+        write_sector(tape, 0, 0, &[7; 1024]),
         found(tape, 0, 0),
         tape.renew(4),
     ))
@@ -162,7 +164,7 @@ fn begin(tape: &mut MemTape) -> Result<(), TapeFailed>
 {
     tape.renew(3)?;
     let _ = tape.format_segment(0);
-    let _ = tape.write_sector(0, 0, &[7; 1024]);
+    let _ = write_sector(tape, 0, 0, &[7; 1024]);
     Ok(())
 }
 
@@ -192,7 +194,7 @@ fn found_after(tape: &mut MemTape, call: Call) -> Found
 {
     match call {
         Call::Write => {
-            let _ = tape.write_sector(0, 0, &[9; 1024]);
+            let _ = write_sector(tape, 0, 0, &[9; 1024]);
             found(tape, 0, 0)
         }
         Call::Format => {
@@ -298,8 +300,8 @@ fn last_of_longest(tape: &mut SureTape) -> Result<Last, TapeFailed> {
     let mut into = [1; 1024];
     Ok((
         tape.format_segment(6887),
-        tape.write_sector(6887, 31, &[7; 1024]),
-        tape.read_sector(6887, 31, &mut into),
+        write_sector(tape, 6887, 31, &[7; 1024]),
+        read_sector(tape, 6887, 31, &mut into),
         into[1023],
     ))
 }

@@ -6,7 +6,9 @@ pub mod Giving
 pub mod Joins
 pub mod LineBytes
 pub mod LostSetLaws
+pub mod OneSector
 pub mod Outcomes
+pub mod SectorsWritten
 pub mod Steps
 pub mod Views
 pub mod Writing

@@ -5,9 +5,15 @@ use Rattle.qic_base.specs.declared.tape.SectorView.{SectorView}
 use Rattle.qic_base.specs.declared.tape.SectorView.TheVariants.{Blank, Defect, Lost, Holds}
 use Rattle.qic_base.specs.Cartridge.{Cartridge, view_at, with_view, new_cartridge, zero_sector}
 
--- a change of the cartridge, with its segment, sector index and bytes; or of the version that it is kept in
+-- a sector of a segment, by its index, and the 1,024 bytes that it gets
+pub record NewSector : Type 0 where
+  pub sector : ℕ
+  pub bytes : List ℕ
+
+-- A change of the cartridge: some sectors of a segment written; or, with its segment and sector index, another one; or one of
+-- the version that it is kept in.
 pub data Step : Type 0 where
-  WriteSector : ℕ → ℕ → List ℕ → Step
+  WriteSectors : ℕ → List NewSector → Step
   FormatSegment : ℕ → Step
   SetReferenced : Step
   SetProtected : Bool → Step
@@ -37,16 +43,33 @@ abbrev pub spoiled_view : SectorView → SectorView
 spoiled_view Blank = Defect
 spoiled_view view = view
 
+-- the write of one sector
+abbrev pub write_sector : (segment sector : ℕ) → (bytes : List ℕ) → Step
+write_sector segment sector bytes = WriteSectors segment (record { sector = sector; bytes = bytes } ∷ [])
+
+-- the cartridge with one sector written, ..
+abbrev pub with_sector : (segment : ℕ) → NewSector → Cartridge → Cartridge
+with_sector segment new c = with_view c segment new.sector (written_view new.bytes (view_at c segment new.sector))
+
+-- .. and with several
+abbrev pub with_sectors : (segment : ℕ) → List NewSector → Cartridge → Cartridge
+with_sectors segment [] c = c
+with_sectors segment (new ∷ more) c = with_sectors segment more (with_sector segment new c)
+
+-- .. or with one that can be read no more
+abbrev pub with_worn : (segment sector : ℕ) → Cartridge → Cartridge
+with_worn segment sector c = with_view c segment sector (worn_view (view_at c segment sector))
+
 -- a change of a cartridge that is there
 abbrev pub changed : Step → Cartridge → Cartridge
-changed (WriteSector segment sector bytes) c = with_view c segment sector (written_view bytes (view_at c segment sector))
+changed (WriteSectors segment new) c = with_sectors segment new c
 changed (FormatSegment segment) c =
     let formatted : List SectorView = map formatted_view (take 32 (drop (32 * segment) c.views)) in
     record c { views = take (32 * segment) c.views ++ formatted ++ drop (32 * (segment + 1)) c.views }
 changed SetReferenced c = record c { info = record c.info { referenced = true } }
 changed (SetProtected on) c = record c { info = record c.info { protected = on } }
 changed (Renew n) c = new_cartridge n
-changed (Wear segment sector) c = with_view c segment sector (worn_view (view_at c segment sector))
+changed (Wear segment sector) c = with_worn segment sector c
 changed (Spoil segment sector) c = with_view c segment sector (spoiled_view (view_at c segment sector))
 changed Upgrade c = record c { version = 2 }
 
@@ -62,6 +85,18 @@ effects [] held = held
 effects (s ∷ ss) held = effects ss (effect s held)
 
 -- ---- what a stop leaves: inside a call of a tape, and inside a list of them
+
+-- Sectors of which none is written yet: each is as it was, or can be read no more; ..
+abbrev pub AreClosing : (segment : ℕ) → List NewSector → (old now : Cartridge) → Type 0
+AreClosing segment [] old now = now ≡ old
+AreClosing segment (new ∷ more) old now =
+    AreClosing segment more old now ⊎ AreClosing segment more (with_worn segment new.sector old) now
+
+-- .. and when their bytes stand: each can be read no more, or is written.
+abbrev pub AreOpening : (segment : ℕ) → List NewSector → (old now : Cartridge) → Type 0
+AreOpening segment [] old now = now ≡ old
+AreOpening segment (new ∷ more) old now =
+    AreOpening segment more (with_worn segment new.sector old) now ⊎ AreOpening segment more (with_sector segment new old) now
 
 -- a sector of a segment whose formatting has begun: as it was, or lost where it was formatted and is no defect
 abbrev pub ClosingView : SectorView → SectorView → Type 0
@@ -83,12 +118,12 @@ pub record SegmentBecame (Became : SectorView → SectorView → Type 0) (segmen
   pub below : (place : ℕ) → place < 32 * segment → slice_get new.views place ≡ slice_get old.views place
   pub above : (place : ℕ) → 32 * (segment + 1) ≤ place → slice_get new.views place ≡ slice_get old.views place
 
--- What a stop inside a step leaves beside what was there and what is there afterwards: a written sector is lost; of a
--- segment that is formatted each sector is as it was, or lost where it held bytes; or each one but the defects is lost,
--- or holds zero bytes, or was never formatted where it was so before; and while a new cartridge is put in there is none.
--- The other steps are done or not.
+-- What a stop inside a step leaves: of sectors that are written each is as it was, or can be read no more; or each can be
+-- read no more, or is written, so that old and new bytes never stand side by side. Of a segment that is formatted each sector
+-- is as it was, or lost where it held bytes; or each one but the defects is lost, or holds zero bytes, or was never formatted
+-- where it was so before. While a new cartridge is put in there is none. The other steps are done or not.
 abbrev pub Halfway : Step → Option Cartridge → Option Cartridge → Type 0
-Halfway (WriteSector segment sector bytes) held left = left ≡ effect (Wear segment sector) held
+Halfway (WriteSectors segment new) (Some old) (Some left) = AreClosing segment new old left ⊎ AreOpening segment new old left
 Halfway (FormatSegment segment) (Some old) (Some new) =
     SegmentBecame ClosingView segment old new ⊎ SegmentBecame OpeningView segment old new
 Halfway (Renew n) held left = left ≡ None

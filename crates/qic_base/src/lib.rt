@@ -10,6 +10,7 @@ pub mod laws;
 mod lost_set;
 mod memory;
 mod name;
+mod one_sector;
 mod sink;
 mod source;
 mod tape;
@@ -21,9 +22,10 @@ pub use foreign::ForeignField;
 pub use lost_set::LostSet;
 pub use memory::{NoMemory, push_within};
 pub use name::Name;
+pub use one_sector::{read_sector, write_sector};
 pub use sink::{Sink, SinkFailed};
 pub use source::{Source, SourceFailed};
-pub use tape::{SectorRead, SectorView, SectorWrite, Tape, TapeFailed, TapeInfo};
+pub use tape::{SectorRead, SectorView, SectorWrite, SectorsRead, Tape, TapeFailed, TapeInfo};
 
 /// The greatest number of segments per track; the least is 3 (this project's profile).
 pub const LONGEST: u16 = 246;

@@ -4,11 +4,12 @@ ghost use Rattle.std.specs.Prelude.{◌≡◌, ◌≢◌, ◌<◌, [], ◌∷◌
 ghost use Rattle.std.specs.Option.{option_map};
 ghost use Rattle.qic_base.specs.Cartridge.{IsLength, view_at, info_of};
 ghost use Rattle.qic_base.specs.CartridgeTerms.{IsVersion};
-ghost use Rattle.qic_base.specs.Step.{WriteSector, FormatSegment, SetReferenced, SetProtected, Renew, Wear, Spoil, Upgrade};
+ghost use Rattle.qic_base.specs.Step.{WriteSectors, FormatSegment, SetReferenced, SetProtected, Renew, Wear, Spoil, Upgrade};
 ghost use Rattle.qic_base.specs.Tape.{Meaning, spoil_answer};
-ghost use Rattle.qic_base.specs.TapeCalls.{Does, Tells, IsPlaceOf, IsToldRight, IsLeftNow, Reads, write_answer};
+ghost use Rattle.qic_base.specs.TapeCalls.{Does, Tells, IsPlaceOf, IsToldRight, IsLeftNow};
+ghost use Rattle.qic_base.specs.TapeCalls.{ReadsSectors, KeepsOthers, chosen, AreBlank};
 
-use crate::Sector;
+use crate::{LostSet, Sector};
 
 /// A call of a tape failed.
 #[derive(Clone, Copy, Debug, PartialEq, Eq)]
@@ -48,6 +49,14 @@ pub enum SectorWrite {
     Blank,
 }
 
+/// What a read of several sectors of a segment found: which of them are good, and which were never formatted. The others that
+/// were asked for are lost, or defects.
+#[derive(Clone, Copy, Debug, PartialEq, Eq)]
+pub struct SectorsRead {
+    pub good: LostSet,
+    pub blank: LostSet,
+}
+
 /// A drive's cartridge, or an empty drive, as the drive's heads and switches reach it.
 /// Segments are counted from 0 over all 28 tracks, sectors of a segment from 0 to 31.
 pub trait Tape {
@@ -62,31 +71,35 @@ pub trait Tape {
             means.size self.new ≡ option_map (λ i. i.segments_per_track) info) }
         ensures failed { OnErr result (means.size self.new ≡ means.size self.old) };
 
-    /// Reads a sector. `into` is unchanged unless the answer is `Good`.
-    fn read_sector(
+    /// Reads the wanted sectors of a segment, each into its entry of `into`. An entry is unchanged unless its sector is
+    /// good.
+    fn read_sectors(
         &mut self,
         segment: u32,
-        sector: u8,
-        into: &mut Sector,
-    ) -> Result<SectorRead, TapeFailed>
-        requires { IsPlaceOf means self.old segment sector }
+        wanted: LostSet,
+        into: &mut [Sector; 32],
+    ) -> Result<SectorsRead, TapeFailed>
+        requires { IsPlaceOf means self.old segment 0 }
         ensures did { Does means self.old self.new [] result }
-        ensures view { IfOk result (λ answer. Tells means self.old (λ c.
-            Reads (view_at c segment sector) into.old into.new answer)) }
-        ensures unchanged { result ≢ Ok SectorRead.Good → into.new ≡ into.old }
+        ensures reads { IfOk result (λ read. Tells means self.old (λ c.
+            ReadsSectors wanted read.good read.blank (view_at c segment) into.old into.new)) }
+        ensures kept { IfOk result (λ read. KeepsOthers read.good into.old into.new) }
+        ensures unchanged { OnErr result (into.new ≡ into.old) }
         ensures size { means.size self.new ≡ means.size self.old };
 
-    /// Writes a sector.
-    fn write_sector(
+    /// Writes sectors of a segment, each with its entry of `from`. Answers those that were never formatted and took no
+    /// write; a defect takes its write and keeps nothing. A call that fails leaves each sector as a stop in it does.
+    fn write_sectors(
         &mut self,
         segment: u32,
-        sector: u8,
-        from: &Sector,
-    ) -> Result<SectorWrite, TapeFailed>
-        requires { IsPlaceOf means self.old segment sector }
-        ensures did { Does means self.old self.new (WriteSector segment sector from.now ∷ []) result }
-        ensures answer { IfOk result (λ answer. Tells means self.old (λ c.
-            answer ≡ write_answer (view_at c segment sector))) }
+        written: LostSet,
+        from: &[Sector; 32],
+    ) -> Result<LostSet, TapeFailed>
+        requires { IsPlaceOf means self.old segment 0 }
+        ensures did { Does means self.old self.new
+            (WriteSectors segment (chosen written from.now) ∷ []) result }
+        ensures answer { IfOk result (λ blank. Tells means self.old (λ c.
+            AreBlank written blank (view_at c segment))) }
         ensures size { means.size self.new ≡ means.size self.old };
 
     /// Formats a segment: each of its sectors that is no defect holds 1,024 zero bytes.

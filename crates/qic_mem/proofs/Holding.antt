@@ -11,7 +11,7 @@ use Rattle.qic_base.specs.declared.tape.SectorView.TheVariants.{Blank}
 use Rattle.qic_base.specs.declared.tape.TapeInfo.{TapeInfo}
 use Rattle.qic_base.specs.Cartridge.{Cartridge, IsPlace, new_version}
 use Rattle.qic_base.specs.CartridgeTerms.{place_of, with_segment}
-use Rattle.qic_base.specs.Step.{WriteSector, FormatSegment, Wear, Spoil, effect, written_view, formatted_view, worn_view, spoiled_view}
+use Rattle.qic_base.specs.Step.{write_sector, FormatSegment, Wear, Spoil, effect, written_view, formatted_view, worn_view, spoiled_view}
 use Rattle.qic_mem.specs.Held.{held, size_told, FitsRoom}
 use Rattle.qic_mem.specs.Sectors.{view_in, changed_at, changed_from}
 
@@ -46,7 +46,7 @@ change-held true (Some i) views segment sector change on =
 
 option_map-write : (segment sector : ℕ) (bytes : List ℕ) (h : Option Cartridge) →
     option_map (λ (c : Cartridge). record c { views = changed_at c.views (place_of segment sector) (written_view bytes) }) h ≡ effect
-    (WriteSector segment sector bytes) h
+    (write_sector segment sector bytes) h
 option_map-write segment sector bytes None = refl
 option_map-write segment sector bytes (Some c) = refl
 
@@ -64,7 +64,7 @@ option_map-spoil segment sector (Some c) = refl
 
 pub write-held : (told : Bool) (info : Option TapeInfo) (views after : List SectorView) (segment sector place : ℕ) (bytes : List ℕ) →
     IsOn told info segment sector → place ≡ place_of segment sector → after ≡ changed_at views place (written_view bytes) →
-    held info after ≡ effect (WriteSector segment sector bytes) (held info views)
+    held info after ≡ effect (write_sector segment sector bytes) (held info views)
 write-held told info views after segment sector place bytes on at written =
     rw (written, at) (change-held told info views segment sector (written_view bytes) on ∙ option_map-write segment sector bytes
     (held info views))

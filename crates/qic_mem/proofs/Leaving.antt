@@ -8,13 +8,13 @@ use Rattle.qic_base.specs.declared.tape.SectorView.{SectorView}
 use Rattle.qic_base.specs.declared.tape.SectorView.TheVariants.{Blank, Defect, Lost, Holds}
 use Rattle.qic_base.specs.Cartridge.{Cartridge, IsPlace, view_at}
 use Rattle.qic_base.specs.CartridgeTerms.{with_segment, HalfFormatted, changed_views}
-use Rattle.qic_base.specs.Step.{Step, WriteSector, FormatSegment, SetReferenced, SetProtected, Renew, Wear, Spoil, Upgrade, worn_view, Torn}
-use Rattle.qic_base.specs.Step.{ClosingView, SegmentBecame}
+use Rattle.qic_base.specs.Step.{Step, NewSector, WriteSectors, FormatSegment, SetReferenced, SetProtected, Renew, Wear, Spoil, Upgrade}
+use Rattle.qic_base.specs.Step.{with_worn, worn_view, AreClosing, ClosingView, SegmentBecame, Torn}
 use Rattle.qic_base.specs.TapeCalls.{IsToldRight}
 use Rattle.qic_mem.specs.declared.tape.outcome.Outcome.{Outcome}
 use Rattle.qic_mem.specs.declared.tape.outcome.Outcome.TheVariants as outcome
 use Rattle.qic_mem.specs.TapeChange.{IsReached}
-use Rattle.qic_mem.specs.Outcome.{left_by}
+use Rattle.qic_mem.specs.Outcome.{with_all_worn, left_by}
 use Rattle.qic_mem.proofs.Places.{slice_get-same}
 use Rattle.qic_base.proofs.Views.{get-below, get-above, get-within}
 
@@ -59,11 +59,19 @@ half-worn (Some n) None segment right on = cc
 half-worn (Some n) (Some c) segment (whole, same) on =
     inl (segment-worn c segment (let a = on.on_tape in let b = whole.sectors in omega arith))
 
+-- ---- sectors that are written
+
+-- where each of them is lost, none is written yet
+closing-all : (segment : ℕ) (new : List NewSector) (c : Cartridge) → AreClosing segment new c (with_all_worn segment new c)
+closing-all segment [] c = refl
+closing-all segment (new ∷ more) c = inr (closing-all segment more (with_worn segment new.sector c))
+
 -- ---- each outcome
 
 torn-lost : (size : Option ℕ) (held : Option Cartridge) (s : Step) → IsToldRight (Some held) size → IsReached size s →
     Torn (s ∷ []) held (left_by outcome.Lost s held)
-torn-lost size held (WriteSector segment sector bytes) right reached = inr (inl refl)
+torn-lost size None (WriteSectors segment new) right reached = inl refl
+torn-lost size (Some c) (WriteSectors segment new) right reached = inr (inl (inl (closing-all segment new c)))
 torn-lost size held (FormatSegment segment) right reached = inr (inl (half-worn size held segment right reached))
 torn-lost size held SetReferenced right reached = inl refl
 torn-lost size held (SetProtected on) right reached = inl refl

@@ -6,4 +6,5 @@ pub mod Holding
 pub mod Leaving
 pub mod Places
 pub mod Recording
+pub mod Several
 pub mod Tearing

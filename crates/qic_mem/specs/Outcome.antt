@@ -1,18 +1,23 @@
 -- What a call of a tape in memory leaves, by how it ended (this project's profile).
-use Rattle.std.specs.Prelude.{ℕ, Bool, Option, Some, None, if◌then◌else◌}
+use Rattle.std.specs.Prelude.{ℕ, Bool, List, [], ◌∷◌, Option, Some, None, if◌then◌else◌}
 use Rattle.std.specs.Option.{option_map}
 use Rattle.qic_base.specs.Cartridge.{Cartridge}
 use Rattle.qic_base.specs.CartridgeTerms.{with_segment}
-use Rattle.qic_base.specs.Step.{Step, WriteSector, FormatSegment, Renew, Wear, Upgrade, effect, worn_view}
+use Rattle.qic_base.specs.Step.{Step, NewSector, WriteSectors, FormatSegment, Renew, Upgrade, effect, with_worn, worn_view}
 use Rattle.qic_mem.specs.declared.tape.outcome.Outcome.{Outcome}
 use Rattle.qic_mem.specs.declared.tape.outcome.Outcome.TheVariants.{Old, Lost, New}
 use Rattle.qic_mem.specs.declared.tape.outcome.End.{End}
 use Rattle.qic_mem.specs.declared.tape.outcome.End.TheVariants.{Done, Failed}
 
--- something is lost: the written sector, each readable sector of the segment, or the cartridge; any other call leaves all
+-- the cartridge with each of these sectors lost
+abbrev pub with_all_worn : (segment : ℕ) → List NewSector → Cartridge → Cartridge
+with_all_worn segment [] c = c
+with_all_worn segment (new ∷ more) c = with_all_worn segment more (with_worn segment new.sector c)
+
+-- something is lost: each written sector, each readable sector of the segment, or the cartridge; any other call leaves all
 -- as it was
 abbrev pub lost_by : Step → Option Cartridge → Option Cartridge
-lost_by (WriteSector segment sector bytes) held = effect (Wear segment sector) held
+lost_by (WriteSectors segment new) held = option_map (with_all_worn segment new) held
 lost_by (FormatSegment segment) held = option_map (λ c. with_segment c segment worn_view) held
 lost_by (Renew n) held = None
 lost_by s held = held

@@ -71,7 +71,7 @@ after_call s step failed = record s {
   log = logged s.log (record { step = step; end = end_of s step failed });
 }
 
--- after a read of a sector
+-- after a read of sectors
 abbrev pub after_read : TapeState → Bool → TapeState
 after_read s failed = record s { plan = plan_after s.plan failed }
 

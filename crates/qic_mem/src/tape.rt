@@ -1,11 +1,11 @@
 //! A tape in memory.
 
-ghost use Rattle.std.specs.Prelude.{◌≡◌, ◌≢◌, ◌↔◌, [], ◌∷◌, Some, None, is_err, IsErr, IsSome, IfOk, IfSome, OnOk, OnErr};
+ghost use Rattle.std.specs.Prelude.{◌≡◌, ◌↔◌, [], ◌∷◌, Some, None, is_err, IsErr, IsSome, IfOk, IfSome, OnOk, OnErr};
 ghost use Rattle.std.specs.Option.{option_map};
 ghost use Rattle.qic_base.specs.Cartridge.{IsLength, view_at, new_version, info_of};
 ghost use Rattle.qic_base.specs.CartridgeTerms.{IsVersion};
-ghost use Rattle.qic_base.specs.Step.{WriteSector, FormatSegment, SetReferenced, SetProtected, Renew, Wear, Spoil, Upgrade};
-ghost use Rattle.qic_base.specs.TapeCalls.{Does, Tells, IsPlaceOf, Reads, write_answer};
+ghost use Rattle.qic_base.specs.Step.{WriteSectors, FormatSegment, SetReferenced, SetProtected, Renew, Wear, Spoil, Upgrade};
+ghost use Rattle.qic_base.specs.TapeCalls.{Does, Tells, IsPlaceOf, ReadsSectors, KeepsOthers, chosen, AreBlank};
 ghost use Rattle.qic_base.specs.Tape.{spoil_answer};
 ghost use Rattle.qic_mem.specs.TapeChange.{step_of, IsReached};
 ghost use Rattle.qic_mem.specs.Plan.{new_plan, IsChosen};
@@ -25,7 +25,7 @@ use holder::Holder;
 use log::{Call, TapeRecord, add_call, is_full};
 use outcome::End;
 pub use outcome::Outcome;
-use qic_base::{NoMemory, Sector, SectorRead, SectorWrite, Tape, TapeFailed, TapeInfo};
+use qic_base::{LostSet, NoMemory, Sector, SectorsRead, Tape, TapeFailed, TapeInfo};
 use std::alloc::Global;
 pub use sure::SureTape;
 
@@ -64,7 +64,7 @@ impl MemTape {
         })
     }
 
-    /// The same, with a record of its calls but `info` and `read_sector`, by which it tells its stops. It takes the
+    /// The same, with a record of its calls but `info` and the reads, by which it tells its stops. It takes the
     /// room for `calls` of them at once; such a call fails too where the record is full.
     pub fn recorded(alloc: Global, room: u16, calls: u32, fails: Vec<u64>) -> Result<Self, NoMemory>
         ensures { IfOk result (λ tape. tape_state tape ≡ record {
@@ -153,17 +153,18 @@ impl Tape for MemTape {
         Ok(self.holder.info())
     }
 
-    fn read_sector(
+    fn read_sectors(
         &mut self,
         segment: u32,
-        sector: u8,
-        into: &mut Sector,
-    ) -> Result<SectorRead, TapeFailed>
-        requires { IsPlaceOf tape_means self.old segment sector }
+        wanted: LostSet,
+        into: &mut [Sector; 32],
+    ) -> Result<SectorsRead, TapeFailed>
+        requires { IsPlaceOf tape_means self.old segment 0 }
         ensures did { Does tape_means self.old self.new [] result }
-        ensures view { IfOk result (λ answer. Tells tape_means self.old (λ c.
-            Reads (view_at c segment sector) into.old into.new answer)) }
-        ensures unchanged { result ≢ Ok SectorRead.Good → into.new ≡ into.old }
+        ensures reads { IfOk result (λ read. Tells tape_means self.old (λ c.
+            ReadsSectors wanted read.good read.blank (view_at c segment) into.old into.new)) }
+        ensures kept { IfOk result (λ read. KeepsOthers read.good into.old into.new) }
+        ensures unchanged { OnErr result (into.new ≡ into.old) }
         ensures size { tape_means.size self.new ≡ tape_means.size self.old }
 
         ensures fails { IsErr result ↔ IsChosen (tape_state self.old).plan }
@@ -172,31 +173,33 @@ impl Tape for MemTape {
         if self.plan.begin() {
             return Err(TapeFailed);
         }
-        Ok(self.holder.read(segment, sector, into))
+        Ok(self.holder.read_sectors(segment, wanted.mask(), into))
     }
 
-    fn write_sector(
+    fn write_sectors(
         &mut self,
         segment: u32,
-        sector: u8,
-        from: &Sector,
-    ) -> Result<SectorWrite, TapeFailed>
-        requires { IsPlaceOf tape_means self.old segment sector }
-        ensures did { Does tape_means self.old self.new (WriteSector segment sector from.now ∷ []) result }
-        ensures answer { IfOk result (λ answer. Tells tape_means self.old (λ c.
-            answer ≡ write_answer (view_at c segment sector))) }
+        written: LostSet,
+        from: &[Sector; 32],
+    ) -> Result<LostSet, TapeFailed>
+        requires { IsPlaceOf tape_means self.old segment 0 }
+        ensures did { Does tape_means self.old self.new
+            (WriteSectors segment (chosen written from.now) ∷ []) result }
+        ensures answer { IfOk result (λ blank. Tells tape_means self.old (λ c.
+            AreBlank written blank (view_at c segment))) }
         ensures size { tape_means.size self.new ≡ tape_means.size self.old }
 
         // A call that changes the cartridge fails exactly at its chosen numbers and past the stated rooms, and the whole
         // state follows.
         ensures fails { IsErr result
-            ↔ Fails (tape_state self.old) (WriteSector segment sector from.now) }
+            ↔ Fails (tape_state self.old) (WriteSectors segment (chosen written from.now)) }
         ensures state { tape_state self.new ≡ after_call (tape_state self.old)
-            (WriteSector segment sector from.now) (is_err result) }
+            (WriteSectors segment (chosen written from.now)) (is_err result) }
     {
-        let answer = self.holder.write_answer(segment, sector);
-        self.run(TapeChange::WriteSector(segment, sector, *from))?;
-        Ok(answer)
+        let written = written.mask();
+        let blank = self.holder.blank_ones(segment, written);
+        self.run(TapeChange::WriteSectors(segment, written, *from))?;
+        Ok(blank)
     }
 
     fn format_segment(&mut self, segment: u32) -> Result<(), TapeFailed>

@@ -53,7 +53,7 @@ abbrev pub block_at : (start size mark : ℕ) → Block
 block_at start size mark = record { start = start; size = size; mark = mark }
 
 -- two blocks of one mark are one
-joined-joined : (s n t k m : ℕ) (rest : List Block) → joined (block_at s n m) (joined (block_at t k m) rest) ≡ joined
+pub joined-joined : (s n t k m : ℕ) (rest : List Block) → joined (block_at s n m) (joined (block_at t k m) rest) ≡ joined
     (block_at s (n + k) m) rest
 joined-joined s n t k m [] = let same : (m == m) ≡ true = eq-eqb m m refl in rw same refl
 joined-joined s n t k m (next ∷ blocks) = by_test (m == next.mark) where

@@ -54,8 +54,8 @@ fn put_hex(digits: &mut [u8], value: u32)
     }
 }
 
-/// A block's line.
-fn block_line(block: Block) -> [u8; 26]
+/// The line of a block that begins below 4 GiB and is shorter than that.
+pub fn block_line(block: Block) -> [u8; 26]
     requires start { block.start < 2 ^ 32 }
     requires size { block.size < 2 ^ 32 }
     ensures { result ≡ block_text block }

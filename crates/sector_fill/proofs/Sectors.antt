@@ -56,7 +56,7 @@ padding_apart count bytes padding few all =
     ∙ ap (λ (rest : List ℕ). bytes ++ rest) (sym (replicate-append-replicate room (1024 * count) 0))
     ∙ sym (append_assoc bytes (replicate room 0) (replicate (1024 * count) 0))
 
-cut_filled : (count : ℕ) (bytes : List ℕ) (padding : ℕ) → length bytes + padding ≡ 1024 * count →
+pub cut_filled : (count : ℕ) (bytes : List ℕ) (padding : ℕ) → length bytes + padding ≡ 1024 * count →
     first_chunks 1024 count (bytes ++ replicate padding 0) ≡ in_sectors count bytes
 cut_filled zero bytes padding all = refl
 cut_filled (suc count) bytes padding all =

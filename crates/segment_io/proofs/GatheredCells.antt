@@ -1,25 +1,26 @@
 -- Cells gathered one by one: the places of the unreadable ones, and the bytes of the others.
 use Rattle.std.proofs.Common.{◌≡◌, ◌≢◌, ℕ, zero, suc, ◌+◌, ◌*◌, ◌/◌, ◌%◌, ◌^◌, ◌<◌, ◌≤◌, ◌↔◌, refl, sym, ◌∙◌, ap, subst, arith, inl, inr}
-use Rattle.std.proofs.Common.{List, [], ◌∷◌, ◌++◌, length, map, set, slice_get, Some}
+use Rattle.std.proofs.Common.{List, [], ◌∷◌, ◌++◌, length, map, set, slice_get, Some, get_or, Bool, true, false}
+use Rattle.std.specs.Prelude.{◌&&◌}
 use Rattle.std.specs.Int.{w32}
 use Rattle.std.specs.Int.RustNames.{bit_or}
-use Rattle.std.proofs.lemmas.Bool.{cases_lt, cases_eq, false≢true}
-use Rattle.std.proofs.lemmas.List.{length_push, length-map, map_push}
+use Rattle.std.proofs.lemmas.Bool.{cases_lt, cases_eq, false≢true, eq-eqb}
+use Rattle.std.proofs.lemmas.List.{length_push, length-map, map_push, length-set, get_or-set_other}
 use Rattle.std.proofs.lemmas.Nat.Bits.{bit_at-zero, bit_at_set_same, bit_at_set_other}
 use Rattle.std.proofs.lemmas.Option.{slice_get_within}
 use Rattle.std.proofs.lemmas.Nat.{or_lt}
 use Rattle.std.proofs.Math.Pow.{pow-lt}
-use Rattle.qic_base.specs.Cartridge.{Cartridge, view_at, lost_places}
-use Rattle.qic_base.specs.CartridgeTerms.{IsLost}
-use Rattle.qic_base.proofs.LostSetLaws.{lost_places-lost, lost_places-kept}
-use Rattle.qic_base.specs.TapeCalls.{Reads}
-use Rattle.qic_base.specs.declared.tape.SectorRead.{SectorRead}
-use Rattle.qic_base.specs.declared.tape.SectorRead.TheVariants as read
+use Rattle.qic_base.specs.Cartridge.{lost_places}
+use Rattle.qic_base.specs.CartridgeTerms.{IsLost, is_lost}
+use Rattle.qic_base.proofs.LostSetLaws.{lost_places-lost, lost_places-kept, count_more, count_same}
+use Rattle.qic_base.specs.TapeCalls.{ReadsSectors, is_readable, bytes_read}
 use Rattle.qic_base.specs.declared.tape.SectorView.{SectorView}
 use Rattle.qic_base.specs.declared.tape.SectorView.TheVariants.{Blank, Defect, Lost, Holds}
 use Rattle.cartridge_laws.specs.Segment.{IsUnreadable}
-use Rattle.segment_io.specs.Gathered.{IsUnreadableAt, NamesUnreadable, Gathered, cells_below}
+use Rattle.segment_io.specs.Gathered.{IsUnreadableAt, NamesUnreadable, Gathered}
+use Rattle.cartridge_laws.proofs.Places.{none_below, count_below}
 use Rattle.cartridge_laws.proofs.Writing.{slice_get-set_same}
+use Rattle.cartridge_spec.specs.Shape.{usable_count}
 use Rattle.qic_base.proofs.Arrays.{slice_get-set_other}
 
 -- ---- one element more
@@ -162,52 +163,118 @@ gathered_unreadable cells lost sectors cell now few unreadable g = record {
       ];
 }
 
--- ---- a sector read
+-- ---- a sector moved behind them
 
--- one that was read
-pub gathered_good : (cells : List SectorView) (cell : SectorView) (lost place : ℕ) (sectors : List (List ℕ)) (old now : List ℕ) →
-    length cells ≡ place → place < length sectors → Reads cell old now read.Good → Gathered cells lost sectors →
-    Gathered (cells ++ cell ∷ []) lost (set sectors place now)
-gathered_good cells Blank lost place sectors old now count room reads g = let no : read.Good ≡ read.Blank = reads.0 in absurd (cc)
-gathered_good cells Defect lost place sectors old now count room reads g = let no : read.Good ≡ read.Lost = reads.0 in absurd (cc)
-gathered_good cells Lost lost place sectors old now count room reads g = let no : read.Good ≡ read.Lost = reads.0 in absurd (cc)
-gathered_good cells (Holds bytes) lost place sectors old now count room reads g =
-    let P : ℕ → List ℕ → Type 0 = λ k into. Gathered (cells ++ Holds bytes ∷ []) lost (set sectors k into) in
-    subst (λ (k : ℕ). P k now) count
-    (subst (λ (into : List ℕ). P (length cells) into) (sym reads.1)
-    (gathered_readable cells lost sectors bytes (omega arith) g))
+-- the set with one place more, where its sector isn't good
+abbrev pub with_bad : (good : Bool) → (lost place : ℕ) → ℕ
+with_bad true lost place = lost
+with_bad false lost place = with_unread lost place
 
--- one that could not be read
-pub gathered_bad : (cells : List SectorView) (cell : SectorView) (lost place : ℕ) (sectors : List (List ℕ)) (old now : List ℕ)
-    (answer : SectorRead) →
-    length cells ≡ place → place < 32 → answer ≢ read.Good → Reads cell old now answer → Gathered cells lost sectors →
-    Gathered (cells ++ cell ∷ []) (with_unread lost place) (set sectors place now)
-gathered_bad cells cell lost place sectors old now answer count few bad reads g =
-    subst (λ (k : ℕ). Gathered (cells ++ cell ∷ []) (with_unread lost k) (set sectors k now)) count
-    (gathered_unreadable cells lost sectors cell now (omega arith) (unreadable_of cell reads) g)
+with_bad-below : (good : Bool) (lost place : ℕ) → lost < 2 ^ place → place < 32 → with_bad good lost place < 2 ^ (place + 1)
+with_bad-below true lost place below few = omega (arith, pow-lt {i = place} {j = place + 1} (omega arith))
+with_bad-below false lost place below few = with_unread-below lost place below few
+
+-- by what a read of its sector left
+gathered_cell : (cells : List SectorView) (cell : SectorView) (good : Bool) (lost : ℕ) (sectors : List (List ℕ)) (before now : List ℕ) →
+    length cells < 32 → length sectors ≡ 32 → good ≡ is_readable cell → now ≡ bytes_read true cell before →
+    Gathered cells lost sectors →
+    Gathered (cells ++ cell ∷ []) (with_bad good lost (length cells)) (set sectors (length cells) now)
+gathered_cell cells cell true lost sectors before now few room is bytes g = readable cell is bytes
   where
-    unreadable_of : (c : SectorView) → Reads c old now answer → IsUnreadable c
-    unreadable_of Blank r = refl
-    unreadable_of Defect r = refl
-    unreadable_of Lost r = refl
-    unreadable_of (Holds bytes) r = absurd (bad r.0)
+    readable : (c : SectorView) → true ≡ is_readable c → now ≡ bytes_read true c before →
+        Gathered (cells ++ c ∷ []) lost (set sectors (length cells) now)
+    readable Blank e held = absurd (cc)
+    readable Defect e held = absurd (cc)
+    readable Lost e held = absurd (cc)
+    readable (Holds own) e held =
+        subst (λ (bs : List ℕ). Gathered (cells ++ Holds own ∷ []) lost (set sectors (length cells) bs)) (sym held)
+        (gathered_readable cells lost sectors own (omega arith) g)
+gathered_cell cells cell false lost sectors before now few room is bytes g =
+    gathered_unreadable cells lost sectors cell now few (unreadable cell is) g
+  where
+    unreadable : (c : SectorView) → false ≡ is_readable c → IsUnreadable c
+    unreadable Blank e = refl
+    unreadable Defect e = refl
+    unreadable Lost e = refl
+    unreadable (Holds own) e = absurd (cc)
 
--- ---- the cells below an index
+-- ---- the usable sectors below an index
 
-pub cells_below-usable : (c : Cartridge) (segment usable index : ℕ) → IsLost usable index →
-    cells_below c segment usable (index + 1) ≡ cells_below c segment usable index ++ view_at c segment index ∷ []
-cells_below-usable c segment usable index is =
-    ap (map (view_at c segment)) (lost_places-lost usable index is)
-    ∙ map_push (view_at c segment) (lost_places usable index) index
+-- Where a read of the usable sectors left these entries, those below an index are gathered at the front. The entries from there on
+-- stand as they did.
+pub record IsGathered (usable good lost place index : ℕ) (old now : List (List ℕ)) : Type 0 where
+  pub size : length now ≡ 32
+  pub count : place ≡ length (lost_places usable index)
+  pub gathered : (blank : ℕ) (view : ℕ → SectorView) (before : List (List ℕ)) → ReadsSectors usable good blank view before old →
+      Gathered (map view (lost_places usable index)) lost now
+  pub rest : (k : ℕ) → index ≤ k → get_or now k [] ≡ get_or old k []
+  pub within : lost < 2 ^ place
 
-pub cells_below-other : (c : Cartridge) (segment usable index : ℕ) → (IsLost usable index → ⊥) →
-    cells_below c segment usable (index + 1) ≡ cells_below c segment usable index
-cells_below-other c segment usable index kept = ap (map (view_at c segment)) (lost_places-kept usable index kept)
+pub begun : (usable good : ℕ) (old : List (List ℕ)) → length old ≡ 32 → IsGathered usable good 0 0 0 old old
+begun usable good old size = record {
+  size = size;
+  count = sym (ap (λ (l : List ℕ). length l) (none_below usable));
+  gathered = λ blank view before reads. subst (λ (l : List ℕ). Gathered (map view l) 0 old) (sym (none_below usable)) (gathered_none old);
+  rest = λ k h. refl;
+  within = omega arith;
+}
 
-pub length-cells_below : (c : Cartridge) (segment usable index : ℕ) →
-    length (cells_below c segment usable index) ≡ length (lost_places usable index)
-length-cells_below c segment usable index = length-map (lost_places usable index) (view_at c segment)
+pub passed_by : (usable good lost place index : ℕ) (old now : List (List ℕ)) → (IsLost usable index → ⊥) →
+    IsGathered usable good lost place index old now → IsGathered usable good lost place (index + 1) old now
+passed_by usable good lost place index old now kept g = record {
+  size = g.size;
+  count = g.count ∙ sym (count_same usable index kept);
+  gathered = λ blank view before reads. subst (λ (l : List ℕ). Gathered (map view l) lost now) (sym (lost_places-kept usable index kept))
+      (g.gathered blank view before reads);
+  rest = λ k h. g.rest k (omega arith);
+  within = g.within;
+}
 
-pub cells_below-none : (c : Cartridge) (segment usable : ℕ) → cells_below c segment usable 0 ≡ []
-unfolding lost_places
-cells_below-none c segment usable = refl
+pub moved : (usable good lost place index : ℕ) (old now : List (List ℕ)) → IsLost usable index → index < 32 →
+    IsGathered usable good lost place index old now →
+    IsGathered usable good (with_bad (is_lost good index) lost place) (place + 1) (index + 1) old (set now place (get_or now index []))
+moved usable good lost place index old now used within g =
+    let count : place ≡ length (lost_places usable index) = g.count in
+    let low : length (lost_places usable index) ≤ index = count_below usable index in
+    let size : length now ≡ 32 = g.size in
+    let bytes : List ℕ = get_or now index [] in
+    let set_now : List (List ℕ) = set now place bytes in
+    let more : ℕ = with_bad (is_lost good index) lost place in
+    let wanted : is_lost usable index ≡ true = eq-eqb (usable / 2 ^ index % 2) 1 used in
+    record {
+      size = length-set now place bytes ∙ size;
+      count = ap (λ (k : ℕ). k + 1) count ∙ sym (count_more usable index used);
+      gathered = λ blank view before reads.
+          let cells : List SectorView = map view (lost_places usable index) in
+          let long : length cells ≡ place = length-map (lost_places usable index) view ∙ sym count in
+          let few : length cells < 32 = omega arith in
+          let is : is_lost good index ≡ is_readable (view index) =
+          reads.good_are index within ∙ ap (λ (b : Bool). b && is_readable (view index)) wanted in
+          let held : bytes ≡ bytes_read true (view index) (get_or before index []) =
+          g.rest index (omega arith) ∙ reads.bytes index within
+          ∙ ap (λ (b : Bool). bytes_read b (view index) (get_or before index [])) wanted in
+          subst (λ (cs : List SectorView). Gathered cs more set_now)
+          (sym (ap (map view) (lost_places-lost usable index used) ∙ map_push view (lost_places usable index) index))
+          (subst (λ (k : ℕ). Gathered (cells ++ view index ∷ []) (with_bad (is_lost good index) lost k) (set now k bytes)) long
+          (gathered_cell cells (view index) (is_lost good index) lost now (get_or before index []) bytes few size is held
+          (g.gathered blank view before reads)));
+      rest = λ k h.
+          let apart : k ≢ place = λ e. absurd (omega arith) in
+          get_or-set_other now place k bytes [] apart ∙ g.rest k (omega arith);
+      within = with_bad-below (is_lost good index) lost place g.within (omega arith);
+    }
+
+pub gathered_as : (usable good lost next place after index : ℕ) (old now left : List (List ℕ)) →
+    IsGathered usable good lost place index old now → next ≡ lost → after ≡ place → left ≡ now →
+    IsGathered usable good next after index old left
+gathered_as usable good lost next place after index old now left g set_is place_is sectors_are =
+    subst (λ (s : List (List ℕ)). IsGathered usable good next after index old s) (sym sectors_are)
+    (subst (λ (p : ℕ). IsGathered usable good next p index old now) (sym place_is)
+    (subst (λ (set : ℕ). IsGathered usable good set place index old now) (sym set_is) g))
+
+pub gathered_all : (usable good lost place index : ℕ) (old now : List (List ℕ)) → index ≡ 32 →
+    IsGathered usable good lost place index old now → IsGathered usable good lost (usable_count usable) 32 old now
+gathered_all usable good lost place index old now end g =
+    let count : place ≡ usable_count usable = g.count ∙ ap (λ (i : ℕ). length (lost_places usable i)) end in
+    subst (λ (i : ℕ). IsGathered usable good lost (usable_count usable) i old now) end
+    (subst (λ (p : ℕ). IsGathered usable good lost p index old now) count g)

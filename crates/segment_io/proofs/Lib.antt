@@ -1,4 +1,4 @@
-pub mod ByRegister
+pub mod ChosenSectors
 pub mod GatheredCells
 pub mod Going
 pub mod NamedWrites

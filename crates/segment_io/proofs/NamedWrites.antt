@@ -1,28 +1,24 @@
 -- The writes of the places of a set, place by place, and those of all places.
-use Rattle.std.proofs.Common.{◌≡◌, ℕ, ◌+◌, ◌-◌, ◌/◌, ◌%◌, ◌^◌, ◌<◌, ◌≤◌, refl, sym, ◌∙◌, ap, arith, inl, inr, List, [], ◌∷◌, ◌++◌, length}
-use Rattle.std.proofs.Common.{map, take, drop, get_or, Bool, false}
+use Rattle.std.proofs.Common.{◌≡◌, ℕ, ◌+◌, ◌/◌, ◌%◌, ◌^◌, ◌<◌, ◌≤◌, refl, sym, ◌∙◌, ap, inl, inr, List, [], ◌∷◌, ◌++◌, length}
+use Rattle.std.proofs.Common.{map, get_or, Bool, false}
 use Rattle.std.specs.Prelude.{if◌then◌else◌, ◌==◌}
-use Rattle.std.specs.List.{range_with_len}
 use Rattle.std.proofs.lemmas.Bool.{cases_eq, ne_eqb}
-use Rattle.std.proofs.lemmas.List.{append-nil, map-append, map_push, length-append, get_or-take, length-take-le, take_at}
-use Rattle.std.proofs.lemmas.List.FromFn.{fill_by_all}
-use Rattle.std.proofs.lemmas.Option.{unwrap_or-slice_get}
+use Rattle.std.proofs.lemmas.List.{append-nil, map-append, map_push}
 use Rattle.qic_base.specs.CartridgeTerms.{IsLost}
 use Rattle.qic_base.specs.Cartridge.{lost_places}
-use Rattle.qic_base.specs.Step.{Step, WriteSector}
+use Rattle.qic_base.specs.Step.{Step, write_sector}
 use Rattle.qic_base.proofs.LostSetLaws.{lost_places-lost, lost_places-kept, count_more, count_same}
 use Rattle.cartridge_spec.specs.Shape.{sector_at, usable_places, usable_count}
-use Rattle.cartridge_spec.specs.Settling.{writes_of}
-use Rattle.cartridge_laws.specs.Writes.{block_in, segment_writes, named_writes}
+use Rattle.cartridge_laws.specs.Writes.{named_writes}
 use Rattle.segment_io.specs.Writes.{named_write, usable_write}
-use Rattle.cartridge_laws.proofs.Places.{place_of_sector, Front, places_within, all_places, front_of_all, count_below}
-use Rattle.cartridge_laws.proofs.Writing.{length-block_in, writes_of_map}
+use Rattle.cartridge_laws.proofs.Places.{place_of_sector, Front, places_within, front_of_all, count_below}
+use Rattle.cartridge_laws.proofs.Writing.{writes_of_map}
 
 -- ---- the writes of named places
 
 -- the write of a place
 abbrev pub write_at : (segment usable : ℕ) → List (List ℕ) → ℕ → Step
-write_at segment usable sectors place = WriteSector segment (get_or (usable_places usable) place 0) (sector_at sectors place)
+write_at segment usable sectors place = write_sector segment (get_or (usable_places usable) place 0) (sector_at sectors place)
 
 -- those of the places below a number
 abbrev pub writes_below : (segment usable places : ℕ) → List (List ℕ) → ℕ → List Step
@@ -50,15 +46,15 @@ writes_below_more segment usable places sectors index place is h at =
       | inl named ↦
           ap (map (write_at segment usable sectors)) (lost_places-lost places place named)
           ∙ map_push (write_at segment usable sectors) (lost_places places place) place
-          ∙ ap (λ (i : ℕ). writes_below segment usable places sectors place ++ WriteSector segment i (sector_at sectors place) ∷ []) here
+          ∙ ap (λ (i : ℕ). writes_below segment usable places sectors place ++ write_sector segment i (sector_at sectors place) ∷ []) here
           ∙ ap (λ (b : ℕ). writes_below segment usable places sectors place
-          ++ (if b == 1 then WriteSector segment index (sector_at sectors place) ∷ [] else [])) (sym named)
+          ++ (if b == 1 then write_sector segment index (sector_at sectors place) ∷ [] else [])) (sym named)
       | inr kept ↦
           let none : (places / 2 ^ place % 2 == 1) ≡ false = ne_eqb (places / 2 ^ place % 2) 1 kept in
           ap (map (write_at segment usable sectors)) (lost_places-kept places place kept)
           ∙ sym (append-nil (writes_below segment usable places sectors place))
           ∙ ap (λ (b : Bool). writes_below segment usable places sectors place
-          ++ (if b then WriteSector segment index (sector_at sectors place) ∷ [] else [])) (sym none)
+          ++ (if b then write_sector segment index (sector_at sectors place) ∷ [] else [])) (sym none)
     ]
 
 -- the next index
@@ -100,35 +96,3 @@ pub writes_below_all : (segment usable places : ℕ) (sectors : List (List ℕ))
 writes_below_all segment usable places sectors low =
     ap (map (write_at segment usable sectors)) (sym (places_within places (usable_count usable) (count_below usable 32) low))
     ∙ sym (named_writes_are segment usable places sectors)
-
--- ---- the writes of all places
-
--- the writes of all usable sectors, ascending
-writes_of_all : (segment usable : ℕ) (sectors : List (List ℕ)) → usable_count usable ≤ length sectors →
-    named_writes segment usable (2 ^ usable_count usable - 1) sectors
-    ≡ writes_of segment (usable_places usable) (take (usable_count usable) sectors)
-writes_of_all segment usable sectors room =
-    let n : ℕ = usable_count usable in
-    let places : lost_places (2 ^ n - 1) 32 ≡ range_with_len 0 n = all_places n (count_below usable 32) in
-    let indexes : map (λ (p : ℕ). get_or (usable_places usable) p 0) (range_with_len 0 n) ≡ usable_places usable =
-    sym (fill_by_all (λ (p : ℕ). get_or (usable_places usable) p 0) (usable_places usable) n 0 refl (λ k h. refl)) in
-    let long : length (take n sectors) ≡ n = length-take-le n sectors room in
-    let bytes : map (λ (p : ℕ). sector_at sectors p) (range_with_len 0 n) ≡ take n sectors =
-    sym (fill_by_all (λ (p : ℕ). sector_at sectors p) (take n sectors) n [] long
-    (λ k h. get_or-take n sectors k [] h ∙ sym (unwrap_or-slice_get sectors k []))) in
-    ap (λ (ps : List ℕ). writes_of segment (map (λ (p : ℕ). get_or (usable_places usable) p 0) ps)
-    (map (λ (p : ℕ). sector_at sectors p) ps)) places
-    ∙ ap (λ (ps : List ℕ). writes_of segment ps (map (λ (p : ℕ). sector_at sectors p) (range_with_len 0 n))) indexes
-    ∙ ap (writes_of segment (usable_places usable)) bytes
-
--- so the writes of all usable sectors are those of the block, where it stands before what was there
-pub writes_of_block : (segment usable : ℕ) (sectors : List (List ℕ)) → 4 ≤ usable_count usable → usable_count usable ≤ length sectors →
-    named_writes segment usable (2 ^ usable_count usable - 1) (block_in usable sectors ++ drop (usable_count usable) sectors)
-    ≡ segment_writes segment usable sectors
-writes_of_block segment usable sectors least room =
-    let n : ℕ = usable_count usable in
-    let now : List (List ℕ) = block_in usable sectors ++ drop n sectors in
-    let long : length (block_in usable sectors) ≡ n = length-block_in usable sectors least room in
-    let enough : n ≤ length now = omega (arith, length-append (block_in usable sectors) (drop n sectors)) in
-    writes_of_all segment usable now enough
-    ∙ ap (writes_of segment (usable_places usable)) (take_at (block_in usable sectors) (drop n sectors) n long)

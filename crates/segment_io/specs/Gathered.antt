@@ -1,7 +1,6 @@
 -- What the reading of a segment's usable sectors leaves (this project's own).
-use Rattle.std.specs.Prelude.{◌≡◌, ◌↔◌, ℕ, List, Some, IsSomeAnd, map, slice_get}
+use Rattle.std.specs.Prelude.{◌≡◌, ◌↔◌, ℕ, List, Some, IsSomeAnd, slice_get}
 use Rattle.qic_base.specs.CartridgeTerms.{IsLost}
-use Rattle.qic_base.specs.Cartridge.{lost_places, Cartridge, view_at}
 use Rattle.qic_base.specs.declared.tape.SectorView.{SectorView}
 use Rattle.qic_base.specs.declared.tape.SectorView.TheVariants.{Holds}
 use Rattle.cartridge_laws.specs.Segment.{IsUnreadable}
@@ -18,7 +17,3 @@ NamesUnreadable cells lost = (i : ℕ) → IsLost lost i ↔ IsUnreadableAt cell
 pub record Gathered (cells : List SectorView) (lost : ℕ) (sectors : List (List ℕ)) : Type 0 where
   pub unreadable : NamesUnreadable cells lost
   pub readable : (i : ℕ) (bytes : List ℕ) → slice_get cells i ≡ Some (Holds bytes) → slice_get sectors i ≡ Some bytes
-
--- the cells of the usable sectors below an index
-abbrev pub cells_below : Cartridge → (segment usable index : ℕ) → List SectorView
-cells_below c segment usable index = map (view_at c segment) (lost_places usable index)

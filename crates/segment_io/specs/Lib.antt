@@ -2,5 +2,4 @@ pub mod Calls
 pub mod Gathered
 pub mod Lending
 pub mod Reading
-pub mod Register
 pub mod Writes

@@ -3,6 +3,7 @@
 #![tactic(auto)]
 
 mod fault;
+mod places;
 mod reading;
 mod shape;
 mod solving;

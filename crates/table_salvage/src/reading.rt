@@ -9,8 +9,9 @@ ghost use Rattle.dump_spec.specs.declared.form.Form.TheVariants as forms;
 ghost use Rattle.segment_salvage.specs.Buffer.{buffer_cells};
 ghost use Rattle.segment_salvage.specs.Reading.{given_as};
 
-use crate::solving::{data_sectors, solve_table};
+use crate::solving::solve_table;
 use bad_sector_map::WHOLE;
+use cartridge_front::data_sectors;
 use dump_spec::Form;
 use gf256_qic::DATA_SECTORS;
 use qic_base::{LostSet, Sector};

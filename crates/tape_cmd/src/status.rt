@@ -3,7 +3,7 @@
 ghost use Rattle.std.specs.Prelude.{◌≡◌, ◌+◌, ◌≤◌, ◌++◌, length, decimal};
 ghost use Rattle.qic_base.specs.SinkCalls.{Writes};
 ghost use Rattle.tape_cmd.specs.Lines.{status_code, status_text, plain_text, field_text};
-ghost use Rattle.command_spec.specs.declared.status.Status.TheVariants.{Foreign};
+ghost use Rattle.command_spec.specs.declared.status.Status.TheVariants.{Foreign, ScriptFault, Unsound};
 
 use command_spec::Status;
 use qic_base::{ForeignField, Sink, SinkFailed};
@@ -68,13 +68,7 @@ fn status_line(status: &Status) -> TextLine
     ensures { result ≡ status_text status.now }
 {
     match *status {
-        Status::ScriptFault { line, place } => with_numbers(
-            b"tape: input fault in line ",
-            u64::from(line),
-            b" at byte ",
-            place,
-            b"\n",
-        ),
+        Status::ScriptFault { line, place } => fault_line(line, place),
         Status::Foreign { field, value } => foreign_line(field, value),
         Status::Full { need, have } => {
             with_numbers(b"tape: full, need ", need, b" have ", have, b"\n")
@@ -98,18 +92,38 @@ fn status_line(status: &Status) -> TextLine
         Status::Mismatch { segment } => {
             with_number(b"tape: segment ", u64::from(segment), b" does not agree\n")
         }
-        Status::Unsound { mendable, bad } => with_numbers(
-            b"tape: ",
-            u64::from(mendable),
-            b" segments can be mended, ",
-            u64::from(bad),
-            b" not\n",
-        ),
+        Status::Unsound { mendable, bad } => unsound_line(mendable, bad),
         Status::DefectInFront { segment } => {
             with_number(b"tape: defect in segment ", u64::from(segment), b"\n")
         }
         other => fixed_line(other),
     }
+}
+
+/// The line of an input at fault, from a byte of this line on.
+fn fault_line(line: u32, place: u64) -> TextLine
+    ensures { result ≡ status_text (ScriptFault line place) }
+{
+    with_numbers(
+        b"tape: input fault in line ",
+        u64::from(line),
+        b" at byte ",
+        place,
+        b"\n",
+    )
+}
+
+/// The line of a check that found segments that are not sound.
+fn unsound_line(mendable: u32, bad: u32) -> TextLine
+    ensures { result ≡ status_text (Unsound mendable bad) }
+{
+    with_numbers(
+        b"tape: ",
+        u64::from(mendable),
+        b" segments can be mended, ",
+        u64::from(bad),
+        b" not\n",
+    )
 }
 
 /// A number between two texts.

@@ -1,8 +1,7 @@
 //! The program: the volumes of a cartridge copied onto another one, both in image files.
 #![tactic(auto)]
 
-use image_units::{Arguments, NO_IMAGE, close_unit, open_unit, read_arguments};
-use read_ahead::MOST;
+use image_units::{Arguments, NO_IMAGE, OpenedImage, close_unit, open_unit, read_arguments};
 use std::io::ErrorKind;
 use std::process::ExitCode;
 use tape_files::{NoImage, NullStreams, StderrSink, StdoutSink};
@@ -25,13 +24,22 @@ fn run_over_images(rt: &HostRuntime, arguments: &Arguments) -> u8 {
     let [from, to] = arguments.images.as_slice() else {
         return exit_status(&CopyStatus::Usage);
     };
-    let (mut from_room, mut to_room) = ([0; MOST], [0; MOST]);
-    let from = match open_unit(rt, from, &mut from_room) {
-        Ok(unit) => unit,
+    let from = match open_unit(rt, from) {
+        Ok(
+            OpenedImage {
+                unit,
+                reads_only: _,
+            },
+        ) => unit,
         Err(cause) => return refuse(cause),
     };
-    let mut to = match open_unit(rt, to, &mut to_room) {
-        Ok(unit) => unit,
+    let mut to = match open_unit(rt, to) {
+        Ok(
+            OpenedImage {
+                unit,
+                reads_only: _,
+            },
+        ) => unit,
         Err(cause) => {
             close_unit(from);
             return refuse(cause);

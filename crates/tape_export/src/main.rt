@@ -1,7 +1,7 @@
 //! The program: the flat dump of a cartridge in an image file, on standard output, and its map.
 #![tactic(auto)]
 
-ghost use Rattle.std.specs.Prelude.{◌≡◌, ◌≤◌, IfOk, vec_len};
+ghost use Rattle.std.specs.Prelude.{◌≤◌, IfOk};
 ghost use Rattle.std.specs.Vec.{vec_capacity};
 ghost use Rattle.rescue_map.specs.Laws.{most_words};
 
@@ -12,21 +12,13 @@ mod status;
 use cart_image::ImageTape;
 use map_file::MapFile;
 use program_words::{ExportWords, read_command_line, read_export_words};
-use qic_base::{MOST_SEGMENTS, NoMemory, SECTOR, SECTORS, Sector};
-use read_ahead::{MOST, ReadAhead};
+use qic_base::{MOST_SEGMENTS, NoMemory};
 use rescue_map::write_bytes;
 use run::{export_files, unread};
 use status::ExportStatus;
 use std::alloc::Global;
 use std::process::ExitCode;
 use tape_files::{FileDisk, NoImage, NullStreams, StderrSink, StdoutSink, open_image};
-
-/// What a run works in: the sectors of a segment, and the mask of the sectors that hold bytes.
-#[derive(Drop)]
-struct Room {
-    sectors: Vec<Sector>,
-    mask: Vec<u32>,
-}
 
 fn main(rt: HostRuntime) -> ExitCode {
     // Held to the end, so that no file that is opened becomes a standard stream.
@@ -63,13 +55,11 @@ fn refuse_words(rt: &HostRuntime, error: &clap::Error) -> u8 {
     }
 }
 
-fn make_room(alloc: Global) -> Result<Room, NoMemory>
-    ensures sectors { IfOk result (λ room. vec_len room.sectors ≡ 32) }
-    ensures words { IfOk result (λ room. most_words ≤ vec_capacity room.mask) }
+/// An empty mask, with room for the words of the longest cartridge.
+fn make_mask(alloc: Global) -> Result<Vec<u32>, NoMemory>
+    ensures { IfOk result (λ mask. most_words ≤ vec_capacity mask) }
 {
-    let sectors = vec![in alloc; [0; SECTOR]; SECTORS as usize]?;
-    let mask = Vec::with_capacity(alloc, MOST_SEGMENTS)?;
-    Ok(Room { sectors, mask })
+    Ok(Vec::with_capacity(alloc, MOST_SEGMENTS)?)
 }
 
 /// The status of a file that can't be opened. An error is one that nothing may be printed of.
@@ -84,7 +74,7 @@ fn unopened(cause: NoImage, status: ExportStatus) -> Result<ExportStatus, Export
 /// Opens the files and exports the image. An error is a status that nothing may be printed of, since the file at fault is
 /// standard error.
 fn run_over_files(rt: &HostRuntime, asked: ExportWords) -> Result<ExportStatus, ExportStatus> {
-    let Ok(mut room) = make_room(rt.alloc()) else {
+    let Ok(mut mask) = make_mask(rt.alloc()) else {
         return Ok(ExportStatus::NoMemory);
     };
     let image = match open_image(rt, asked.image) {
@@ -98,30 +88,22 @@ fn run_over_files(rt: &HostRuntime, asked: ExportWords) -> Result<ExportStatus, 
         },
         None => None,
     };
-    Ok(run_over_disks(rt, &mut room, image, map))
+    Ok(run_over_disks(rt, &mut mask, image, map))
 }
 
 /// Exports the image.
 fn run_over_disks(
     rt: &HostRuntime,
-    room: &mut Room,
+    mask: &mut Vec<u32>,
     image: FileDisk,
     map: Option<FileDisk>,
 ) -> ExportStatus
-    requires sectors { vec_len room.old.sectors ≡ 32 }
-    requires words { most_words ≤ vec_capacity room.old.mask }
+    requires { most_words ≤ vec_capacity mask.old }
 {
-    let mut ahead = [0; MOST];
-    let mut tape = ImageTape::open(ReadAhead::new(image, &mut ahead));
+    let mut tape = ImageTape::open(image);
     let mut dump = StdoutSink::new(rt.stdout());
     let mut chart = MapFile::new(map);
-    export_files(
-        &mut room.sectors,
-        &mut room.mask,
-        &mut tape,
-        &mut dump,
-        &mut chart,
-    )
+    export_files(mask, &mut tape, &mut dump, &mut chart)
 }
 
 /// Prints a status, and answers its exit status.

@@ -1,6 +1,6 @@
 //! A run over opened files.
 
-ghost use Rattle.std.specs.Prelude.{◌≡◌, ◌≢◌, ◌≤◌, length};
+ghost use Rattle.std.specs.Prelude.{◌≡◌, ◌≢◌, ◌≤◌};
 ghost use Rattle.std.specs.Vec.{vec_capacity};
 ghost use Rattle.rescue_map.specs.Laws.{most_words};
 ghost use Rattle.tape_export.specs.Charts.{IsFresh};
@@ -10,7 +10,7 @@ ghost use Rattle.tape_export.specs.Runs.{Runs};
 use crate::map_file::MapFile;
 use crate::status::ExportStatus;
 use flat_dump::{ExportError, export};
-use qic_base::{Disk, DiskFailed, Sector, Sink, SinkFailed, Tape};
+use qic_base::{Disk, DiskFailed, Sink, SinkFailed, Tape};
 use rescue_map::write_map;
 use std::io::ErrorKind;
 
@@ -26,22 +26,19 @@ pub fn unread(kind: ErrorKind) -> ExportStatus
     }
 }
 
-/// Writes the flat dump of a tape's cartridge, and then its map. The room is one for the 32 sectors of a segment, and the
-/// mask has room for 6,888 words.
+/// Writes the flat dump of a tape's cartridge, and then its map. The mask has room for 6,888 words.
 pub fn run_export<T: Tape, K: Sink, M: Sink>(
-    sectors: &mut [Sector],
     mask: &mut Vec<u32>,
     tape: &mut T,
     dump: &mut K,
     chart: &mut M,
 ) -> ExportStatus
-    requires sectors { length sectors.old ≡ 32 }
     requires words { most_words ≤ vec_capacity mask.old }
     ensures { Runs T.means K.means M.means
         record { tape = tape.old; dump = dump.old; chart = chart.old }
         record { tape = tape.new; dump = dump.new; chart = chart.new } result }
 {
-    match export(tape, sectors, mask, dump) {
+    match export(tape, mask, dump) {
         Ok(()) => match write_map(mask, chart) {
             Ok(()) => ExportStatus::Done,
             Err(SinkFailed) => ExportStatus::SinkFault,
@@ -54,13 +51,11 @@ pub fn run_export<T: Tape, K: Sink, M: Sink>(
 
 /// Does that where the file of the map is empty, or none is asked for, and puts the map on the disk.
 pub fn export_files<T: Tape, K: Sink, D: Disk + Drop>(
-    sectors: &mut [Sector],
     mask: &mut Vec<u32>,
     tape: &mut T,
     dump: &mut K,
     chart: &mut MapFile<D>,
 ) -> ExportStatus
-    requires sectors { length sectors.old ≡ 32 }
     requires words { most_words ≤ vec_capacity mask.old }
     requires fresh { IsFresh chart.old }
     ensures { Exports T.means K.means D.means
@@ -70,7 +65,7 @@ pub fn export_files<T: Tape, K: Sink, D: Disk + Drop>(
     if let Err(status) = chart.require_empty() {
         return status;
     }
-    match run_export(sectors, mask, tape, dump, chart) {
+    match run_export(mask, tape, dump, chart) {
         ExportStatus::Done => match chart.sync() {
             Ok(()) => ExportStatus::Done,
             Err(DiskFailed) => ExportStatus::SinkFault,

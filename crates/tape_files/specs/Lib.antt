@@ -3,4 +3,5 @@ pub mod Apart
 pub mod Edge
 pub mod EdgeLaws
 pub mod Paths
+pub mod ReadAlone
 pub mod Streams

@@ -5,6 +5,7 @@ ghost use Rattle.qic_base.specs.Tape.{Rose};
 ghost use Rattle.qic_base.specs.Disk.{Look, SetLen, Sync, Stores};
 ghost use Rattle.tape_files.specs.Answers.{GaveAll};
 ghost use Rattle.tape_files.specs.Edge.{Whole, sync_kind, file_means};
+ghost use Rattle.tape_files.specs.ReadAlone.{is_read_alone};
 
 use crate::file::{DiskFile, ImageFile};
 use crate::retry::read_from;
@@ -110,6 +111,15 @@ impl<F: DiskFile + Drop> FileDisk<F> {
                 Err(failed)
             }
         }
+    }
+}
+
+impl FileDisk {
+    /// Whether the file was opened for reading alone.
+    pub fn reads_only(&self) -> bool
+        ensures { result ≡ is_read_alone self.now }
+    {
+        self.file.reads_only()
     }
 }
 

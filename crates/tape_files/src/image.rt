@@ -34,6 +34,8 @@ pub enum NoImage {
     NotSynced,
     /// There was no memory for the name of its folder.
     NoMemory,
+    /// It holds something else: it is no image, and none that is being made. What opens a file doesn't look at that.
+    HoldsOther,
 }
 
 /// Linux's number for a lock that this kind of file does not have.
@@ -139,6 +141,14 @@ fn number_at(files: &impl Files, path: &str) -> Option<FileNumber> {
     match fs::metadata(files, path) {
         Ok(metadata) => Some(number_of(&metadata)),
         Err(_) => None,
+    }
+}
+
+/// Whether a path names the file that is standard error, so that what is printed there would be written into it.
+pub fn is_standard_error(files: &impl Files, path: &str) -> bool {
+    match number_at(files, path) {
+        Some(file) => number_at(files, "/proc/self/fd/2") == Some(file),
+        None => false,
     }
 }
 

@@ -13,6 +13,6 @@ mod streams;
 
 pub use disk::FileDisk;
 pub use file::{DiskFile, ImageFile};
-pub use image::{NoImage, open_image, open_to_read};
+pub use image::{NoImage, is_standard_error, open_image, open_to_read};
 pub use null::NullStreams;
 pub use streams::{StderrSink, StdinSource, StdoutSink};

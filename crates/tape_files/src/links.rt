@@ -1,6 +1,6 @@
 //! Where a path leads, and the folder of what is there.
 
-ghost use Rattle.std.specs.Prelude.{◌≡◌, ◌↔◌, IsTrue, OnOk};
+ghost use Rattle.std.specs.Prelude.{◌≡◌, ◌↔◌, ◌⊎◌, IsTrue, IfErr, OnOk};
 ghost use Rattle.std.specs.IoError.{error_kind};
 ghost use Rattle.std.specs.Path.{path_buf_bytes, path_bytes};
 ghost use Rattle.tape_files.specs.Answers.{TellsNoLink};
@@ -26,6 +26,7 @@ fn is_no_link(error: &io::Error) -> bool
 /// The refusal of a path whose link can't be read.
 fn unread(error: &io::Error) -> NoImage
     ensures memory { (result ≡ NoImage.NoMemory) ↔ (error_kind error.now ≡ ErrorKind.OutOfMemory) }
+    ensures kinds { (result ≡ NoImage.NoMemory) ⊎ (result ≡ NoImage.NotOpened) }
 {
     match error.kind() {
         ErrorKind::OutOfMemory => NoImage::NoMemory,
@@ -37,14 +38,17 @@ fn unread(error: &io::Error) -> NoImage
 fn follow<A: Allocator>(path: &mut PathBuf<A>, link: &PathBuf<A>) -> Result<(), NoImage>
     ensures path { OnOk result (
         path_buf_bytes path.new ≡ behind_link (path_buf_bytes path.old) (path_buf_bytes link.now)) }
+    ensures refused { IfErr result (λ cause. cause ≡ NoImage.NoMemory) }
 {
     path.pop();
     path.push(link).map_err(|_| NoImage::NoMemory)
 }
 
 /// The path of what a path names: itself, or, where it is a symbolic link, what that names, and so on. Memory is taken
-/// for it. Nothing has to be there.
-pub fn behind_links<R: Files + Alloc>(files: &R, path: &str) -> Result<PathBuf<R::A>, NoImage> {
+/// for it. Nothing has to be there. It is refused for want of memory, or as one that can't be opened.
+pub fn behind_links<R: Files + Alloc>(files: &R, path: &str) -> Result<PathBuf<R::A>, NoImage>
+    ensures refused { IfErr result (λ cause. (cause ≡ NoImage.NoMemory) ⊎ (cause ≡ NoImage.NotOpened)) }
+{
     let Ok(mut real) = PathBuf::from_str(files.alloc(), path) else {
         return Err(NoImage::NoMemory);
     };

@@ -15,10 +15,11 @@ mod words;
 mod write;
 
 pub use command_spec::{Line, Words};
+pub use date::read_date;
 pub use line::{LineRead, read_line};
 pub use lines::{number_text, place_text};
 pub use made::Made;
-pub use number::read_number;
+pub use number::{read_number, read_number_within};
 pub use summed::Summed;
 pub use taking::{Taken, skip, take_line};
 pub use text_line::TextLine;

@@ -6,12 +6,10 @@ use Rattle.qic_base.specs.Tape.{Rose}
 use Rattle.qic_base.proofs.Steps.{Done-nothing}
 use Rattle.qic_base.specs.Acts.{SourceFails, Went, Cut}
 use Rattle.qic_base.specs.Alone.{no_sink, reading}
-use Rattle.cartridge_spec.specs.Says.{with_parity}
 use Rattle.cartridge_laws.specs.Shape.{Carries}
-use Rattle.cartridge_spec.specs.Shape.{mask_at, usable_places, data_count, capacity}
-use Rattle.cartridge_spec.specs.Settling.{writes_of}
+use Rattle.cartridge_spec.specs.Shape.{mask_at, data_count, capacity}
 use Rattle.cartridge_laws.specs.Writes.{segment_writes}
-use Rattle.cartridge_spec.specs.Appending.{in_sectors}
+use Rattle.cartridge_spec.specs.Appending.{in_sectors, part_writes}
 use Rattle.cartridge_spec.specs.Volumes.{bytes_in}
 use Rattle.cartridge_laws.proofs.AppendBytes.{carried_all, bytes_of_sectors}
 use Rattle.qic_base.specs.Cartridge.{IsSector}
@@ -34,9 +32,9 @@ same_writes : (words : List ℕ) (s count usable : ℕ) (sectors : List (List �
     take count sectors ≡ in_sectors count bytes → segment_writes s usable sectors ≡ (segment_act words s bytes).steps
 same_writes words s count usable sectors bytes all is filled =
     ap (λ (mask : ℕ). segment_writes s mask sectors) is
-    ∙ ap (λ (n : ℕ). writes_of s (usable_places (mask_at words s)) (with_parity (take n sectors))) (sym all)
-    ∙ ap (λ (data_part : List (List ℕ)). writes_of s (usable_places (mask_at words s)) (with_parity data_part)) filled
-    ∙ ap (λ (n : ℕ). writes_of s (usable_places (mask_at words s)) (with_parity (in_sectors n bytes))) all
+    ∙ ap (λ (n : ℕ). part_writes words (record { segment = s; sectors = take n sectors })) (sym all)
+    ∙ ap (λ (data_part : List (List ℕ)). part_writes words (record { segment = s; sectors = data_part })) filled
+    ∙ ap (λ (n : ℕ). part_writes words (record { segment = s; sectors = in_sectors n bytes })) all
 
 -- bytes that stand in sectors are bytes
 bytes_of_each : (sectors : List (List ℕ)) → All IsSector sectors → All (λ (x : ℕ). x < 256) (bytes_in sectors)

@@ -1,14 +1,12 @@
 -- What a store is made of: where its volumes end, and what the mounting of its cartridge did.
 use Rattle.std.proofs.Common.{◌≡◌, zero, ℕ, suc, ◌+◌, ◌-◌, ◌<◌, ◌≤◌, ◌++◌, Bool, true, false, List, [], ◌∷◌, length, map, take, Option}
 use Rattle.std.proofs.Common.{Some, None, IfSome, IsSomeAnd, refl, sym, ap, ◌∙◌, subst, arith, slice_get}
-use Rattle.std.specs.Prelude.{sum_by, if◌then◌else◌}
-use Rattle.std.specs.List.{range_with_len}
+use Rattle.std.specs.Prelude.{if◌then◌else◌}
 use Rattle.std.specs.Option.{option_map, option_map_or}
-use Rattle.std.proofs.lemmas.List.Sums.{sum_by_push}
 use Rattle.cartridge_laws.proofs.MountSettles.{settling_settles}
 use Rattle.qic_base.specs.Cartridge.{Cartridge}
 use Rattle.qic_base.specs.CartridgeTerms.{IsCartridge}
-use Rattle.qic_base.specs.Step.{Step, WriteSector, changed, effects}
+use Rattle.qic_base.specs.Step.{Step, write_sector, changed, effects}
 use Rattle.qic_base.specs.Tape.{Meaning, Done}
 use Rattle.qic_base.specs.TapeCalls.{Tells, IsToldRight}
 use Rattle.qic_base.specs.declared.tape.TapeInfo.{TapeInfo}
@@ -40,21 +38,8 @@ use Rattle.std.proofs.lemmas.Option.{same_Some}
 use Rattle.cartridge_front.specs.declared.table_reader.Unread.{Unread}
 use Rattle.cartridge_front.specs.Settling.{mending_steps, mending_places, collected_block}
 use Rattle.cartridge_front.proofs.Copies.{IsLearnt, told_learnt}
-use Rattle.command_laws.proofs.ScrubNamed.{range_more}
 use Rattle.cartridge_front.proofs.Settled.{mending_settles, writes_info}
 use Rattle.command_laws.proofs.StoreSettled.{settled_list}
-
--- ---- sums over segments
-
-pub sum_more : (f : ℕ → ℕ) (start segment : ℕ) → start ≤ segment →
-    sum_by f (range_with_len start (segment + 1 - start)) ≡ sum_by f (range_with_len start (segment - start)) + f segment
-sum_more f start segment h =
-    let n : ℕ = segment - start in
-    let more : segment + 1 - start ≡ suc n = omega arith in
-    let last : start + n ≡ segment = omega arith in
-    ap (λ (k : ℕ). sum_by f (range_with_len start k)) more
-    ∙ ap (sum_by f) (range_more start n ∙ ap (λ (k : ℕ). range_with_len start n ++ k ∷ []) last)
-    ∙ sum_by_push f (range_with_len start n) segment
 
 -- ---- where volumes end
 
@@ -92,7 +77,7 @@ effects_changed : (places : List ℕ) (sectors : List (List ℕ)) (c : Cartridge
     (changed_by (writes_of 2 places sectors) c)
 effects_changed [] sectors c = refl
 effects_changed (p ∷ places) [] c = refl
-effects_changed (p ∷ places) (bytes ∷ sectors) c = effects_changed places sectors (changed (WriteSector 2 p bytes) c)
+effects_changed (p ∷ places) (bytes ∷ sectors) c = effects_changed places sectors (changed (write_sector 2 p bytes) c)
 
 settling_effects : (area : List (List ℕ)) (c : Cartridge) → effects (settling_steps area c) (Some c) ≡ Some
     (changed_by (settling_steps area c) c)

@@ -16,5 +16,5 @@ pub use fault::{TableFault, TableFull};
 pub use leaving_out::{last_used, trials};
 pub use reading::TableReading;
 pub use sets_tried::Trials;
-pub use slots::{SLOTS, TABLE_SEGMENT};
+pub use slots::{SIGNATURE, SLOTS, TABLE_SEGMENT, entry_at, slot_at};
 pub use table::Table;

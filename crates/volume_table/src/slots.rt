@@ -1,6 +1,6 @@
 //! The slots of a volume table's data, one by one.
 
-ghost use Rattle.std.specs.Prelude.{◌≡◌, ◌<◌, ◌≤◌, ◌||◌, [], map, length, false, nat_le, nat_lt, IfOk, MatchResult, OnOk, IfErr};
+ghost use Rattle.std.specs.Prelude.{◌≡◌, ◌<◌, ◌≤◌, ◌*◌, ◌||◌, [], map, length, false, nat_le, nat_lt, IfOk, MatchResult, OnOk, IfErr};
 ghost use Rattle.std.specs.Vec.{vec_len, vec_capacity};
 ghost use Rattle.cartridge_spec.specs.Table.{slot, slot_fault, some_free_below, entry_in, Shows, HasNoFault, IsFirstFault};
 ghost use Rattle.volume_table.specs.Entry.{entry_of};
@@ -21,10 +21,9 @@ pub const TABLE_SEGMENT: u16 = 2;
 /// `VTBL`, the signature of a used slot, as a little-endian number.
 pub const SIGNATURE: u32 = 0x4C42_5456;
 
-/// The 128 bytes of a slot.
+/// The 128 bytes of a slot; each sector has eight.
 pub fn slot_at(area: &[Sector], index: u8) -> &[u8]
-    requires sectors { length area.now ≡ 29 }
-    requires within { index < 232 }
+    requires { index < 8 * length area.now }
     ensures bytes { result.now ≡ slot area.now index }
     ensures size { length result.now ≡ 128 }
 {
@@ -32,7 +31,7 @@ pub fn slot_at(area: &[Sector], index: u8) -> &[u8]
     &area[index as usize / 8][place..place + 128]
 }
 
-/// What a used slot tells.
+/// What a used slot of 128 bytes tells.
 pub fn entry_at(bytes: &[u8]) -> Entry
     requires { length bytes.now ≡ 128 }
     ensures { entry_of result ≡ entry_in bytes.now }

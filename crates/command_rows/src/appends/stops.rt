@@ -8,19 +8,19 @@ use std::alloc::Global;
 use std::process::Abort;
 use tape_cmd::Status;
 
-// The calls of the tape in an append of no byte, counted from 0. A segment without a defect has 32 sectors, and each that
-// is read or written is a call. A table that is whole is not settled, so nothing is written in front of the volume.
+// The calls of the tape in an append of no byte, counted from 0. A segment that is read is a call, and so is that of the
+// volume, which is written at once. A table that is whole is not settled, so nothing is written in front of the volume.
 
 /// Puts the cartridge in. The next calls read copy 0 of the header, and then segment 2, which has the volume table.
 const INSERTION: u64 = 0;
-/// Reads sector 0 of segment 2 again.
-const AGAIN: u64 = INSERTION + 1 + 32 + 32;
-/// Writes sector 0 of the volume's segment.
-const VOLUME: u64 = AGAIN + 32;
-/// Reads sector 0 of segment 2 once more.
-const BEHIND: u64 = VOLUME + 32;
+/// Reads segment 2 again.
+const AGAIN: u64 = INSERTION + 1 + 1 + 1;
+/// Writes the volume's segment.
+const VOLUME: u64 = AGAIN + 1;
+/// Reads segment 2 once more.
+const BEHIND: u64 = VOLUME + 1;
 /// Writes the sector of segment 2 that has the new slot. The next three calls write its sectors 29, 30 and 31.
-pub const SLOT: u64 = BEHIND + 32;
+pub const SLOT: u64 = BEHIND + 1;
 /// All calls of an append.
 const CALLS: u64 = SLOT + 4;
 
@@ -107,8 +107,8 @@ fn stopped_appends(rt: HostRuntime) {
     let eight = (EIGHT, b"appended 9 0 11 11\n".as_slice());
     let nine = (NINE, b"appended 10 0 12 12\n".as_slice());
     let rows = [
-        // The last sector of the volume's segment.
-        (BEHIND - 1, [eight; 3]),
+        // The volume's segment.
+        (VOLUME, [eight; 3]),
         // The ninth slot, in sector 1. Lost, the sector is found from the others, as it was.
         (SLOT, [eight, eight, nine]),
         // The parity: the slot is there, and counts.
@@ -146,7 +146,6 @@ fn failing_tape(rt: HostRuntime) {
         (INSERTION, Outcome::Old, none),
         (AGAIN, Outcome::Old, none),
         (VOLUME, Outcome::Old, none),
-        (BEHIND - 1, Outcome::Old, none),
         (BEHIND, Outcome::Old, none),
         (CALLS - 1, Outcome::New, ONE),
     ];

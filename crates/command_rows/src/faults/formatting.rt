@@ -12,8 +12,8 @@ use std::process::Abort;
 use tape_cmd::Status;
 
 // The calls of the tape in a formatting at three segments per track, counted from 0: the insertion; the reference bursts;
-// each of the 84 segments formatted; each of their 2,688 sectors read; each sector of copy 0 written, 1 to 31 and then 0;
-// and copy 1 in the same way.
+// each of the 84 segments formatted; each of them read; each sector of copy 0 written, 1 to 31 and then 0; and copy 1 in
+// the same way.
 
 /// Puts the cartridge in.
 const INSERTION: u64 = 0;
@@ -21,10 +21,10 @@ const INSERTION: u64 = 0;
 const REFERENCE: u64 = 1;
 /// Formats segment 0.
 const FORMAT: u64 = 2;
-/// Reads sector 0 of segment 0.
+/// Reads segment 0.
 const READ: u64 = FORMAT + 84;
 /// Writes sector 1 of copy 0.
-const WRITE: u64 = READ + 2688;
+const WRITE: u64 = READ + 84;
 /// Writes sector 0 of copy 0.
 const FIRST_COPY: u64 = WRITE + 31;
 /// Writes sector 0 of copy 1.

@@ -4,7 +4,7 @@
 ghost use Rattle.std.specs.Prelude.{◌≡◌, ◌+◌, ◌≤◌, ◌<◌};
 ghost use Rattle.segment_parity.specs.Register.{pushed};
 
-use qic_base::{Sector, SectorRead, Tape, TapeFailed};
+use qic_base::{Sector, SectorRead, Tape, TapeFailed, read_sector, write_sector};
 use qic_mem::MemTape;
 use segment_parity::Parity;
 
@@ -19,7 +19,7 @@ fn read(
     requires sector { sector < 32 }
 {
     match tape.info()? {
-        Some(info) if info.segments_per_track == 3 => tape.read_sector(segment, sector, into),
+        Some(info) if info.segments_per_track == 3 => read_sector(tape, segment, sector, into),
         _ => Err(TapeFailed),
     }
 }
@@ -31,7 +31,7 @@ pub fn write(tape: &mut MemTape, segment: u32, sector: u8, from: &Sector) -> Res
 {
     match tape.info()? {
         Some(info) if info.segments_per_track == 3 => {
-            tape.write_sector(segment, sector, from)?;
+            write_sector(tape, segment, sector, from)?;
             Ok(())
         }
         _ => Err(TapeFailed),

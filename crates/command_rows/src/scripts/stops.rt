@@ -8,22 +8,22 @@ use std::alloc::Global;
 use std::process::Abort;
 use tape_cmd::Status;
 
-// The calls of the tape in the script, counted from 0. A segment without a defect has 32 sectors, and each that is read or
-// written is a call. A table that is whole is not settled, and a list reads nothing of the tape.
+// The calls of the tape in the script, counted from 0. A segment that is read is a call, and so is that of the volume, which
+// is written at once. A table that is whole is not settled, and a list reads nothing of the tape.
 
 /// Puts the cartridge in. The next calls read copy 0 of the header, segment 2, which has the volume table, and that
 /// again.
 const INSERTION: u64 = 0;
-/// Writes sector 0 of the volume's segment.
-const VOLUME: u64 = INSERTION + 1 + 32 + 32 + 32;
-/// Reads sector 0 of segment 2 once more.
-const BEHIND: u64 = VOLUME + 32;
+/// Writes the volume's segment.
+const VOLUME: u64 = INSERTION + 1 + 1 + 1 + 1;
+/// Reads segment 2 once more.
+const BEHIND: u64 = VOLUME + 1;
 /// Writes the sector of segment 2 that has the slot. The next three calls write its sectors of parity.
-const SLOT: u64 = BEHIND + 32;
-/// Reads sector 0 of the volume's segment, to give it back.
+const SLOT: u64 = BEHIND + 1;
+/// Reads the volume's segment, to give it back.
 const GIVING: u64 = SLOT + 4;
 /// All calls of the script.
-const CALLS: u64 = GIVING + 32;
+const CALLS: u64 = GIVING + 1;
 
 /// How the worked script ends where this call fails, and leaves this.
 fn ending_before(rt: &impl Abort, alloc: Global, call: u64, left: Outcome) -> Ending {

@@ -5,7 +5,8 @@ use qic_base::Sector;
 /// A change that a call of a tape is to make, with all that it was given.
 #[derive(Drop)]
 pub(crate) enum TapeChange {
-    WriteSector(u32, u8, Sector),
+    /// A segment, the mask of its sectors that are written, and an entry for each of the 32.
+    WriteSectors(u32, u32, [Sector; 32]),
     FormatSegment(u32),
     SetReferenced,
     SetProtected(bool),

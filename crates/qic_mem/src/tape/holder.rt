@@ -1,11 +1,11 @@
 //! What a tape in memory holds, without its failures and its record.
 
-ghost use Rattle.std.specs.Prelude.{◌≡◌, ◌≢◌, ◌*◌, false, true, None, length, IfOk, IfSome, IsSomeAnd};
+ghost use Rattle.std.specs.Prelude.{◌≡◌, ◌≢◌, ◌*◌, false, true, None, length, IfOk, IfSome, IsSomeAnd, if◌then◌else◌};
 ghost use Rattle.std.specs.Option.{ForSome};
 ghost use Rattle.qic_base.specs.Cartridge.{IsLength, IsPlace, view_at, new_version, info_of};
 ghost use Rattle.qic_base.specs.CartridgeTerms.{place_of};
-ghost use Rattle.qic_base.specs.Step.{WriteSector, FormatSegment, SetReferenced, SetProtected, Renew, Wear, Spoil, Upgrade};
-ghost use Rattle.qic_base.specs.TapeCalls.{Reads, write_answer};
+ghost use Rattle.qic_base.specs.Step.{WriteSectors, write_sector, FormatSegment, SetReferenced, SetProtected, Renew, Wear, Spoil, Upgrade};
+ghost use Rattle.qic_base.specs.TapeCalls.{ReadsSectors, KeepsOthers, AreBlank, chosen};
 ghost use Rattle.qic_base.specs.Tape.{spoil_answer};
 ghost use Rattle.qic_mem.specs.TapeChange.{step_of, IsReached, is_past};
 ghost use Rattle.qic_mem.specs.Held.{FitsRoom};
@@ -13,8 +13,8 @@ ghost use Rattle.qic_mem.specs.Outcome.{lost_by, left_by, size_ended};
 
 use crate::tape::change::TapeChange;
 use crate::tape::outcome::Outcome;
-use crate::tape::sectors::Sectors;
-use qic_base::{NoMemory, Sector, SectorRead, SectorWrite, TapeInfo};
+use crate::tape::sectors::{Sectors, is_in};
+use qic_base::{LostSet, NoMemory, Sector, SectorsRead, TapeInfo};
 use std::alloc::Global;
 
 /// Sectors for each segment per track: 28 tracks of 32 sectors a segment (QIC-80-MC).
@@ -70,23 +70,28 @@ impl Holder {
         self.info
     }
 
-    /// Reads a sector. `into` is unchanged unless the answer is `Good`.
-    pub(crate) fn read(&self, segment: u32, sector: u8, into: &mut Sector) -> SectorRead
-        requires { IsSomeAnd (holder_state self.now).size (λ n. IsPlace n segment sector) }
-        ensures view { IfSome (holder_state self.now).cartridge (λ c.
-            Reads (view_at c segment sector) into.old into.new result) }
-        ensures unchanged { result ≢ SectorRead.Good → into.new ≡ into.old }
+    /// Reads the wanted sectors of a segment, each into its entry.
+    pub(crate) fn read_sectors(
+        &self,
+        segment: u32,
+        wanted: u32,
+        into: &mut [Sector; 32],
+    ) -> SectorsRead
+        requires { IsSomeAnd (holder_state self.now).size (λ n. IsPlace n segment 0) }
+        ensures reads { IfSome (holder_state self.now).cartridge (λ c.
+            ReadsSectors wanted result.good result.blank (view_at c segment) into.old into.new) }
+        ensures kept { KeepsOthers result.good into.old into.new }
     {
-        self.sectors.read(view_index(segment, sector), into)
+        self.sectors
+            .read_several(view_index(segment, 0), wanted, into)
     }
 
-    /// What a write to a sector answers.
-    pub(crate) fn write_answer(&self, segment: u32, sector: u8) -> SectorWrite
-        requires { IsSomeAnd (holder_state self.now).size (λ n. IsPlace n segment sector) }
-        ensures { IfSome (holder_state self.now).cartridge (λ c.
-            result ≡ write_answer (view_at c segment sector)) }
+    /// Which sectors of a segment that are to be written were never formatted.
+    pub(crate) fn blank_ones(&self, segment: u32, written: u32) -> LostSet
+        requires { IsSomeAnd (holder_state self.now).size (λ n. IsPlace n segment 0) }
+        ensures { IfSome (holder_state self.now).cartridge (λ c. AreBlank written result (view_at c segment)) }
     {
-        self.sectors.write_answer(view_index(segment, sector))
+        self.sectors.blank_ones(view_index(segment, 0), written)
     }
 
     /// Whether a sector is a defect once it is spoiled.
@@ -109,9 +114,54 @@ impl Holder {
     /// Writes a sector, where it was formatted and is no defect.
     fn write(&mut self, segment: u32, sector: u8, from: &Sector)
         requires { IsSomeAnd (holder_state self.old).size (λ n. IsPlace n segment sector) }
-        ensures { holder_state self.new ≡ made (holder_state self.old) (WriteSector segment sector from.now) }
+        ensures { holder_state self.new ≡ made (holder_state self.old) (write_sector segment sector from.now) }
     {
         self.sectors.write(view_index(segment, sector), from);
+    }
+
+    /// Writes a sector, where that is to be.
+    fn write_if(&mut self, segment: u32, sector: u8, is_written: bool, from: &Sector)
+        requires { IsSomeAnd (holder_state self.old).size (λ n. IsPlace n segment sector) }
+        ensures { holder_state self.new ≡ (if is_written then made (holder_state self.old)
+            (write_sector segment sector from.now) else holder_state self.old) }
+    {
+        if is_written {
+            self.write(segment, sector, from);
+        }
+    }
+
+    /// Makes a sector unreadable, where that is to be and it holds bytes.
+    fn wear_if(&mut self, segment: u32, sector: u8, is_worn: bool)
+        requires { IsSomeAnd (holder_state self.old).size (λ n. IsPlace n segment sector) }
+        ensures { holder_state self.new ≡ (if is_worn then made (holder_state self.old)
+            (Wear segment sector) else holder_state self.old) }
+    {
+        if is_worn {
+            self.wear(segment, sector);
+        }
+    }
+
+    /// Writes sectors of a segment, each with its entry, where they were formatted and are no defects.
+    fn write_sectors(&mut self, segment: u32, written: u32, from: &[Sector; 32])
+        requires { IsSomeAnd (holder_state self.old).size (λ n. IsPlace n segment 0) }
+        ensures { holder_state self.new
+            ≡ made (holder_state self.old) (WriteSectors segment (chosen written from.now)) }
+    {
+        for i in 0..32 {
+            self.write_if(segment, i as u8, is_in(written, i), &from[i]);
+        }
+    }
+
+    /// Makes the sectors of a segment that were to be written unreadable.
+    fn wear_sectors(&mut self, segment: u32, written: u32, from: &[Sector; 32])
+        requires { IsSomeAnd (holder_state self.old).size (λ n. IsPlace n segment 0) }
+        ensures { holder_state self.new ≡ record (holder_state self.old) {
+          cartridge = lost_by (WriteSectors segment (chosen written from.now)) (holder_state self.old).cartridge;
+        } }
+    {
+        for i in 0..32 {
+            self.wear_if(segment, i as u8, is_in(written, i));
+        }
     }
 
     /// Formats a segment.
@@ -211,7 +261,9 @@ impl Holder {
         ensures { holder_state self.new ≡ made (holder_state self.old) (step_of change.now) }
     {
         match change {
-            TapeChange::WriteSector(segment, sector, bytes) => self.write(*segment, *sector, bytes),
+            TapeChange::WriteSectors(segment, written, from) => {
+                self.write_sectors(*segment, *written, from)
+            }
             TapeChange::FormatSegment(segment) => self.format_segment(*segment),
             TapeChange::SetReferenced => self.set_referenced(),
             TapeChange::SetProtected(on) => self.set_protected(*on),
@@ -231,7 +283,9 @@ impl Holder {
         } }
     {
         match change {
-            TapeChange::WriteSector(segment, sector, _) => self.wear(*segment, *sector),
+            TapeChange::WriteSectors(segment, written, from) => {
+                self.wear_sectors(*segment, *written, from)
+            }
             TapeChange::FormatSegment(segment) => self.wear_segment(*segment),
             TapeChange::Renew(_) => self.remove(),
             TapeChange::Upgrade => self.forget_size(),

@@ -1,6 +1,6 @@
 //! What a failing call of a tape in memory leaves.
 
-/// What a chosen failing call of a tape in memory leaves: all as it was; the written sector lost, each readable sector
+/// What a chosen failing call of a tape in memory leaves: all as it was; each written sector lost, each readable sector
 /// of the segment lost, or no cartridge; or the call done.
 #[derive(Clone, Copy, Debug, PartialEq, Eq)]
 pub enum Outcome {

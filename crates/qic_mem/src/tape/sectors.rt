@@ -1,14 +1,14 @@
 //! The sectors of a cartridge in memory.
 
-ghost use Rattle.std.specs.Prelude.{◌≡◌, ◌≢◌, ◌<◌, ◌≤◌, ◌+◌, ◌++◌, length, drop, map, replicate, All, IfOk};
-ghost use Rattle.qic_base.specs.CartridgeTerms.{IsView};
+ghost use Rattle.std.specs.Prelude.{◌≡◌, ◌≢◌, ℕ, ◌<◌, ◌≤◌, ◌+◌, ◌++◌, ◌&&◌, false, length, drop, map, replicate, All, IfOk};
+ghost use Rattle.qic_base.specs.CartridgeTerms.{IsView, is_lost};
 ghost use Rattle.qic_base.specs.Cartridge.{zero_sector};
 ghost use Rattle.qic_base.specs.Step.{written_view, formatted_view, worn_view, spoiled_view};
-ghost use Rattle.qic_base.specs.TapeCalls.{Reads, write_answer};
+ghost use Rattle.qic_base.specs.TapeCalls.{ReadsSectors, KeepsOthers, AreBlank, bytes_read, is_readable, is_blank};
 ghost use Rattle.qic_base.specs.Tape.{spoil_answer};
 ghost use Rattle.qic_mem.specs.Sectors.{view_in, changed_at, changed_from, views_prop};
 
-use qic_base::{NoMemory, Sector, SectorRead, SectorView, SectorWrite};
+use qic_base::{LostSet, NoMemory, Sector, SectorView, SectorsRead};
 use std::alloc::Global;
 
 /// The views of sectors, one after another.
@@ -28,24 +28,27 @@ impl Sectors {
         })
     }
 
-    /// Reads the sector at a place. `into` is unchanged unless the answer is `Good`.
-    pub(crate) fn read(&self, place: usize, into: &mut Sector) -> SectorRead
-        requires { place < length self.now.views.items }
-        ensures reads { Reads (view_in self.now.views.items place) into.old into.new result }
-        ensures unchanged { result ≢ SectorRead.Good → into.new ≡ into.old }
+    /// Reads the wanted ones of the 32 sectors from the first on, each into its entry.
+    pub(crate) fn read_several(
+        &self,
+        first: usize,
+        wanted: u32,
+        into: &mut [Sector; 32],
+    ) -> SectorsRead
+        requires { first + 32 ≤ length self.now.views.items }
+        ensures reads { ReadsSectors wanted result.good result.blank
+            (λ i. view_in self.now.views.items (first + i)) into.old into.new }
+        ensures kept { KeepsOthers result.good into.old into.new }
     {
-        read_view(&self.views[place], into)
+        read_from(&self.views, first, wanted, into)
     }
 
-    /// What a write to the sector at a place answers.
-    pub(crate) fn write_answer(&self, place: usize) -> SectorWrite
-        requires { place < length self.now.views.items }
-        ensures { result ≡ write_answer (view_in self.now.views.items place) }
+    /// Which of the 32 sectors from the first on are to be written and were never formatted.
+    pub(crate) fn blank_ones(&self, first: usize, written: u32) -> LostSet
+        requires { first + 32 ≤ length self.now.views.items }
+        ensures { AreBlank written result (λ i. view_in self.now.views.items (first + i)) }
     {
-        match self.views[place] {
-            SectorView::Blank => SectorWrite::Blank,
-            SectorView::Defect | SectorView::Lost | SectorView::Holds(_) => SectorWrite::Taken,
-        }
+        blank_from(&self.views, first, written)
     }
 
     /// Whether the sector at a place is a defect once it is spoiled.
@@ -111,19 +114,84 @@ impl Sectors {
     }
 }
 
-/// Reads a sector by its view. `into` is unchanged unless the answer is `Good`.
-fn read_view(view: &SectorView, into: &mut Sector) -> SectorRead
-    ensures reads { Reads view.now into.old into.new result }
-    ensures unchanged { result ≢ SectorRead.Good → into.new ≡ into.old }
+/// Whether a sector is in the set with this mask.
+pub(crate) fn is_in(set: u32, sector: usize) -> bool
+    requires { sector < 32 }
+    ensures { result ≡ is_lost set sector }
+{
+    set >> sector & 1 == 1
+}
+
+/// The mask with a sector more, where that is to be.
+fn with_sector(set: u32, sector: usize, is_more: bool) -> u32
+    requires place { sector < 32 }
+    requires new { is_lost set sector ≡ false }
+    ensures same { is_lost result sector ≡ is_more }
+    ensures others { (i : ℕ) → i ≢ sector → is_lost result i ≡ is_lost set i }
+{
+    if is_more { set | 1 << sector } else { set }
+}
+
+/// Reads a sector by its view, where it is wanted. Answers whether it is good.
+fn read_wanted(view: &SectorView, is_wanted: bool, into: &mut Sector) -> bool
+    ensures good { result ≡ (is_wanted && is_readable view.now) }
+    ensures bytes { into.new ≡ bytes_read is_wanted view.now into.old }
 {
     match view {
-        SectorView::Blank => SectorRead::Blank,
-        SectorView::Defect | SectorView::Lost => SectorRead::Lost,
-        SectorView::Holds(bytes) => {
+        SectorView::Holds(bytes) if is_wanted => {
             *into = *bytes;
-            SectorRead::Good
+            true
         }
+        _ => false,
     }
+}
+
+/// Whether a sector is asked for and was never formatted.
+fn is_asked_blank(view: &SectorView, is_asked: bool) -> bool
+    ensures { result ≡ (is_asked && is_blank view.now) }
+{
+    match view {
+        SectorView::Blank => is_asked,
+        SectorView::Defect | SectorView::Lost | SectorView::Holds(_) => false,
+    }
+}
+
+/// Reads the wanted ones of the 32 sectors from a place on.
+fn read_from(
+    views: &[SectorView],
+    first: usize,
+    wanted: u32,
+    into: &mut [Sector; 32],
+) -> SectorsRead
+    requires { first + 32 ≤ length views.now }
+    ensures reads { ReadsSectors wanted result.good result.blank (λ i. view_in views.now (first + i)) into.old into.new }
+    ensures kept { KeepsOthers result.good into.old into.new }
+{
+    let mut good: u32 = 0;
+    let mut blank: u32 = 0;
+    for i in 0..32 {
+        let view = &views[first + i];
+        let is_wanted = is_in(wanted, i);
+        good = with_sector(good, i, read_wanted(view, is_wanted, &mut into[i]));
+        blank = with_sector(blank, i, is_asked_blank(view, is_wanted));
+    }
+    SectorsRead {
+        good: LostSet::from_mask(good),
+        blank: LostSet::from_mask(blank),
+    }
+}
+
+/// Which of the 32 sectors from a place on are to be written and were never formatted.
+fn blank_from(views: &[SectorView], first: usize, written: u32) -> LostSet
+    requires { first + 32 ≤ length views.now }
+    ensures { AreBlank written result (λ i. view_in views.now (first + i)) }
+{
+    let mut blank: u32 = 0;
+    for i in 0..32 {
+        let is_more = is_asked_blank(&views[first + i], is_in(written, i));
+        blank = with_sector(blank, i, is_more);
+    }
+    LostSet::from_mask(blank)
 }
 
 /// Writes a sector, where it was formatted and is no defect.

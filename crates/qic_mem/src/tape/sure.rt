@@ -1,18 +1,18 @@
 //! A tape in memory that never fails.
 
-ghost use Rattle.std.specs.Prelude.{◌≡◌, ◌≢◌, [], ◌∷◌, Some, None, IsOk, IsSome, IfOk, IfSome, OnOk, OnErr};
+ghost use Rattle.std.specs.Prelude.{◌≡◌, [], ◌∷◌, Some, None, IsOk, IsSome, IfOk, IfSome, OnOk, OnErr};
 ghost use Rattle.std.specs.Option.{option_map};
 ghost use Rattle.qic_base.specs.Cartridge.{IsLength, view_at, new_version, info_of};
 ghost use Rattle.qic_base.specs.CartridgeTerms.{IsVersion};
-ghost use Rattle.qic_base.specs.Step.{WriteSector, FormatSegment, SetReferenced, SetProtected, Renew, Wear, Spoil, Upgrade};
-ghost use Rattle.qic_base.specs.TapeCalls.{Does, Tells, IsPlaceOf, Reads, write_answer};
+ghost use Rattle.qic_base.specs.Step.{WriteSectors, FormatSegment, SetReferenced, SetProtected, Renew, Wear, Spoil, Upgrade};
+ghost use Rattle.qic_base.specs.TapeCalls.{Does, Tells, IsPlaceOf, ReadsSectors, KeepsOthers, chosen, AreBlank};
 ghost use Rattle.qic_base.specs.Tape.{Done, spoil_answer};
 ghost use Rattle.qic_mem.specs.TapeChange.{step_of, IsReached};
 ghost use Rattle.qic_mem.specs.Longest.{HasLongest};
 
 use crate::tape::change::TapeChange;
 use crate::tape::holder::Holder;
-use qic_base::{LONGEST, NoMemory, Sector, SectorRead, SectorWrite, Tape, TapeFailed, TapeInfo};
+use qic_base::{LONGEST, LostSet, NoMemory, Sector, SectorsRead, Tape, TapeFailed, TapeInfo};
 use std::alloc::Global;
 
 /// A tape in memory whose calls never fail.
@@ -77,44 +77,47 @@ impl Tape for SureTape {
         Ok(self.holder.info())
     }
 
-    fn read_sector(
+    fn read_sectors(
         &mut self,
         segment: u32,
-        sector: u8,
-        into: &mut Sector,
-    ) -> Result<SectorRead, TapeFailed>
-        requires { IsPlaceOf sure_means self.old segment sector }
+        wanted: LostSet,
+        into: &mut [Sector; 32],
+    ) -> Result<SectorsRead, TapeFailed>
+        requires { IsPlaceOf sure_means self.old segment 0 }
         ensures did { Does sure_means self.old self.new [] result }
-        ensures view { IfOk result (λ answer. Tells sure_means self.old (λ c.
-            Reads (view_at c segment sector) into.old into.new answer)) }
-        ensures unchanged { result ≢ Ok SectorRead.Good → into.new ≡ into.old }
+        ensures reads { IfOk result (λ read. Tells sure_means self.old (λ c.
+            ReadsSectors wanted read.good read.blank (view_at c segment) into.old into.new)) }
+        ensures kept { IfOk result (λ read. KeepsOthers read.good into.old into.new) }
+        ensures unchanged { OnErr result (into.new ≡ into.old) }
         ensures size { sure_means.size self.new ≡ sure_means.size self.old }
 
         ensures succeeds { IsOk result }
         ensures state { sure_state self.new ≡ sure_state self.old }
     {
-        Ok(self.holder.read(segment, sector, into))
+        Ok(self.holder.read_sectors(segment, wanted.mask(), into))
     }
 
-    fn write_sector(
+    fn write_sectors(
         &mut self,
         segment: u32,
-        sector: u8,
-        from: &Sector,
-    ) -> Result<SectorWrite, TapeFailed>
-        requires { IsPlaceOf sure_means self.old segment sector }
-        ensures did { Does sure_means self.old self.new (WriteSector segment sector from.now ∷ []) result }
-        ensures answer { IfOk result (λ answer. Tells sure_means self.old (λ c.
-            answer ≡ write_answer (view_at c segment sector))) }
+        written: LostSet,
+        from: &[Sector; 32],
+    ) -> Result<LostSet, TapeFailed>
+        requires { IsPlaceOf sure_means self.old segment 0 }
+        ensures did { Does sure_means self.old self.new
+            (WriteSectors segment (chosen written from.now) ∷ []) result }
+        ensures answer { IfOk result (λ blank. Tells sure_means self.old (λ c.
+            AreBlank written blank (view_at c segment))) }
         ensures size { sure_means.size self.new ≡ sure_means.size self.old }
 
         ensures succeeds { IsOk result }
         ensures state { sure_state self.new
-            ≡ made (sure_state self.old) (WriteSector segment sector from.now) }
+            ≡ made (sure_state self.old) (WriteSectors segment (chosen written from.now)) }
     {
-        let answer = self.holder.write_answer(segment, sector);
-        self.run(TapeChange::WriteSector(segment, sector, *from));
-        Ok(answer)
+        let written = written.mask();
+        let blank = self.holder.blank_ones(segment, written);
+        self.run(TapeChange::WriteSectors(segment, written, *from));
+        Ok(blank)
     }
 
     fn format_segment(&mut self, segment: u32) -> Result<(), TapeFailed>

@@ -1,7 +1,8 @@
 use Rattle.std.proofs.Common.{◌≢◌, Bool, false, sym, ◌∙◌, subst, arith, below_more, get_or-set_other}
 use Rattle.std.proofs.Common.{get_or-set_same}
 use Rattle.std.proofs.lemmas.List.{length-set}
-use Rattle.cart_image.specs.Several.{is_readable, takes_write, is_blank}
+use Rattle.qic_base.specs.TapeCalls.{is_readable, is_blank}
+use Rattle.cart_image.specs.Several.{takes_write}
 use Rattle.cart_image.proofs.Choices.{IsChoice, choice-is}
 use Rattle.cart_image.proofs.several.choose.Goals as goal
 

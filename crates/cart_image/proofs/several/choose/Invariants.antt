@@ -1,6 +1,7 @@
 use Rattle.std.proofs.Common.{◌≡◌, ℕ, ◌<◌, ◌≤◌, false, length, get_or}
 use Rattle.qic_base.specs.CartridgeTerms.{is_lost}
-use Rattle.cart_image.specs.Several.{is_readable, takes_write, is_blank}
+use Rattle.qic_base.specs.TapeCalls.{is_readable, is_blank}
+use Rattle.cart_image.specs.Several.{takes_write}
 use Rattle.cart_image.proofs.Choices.{IsChoice}
 use Rattle.cart_image.proofs.several.choose.Given as goal
 

@@ -2,10 +2,11 @@ use Rattle.std.proofs.Common.{arith}
 use Rattle.std.proofs.lemmas.Option.{IfSome_then}
 use Rattle.std.proofs.lemmas.Result.{err_from_is_err_and}
 use Rattle.cart_image.specs.Layout.{overwrite_all}
-use Rattle.cart_image.specs.Several.{is_readable, takes_write}
+use Rattle.qic_base.specs.TapeCalls.{is_readable}
+use Rattle.cart_image.specs.Several.{takes_write}
 use Rattle.cart_image.specs.State.{AreStatesOf}
 use Rattle.cart_image.proofs.Exits.{Carried-halted, Carried-runs, told-fact}
-use Rattle.cart_image.proofs.Overwrites.{chosen-are, overwrite-planned, refused-are}
+use Rattle.cart_image.proofs.Overwrites.{chosen-are, overwrite-planned, blank-are}
 use Rattle.cart_image.proofs.Runs.{Looks-nothing}
 use Rattle.cart_image.proofs.several.write_sectors.Goals as goal
 
@@ -43,7 +44,7 @@ returns-clause-carried g c =
 pub returns-clause-answer : goal.returns-clause-answer
 returns-clause-answer g c =
     IfSome_then (g.D.Disk.means.told c.args.disk.now) c.requires.states (λ bytes are.
-    refused-are c.args.layout c.args.segment bytes c.args.written c.args.states.now c.args.from.now c.choose-chosen.result.blank are
+    blank-are c.args.layout c.args.segment bytes c.args.written c.args.states.now c.choose-chosen.result.blank are
     c.choose-chosen.ensures.blank)
 
 pub returns-in_err-overwrite-clause-sectors : goal.returns-in_err-overwrite-clause-sectors

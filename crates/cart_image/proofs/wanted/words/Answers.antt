@@ -1,5 +1,5 @@
 use Rattle.std.proofs.Common.{◌≢◌, Bool, sym, ◌∙◌, subst, arith, below_more}
-use Rattle.cart_image.specs.Several.{is_readable, is_blank}
+use Rattle.qic_base.specs.TapeCalls.{is_readable, is_blank}
 use Rattle.cart_image.proofs.Choices.{IsChoice, choice-is}
 use Rattle.cart_image.proofs.wanted.words.Goals as goal
 

@@ -1,6 +1,6 @@
 use Rattle.std.proofs.Common.{◌≡◌, ℕ, ◌<◌, ◌≤◌, false}
 use Rattle.qic_base.specs.CartridgeTerms.{is_lost}
-use Rattle.cart_image.specs.Several.{is_readable, is_blank}
+use Rattle.qic_base.specs.TapeCalls.{is_readable, is_blank}
 use Rattle.cart_image.proofs.Choices.{IsChoice}
 use Rattle.cart_image.proofs.wanted.words.Given as goal
 

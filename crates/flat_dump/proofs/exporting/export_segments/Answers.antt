@@ -32,7 +32,7 @@ returns-in-Err-write_bytes g c =
     (c.loop-segment.mask.items ++ c.in-Ok.word ∷ []) =
     segment_more t c.args.tape.now c.loop-segment.tape c.loop-segment.segment before.so_far.text c.loop-segment.mask.items
     c.read_segment.new.sectors c.in-Ok.word before.did
-    c.in-Ok.ensures.room before.so_far.seen c.in-Ok.ensures.seen in
+    before.so_far.seen c.in-Ok.ensures.seen in
     let broke : BrokeOff k c.loop-segment.sink c.write_bytes.new.sink text =
     subst (BrokeOff k c.loop-segment.sink c.write_bytes.new.sink) c.as_flattened.ensures.value c.in-Err-write_bytes.ensures in
     record {
@@ -55,13 +55,12 @@ loop-segment-preserved g c =
     (c.loop-segment.mask.items ++ c.in-Ok.word ∷ []) =
     segment_more t c.args.tape.now c.loop-segment.tape c.loop-segment.segment before.so_far.text c.loop-segment.mask.items
     c.read_segment.new.sectors c.in-Ok.word before.did
-    c.in-Ok.ensures.room before.so_far.seen c.in-Ok.ensures.seen in
+    before.so_far.seen c.in-Ok.ensures.seen in
     let wrote : Wrote k c.loop-segment.sink c.write_bytes.new.sink text =
     subst (Wrote k c.loop-segment.sink c.write_bytes.new.sink) c.as_flattened.ensures.value c.in-Ok-write_bytes.ensures in
     record {
       did = Done-after_reads before.did c.in-Ok.ensures.did;
       size = c.in-Ok.ensures.size ∙ before.size;
-      room = c.in-Ok.ensures.room;
       words = let e = c.push_within.ensures.len in let f = before.words in omega arith;
       capacity = let e = c.push_within.ensures.capacity in let f = before.capacity in omega arith;
       so_far = record {

@@ -1,4 +1,4 @@
-use Rattle.std.proofs.Common.{◌≡◌, ℕ, ◌*◌, inl, inr, length, ap, subst, sym, ◌∙◌, arith}
+use Rattle.std.proofs.Common.{◌≡◌, ℕ, ◌*◌, inl, inr, length, ap, subst, sym, ◌∙◌}
 use Rattle.std.proofs.lemmas.Result.{err_from_is_err_and}
 use Rattle.qic_base.specs.Tape.{Done, Broke}
 use Rattle.qic_base.proofs.Steps.{Done-before_reads, Broke-before_reads}
@@ -95,7 +95,7 @@ mark_all-requires-clause-referenced g c = referenced_by c.args.host.now c.args.u
     c.requires.ready.fits.cartridge c.in_ok-clear.ensures.marks
 
 pub mark_all-requires-clause-room : goal.mark_all-requires-clause-room
-mark_all-requires-clause-room g c = omega (arith, c.sectors_mut-sectors.ensures.size)
+mark_all-requires-clause-room g c = c.sectors_mut-sectors.ensures.size
 
 pub write_header-requires-clause-ready : goal.write_header-requires-clause-ready
 write_header-requires-clause-ready g c = c.in_ok-mark_all.ensures.ready

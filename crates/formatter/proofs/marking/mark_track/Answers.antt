@@ -94,7 +94,7 @@ mark_segment-requires-clause-segment g c =
     count c.loop-offset-test.true c.requires.track (c.loop-offset.invariant.words ∙ c.requires.words)
 
 pub mark_segment-requires-clause-room : goal.mark_segment-requires-clause-room
-mark_segment-requires-clause-room g c = omega (arith, c.loop-offset.invariant.room, c.requires.room)
+mark_segment-requires-clause-room g c = c.loop-offset.invariant.room ∙ c.requires.room
 
 pub returns-in_err-next_segment : goal.returns-in_err-next_segment
 returns-in_err-next_segment g c = let no = c.in_err-next_segment.ensures.ok in absurd (cc)

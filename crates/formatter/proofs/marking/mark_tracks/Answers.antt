@@ -70,7 +70,7 @@ mark_track-requires-clause-words g c =
     c.loop-track.invariant.keeps.same.cartridge))
 
 pub mark_track-requires-clause-room : goal.mark_track-requires-clause-room
-mark_track-requires-clause-room g c = omega (arith, c.loop-track.invariant.room, c.requires.room)
+mark_track-requires-clause-room g c = c.loop-track.invariant.room ∙ c.requires.room
 
 pub returns-in_err-mark_track-clause-did : goal.returns-in_err-mark_track-clause-did
 returns-in_err-mark_track-clause-did g c =

@@ -3,7 +3,7 @@ use Rattle.std.proofs.lemmas.Bool.{cases_lt}
 use Rattle.std.specs.Prelude.{sum_by}
 use Rattle.std.specs.List.{range_with_len}
 use Rattle.cartridge_spec.specs.Shape.{mask_at, capacity}
-use Rattle.volume_store.proofs.Storing.{sum_more}
+use Rattle.command_laws.proofs.Sums.{sum_more}
 use Rattle.volume_store.proofs.store.capacity_between.Goals as goal
 
 pub loop-segment-preserved : goal.loop-segment-preserved

@@ -1,7 +1,7 @@
 use Rattle.std.proofs.Common.{[], refl}
 use Rattle.qic_base.specs.CartridgeTerms.{place_of}
 use Rattle.cart_image.specs.Image.{view_in}
-use Rattle.cart_image.specs.Several.{ReadsSectors}
+use Rattle.qic_base.specs.TapeCalls.{ReadsSectors}
 use Rattle.cart_image.proofs.Exits.{Carried-looked}
 use Rattle.cart_image.proofs.Known.{whole-ok}
 use Rattle.cart_image.proofs.Tapes.{looked-settled, no-plans, unknown-tape}

@@ -2,7 +2,7 @@ use Rattle.std.proofs.Common.{[], ◌≤◌, length, refl, sym, ◌∙◌}
 use Rattle.qic_base.specs.CartridgeTerms.{place_of}
 use Rattle.cart_image.specs.Image.{view_in}
 use Rattle.cart_image.specs.Layout.{end_of}
-use Rattle.cart_image.specs.Several.{ReadsSectors}
+use Rattle.qic_base.specs.TapeCalls.{ReadsSectors}
 use Rattle.cart_image.specs.State.{AreStatesOf}
 use Rattle.cart_image.proofs.Exits.{Carried-looked}
 use Rattle.cart_image.proofs.Known.{on-segment, known-states, told-same, whole-fact}

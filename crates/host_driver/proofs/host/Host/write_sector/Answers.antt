@@ -1,5 +1,5 @@
 use Rattle.std.proofs.Common.{ap, [], ◌∷◌, rules}
-use Rattle.qic_base.specs.Step.{WriteSector}
+use Rattle.qic_base.specs.Step.{write_sector}
 use Rattle.drive_spec.specs.declared.deck.Deck.{Deck}
 use Rattle.host_driver.proofs.Marks.{write_keeps, broke_agrees}
 use Rattle.host_driver.proofs.host.Host.write_sector.Goals as goal
@@ -19,7 +19,8 @@ returns-in-Err-Tape-clause-keeps g c =
       ready = search rules;
       same = search rules;
       agrees = broke_agrees g.T.Tape.means c.args.unit.now c.write_under.new.unit
-          (WriteSector c.args.segment c.args.sector c.args.from.now ∷ []) (write_keeps c.args.segment c.args.sector c.args.from.now)
+          (write_sector c.args.segment c.args.sector c.args.from.now ∷ [])
+          (write_keeps c.args.segment (record { sector = c.args.sector; bytes = c.args.from.now } ∷ []))
           (ap (λ (d : Deck). d.cartridge) found.0) found.1;
       size = search rules;
     }

@@ -1,0 +1,60 @@
+//! The usable sectors of a segment, between their indexes and the first places of a workspace.
+
+ghost use Rattle.std.specs.Prelude.{◌≡◌, ◌<◌, ◌^◌, ℕ, List, length, map, IfSome};
+ghost use Rattle.cartridge_spec.specs.Shape.{usable_count, usable_places};
+ghost use Rattle.qic_base.specs.TapeCalls.{ReadsSectors, chosen};
+ghost use Rattle.qic_base.specs.declared.tape.SectorView.{SectorView};
+ghost use Rattle.segment_io.specs.Gathered.{Gathered};
+ghost use Rattle.segment_io.specs.Writes.{first_sectors};
+
+use qic_base::{LostSet, SECTOR, SECTORS, Sector};
+
+/// Moves the usable sectors to the front, in order of index. The answer is the places there of those that are not good.
+pub(crate) fn gather(sectors: &mut [Sector], usable: u32, good: LostSet) -> LostSet
+    requires room { length sectors.old ≡ 32 }
+    ensures gathered { (blank : ℕ) (view : ℕ → SectorView) (before : List (List ℕ)) →
+        ReadsSectors usable good blank view before sectors.old →
+        Gathered (map view (usable_places usable)) result sectors.new }
+    ensures within { result < 2 ^ usable_count usable }
+    ensures room { length sectors.new ≡ 32 }
+{
+    let mut lost: u32 = 0;
+    let mut place: u8 = 0;
+    for index in 0..SECTORS {
+        if LostSet::from_mask(usable).contains(index) {
+            sectors[place as usize] = sectors[index as usize];
+            if !good.contains(index) {
+                lost |= 1 << place;
+            }
+            place += 1;
+        }
+    }
+    LostSet::from_mask(lost)
+}
+
+/// The same sectors as an array, where each is usable, so that each stands at its index.
+pub(crate) fn at_indexes(sectors: &[Sector], usable: u32) -> Option<&[Sector; 32]>
+    requires room { length sectors.now ≡ 32 }
+    ensures { IfSome result (λ entries. chosen usable entries.now ≡ first_sectors usable sectors.now) }
+{
+    if usable != u32::MAX {
+        return None;
+    }
+    sectors.as_array()
+}
+
+/// The usable sectors, which stand at the front in order of index, each at its index. The others are of zero bytes.
+pub(crate) fn spread(sectors: &[Sector], usable: u32) -> [Sector; 32]
+    requires room { length sectors.now ≡ 32 }
+    ensures { chosen usable result ≡ first_sectors usable sectors.now }
+{
+    let mut spread = [[0; SECTOR]; 32];
+    let mut place: u8 = 0;
+    for index in 0..SECTORS {
+        if LostSet::from_mask(usable).contains(index) {
+            spread[index as usize] = sectors[place as usize];
+            place += 1;
+        }
+    }
+    spread
+}
