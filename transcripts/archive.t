@@ -63,26 +63,33 @@ What has to write fails as the tape's.
 
   $ reader cart.img protect on
   tape: the tape failed
+  tape: the image is opened for reading alone
   [18]
   $ reader cart.img lose 3 0
   tape: the tape failed
+  tape: the image is opened for reading alone
   [18]
   $ printf 'more' | reader cart.img append b
   tape: the tape failed
+  tape: the image is opened for reading alone
   [18]
   $ reader cart.img format evening
   tape: the tape failed
+  tape: the image is opened for reading alone
   [18]
   $ reader cart.img make 1 1
   tape: the tape failed
+  tape: the image is opened for reading alone
   [18]
   $ reader cart.img new 3
   tape: the tape failed
+  tape: the image is opened for reading alone
   [18]
   $ printf 'list\nlose 3 0\nlist\n' | reader cart.img script
   1 3 3 10 1994-03-01T12:00:00 a
   volumes 1
   tape: the tape failed
+  tape: the image is opened for reading alone
   [18]
   $ cmp cart.img open.img
 
@@ -93,6 +100,7 @@ So does an upgrade of an image of version 1.
   $ chmod a-w old.img
   $ reader old.img upgrade
   tape: the tape failed
+  tape: the image is opened for reading alone
   [18]
   $ tr -d '\0' < old.img | wc -c
   10
@@ -105,6 +113,7 @@ A table that is not settled has to be written, unless the cartridge is protected
   $ chmod a-w lost.img
   $ reader lost.img list
   tape: the tape failed
+  tape: the image is opened for reading alone
   [18]
   $ chmod u+w lost.img
   $ tape lost.img protect on
@@ -121,6 +130,7 @@ A table that is not settled has to be written, unless the cartridge is protected
   protected on
   $ reader lost.img protect off
   tape: the tape failed
+  tape: the image is opened for reading alone
   [18]
   $ cmp lost.img before.img
 
@@ -138,6 +148,7 @@ Two runs that read have it at once, and none that writes beside them.
   $ chmod u+w cart.img
   $ reader cart.img list
   tape: cannot open the image
+  tape: cart.img is locked by another run
   [20]
   $ echo end >&8
   $ wait $first
@@ -146,7 +157,8 @@ Two runs that read have it at once, and none that writes beside them.
   1 3 3 10 1994-03-01T12:00:00 a
   volumes 1
 
-A file that is empty, or no image, is no cartridge, and none is put in. One that may not even be read can't be opened.
+A file that is empty is no cartridge, and none is put in; one that holds something else is no image. One that may not even be read
+can't be opened.
 
   $ : > empty.img
   $ echo 'Dear Sir' > letter
@@ -157,14 +169,18 @@ A file that is empty, or no image, is no cartridge, and none is put in. One that
   > done
   tape: no cartridge
   tape: the tape failed
-  tape: no cartridge
-  tape: the tape failed
-  [18]
+  tape: the image is opened for reading alone
+  tape: cannot open the image
+  tape: letter holds something else
+  tape: cannot open the image
+  tape: letter holds something else
+  [20]
   $ cat empty.img letter
   Dear Sir
   $ chmod a-r letter
   $ reader letter list
   tape: cannot open the image
+  tape: letter can be neither opened nor made
   [20]
 
 Nor can a path where there is no file in a folder that may not be written. An image in it can be read.
@@ -174,6 +190,7 @@ Nor can a path where there is no file in a folder that may not be written. An im
   $ chmod a-w folder/cart.img folder
   $ reader folder/new.img new 3
   tape: cannot open the image
+  tape: folder/new.img can be neither opened nor made
   [20]
   $ reader folder/cart.img list
   1 3 3 10 1994-03-01T12:00:00 a

@@ -21,6 +21,7 @@ status 0 where all is sound.
   status 0
   $ tape cart.img check now; echo status $?
   usage: tape IMAGE COMMAND
+  tape: the command is check
   status 2
   $ echo 'a page of text' | tape cart.img append page
   appended 1 15 3 3

@@ -226,7 +226,7 @@ The input is not read.
 
 The seed is any number, and the count one from 1 to 200.
 
-  $ no() { line=$(tape cart.img "$@" 2>&1); [ "$? $line" = '2 usage: tape IMAGE COMMAND' ] || echo "a command: $* ($line)"; }
+  $ no() { line=$(tape cart.img "$@" 2>&1); [ "$? ${line%%$'\n'*}" = '2 usage: tape IMAGE COMMAND' ] || echo "a command: $* ($line)"; }
   $ no make
   $ no make 1
   $ no make 1 1 1

@@ -51,98 +51,126 @@ version is not read then.
   tape: the cartridge is not formatted
   [6]
 
-Any other file holds no cartridge, and each command but `new` leaves it as it is.
+An empty file holds no cartridge, and each command but `new` leaves it as it is. Any other file holds something else and is no image;
+each command leaves it as it is, `new`, too.
 
   $ looks() {
   >     for command in list info 'format L' 'lose 0 0' 'defect 0 0' 'protect on' 'protect off' upgrade; do
   >         tape cart.img $command 2>&1
   >         cmp cart.img before.img
-  >     done | uniq -c | sed 's/^ *//'
+  >     done | sort | uniq -c | sed 's/^ *//'
   > }
   $ file 0 ''
   $ looks
   8 tape: no cartridge
   $ file 13 'QIC80IMG\1\0\3\0'
   $ looks
-  8 tape: no cartridge
+  8 tape: cannot open the image
+  8 tape: cart.img holds something else
   $ file 14 'QIC80IMG\1\0\3\0'
   $ looks
-  8 tape: no cartridge
+  8 tape: cannot open the image
+  8 tape: cart.img holds something else
   $ file 2760639 'QIC80IMG\1\0\3\0'
   $ looks
-  8 tape: no cartridge
+  8 tape: cannot open the image
+  8 tape: cart.img holds something else
   $ file 2760640 'QIC80IMG\1\0\4\0'
   $ looks
-  8 tape: no cartridge
+  8 tape: cannot open the image
+  8 tape: cart.img holds something else
   $ file 2760640 'QIC80IMH\1\0\3\0'
   $ looks
-  8 tape: no cartridge
+  8 tape: cannot open the image
+  8 tape: cart.img holds something else
   $ file 2760640 'qIC80IMG\1\0\3\0'
   $ looks
-  8 tape: no cartridge
+  8 tape: cannot open the image
+  8 tape: cart.img holds something else
   $ file 2760640 'QIC80IMG\2\0\3\0'
   $ looks
-  8 tape: no cartridge
+  8 tape: cannot open the image
+  8 tape: cart.img holds something else
   $ file 2760640 'QIC80IMG\1\1\3\0'
   $ looks
-  8 tape: no cartridge
+  8 tape: cannot open the image
+  8 tape: cart.img holds something else
   $ file 2760640 'QIC80IMG\1\0\3\1'
   $ looks
-  8 tape: no cartridge
+  8 tape: cannot open the image
+  8 tape: cart.img holds something else
 
 So do an image with the mark that is too short for its base, and one with another base.
 
   $ file 24 'QIC80IMG\2\0\3\0\0\0\x5A\0\x40'
   $ looks
-  8 tape: no cartridge
+  8 tape: cannot open the image
+  8 tape: cart.img holds something else
   $ file 2760639 'QIC80IMG\2\0\3\0\0\0\x5A\0\x40'
   $ looks
-  8 tape: no cartridge
+  8 tape: cannot open the image
+  8 tape: cart.img holds something else
   $ file 5521215 'QIC80IMG\2\0\3\0\0\0\x5A\0\xC0\x1F\x2A'
   $ looks
-  8 tape: no cartridge
+  8 tape: cannot open the image
+  8 tape: cart.img holds something else
   $ file 5521216 'QIC80IMG\1\0\3\0\0\0\x5A'
   $ looks
-  8 tape: no cartridge
+  8 tape: cannot open the image
+  8 tape: cart.img holds something else
   $ file 5521216 'QIC80IMG\2\0\3\0\0\0\x5A\0\x3F'
   $ looks
-  8 tape: no cartridge
+  8 tape: cannot open the image
+  8 tape: cart.img holds something else
   $ file 5521216 'QIC80IMG\2\0\3\0\0\0\x5A\0\x41'
   $ looks
-  8 tape: no cartridge
+  8 tape: cannot open the image
+  8 tape: cart.img holds something else
   $ file 5521216 'QIC80IMG\2\0\3\0\0\0\x5A\0\xC0\x1F\x2A\0\0\0\0\1'
   $ looks
-  8 tape: no cartridge
+  8 tape: cannot open the image
+  8 tape: cart.img holds something else
   $ file 2760640 'QIC80IMG\2\0\3\0\0\0\x5B\0\x40'
   $ looks
-  8 tape: no cartridge
+  8 tape: cannot open the image
+  8 tape: cart.img holds something else
 
 An image of two segments per track would have 1,840,448 bytes, and is none.
 
   $ file 1840448 'QIC80IMG\1\0\2\0'
   $ looks
-  8 tape: no cartridge
+  8 tape: cannot open the image
+  8 tape: cart.img holds something else
   $ file 1840448 'QIC80IMG\2\0\2\0\0\0\x5A\0\x40'
   $ looks
-  8 tape: no cartridge
+  8 tape: cannot open the image
+  8 tape: cart.img holds something else
 
-Nor is a letter an image. It is left as it was, by `pulses` too, which sends its trains to an empty drive, and by words
-that are no command.
+Nor is a letter an image. It stays as it was, whatever the command, and so it does by words that are no command.
 
   $ echo 'Dear Sir, the cartridges that you sent ..' > letter
   $ cp letter before
   $ tape letter list
-  tape: no cartridge
-  [4]
+  tape: cannot open the image
+  tape: letter holds something else
+  [20]
   $ printf '6\n' | tape letter pulses
-  1
+  tape: cannot open the image
+  tape: letter holds something else
+  [20]
+  $ tape letter new 3
+  tape: cannot open the image
+  tape: letter holds something else
+  [20]
   $ tape letter list now
   usage: tape IMAGE COMMAND
+  tape: the command is list
   [2]
   $ cmp letter before
 
-`new` makes an image of it, whatever it was.
+`new` makes an image of an empty file, and one of any length of an image.
 
+  $ : > letter
   $ tape letter new 3
   blank 3
   $ wc -c < letter
@@ -237,9 +265,11 @@ A file is made only where its folder is.
 
   $ tape no/such/folder.img list
   tape: cannot open the image
+  tape: no/such/folder.img can be neither opened nor made
   [20]
   $ tape . list
   tape: cannot open the image
+  tape: . is no regular file
   [20]
   $ ls no
   ls: cannot access 'no': No such file or directory

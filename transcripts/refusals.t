@@ -3,15 +3,16 @@ Refusals and their statuses
 
   $ . "$TESTDIR/image.sh"
 
-A command that is refused prints one line on standard error, and ends with a status that tells why. Standard output gets
-nothing.
+A command that is refused prints one line on standard error, and ends with a status that tells why; behind some statuses a second
+line says more. Standard output gets nothing.
 
-  $ told() { tape "$@" 2> line; status=$?; [ $(wc -l < line) = 1 ] && echo "$status $(cat line)"; }
+  $ told() { tape "$@" 2> line; status=$?; sed "1s/^/$status /" line; }
 
 Words that are no command end with 2, and a line of `pulses` or of `script` that is none with 3.
 
   $ told cart.img rewind
   2 usage: tape IMAGE COMMAND
+  tape: no command 'rewind'; tape --help tells them
   $ echo fast | told cart.img pulses
   3 tape: input fault in line 1 at byte 0
 
@@ -189,3 +190,4 @@ A path that can be neither opened nor made is no image.
 
   $ told no/such/folder.img list
   20 tape: cannot open the image
+  tape: no/such/folder.img can be neither opened nor made

@@ -17,6 +17,7 @@ On a cartridge of 3 segments per track 81 of the 84 segments are for volumes, an
   room 2405376
   $ tape cart.img room now; echo status $?
   usage: tape IMAGE COMMAND
+  tape: the command is room
   status 2
 
 A volume takes whole segments. What is left is the number that a refused append names, and an append of so many bytes is none

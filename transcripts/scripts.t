@@ -424,9 +424,11 @@ tool, too, and with a table that agrees with no code block or has lost too much.
   list
   $ lines tape cart.img script now
   usage: tape IMAGE COMMAND
+  tape: the command is script
   list
   $ lines tape cart.img Script
   usage: tape IMAGE COMMAND
+  tape: no command 'Script'; tape --help tells them
   list
 
 An input that can't be read ends it, and so does an output that is full. There the line is done whose reply could not be

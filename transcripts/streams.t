@@ -70,10 +70,12 @@ Words of no command.
 
   $ tape cart.img rewind 1 <&-
   usage: tape IMAGE COMMAND
+  tape: no command 'rewind'; tape --help tells them
   [2]
   $ cmp cart.img kept.img
   $ tape cart.img rewind 1 >&-
   usage: tape IMAGE COMMAND
+  tape: no command 'rewind'; tape --help tells them
   [2]
   $ cmp cart.img kept.img
   $ tape cart.img rewind 1 2>&-
@@ -148,24 +150,30 @@ nothing written.
   $ mkdir folder
   $ tape folder list
   tape: cannot open the image
+  tape: folder is no regular file
   [20]
   $ tape folder/ list
   tape: cannot open the image
+  tape: folder/ is no regular file
   [20]
   $ tape /dev/null list
   tape: cannot open the image
+  tape: /dev/null is no regular file
   [20]
   $ tape /dev/zero new 3
   tape: cannot open the image
+  tape: /dev/zero is no regular file
   [20]
   $ mkfifo pipe
   $ exec 9<>pipe
   $ echo first >&9
   $ tape pipe list
   tape: cannot open the image
+  tape: pipe is no regular file
   [20]
   $ tape pipe new 3
   tape: cannot open the image
+  tape: pipe is no regular file
   [20]
   $ echo second >&9
   $ head -n 2 <&9
@@ -175,10 +183,12 @@ nothing written.
   $ ln -s folder folder.link
   $ tape folder.link list
   tape: cannot open the image
+  tape: folder.link is no regular file
   [20]
   $ ln -s pipe pipe.link
   $ tape pipe.link list
   tape: cannot open the image
+  tape: pipe.link is no regular file
   [20]
   $ ls folder
 
@@ -187,20 +197,25 @@ one, and a link to itself.
 
   $ tape none/cart.img new 3
   tape: cannot open the image
+  tape: none/cart.img can be neither opened nor made
   [20]
   $ tape cart.img/cart.img new 3
   tape: cannot open the image
+  tape: cart.img/cart.img can be neither opened nor made
   [20]
   $ cmp cart.img kept.img
   $ tape $(printf 'a%.0s' $(seq 300)) new 3
   tape: cannot open the image
+  tape: the file can be neither opened nor made
   [20]
   $ tape '' new 3
   tape: cannot open the image
+  tape: the file can be neither opened nor made
   [20]
   $ ln -s loop loop
   $ tape loop new 3
   tape: cannot open the image
+  tape: loop can be neither opened nor made
   [20]
   $ tape none/cart.img list 2>&-
   [20]
@@ -231,9 +246,11 @@ printed a level.
   1
   $ tape cart.img list
   tape: cannot open the image
+  tape: cart.img is locked by another run
   [20]
   $ tape cart.link new 3
   tape: cannot open the image
+  tape: cart.link is locked by another run
   [20]
   $ cmp cart.img kept.img
   $ echo end >&8
@@ -249,16 +266,21 @@ none.
 
   $ tape cart.img list >> cart.img
   tape: cannot open the image
+  tape: cart.img is a standard stream of this run
   [20]
   $ cmp cart.img kept.img
-  $ tape cart.link rewind 2>> cart.img
+  $ tape cart.link list 2>> cart.img
   [20]
+  $ tape cart.link rewind 2>> cart.img
+  [2]
   $ cmp cart.img kept.img
   $ tape cart.img pulses < cart.img
   tape: cannot open the image
+  tape: cart.img is a standard stream of this run
   [20]
   $ tape cart.img protect on 1<> cart.img
   tape: cannot open the image
+  tape: cart.img is a standard stream of this run
   [20]
   $ cmp cart.img kept.img
 

@@ -38,7 +38,7 @@ It is still empty. A new cartridge gets two lengths, each of which is synced who
   fsync cart.img 0
   $ syncs cart.img rewind
   usage: tape IMAGE COMMAND
-  fsync cart.img 0
+  tape: no command 'rewind'; tape --help tells them
   [2]
 
 The length stays as it is when a mark is set, so that asks for the data alone; and where the mark stands nothing is written.
@@ -119,12 +119,15 @@ An image whose sync fails is not opened, and nothing of it is written.
 
   $ faulty fsync:error=EIO cart.img protect on
   tape: cannot open the image
+  tape: cart.img or its folder can't be put on the disk
   [20]
   $ faulty fsync:error=ENOSPC cart.img list
   tape: cannot open the image
+  tape: cart.img or its folder can't be put on the disk
   [20]
   $ faulty fsync:error=EINVAL cart.img list
   tape: cannot open the image
+  tape: cart.img or its folder can't be put on the disk
   [20]
   $ cmp cart.img before.img
 
@@ -138,6 +141,8 @@ Nor is an empty one whose folder can't be synced, or can't be opened for that.
   > done 2>&1 | sort | uniq -c | sed 's/^ *//'
   4 0
   4 tape: cannot open the image
+  1 tape: cart.img can be neither opened nor made
+  3 tape: cart.img or its folder can't be put on the disk
   $ faulty readlink:error=ENOMEM cart.img new 3
   tape: no memory
   [19]
@@ -168,8 +173,10 @@ An image that can't be locked is not opened, but where the system knows no locks
 
   $ for error in EIO EBADF EINVAL ENOMEM EAGAIN; do
   >     faulty flock:error=$error cart.img protect on
-  > done 2>&1 | uniq -c | sed 's/^ *//'
+  > done 2>&1 | sort | uniq -c | sed 's/^ *//'
   5 tape: cannot open the image
+  4 tape: cart.img can't be locked
+  1 tape: cart.img is locked by another run
   $ cmp cart.img before.img
   $ for error in EOPNOTSUPP ENOSYS ENOLCK; do
   >     faulty flock:error=$error cart.img info
@@ -180,6 +187,7 @@ One of which the system tells neither kind nor length is none.
 
   $ faulty statx:error=EIO:when=2 cart.img info
   tape: cannot open the image
+  tape: cart.img can be neither opened nor made
   [20]
 
 Nor is one whose name tells nothing, or another file, once it is locked; and a file that is there by the time that a new one
@@ -187,12 +195,15 @@ is made is not taken for that.
 
   $ faulty statx:error=EIO:when=3 cart.img info
   tape: cannot open the image
+  tape: cart.img names another file by now, or none
   [20]
   $ faulty statx:error=ENOENT:when=3 cart.img info
   tape: cannot open the image
+  tape: cart.img names another file by now, or none
   [20]
   $ faulty openat:error=ENOENT:when=1 cart.img info
   tape: cannot open the image
+  tape: cart.img can be neither opened nor made
   [20]
   $ cmp cart.img before.img
 
@@ -202,11 +213,13 @@ A pipe is not opened, since its name tells its kind; and where the name told not
   $ mkfifo cart.img
   $ faulty statx:error=EIO:when=9 cart.img list
   tape: cannot open the image
+  tape: cart.img is no regular file
   [20]
   $ sed 's/(.*//' ../calls
   statx
   $ faulty statx:error=EIO:when=1 cart.img list
   tape: cannot open the image
+  tape: cart.img is no regular file
   [20]
   $ sed 's/(.*//' ../calls
   statx
@@ -237,9 +250,11 @@ nothing to put on the disk then; another failure is one here, too.
   [6]
   $ read_only cart.img protect on
   tape: the tape failed
+  tape: the image is opened for reading alone
   [18]
   $ read_only cart.img new 3
   tape: the tape failed
+  tape: the image is opened for reading alone
   [18]
   $ cmp cart.img before.img
   $ faulty 'openat:error=EROFS:when=1 fsync:error=EINVAL' cart.img info
@@ -247,17 +262,21 @@ nothing to put on the disk then; another failure is one here, too.
   [6]
   $ faulty 'openat:error=EROFS:when=1 fsync:error=EIO' cart.img info
   tape: cannot open the image
+  tape: cart.img or its folder can't be put on the disk
   [20]
   $ faulty openat:error=EROFS cart.img info
   tape: cannot open the image
+  tape: cart.img can be neither opened nor made
   [20]
   $ rm cart.img
   $ faulty openat:error=EROFS:when=1 cart.img new 3
   tape: cannot open the image
+  tape: cart.img can be neither opened nor made
   [20]
   $ : > cart.img
   $ faulty 'openat:error=EROFS:when=1 fsync:error=EINVAL' cart.img new 3
   tape: the tape failed
+  tape: the image is opened for reading alone
   [18]
 
 An upgrade

@@ -177,15 +177,18 @@ What is refused, and what fails
   $ echo 'Dear Sir, the cartridges that you sent ..' > letter
   $ cp letter before
   $ tape letter upgrade
-  tape: no cartridge
-  [4]
+  tape: cannot open the image
+  tape: letter holds something else
+  [20]
   $ cmp letter before
   $ cp old.img cart.img
   $ tape cart.img upgrade 2
   usage: tape IMAGE COMMAND
+  tape: the command is upgrade
   [2]
   $ tape cart.img upgrades
   usage: tape IMAGE COMMAND
+  tape: no command 'upgrades'; tape --help tells them
   [2]
   $ cmp old.img cart.img
 

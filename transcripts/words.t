@@ -1,8 +1,8 @@
 Words that are no command
 =========================
 
-A command is a list of words, and there are no options. Any other list is answered with one line on standard error and
-the status 2, and nothing else happens: neither the cartridge nor the input is touched.
+A command is a list of words, and there are no options. Any other list is answered with a line on standard error and one that says
+why, and the status 2. Nothing else happens: neither the cartridge nor the input is touched.
 
   $ tape cart.img new 3
   blank 3
@@ -11,35 +11,44 @@ the status 2, and nothing else happens: neither the cartridge nor the input is t
   $ cp cart.img before.img
   $ tape
   usage: tape IMAGE COMMAND
+  tape: a command is missing; tape --help tells them
   [2]
   $ tape cart.img
   usage: tape IMAGE COMMAND
+  tape: a command is missing; tape --help tells them
   [2]
   $ tape cart.img list now
   usage: tape IMAGE COMMAND
+  tape: the command is list
   [2]
   $ { tape cart.img pulses now; cat; } << INPUT
   > 6
   > INPUT
   usage: tape IMAGE COMMAND
+  tape: the command is pulses
   6
   $ echo 'a volume' | (tape cart.img append; cat)
   usage: tape IMAGE COMMAND
+  tape: the command is append NAME [DATE]
   a volume
 
 A word that is no UTF-8 text is no word of a command, and no path of an image either: no file is created.
 
   $ tape cart.img $'\xFF'
   usage: tape IMAGE COMMAND
+  tape: a word is no UTF-8 text
   [2]
   $ tape cart.img append $'a\xC3' < before.img
   usage: tape IMAGE COMMAND
+  tape: a word is no UTF-8 text
   [2]
   $ tape $'new\xFF.img' new 3
   usage: tape IMAGE COMMAND
+  tape: a word is no UTF-8 text
   [2]
   $ tape new.img new $'3\xFF'
   usage: tape IMAGE COMMAND
+  tape: a word is no UTF-8 text
   [2]
   $ tape cart.img $'\xFF' 2>&-
   [2]
@@ -50,7 +59,7 @@ A word that is no UTF-8 text is no word of a command, and no path of an image ei
 
 In what follows such words are told by `no`, which prints them if they should be a command after all.
 
-  $ no() { line=$(tape cart.img "$@" 2>&1); [ "$? $line" = '2 usage: tape IMAGE COMMAND' ] || echo "a command: $* ($line)"; }
+  $ no() { line=$(tape cart.img "$@" 2>&1); [ "$? ${line%%$'\n'*}" = '2 usage: tape IMAGE COMMAND' ] || echo "a command: $* ($line)"; }
 
 Words count as they stand: case counts, nothing is trimmed, and an empty word is a word.
 
