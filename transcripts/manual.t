@@ -85,8 +85,13 @@ A small evening: five segments and nine, beside the three in front.
   volume 1 139000 17375985
   volume 2 240000 29998218
 
-A look that writes nothing but the mark.
+A look that writes nothing, and one that writes nothing but the mark.
 
+  $ tape evening.img check; echo $?
+  lost 4 4
+  check 6 0 1
+  tape: 0 segments can be mended, 1 not
+  21
   $ tape evening.img protect on
   protected on
   $ tape evening.img info
@@ -154,6 +159,11 @@ The dump and the map of before stand for those of a medium.
   $ mv page.map tape.map
   $ tape_import --map tape.map tape.img < tape.dump
   imported 84 3
+  $ tape tape.img check; echo $?
+  weak 3 3
+  check 4 1 0
+  tape: 1 segments can be mended, 0 not
+  21
   $ tape tape.img list
   1 3 3 15 1970-01-01T00:00:00 page
   volumes 1

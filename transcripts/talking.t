@@ -8,13 +8,13 @@ more before it replied would wait for ever; here it would be met by a reply that
   blank 3
   $ tape cart.img format L
   formatted 84 0
-  $ say() { printf "$@" >&${RUN[1]}; }
-  $ hear() { local line; for _ in $(seq $1); do read -r -t 60 -u ${RUN[0]} line || return; echo "$line"; done; }
+  $ say() { printf "$@" >&4; }
+  $ hear() { local line; for _ in $(seq $1); do read -r -t 60 -u 3 line || return; echo "$line"; done; }
 
 Each train is answered before the next one is sent.
 
   $ coproc RUN { tape cart.img pulses; }
-  $ pid=$RUN_PID
+  $ pid=$RUN_PID; exec 3<&${RUN[0]} 4>&${RUN[1]}
   $ for train in 6 2 2; do say "$train\n"; hear 1; done
   1
   1
@@ -25,7 +25,7 @@ Each train is answered before the next one is sent.
 Each line of a script is replied to before the next one is sent, an append once its last byte was.
 
   $ coproc RUN { tape cart.img script; }
-  $ pid=$RUN_PID
+  $ pid=$RUN_PID; exec 3<&${RUN[0]} 4>&${RUN[1]}
   $ say 'list\n'; hear 1
   volumes 0
   $ say 'append a 3\nab'; say 'c'; hear 1
