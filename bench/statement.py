@@ -5,7 +5,7 @@
     bench/statement.py --of tape_cmd:run        that of other functions, or one definition (Promises, tape_cmd:Promises)
     bench/statement.py --list                   each definition with its place
     bench/statement.py --why with_view          a shortest chain from the statement to a definition
-    bench/statement.py --check --besides qic117_commands,drive_spec --crates 4 --files 45 --lines 4400
+    bench/statement.py --check --besides qic117_commands,drive_spec --crates 4 --files 45 --lines 4430
 
 It begins with the names that the clauses of the functions cite, and follows each through the specs of the crates: a name
 that a file defines or imports. Names of the kit's own libraries are not followed. Types of Rust that a definition or a

@@ -148,7 +148,7 @@ Two runs that read have it at once, and none that writes beside them.
   $ chmod u+w cart.img
   $ reader cart.img list
   tape: cannot open the image
-  tape: cart.img is locked by another run
+  tape: cart.img is locked by a run that uses it
   [20]
   $ echo end >&8
   $ wait $first
@@ -180,7 +180,7 @@ can't be opened.
   $ chmod a-r letter
   $ reader letter list
   tape: cannot open the image
-  tape: letter can be neither opened nor made
+  tape: letter can't be opened: Permission denied
   [20]
 
 Nor can a path where there is no file in a folder that may not be written. An image in it can be read.
@@ -190,7 +190,7 @@ Nor can a path where there is no file in a folder that may not be written. An im
   $ chmod a-w folder/cart.img folder
   $ reader folder/new.img new 3
   tape: cannot open the image
-  tape: folder/new.img can be neither opened nor made
+  tape: folder/new.img can't be made: Permission denied
   [20]
   $ reader folder/cart.img list
   1 3 3 10 1994-03-01T12:00:00 a

@@ -58,7 +58,7 @@ The label of the second cartridge, and its map, are its own.
 Refusals
 --------
 
-A status tells how a copy ended, and nothing is printed of it but that a cartridge is absent.
+A status tells how a copy ended, and nothing is printed of it but that a cartridge is absent, or why an image can't be opened.
 
   $ tape_dup
   [2]
@@ -79,8 +79,13 @@ A status tells how a copy ended, and nothing is printed of it but that a cartrid
 A file is locked once, so it is no copy of itself; a device is no image.
 
   $ tape_dup from.img from.img
+  tape_dup: from.img is locked by a run that uses it
   [20]
   $ tape_dup from.img /dev/null
+  tape_dup: /dev/null is no regular file
+  [20]
+  $ tape_dup from.img none/to.img
+  tape_dup: none/to.img can't be made: No such file or directory
   [20]
 
 A cartridge that is not formatted is refused, the first one before the second.
@@ -88,6 +93,7 @@ A cartridge that is not formatted is refused, the first one before the second.
   $ tape blank.img new 3
   blank 3
   $ tape_dup blank.img blank.img
+  tape_dup: blank.img is locked by a run that uses it
   [20]
   $ cp blank.img other.img
   $ tape_dup blank.img other.img

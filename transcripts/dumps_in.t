@@ -201,28 +201,35 @@ A map is not created, and is no device, no standard stream, and not the image, w
 
   $ tape_import --map missing.map none.img < page.dump
   tape_import: cannot open the map
+  tape_import: missing.map can't be opened: No such file or directory
   [20]
   $ test -e missing.map
   [1]
   $ tape_import --map /dev/null none.img < page.dump
   tape_import: cannot open the map
+  tape_import: /dev/null is no regular file
   [20]
   $ tape_import --map page.map none.img < page.map
   tape_import: cannot open the map
+  tape_import: page.map is a standard stream of this run
   [20]
   $ cp page.map both
   $ tape_import --map both both < page.dump
   tape_import: cannot open the map
+  tape_import: both is locked by a run that uses it
   [20]
   $ cmp both page.map
   $ tape_import --map none.img none.img < page.dump
   tape_import: cannot open the map
+  tape_import: none.img is locked by a run that uses it
   [20]
   $ tape_import page.dump < page.dump
   tape_import: cannot open the image
+  tape_import: page.dump is a standard stream of this run
   [20]
   $ tape_import /dev/null < page.dump
   tape_import: cannot open the image
+  tape_import: /dev/null is no regular file
   [20]
   $ tape_import none.img < page.dump 2> none.img
   [20]
@@ -239,6 +246,10 @@ An input that fails, and an output: what can't be told is taken back.
   [17]
   $ wc -c < none.img
   0
+  $ (trap '' XFSZ; ulimit -f 1000; exec tape_import full.img < page.dump)
+  tape_import: the image failed
+  tape_import: File too large
+  [18]
   $ tape_import none.img <&-
   tape_import: 0 bytes are no cartridge
   [4]

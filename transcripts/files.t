@@ -265,7 +265,7 @@ A file is made only where its folder is.
 
   $ tape no/such/folder.img list
   tape: cannot open the image
-  tape: no/such/folder.img can be neither opened nor made
+  tape: no/such/folder.img can't be made: No such file or directory
   [20]
   $ tape . list
   tape: cannot open the image

@@ -62,7 +62,7 @@ A link is followed to what it names, from its own folder on, and so is one that 
   $ ln -s nowhere/cart.img broken.link
   $ tape broken.link new 3
   tape: cannot open the image
-  tape: broken.link can be neither opened nor made
+  tape: broken.link can't be made: No such file or directory
   [20]
 
 An image of another user, in a folder where all may make files and each may take away only its own: who may write it does so.

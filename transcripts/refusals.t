@@ -190,4 +190,4 @@ A path that can be neither opened nor made is no image.
 
   $ told no/such/folder.img list
   20 tape: cannot open the image
-  tape: no/such/folder.img can be neither opened nor made
+  tape: no/such/folder.img can't be made: No such file or directory

@@ -1,29 +1,34 @@
 A session
 =========
 
-A cartridge is made and formatted, and gets a volume.
+That of the README. A cartridge is made and formatted, and a folder goes onto it as a volume.
 
-  $ tape cart.img new 3
+  $ mkdir notes back
+  $ echo 'a page of text' > notes/page
+  $ seq 10000 > notes/numbers
+  $ tape cart.img new 3; tape cart.img format evening
   blank 3
-  $ tape cart.img format evening
   formatted 84 0
-  $ echo 'a page of text' | tape cart.img append page
-  appended 1 15 3 3
+  $ tar -c -C notes page numbers | tape cart.img append notes
+  appended 1 61440 3 5
 
-Three lost sectors of a segment are found again by its parity, and a scrub writes them again.
+Three lost sectors of a segment are found again by its parity, and a scrub writes them again: the two header copies, the table and
+the volume's three segments are looked at.
 
   $ for sector in 0 1 2; do tape cart.img lose 3 $sector; done > lost
-  $ tape cart.img restore 1
-  a page of text
+  $ tape cart.img restore 1 | tar -x -C back
+  $ diff -r notes back
   $ tape cart.img scrub
-  scrub 4 3 0
+  scrub 6 3 0
 
-A fourth is one too many, and that is told.
+A fourth is one too many, and that is told. What stands in front of it came out.
 
-  $ for sector in 0 1 2 3; do tape cart.img lose 3 $sector; done > lost
-  $ tape cart.img restore 1; echo status $?
-  tape: segment 3 lost 4 sectors
+  $ for sector in 0 1 2 3; do tape cart.img lose 4 $sector; done > lost
+  $ tape cart.img restore 1 > notes.tar; echo status $?
+  tape: segment 4 lost 4 sectors
   status 11
+  $ stat -c %s notes.tar
+  29696
 
 The recording of a seek to track 3 and of a broken-off report, by the second program:
 

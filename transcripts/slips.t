@@ -114,8 +114,10 @@ So it is for a copy.
   $ tape cart.img new 3
   blank 3
   $ tape_dup thesis.tar cart.img
+  tape_dup: thesis.tar holds something else
   [20]
   $ tape_dup cart.img thesis.tar
+  tape_dup: thesis.tar holds something else
   [20]
   $ cmp thesis.tar kept.tar
 

@@ -197,25 +197,25 @@ one, and a link to itself.
 
   $ tape none/cart.img new 3
   tape: cannot open the image
-  tape: none/cart.img can be neither opened nor made
+  tape: none/cart.img can't be made: No such file or directory
   [20]
   $ tape cart.img/cart.img new 3
   tape: cannot open the image
-  tape: cart.img/cart.img can be neither opened nor made
+  tape: cart.img/cart.img can't be opened: Not a directory
   [20]
   $ cmp cart.img kept.img
   $ tape $(printf 'a%.0s' $(seq 300)) new 3
   tape: cannot open the image
-  tape: the file can be neither opened nor made
+  tape: the file can't be opened: File name too long
   [20]
   $ tape '' new 3
   tape: cannot open the image
-  tape: the file can be neither opened nor made
+  tape: the file can't be made: No such file or directory
   [20]
   $ ln -s loop loop
   $ tape loop new 3
   tape: cannot open the image
-  tape: loop can be neither opened nor made
+  tape: loop can't be opened: Too many levels of symbolic links
   [20]
   $ tape none/cart.img list 2>&-
   [20]
@@ -246,11 +246,11 @@ printed a level.
   1
   $ tape cart.img list
   tape: cannot open the image
-  tape: cart.img is locked by another run
+  tape: cart.img is locked by a run that uses it
   [20]
   $ tape cart.link new 3
   tape: cannot open the image
-  tape: cart.link is locked by another run
+  tape: cart.link is locked by a run that uses it
   [20]
   $ cmp cart.img kept.img
   $ echo end >&8
@@ -288,6 +288,7 @@ A file that can grow no further, as on a full disk: the tape fails, and the cart
 
   $ (trap '' XFSZ; ulimit -f 1000; exec tape full.img new 3)
   tape: the tape failed
+  tape: File too large
   [18]
   $ tape full.img list
   tape: no cartridge

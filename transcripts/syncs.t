@@ -119,15 +119,15 @@ An image whose sync fails is not opened, and nothing of it is written.
 
   $ faulty fsync:error=EIO cart.img protect on
   tape: cannot open the image
-  tape: cart.img or its folder can't be put on the disk
+  tape: cart.img or its folder can't be put on the disk: Input/output error
   [20]
   $ faulty fsync:error=ENOSPC cart.img list
   tape: cannot open the image
-  tape: cart.img or its folder can't be put on the disk
+  tape: cart.img or its folder can't be put on the disk: No space left on device
   [20]
   $ faulty fsync:error=EINVAL cart.img list
   tape: cannot open the image
-  tape: cart.img or its folder can't be put on the disk
+  tape: cart.img or its folder can't be put on the disk: Invalid argument
   [20]
   $ cmp cart.img before.img
 
@@ -141,8 +141,10 @@ Nor is an empty one whose folder can't be synced, or can't be opened for that.
   > done 2>&1 | sort | uniq -c | sed 's/^ *//'
   4 0
   4 tape: cannot open the image
-  1 tape: cart.img can be neither opened nor made
-  3 tape: cart.img or its folder can't be put on the disk
+  1 tape: cart.img can't be opened: Input/output error
+  1 tape: cart.img or its folder can't be put on the disk: Input/output error
+  1 tape: cart.img or its folder can't be put on the disk: Invalid argument
+  1 tape: cart.img or its folder can't be put on the disk: Permission denied
   $ faulty readlink:error=ENOMEM cart.img new 3
   tape: no memory
   [19]
@@ -161,9 +163,11 @@ A sync behind that is a call of the tape. What was written can still be read; th
 
   $ faulty fdatasync:error=EIO cart.img protect on
   tape: the tape failed
+  tape: Input/output error
   [18]
   $ faulty fsync:error=EIO:when=2 cart.img new 3
   tape: the tape failed
+  tape: Input/output error
   [18]
   $ tape cart.img new 3
   blank 3
@@ -175,8 +179,11 @@ An image that can't be locked is not opened, but where the system knows no locks
   >     faulty flock:error=$error cart.img protect on
   > done 2>&1 | sort | uniq -c | sed 's/^ *//'
   5 tape: cannot open the image
-  4 tape: cart.img can't be locked
-  1 tape: cart.img is locked by another run
+  1 tape: cart.img can't be locked: Bad file descriptor
+  1 tape: cart.img can't be locked: Cannot allocate memory
+  1 tape: cart.img can't be locked: Input/output error
+  1 tape: cart.img can't be locked: Invalid argument
+  1 tape: cart.img is locked by a run that uses it
   $ cmp cart.img before.img
   $ for error in EOPNOTSUPP ENOSYS ENOLCK; do
   >     faulty flock:error=$error cart.img info
@@ -187,7 +194,7 @@ One of which the system tells neither kind nor length is none.
 
   $ faulty statx:error=EIO:when=2 cart.img info
   tape: cannot open the image
-  tape: cart.img can be neither opened nor made
+  tape: cart.img can't be opened: Input/output error
   [20]
 
 Nor is one whose name tells nothing, or another file, once it is locked; and a file that is there by the time that a new one
@@ -203,7 +210,7 @@ is made is not taken for that.
   [20]
   $ faulty openat:error=ENOENT:when=1 cart.img info
   tape: cannot open the image
-  tape: cart.img can be neither opened nor made
+  tape: cart.img can't be made: File exists
   [20]
   $ cmp cart.img before.img
 
@@ -257,21 +264,32 @@ nothing to put on the disk then; another failure is one here, too.
   tape: the image is opened for reading alone
   [18]
   $ cmp cart.img before.img
+
+A read that fails there is told as one; an error that has no name here by its number.
+
+  $ faulty 'openat:error=EROFS:when=1 pread64:error=EIO' cart.img info
+  tape: the tape failed
+  tape: Input/output error
+  [18]
+  $ faulty 'openat:error=EROFS:when=1 pread64:error=EPROTO' cart.img info
+  tape: the tape failed
+  tape: error 71 of the system
+  [18]
   $ faulty 'openat:error=EROFS:when=1 fsync:error=EINVAL' cart.img info
   tape: the cartridge is not formatted
   [6]
   $ faulty 'openat:error=EROFS:when=1 fsync:error=EIO' cart.img info
   tape: cannot open the image
-  tape: cart.img or its folder can't be put on the disk
+  tape: cart.img or its folder can't be put on the disk: Input/output error
   [20]
   $ faulty openat:error=EROFS cart.img info
   tape: cannot open the image
-  tape: cart.img can be neither opened nor made
+  tape: cart.img can't be opened: Read-only file system
   [20]
   $ rm cart.img
   $ faulty openat:error=EROFS:when=1 cart.img new 3
   tape: cannot open the image
-  tape: cart.img can be neither opened nor made
+  tape: cart.img can't be opened: No such file or directory
   [20]
   $ : > cart.img
   $ faulty 'openat:error=EROFS:when=1 fsync:error=EINVAL' cart.img new 3
@@ -319,6 +337,8 @@ So it is where a call fails.
   >     cmp cart.img new.img
   > done 2>&1 | sort | uniq -c | sed 's/^ *//'
   12 1 3 3 10 1970-01-01T00:00:00 a
+  4 tape: Input/output error
+  2 tape: No space left on device
   6 tape: the tape failed
   12 volumes 1
 

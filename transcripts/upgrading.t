@@ -196,6 +196,7 @@ Where there is no room for the copy the tape fails, and the image is of version 
 
   $ (trap '' XFSZ; ulimit -f 3000; exec tape cart.img upgrade)
   tape: the tape failed
+  tape: File too large
   [18]
   $ version
   1

@@ -171,17 +171,17 @@ impl<D: Disk> ImageTape<D> {
         layout: Layout,
         segment: u32,
         wanted: LostSet,
-        into: &mut [Sector],
+        into: &mut [Sector; 32],
     ) -> Result<SectorsRead, DiskFailed>
         requires place { IsPlaceOf image_means self.old segment 0 }
         requires layout { layout_at self.old ≡ Some layout }
         requires planes { touches layout.kind ≡ true }
-        requires count { length into.old ≡ 32 }
         ensures looked { Looked D.means (disk_of self.old) (disk_of self.new) result }
         ensures reads { IfOk result (λ read. IfSome (D.means.told (disk_of self.old)) (λ bytes.
             ReadsSectors wanted read.good read.blank
             (λ i. view_in layout bytes (place_of segment i)) into.old into.new)) }
         ensures kept { IfOk result (λ read. KeepsOthers read.good into.old into.new) }
+        ensures unchanged { OnErr result (into.new ≡ into.old) }
         ensures layout { layout_at self.new ≡ layout_at self.old }
         ensures faults { faults_of self.new ≡ faults_of self.old }
     {
@@ -208,16 +208,16 @@ impl<D: Disk> ImageTape<D> {
         layout: Layout,
         segment: u32,
         wanted: LostSet,
-        into: &mut [Sector],
+        into: &mut [Sector; 32],
     ) -> Result<SectorsRead, DiskFailed>
         requires place { IsPlaceOf image_means self.old segment 0 }
         requires layout { layout_at self.old ≡ Some layout }
-        requires count { length into.old ≡ 32 }
         ensures looked { Looked D.means (disk_of self.old) (disk_of self.new) result }
         ensures reads { IfOk result (λ read. IfSome (D.means.told (disk_of self.old)) (λ bytes.
             ReadsSectors wanted read.good read.blank
             (λ i. view_in layout bytes (place_of segment i)) into.old into.new)) }
         ensures kept { IfOk result (λ read. KeepsOthers read.good into.old into.new) }
+        ensures unchanged { OnErr result (into.new ≡ into.old) }
         ensures layout { layout_at self.new ≡ layout_at self.old }
         ensures faults { faults_of self.new ≡ faults_of self.old }
     {
@@ -289,12 +289,8 @@ impl<D: Disk> Tape for ImageTape<D> {
             ≡ D.means.failed_changes (disk_of self.old)) }
     {
         let layout = self.layout();
-        let mut found = *into;
-        match self.read_wanted(layout, segment, wanted, &mut found) {
-            Ok(read) => {
-                *into = found;
-                Ok(read)
-            }
+        match self.read_wanted(layout, segment, wanted, into) {
+            Ok(read) => Ok(read),
             Err(DiskFailed) => {
                 self.faults = self.faults.saturating_add(1);
                 Err(TapeFailed)

@@ -1,5 +1,5 @@
 //! What an image file holds of the sectors of a segment that are asked for.
-ghost use Rattle.std.specs.Prelude.{◌≡◌, ◌≢◌, ℕ, ◌+◌, ◌*◌, ◌<◌, ◌≤◌, ◌&&◌, if◌then◌else◌, [], length, slice_index_or, slice_range, true, false, IfOk, IfSome};
+ghost use Rattle.std.specs.Prelude.{◌≡◌, ◌≢◌, ℕ, ◌+◌, ◌*◌, ◌<◌, ◌≤◌, ◌&&◌, if◌then◌else◌, [], length, slice_index_or, slice_range, true, false, IfOk, IfSome, OnErr};
 ghost use Rattle.qic_base.specs.declared.tape.SectorView.{SectorView};
 ghost use Rattle.qic_base.specs.CartridgeTerms.{is_lost, place_of};
 ghost use Rattle.qic_base.specs.Disk.{IsSettled};
@@ -200,6 +200,29 @@ fn read_each_bytes<D: Disk>(
     Ok(got)
 }
 
+/// As `read_each_bytes`, into 32 sectors, which a failure leaves as they were.
+fn read_all_bytes<D: Disk>(
+    disk: &mut D,
+    layout: Layout,
+    segment: u32,
+    good: LostSet,
+    into: &mut [Sector; 32],
+) -> Result<LostSet, DiskFailed>
+    requires place { segment < 28 * layout.segments_per_track }
+    ensures looked { Looked D.means disk.old disk.new result }
+    ensures bytes { IfOk result (λ got. IfSome (D.means.told disk.old) (λ bytes.
+        end_of layout ≤ length bytes →
+        GotBytes layout segment bytes good got into.old into.new)) }
+    ensures kept { IfOk result (λ got. KeepsOthers got into.old into.new) }
+    ensures unchanged { OnErr result (into.new ≡ into.old) }
+    ensures seen { D.means.seen_len disk.new ≡ D.means.seen_len disk.old }
+{
+    let mut found = *into;
+    let got = read_each_bytes(disk, layout, segment, good, &mut found)?;
+    *into = found;
+    Ok(got)
+}
+
 /// The 32 cells of a segment, which stand beside each other; None where the disk fails in them or has fewer bytes.
 fn read_cells_at_once<D: Disk>(disk: &mut D, place: u64) -> Option<[u8; 32864]>
     requires settled { IsSettled D.means disk.old }
@@ -237,21 +260,21 @@ fn read_apart<D: Disk>(
     layout: Layout,
     segment: u32,
     wanted: LostSet,
-    into: &mut [Sector],
+    into: &mut [Sector; 32],
 ) -> Result<SectorsRead, DiskFailed>
     requires place { segment < 28 * layout.segments_per_track }
     requires cells { touches layout.kind ≡ false }
-    requires count { length into.old ≡ 32 }
     ensures looked { Looked D.means disk.old disk.new result }
     ensures reads { IfOk result (λ read. IfSome (D.means.told disk.old) (λ bytes.
         end_of layout ≤ length bytes → ReadsSectors wanted read.good read.blank
         (λ i. view_in layout bytes (place_of segment i)) into.old into.new)) }
     ensures kept { IfOk result (λ read. KeepsOthers read.good into.old into.new) }
+    ensures unchanged { OnErr result (into.new ≡ into.old) }
     ensures seen { D.means.seen_len disk.new ≡ D.means.seen_len disk.old }
 {
     let states = read_each_state(disk, layout, segment, wanted)?;
     let read = words(&states, wanted);
-    let good = read_each_bytes(disk, layout, segment, read.good, into)?;
+    let good = read_all_bytes(disk, layout, segment, read.good, into)?;
     Ok(SectorsRead {
         good,
         blank: read.blank,
@@ -265,17 +288,17 @@ pub fn read_in_cells<D: Disk>(
     layout: Layout,
     segment: u32,
     wanted: LostSet,
-    into: &mut [Sector],
+    into: &mut [Sector; 32],
 ) -> Result<SectorsRead, DiskFailed>
     requires place { segment < 28 * layout.segments_per_track }
     requires cells { touches layout.kind ≡ false }
     requires settled { IsSettled D.means disk.old }
-    requires count { length into.old ≡ 32 }
     ensures looked { Looked D.means disk.old disk.new result }
     ensures reads { IfOk result (λ read. IfSome (D.means.told disk.old) (λ bytes.
         end_of layout ≤ length bytes → ReadsSectors wanted read.good read.blank
         (λ i. view_in layout bytes (place_of segment i)) into.old into.new)) }
     ensures kept { IfOk result (λ read. KeepsOthers read.good into.old into.new) }
+    ensures unchanged { OnErr result (into.new ≡ into.old) }
     ensures seen { D.means.seen_len disk.new ≡ D.means.seen_len disk.old }
 {
     let place = layout.place(Part::GateByte, 32 * segment as u64);
@@ -298,12 +321,11 @@ pub fn read_in_planes<D: Disk>(
     segment: u32,
     states: &[SectorState; 32],
     wanted: LostSet,
-    into: &mut [Sector],
+    into: &mut [Sector; 32],
 ) -> Result<SectorsRead, DiskFailed>
     requires place { segment < 28 * layout.segments_per_track }
     requires planes { touches layout.kind ≡ true }
     requires settled { IsSettled D.means disk.old }
-    requires count { length into.old ≡ 32 }
     requires states { IfSome (D.means.told disk.old) (λ bytes.
         AreStatesOf layout segment wanted bytes states.now) }
     ensures looked { Looked D.means disk.old disk.new result }
@@ -311,6 +333,7 @@ pub fn read_in_planes<D: Disk>(
         end_of layout ≤ length bytes → ReadsSectors wanted read.good read.blank
         (λ i. view_in layout bytes (place_of segment i)) into.old into.new)) }
     ensures kept { IfOk result (λ read. KeepsOthers read.good into.old into.new) }
+    ensures unchanged { OnErr result (into.new ≡ into.old) }
     ensures seen { D.means.seen_len disk.new ≡ D.means.seen_len disk.old }
 {
     let read = words(states, wanted);
@@ -321,7 +344,7 @@ pub fn read_in_planes<D: Disk>(
             Ok(read)
         }
         None => {
-            let good = read_each_bytes(disk, layout, segment, read.good, into)?;
+            let good = read_all_bytes(disk, layout, segment, read.good, into)?;
             Ok(SectorsRead {
                 good,
                 blank: read.blank,

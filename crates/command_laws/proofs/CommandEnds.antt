@@ -206,7 +206,7 @@ module _ {T S K : Type 0} (t : tapes.Meaning T) (s : sources.Meaning S) (k : sin
         let some = has_outcome laws spelled values held input told in (
           some.0,
           some.1,
-          subst (λ (f : Failing). IsCutOff t s k command old new f some.0) (same_failing other failing (sym was ∙ is))
+          subst (λ (f : Failing). IsCutOff t s k command held input old new f some.0) (same_failing other failing (sym was ∙ is))
               (off.1 some.0 some.1),
         )),
   )

@@ -82,10 +82,11 @@ module _ {T S K : Type 0} (t : tapes.Meaning T) (s : sources.Meaning S) (k : sin
   was_cut failing plain volume gives spells told (command, spelled, over) =
       let same : command ≡ commands.Restore number = one_command words command (commands.Restore number) spelled spells in
       let here = subst (λ (o : Option (Option Cartridge)). IfSome o (λ held. (input : List ℕ) × IsInput (s.left old.source) input
-      × ((outcome : CommandOutcome) × Yields command held input outcome × IsCutOff t s k command old new failing outcome))) told over in
+      × ((outcome : CommandOutcome) × Yields command held input outcome
+      × IsCutOff t s k command held input old new failing outcome))) told over in
       let cut = here.2 in
       let plainly : RestoreOutcome number (Some c) cut.0 = subst (λ (w : Words). Yields w (Some c) here.0 cut.0) same cut.1 in
-      let off : IsCutOff t s k command old new failing cut.0 = cut.2 in
+      let off : IsCutOff t s k command (Some c) here.0 old new failing cut.0 = cut.2 in
       let front = (gives cut.0 plainly).front in
       let took = cut_took_front t s k old new cut.0.acts failing off.cut in
       record {

@@ -265,7 +265,7 @@ ends_done t s k command old new answer laws values (inr (TapeFails, is, stopped)
 ends_done t s k command old new answer laws values (inr (SourceFails, is, stopped)) c told other =
     let over = over_at (t.told old.tape) _ (Some c) stopped.told told in
     let some = plain_answers command (Some c) over.0 values (told_whole (Some c) (t.told old.tape) (t.size old.tape) laws.right told) in
-    let off : IsCutOff t s k command old new SourceFails some.0 = over.2.1 some.0 some.1 in
+    let off : IsCutOff t s k command (Some c) over.0 old new SourceFails some.0 = over.2.1 some.0 some.1 in
     let cut = off.cut in record {
       input = over.0;
       is_told = over.1;
@@ -283,7 +283,7 @@ ends_done t s k command old new answer laws values (inr (SourceFails, is, stoppe
 ends_done t s k command old new answer laws values (inr (SinkFails, is, stopped)) c told other =
     let over = over_at (t.told old.tape) _ (Some c) stopped.told told in
     let some = plain_answers command (Some c) over.0 values (told_whole (Some c) (t.told old.tape) (t.size old.tape) laws.right told) in
-    let off : IsCutOff t s k command old new SinkFails some.0 = over.2.1 some.0 some.1 in
+    let off : IsCutOff t s k command (Some c) over.0 old new SinkFails some.0 = over.2.1 some.0 some.1 in
     let cut = off.cut in
     let at = cut.at in
     let broke = cut.broke in record {
@@ -355,7 +355,7 @@ module _ {T S K : Type 0} (t : tapes.Meaning T) (s : sources.Meaning S) (k : sin
       by_end (inr (SourceFails, is, stopped)) =
           let over = over_at (t.told old.tape) _ (Some c) stopped.told told in
           let some = plain_answers command (Some c) over.0 values whole in
-          let off : IsCutOff t s k command old new SourceFails some.0 = over.2.1 some.0 some.1 in
+          let off : IsCutOff t s k command (Some c) over.0 old new SourceFails some.0 = over.2.1 some.0 some.1 in
           let cut = off.cut in
           now_weaker t old.tape new.tape
           (λ left is. subst (λ (o : Option Cartridge). IsSomeAnd o (λ e. Lists e header words entries)) (sym is)

@@ -4,7 +4,7 @@ use Rattle.std.proofs.Common.{◌∙◌, subst, Bool, ◌↔◌, IsSomeAnd}
 use Rattle.std.proofs.lemmas.Bool.{and_parts}
 use Rattle.cartridge_spec.specs.Table.{Entry}
 use Rattle.command_laws.proofs.CommandCompleting.{completes}
-use Rattle.command_laws.proofs.CommandEndings.{appends_none, any_input, nothing_front, none_printed}
+use Rattle.command_laws.proofs.CommandEndings.{appends_none, any_input, none_reached, nothing_front, none_printed}
 use Rattle.command_laws.proofs.CommandEnds.{Laws, ends_asked, ends_cause, ends_others, ends_stood, ends_answers, ends_carried, ends_cut}
 use Rattle.command_laws.proofs.CommandEnds.{ends_stops, ends_joins, ends_otherwise, ends_named, ends_finished, ends_begun, ends_silent}
 use Rattle.command_laws.proofs.CommandEnds.{is_a_fault, each_left}
@@ -119,11 +119,26 @@ module _ {T S K : Type 0} (t : tapes.Meaning T) (s : sources.Meaning S) (k : sin
   cut_over acts SourceFails cut = absurd (never_rose cut.cause)
   cut_over acts SinkFails cut = record { at = cut.at; did = cut.did; broke = cut.broke; source_later = omega arith }
 
-  off_over : (failing : Failing) (outcome : CommandOutcome) → IsCutOff t no_source k command (around a x) (around b y) failing outcome →
-      IsCutOff t s k command before behind failing outcome
-  off_over TapeFails outcome off = record { cut = cut_over outcome.acts TapeFails off.cut; done = off.done; silent = off.silent }
-  off_over SourceFails outcome off = let cut = off.cut in absurd (never_rose cut.cause)
-  off_over SinkFails outcome off = record { cut = cut_over outcome.acts SinkFails off.cut; done = off.done; silent = off.silent }
+  off_over : (failing : Failing) (held : Option Cartridge) (input other : List ℕ) (outcome : CommandOutcome) →
+      IsCutOff t no_source k command held other (around a x) (around b y) failing outcome →
+      IsCutOff t s k command held input before behind failing outcome
+  off_over TapeFails held input other outcome off = record {
+    cut = cut_over outcome.acts TapeFails off.cut;
+    taken = 0;
+    left = all_left (s.left i);
+    reaches = none_reached command held input outcome off.cut.front;
+    done = off.done;
+    silent = off.silent;
+  }
+  off_over SourceFails held input other outcome off = let cut = off.cut in absurd (never_rose cut.cause)
+  off_over SinkFails held input other outcome off = record {
+    cut = cut_over outcome.acts SinkFails off.cut;
+    taken = 0;
+    left = all_left (s.left i);
+    reaches = none_reached command held input outcome off.cut.at.front;
+    done = off.done;
+    silent = off.silent;
+  }
 
   pub ends_over : (answer : Status) → (traits_of command).reads ≡ false → EndsBlind t k command a b x y answer →
       CommandEnds t s k command before behind answer
@@ -149,7 +164,8 @@ module _ {T S K : Type 0} (t : tapes.Meaning T) (s : sources.Meaning S) (k : sin
     record {
       told = over_left (t.told a) (s.left i) _ _ stopped.told (λ held input other off. (
         appends_none command (s.left i) other blind,
-        λ outcome plain. off_over failing outcome (off.1 outcome (any_input command held other outcome blind plain input)),
+        λ outcome plain. off_over failing held other input outcome
+            (off.1 outcome (any_input command held other outcome blind plain input)),
       ));
       acts = stopped.acts;
       cut = cut_over stopped.acts failing stopped.cut;

@@ -286,7 +286,8 @@ module _ {T S K : Type 0} (t : tapes.Meaning T) (s : sources.Meaning S) (k : sin
       let sink : failing ≡ SinkFails = not_otherwise failing which is in
       let over = over_at (t.told old.tape) _ held stopped.told told in
       let some = plain_answers command held over.0 values whole in
-      let off : IsCutOff t s k command old new SinkFails some.0 = subst (λ (f : Failing). IsCutOff t s k command old new f some.0) sink
+      let off : IsCutOff t s k command held over.0 old new SinkFails some.0 =
+      subst (λ (f : Failing). IsCutOff t s k command held over.0 old new f some.0) sink
       (over.2.1 some.0 some.1) in
       let all = off.done refl still in record {
         input = over.0;
@@ -364,7 +365,7 @@ append_unchanged t s k name date old new answer c plain laws values whole stood 
     let command : Words = commands.Append name date in
     let over = over_at (t.told old.tape) _ (Some c) stopped.told told in
     let some = plain_answers command (Some c) over.0 values whole in
-    let off : IsCutOff t s k command old new SourceFails some.0 = over.2.1 some.0 some.1 in
+    let off : IsCutOff t s k command (Some c) over.0 old new SourceFails some.0 = over.2.1 some.0 some.1 in
     let cut = off.cut in
     now_weaker t old.tape new.tape
     (λ left same. subst (λ (o : Option Cartridge). IsSomeAnd o (λ e. Stands e plain)) (sym same)

@@ -46,6 +46,7 @@ pub mod CopyPrinted
 pub mod CopyStanding
 pub mod CopySteps
 pub mod CopyValues
+pub mod CutFronts
 pub mod CutRuns
 pub mod DeepScrubEnds
 pub mod DeepScrubKept

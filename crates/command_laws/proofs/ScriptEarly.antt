@@ -6,8 +6,7 @@ use Rattle.cartridge_laws.proofs.Search.{Decided, decide_as}
 use Rattle.command_laws.proofs.TextLined.{one_before}
 use Rattle.command_laws.proofs.TextReadings.{Cut, cut, no_line_without}
 use Rattle.command_laws.specs.Inputs.{IsLine, words_of}
-use Rattle.command_spec.specs.Input.{line_forms, promised}
-use Rattle.command_spec.specs.Script.{EndsEarly}
+use Rattle.command_spec.specs.Input.{EndsEarly, line_forms, promised}
 use Rattle.command_spec.specs.declared.line.Line.{Line}
 use Rattle.command_spec.specs.declared.line.Line.TheVariants as line
 use Rattle.command_laws.proofs.TextLines as lines

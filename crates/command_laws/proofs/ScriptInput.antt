@@ -4,8 +4,7 @@ use Rattle.std.proofs.lemmas.List.{append_cancel_left}
 use Rattle.command_laws.proofs.TextLined.{one_before}
 use Rattle.command_laws.proofs.TextLines.{one_line}
 use Rattle.command_laws.specs.Inputs.{IsLine, words_of}
-use Rattle.command_spec.specs.Input.{IsLineText}
-use Rattle.command_spec.specs.Script.{EndsEarly}
+use Rattle.command_spec.specs.Input.{EndsEarly, IsLineText}
 use Rattle.command_spec.specs.declared.line.Line.{Line}
 use Rattle.command_laws.proofs.TextInputs.{SameItem}
 use Rattle.command_spec.specs.declared.line.Line.TheVariants as line

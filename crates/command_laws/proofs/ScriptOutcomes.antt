@@ -17,10 +17,11 @@ use Rattle.command_laws.specs.MountedListed.{IsListed, listed_behind}
 use Rattle.command_laws.specs.ScriptLaws.{ScriptHasAnOutcome}
 use Rattle.command_spec.specs.Append.{Kept, Taking, Fits, TooLong, TooShort, room_in, taking, kept_over}
 use Rattle.command_spec.specs.Input.{Item, input_status, IsLineText, IsItem, Ending, HasItems, most_items, AtEnd, AtStop, AtFault}
+use Rattle.command_spec.specs.Input.{EndsEarly}
 use Rattle.command_spec.specs.Lines.{reply_behind, lost_line, list_text}
 use Rattle.command_spec.specs.Restore.{framed, pieces, volume_at}
 use Rattle.command_spec.specs.Script.{reply, Did, LineDoes, line_refused, taken_as, given_as, ItemsDo, cartridge_behind, entries_behind}
-use Rattle.command_spec.specs.Script.{Finds, Meeting, Meets, Refuses, acts_on, append_did, EndsEarly, end_line, EndDoes, acts_of}
+use Rattle.command_spec.specs.Script.{Finds, Meeting, Meets, Refuses, acts_on, append_did, end_line, EndDoes, acts_of}
 use Rattle.command_spec.specs.Script.{place_behind, items_taken}
 use Rattle.command_laws.specs.ScriptTerms.{FaultDoes}
 use Rattle.command_spec.specs.declared.line.Line.{Line}

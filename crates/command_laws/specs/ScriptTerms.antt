@@ -2,9 +2,9 @@
 use Rattle.std.specs.Prelude.{ℕ, List, [], codes, Option, ◌≡◌, ◌≢◌, ◌<◌, ◌≤◌, ◌⊎◌}
 use Rattle.cartridge_spec.specs.Volumes.{WearSpares, Plain}
 use Rattle.cartridge_spec.specs.Table.{Entry}
-use Rattle.command_spec.specs.Input.{Item, most_items}
+use Rattle.command_spec.specs.Input.{EndsEarly, Item, most_items}
 use Rattle.command_spec.specs.Lines.{place_line}
-use Rattle.command_spec.specs.Script.{Did, EndsEarly, LineDoes, Meeting, Meets, acts_on}
+use Rattle.command_spec.specs.Script.{Did, LineDoes, Meeting, Meets, acts_on}
 use Rattle.command_spec.specs.Several.{LinesLeave, OverInput}
 use Rattle.command_spec.specs.declared.line.Line.{Line}
 use Rattle.qic_base.specs.Acts.{Act}

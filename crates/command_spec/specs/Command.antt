@@ -8,6 +8,7 @@ use Rattle.cartridge_spec.specs.TableSegment.{CanBeRead}
 use Rattle.cartridge_spec.specs.Volumes.{Plain, Stands}
 use Rattle.command_spec.specs.Outcome.{CommandOutcome}
 use Rattle.command_spec.specs.declared.status.Status.{Status}
+use Rattle.qic_base.specs.Acts.{Act}
 use Rattle.qic_base.specs.Cartridge.{Cartridge}
 
 -- ---- a word
@@ -131,6 +132,9 @@ pub record Command : Type 1 where
   pub fronts : List ℕ → Type 0
   -- what it has printed that was refused with an answer: most of them nothing
   pub refused : Status → List ℕ → Type 0
+  -- How far its input was taken where a fault of the outside came, by the acts that were done and written before: most take no more
+  -- than their outcome does. Of lines no more than what was carried out and answered, and into the item behind it.
+  pub reaches : (held : Option Cartridge) (input : List ℕ) (outcome : CommandOutcome) (done : List Act) (taken : ℕ) → Type 0
   -- the fault of its input: the number of the line, counted from 1, and how many bytes stand before it
   pub fault : (input : List ℕ) → (line place : ℕ) → Type 0
   -- all is there that it needs
@@ -158,6 +162,7 @@ plain_command forms yields prints = record {
   prints = prints;
   fronts = λ text. (rest : List ℕ) × prints (text ++ rest);
   refused = λ answer text. text ≡ [];
+  reaches = λ held input outcome done taken. taken ≤ outcome.taken;
   fault = λ input line place. ⊥;
   needs = λ held input. Unit {0};
   keeps_volumes = λ c plain. Unit {0};

@@ -40,7 +40,7 @@ abbrev pub IsCut : {T S K : Type 0} (t : tapes.Meaning T) (s : sources.Meaning S
     (old new : Outside T S K) → Failing → Type 0
 IsCut t s k words old new failing =
     (command : Words) × Spells words command × OverTold t s old (λ held input.
-    (outcome : CommandOutcome) × (command_of command).yields held input outcome × IsCutOff t s k command old new failing outcome)
+    (outcome : CommandOutcome) × (command_of command).yields held input outcome × IsCutOff t s k command held input old new failing outcome)
 
 -- ---- a stop
 

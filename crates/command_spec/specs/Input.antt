@@ -1,5 +1,5 @@
 -- The inputs of `script` and of `pulses`: items, and what ends them (this project's own).
-use Rattle.std.specs.Prelude.{◌≡◌, ◌≢◌, ℕ, ◌+◌, ◌≤◌, List, [], ◌∷◌, ◌++◌, length, ◌==◌, codes}
+use Rattle.std.specs.Prelude.{◌≡◌, ◌≢◌, ℕ, ◌+◌, ◌-◌, ◌<◌, ◌≤◌, List, [], ◌∷◌, ◌++◌, length, take, ◌==◌, codes}
 use Rattle.std.specs.List.{slice_split}
 use Rattle.command_spec.specs.Command.{Part, Word, Name, dated, AnyNumber, HasForm, SpellsPart, Number}
 use Rattle.command_spec.specs.declared.line.Line.{Line}
@@ -56,6 +56,17 @@ pub record IsItem (text : List ℕ) (item : Item) : Type 0 where
 abbrev pub IsPulse : List ℕ → ℕ → Type 0
 IsPulse text pulses = IsLined (λ before. SpellsPart before (Number 0 255 pulses)) text
 
+-- An append's line begins these bytes, and fewer than it promises stand behind it.
+pub record EndsEarly (rest : List ℕ) : Type 0 where
+  pub name : List ℕ
+  pub promised : ℕ
+  pub date : ℕ
+  pub text : List ℕ
+  pub bytes : List ℕ
+  pub lined : IsLineText text (line.Append name promised date)
+  pub parts : rest ≡ text ++ bytes
+  pub short : length bytes < promised
+
 -- ---- inputs
 
 -- the most items before the line `end`
@@ -105,3 +116,22 @@ IsScript input items ending = HasItems IsItem 1 0 input items ending
 
 abbrev pub IsPulses : List ℕ → List ℕ → Ending → Type 0
 IsPulses input trains ending = HasItems IsPulse 1 0 input trains ending
+
+-- ---- how far an input was taken
+
+-- Into some bytes so many were taken: those of one line, at most 128, of which at most the last is a newline.
+abbrev pub ReachesLine : (back : List ℕ) → (more : ℕ) → Type 0
+ReachesLine back more = (more ≤ 128) × NoNewline (take (more - 1) back)
+
+-- Of an input all of these items were taken, which did this, and into the bytes behind them so many more.
+pub record Reaches {I : Type 0} (Spelled : List ℕ → I → Type 0) (Did : List I → Type 0) (Into : (back : List ℕ) → ℕ → Type 0)
+    (input : List ℕ) (taken : ℕ) : Type 0 where
+  pub front : List ℕ
+  pub back : List ℕ
+  pub parts : input ≡ front ++ back
+  pub items : List I
+  pub read : HasItems Spelled 1 0 front items AtEnd
+  pub did : Did items
+  pub more : ℕ
+  pub count : taken ≡ length front + more
+  pub into : Into back more

@@ -4,7 +4,7 @@ use Rattle.std.specs.Prelude.{ℕ, List, Option, not, ◌≡◌, ◌⊎◌, [], 
 use Rattle.std.specs.Prelude.{◌||◌, ◌<◌, All, IfNone, ◌≢◌, is_some}
 use Rattle.command_spec.specs.Command.{HasForm}
 use Rattle.command_spec.specs.Commands.{command_of, traits_of}
-use Rattle.command_spec.specs.Input.{most_items}
+use Rattle.command_spec.specs.Input.{most_items, EndsEarly}
 use Rattle.command_spec.specs.Outcome.{CommandOutcome, output_of, is_refused}
 use Rattle.command_spec.specs.declared.status.Status.{Status}
 use Rattle.command_spec.specs.declared.words.Words.{Words}
@@ -50,10 +50,12 @@ abbrev pub OverTold : {T S K : Type 0} (t : tapes.Meaning T) (s : sources.Meanin
 OverTold t s old P =
     IfSome (t.told old.tape) (λ held. (input : List ℕ) × IsInput (s.left old.source) input × P held input)
 
--- Of the bytes from the place of a fault on an end is left: at most 128 of them were taken, or all.
+-- Of the bytes from the place of a fault on an end is left: at most 128 of them were taken; or all, where an append's line begins
+-- them, and they end before the bytes that it promises.
 abbrev pub LeftAtFault : (place : ℕ) → (before after : Option (List ℕ)) → Type 0
 LeftAtFault place before after =
-    (more : ℕ) × (after ≡ option_map (drop (place + more)) before) × ((more ≤ 128) ⊎ IfSome after (λ end. end ≡ []))
+    (more : ℕ) × (after ≡ option_map (drop (place + more)) before)
+    × ((more ≤ 128) ⊎ (IfSome after (λ end. end ≡ []) × IfSome before (λ bytes. EndsEarly (drop place bytes))))
 
 -- What is left of the input: what stands behind the bytes taken; or, where a line is at fault, that.
 abbrev pub InputLeft : Status → (taken : ℕ) → (before after : Option (List ℕ)) → Type 0
@@ -139,11 +141,15 @@ abbrev pub acts_before : {T S K : Type 0} (t : tapes.Meaning T) (s : sources.Mea
 acts_before t s k old new acts SinkFails cut = cut.at.front
 acts_before t s k old new acts failing cut = cut.front
 
--- A fault of an object cut the acts of an outcome off. A command that prints once all is done had printed nothing before;
+-- A fault of an object cut the acts of an outcome off, over this cartridge and this input, of which no more was taken than they
+-- reach. A command that prints once all is done had printed nothing before;
 -- where it is the sink's, it was carried out, and all steps were done.
 pub record IsCutOff {T S K : Type 0} (t : tapes.Meaning T) (s : sources.Meaning S) (k : sinks.Meaning K) (command : Words)
-    (old new : Outside T S K) (failing : Failing) (outcome : CommandOutcome) : Type 0 where
+    (held : Option Cartridge) (input : List ℕ) (old new : Outside T S K) (failing : Failing) (outcome : CommandOutcome) : Type 0 where
   pub cut : Cut t s k old new outcome.acts failing
+  pub taken : ℕ
+  pub left : s.left new.source ≡ option_map (drop taken) (s.left old.source)
+  pub reaches : (command_of command).reaches held input outcome (acts_before t s k old new outcome.acts failing cut) taken
   pub done : failing ≡ SinkFails → (traits_of command).goes ≡ false →
       (outcome.status ≡ status.Done) × tapes.Done t old.tape new.tape (steps_of outcome.acts)
   pub silent : (traits_of command).goes ≡ false → text_of (acts_before t s k old new outcome.acts failing cut) ≡ []
@@ -153,7 +159,8 @@ pub record Stopped {T S K : Type 0} (t : tapes.Meaning T) (s : sources.Meaning S
     (old new : Outside T S K) (failing : Failing) : Type 0 where
   -- over what is told in the acts of the plain machine's outcome
   pub told : OverTold t s old (λ held input. IsOfBytes command (s.left old.source) input
-      × ((outcome : CommandOutcome) → (command_of command).yields held input outcome → IsCutOff t s k command old new failing outcome))
+      × ((outcome : CommandOutcome) → (command_of command).yields held input outcome →
+      IsCutOff t s k command held input old new failing outcome))
   -- and over any tape and source in some that print a front of the command's text
   pub acts : List Act
   pub cut : Cut t s k old new acts failing

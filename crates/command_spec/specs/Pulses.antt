@@ -1,6 +1,6 @@
 -- The plain machine of `pulses`: the trains of an input, and the levels that they leave (this project's own).
 use Rattle.std.specs.Prelude.{ℕ, List, [], ◌∷◌, if◌then◌else◌, codes, ◌+◌, ◌++◌, decimal, length, ◌≡◌, Option, ◌⊎◌, true}
-use Rattle.command_spec.specs.Input.{Ending, AtEnd, AtStop, AtFault, IsPulses, input_status}
+use Rattle.command_spec.specs.Input.{Ending, AtEnd, AtStop, AtFault, IsPulse, IsPulses, input_status, Reaches, ReachesLine}
 use Rattle.command_spec.specs.Outcome.{CommandOutcome}
 use Rattle.drive_spec.specs.Record.{Record, power_on}
 use Rattle.drive_spec.specs.Row.{pulsed_row}
@@ -63,6 +63,8 @@ abbrev pub pulses_command : Command
 pulses_command = record (plain_command ((Word (codes "pulses") ∷ []) ∷ []) SentOutcome AreLevels) {
   traits = record none_of_them { reads = true; lines = true; goes = true };
   refused = λ answer text. AreLevels text;
+  reaches = λ held input outcome done taken. Reaches IsPulse
+      (λ trains. (rest : List Act) × (done ≡ train_acts (power_on (info_of held)) trains ++ rest)) ReachesLine input taken;
   fault = λ input line place. (trains : List ℕ) × IsPulses input trains (AtFault line place);
   needs = λ held input. (trains : List ℕ) × (IsPulses input trains AtEnd ⊎ IsPulses input trains AtStop);
 }

@@ -1,16 +1,17 @@
 -- The plain machine of `script`: its lines, one after the other, over a mounted cartridge, and their replies (this project's own).
 use Rattle.std.specs.Prelude.{flat_map, fold, ℕ, List, codes, ◌++◌, decimal, [], ◌+◌, ◌∷◌, ◌≡◌, true, false, length, Some, ◌⊎◌, None, ◌<◌}
-use Rattle.std.specs.Prelude.{◌≤◌, drop, IsSomeAnd}
+use Rattle.std.specs.Prelude.{◌≤◌, drop, IsSomeAnd, Option}
 use Rattle.cartridge_spec.specs.Appending.{room, entry_behind}
 use Rattle.cartridge_spec.specs.Header.{Header}
 use Rattle.cartridge_spec.specs.TableSegment.{table_cells, TableIs}
-use Rattle.cartridge_spec.specs.Mounting.{settled}
+use Rattle.cartridge_spec.specs.Mounting.{settled, Mounted, Mounts}
 use Rattle.cartridge_spec.specs.Says.{ByCode, LostSectors, TableSays}
 use Rattle.cartridge_spec.specs.Settling.{changed_by}
 use Rattle.cartridge_spec.specs.Table.{Entry}
 use Rattle.cartridge_spec.specs.Volumes.{volume_length}
 use Rattle.command_spec.specs.Append.{Kept, append_acts, Taking, Fits, TooLong, TooShort, taking, kept_over}
-use Rattle.command_spec.specs.Input.{Item, IsLineText, most_items, Ending, AtEnd, AtStop, AtFault, IsItem, HasItems, IsScript, input_status}
+use Rattle.command_spec.specs.Input.{Item, most_items, Ending, AtEnd, AtStop, AtFault, IsItem, HasItems, IsScript, input_status, EndsEarly}
+use Rattle.command_spec.specs.Input.{Reaches, ReachesLine}
 use Rattle.command_spec.specs.Lines.{place_line, number_line, reply_behind, lost_line, list_text}
 use Rattle.command_spec.specs.Outcome.{settling_act, CommandOutcome, OpenOutcome}
 use Rattle.command_spec.specs.Restore.{GivingEnd, Restored, LostIn, MismatchIn, RestoresVolume, framed, pieces, volume_at}
@@ -150,17 +151,6 @@ ItemsDo c words entries items dids = ⊥
 
 -- ---- the end
 
--- An append's line begins these bytes, and fewer than it promises stand behind it.
-pub record EndsEarly (rest : List ℕ) : Type 0 where
-  pub name : List ℕ
-  pub promised : ℕ
-  pub date : ℕ
-  pub text : List ℕ
-  pub bytes : List ℕ
-  pub lined : IsLineText text (line.Append name promised date)
-  pub parts : rest ≡ text ++ bytes
-  pub short : length bytes < promised
-
 -- The last acts, behind which these bytes are left: the reply `end`; or in front of a fault in the line with this number,
 -- which begins these bytes, those of an append whose bytes end early, and none where no line is read.
 abbrev pub EndDoes : Cartridge → (words : List ℕ) → List Entry → (rest : List ℕ) → Ending → List Act → Type 0
@@ -204,6 +194,23 @@ pub record Scripting (input : List ℕ) (c : Cartridge) (header : Header) (words
   pub does : ScriptDoes (settled table c) words entries input came
   pub is : outcome ≡ record came { acts = settling_act table c ∷ came.acts }
 
+-- ---- a fault of the outside
+
+-- Into the bytes behind some items so many were taken: of one line; of one item; or of an append whose bytes end early.
+abbrev pub ReachesItem : (back : List ℕ) → (more : ℕ) → Type 0
+ReachesItem back more =
+    ReachesLine back more
+    ⊎ (((item : Item) × ((text : List ℕ) × ((rest : List ℕ) × ((back ≡ text ++ rest) × IsItem text item × (more ≤ length text)))))
+    ⊎ EndsEarly back)
+
+-- the table was settled and these items were carried out and answered, all among these acts
+abbrev pub AreDone : (held : Option Cartridge) → (done : List Act) → List Item → Type 0
+AreDone held done [] = Unit {0}
+AreDone held done items =
+    IsSomeAnd held (λ c. (header : Header) × ((words : List ℕ) × ((table : List (List ℕ)) × ((entries : List Entry)
+    × ((dids : List Did) × ((rest : List Act) × (Mounts c (Mounted header words table entries)
+    × ItemsDo (settled table c) words entries items dids × (done ≡ (settling_act table c ∷ acts_of dids) ++ rest))))))))
+
 -- ---- the command
 
 -- the replies to the lines before a fault of the input, or before a volume table that doesn't show the list
@@ -229,6 +236,7 @@ script_command =
         appends = true;
       };
       refused = script_refused;
+      reaches = λ held input outcome done taken. Reaches IsItem (AreDone held done) ReachesItem input taken;
       fault = λ input line place. (items : List Item) × IsScript input items (AtFault line place);
       needs = λ held input. IsSomeAnd held CanBeMounted
           × ((items : List Item) × (IsScript input items AtEnd ⊎ IsScript input items AtStop));

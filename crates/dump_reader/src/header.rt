@@ -1,6 +1,6 @@
 //! The header of a dump.
 
-ghost use Rattle.std.specs.Prelude.{◌≡◌, ◌<◌, ◌≤◌, ◌*◌, length, take, IfOk, None};
+ghost use Rattle.std.specs.Prelude.{◌≡◌, ◌<◌, ◌≤◌, ◌*◌, length, take, IfOk, IfSome, None};
 ghost use Rattle.std.specs.Bool.{OnTrue, OnFalse};
 ghost use Rattle.dump_spec.specs.Dump.{Dump};
 ghost use Rattle.dump_spec.specs.HeaderPlace.{IsHeader};
@@ -60,6 +60,7 @@ fn search<D: Disk>(
     ensures found { IfOk result (λ found. (dump : Dump) (layout : Layout) →
         Describes known.now (D.means.told disk.old) dump (all_usable layout) →
         TellsFirst dump layout zero_lost (take 29 sectors.new) found) }
+    ensures near { IfOk result (λ found. IfSome found (λ segment. segment < 64)) }
     ensures room { length sectors.new ≡ 32 }
 {
     let mut cursor = Cursor::new();
@@ -97,6 +98,7 @@ pub fn find_header<D: Disk>(
     ensures found { IfOk result (λ found. (dump : Dump) (layout : Layout) →
         Describes known.now (D.means.told disk.old) dump layout →
         IsHeader None dump layout zero_lost (header_in (take 29 sectors.new) found)) }
+    ensures near { IfOk result (λ found. IfSome found (λ segment. segment < 64)) }
     ensures room { length sectors.new ≡ 32 }
 {
     if !is_looked_for(known.form, known.first) {

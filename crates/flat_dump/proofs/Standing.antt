@@ -48,7 +48,7 @@ as_many (Some (Holds held)) = refl
 come : (c : Cartridge) (s i : ℕ) → view_at (brought_back c) s i ≡ viewed (option_map brought_view (slice_get c.views (place_of s i)))
 come c s i = ap viewed (slice_get-map brought_view c.views (place_of s i))
 
-reads_alike : (c : Cartridge) → ReadsAlike c (brought_back c)
+pub reads_alike : (c : Cartridge) → ReadsAlike c (brought_back c)
 reads_alike c = record {
   no_more = λ s i bytes at. no_more (slice_get c.views (place_of s i)) bytes (sym (come c s i) ∙ at);
   no_less = λ s i bytes at. come c s i ∙ no_less (slice_get c.views (place_of s i)) bytes at;
@@ -57,7 +57,7 @@ reads_alike c = record {
 
 -- ---- what stands
 
-cells_alike : (c d : Cartridge) (s : ℕ) → ReadsAlike c d → CellsAlike (cells_of c s whole_mask) (cells_of d s whole_mask)
+pub cells_alike : (c d : Cartridge) (s : ℕ) → ReadsAlike c d → CellsAlike (cells_of c s whole_mask) (cells_of d s whole_mask)
 cells_alike c d s alike = record {
   long = count_of_cells c s whole_mask ∙ sym (count_of_cells d s whole_mask);
   count = same_count (view_at c s) (view_at d s) (usable_places whole_mask) (λ p. sym (alike.unreadable s p));

@@ -2,7 +2,7 @@
 -- outcomes of the commands of a hand.
 use Rattle.std.proofs.Common.{◌≡◌, false, List, [], ◌∷◌, ℕ, None, refl, Option, Some, IfSome, ◌≢◌, true, ◌++◌, Result, Ok, Err, sym, subst}
 use Rattle.std.proofs.Common.{inl, inr, arith, append-nil, Bool, ap}
-use Rattle.command_laws.proofs.CommandEndings.{Rules, appends_none, any_input, nothing_front, text_front, none_printed}
+use Rattle.command_laws.proofs.CommandEndings.{Rules, appends_none, any_input, none_reached, nothing_front, text_front, none_printed}
 use Rattle.command_laws.proofs.CommandTable.{plain_is_function}
 use Rattle.command_spec.specs.Commands.{traits_of}
 use Rattle.command_spec.specs.Single.{DefectOutcome, LoseOutcome}
@@ -141,9 +141,12 @@ module _ {T K : Type 0} (t : tapes.Meaning T) (k : sinks.Meaning K) where
         broke = broke_first broke;
         source_later = omega arith;
       } in
-      let off : IsCutOff t no_source k command (around a x) (around b y) SinkFails outcome =
-      subst (IsCutOff t no_source k command (around a x) (around b y) SinkFails) (sym one) (record {
+      let off : (held : Option Cartridge) → IsCutOff t no_source k command held [] (around a x) (around b y) SinkFails outcome =
+      λ held. subst (IsCutOff t no_source k command held [] (around a x) (around b y) SinkFails) (sym one) (record {
         cut = cut;
+        taken = 0;
+        left = refl;
+        reaches = none_reached command held [] (acted act.steps act.text) [];
         done = λ same still. (refl, subst (tapes.Done t a b) (sym (append-nil act.steps)) did);
         silent = λ still. refl;
       }) in
@@ -162,10 +165,10 @@ module _ {T K : Type 0} (t : tapes.Meaning T) (k : sinks.Meaning K) where
       )
     where
       by_told : (o : Option (Option Cartridge)) → IfSome o (λ held. Rules command held outcome) →
-          IsCutOff t no_source k command (around a x) (around b y) SinkFails outcome →
+          ((held : Option Cartridge) → IsCutOff t no_source k command held [] (around a x) (around b y) SinkFails outcome) →
           IfSome o (λ held. (input : List ℕ) × Unit {0}
           × (IsOfBytes command None input × ((other : CommandOutcome) → Yields command held input other →
-          IsCutOff t no_source k command (around a x) (around b y) SinkFails other)))
+          IsCutOff t no_source k command held input (around a x) (around b y) SinkFails other)))
       by_told None told off = tt
       by_told (Some held) told off = (
         [],
@@ -173,8 +176,8 @@ module _ {T K : Type 0} (t : tapes.Meaning T) (k : sinks.Meaning K) where
         (
           appends_none command None [] blind.reads,
           λ other plain.
-              subst (IsCutOff t no_source k command (around a x) (around b y) SinkFails)
-              (plain_is_function command held [] outcome other (told []) plain) off,
+              subst (IsCutOff t no_source k command held [] (around a x) (around b y) SinkFails)
+              (plain_is_function command held [] outcome other (told []) plain) (off held),
         ),
       )
 
@@ -227,7 +230,7 @@ module _ {T K : Type 0} (t : tapes.Meaning T) (k : sinks.Meaning K) where
           × (steps ++ rest ≡ first_steps outcome)) →
           IfSome o (λ held. (input : List ℕ) × Unit {0}
           × (IsOfBytes command None input × ((outcome : CommandOutcome) → Yields command held input outcome →
-          IsCutOff t no_source k command (around a x) (around b x) TapeFails outcome)))
+          IsCutOff t no_source k command held input (around a x) (around b x) TapeFails outcome)))
       by_told None front = tt
       by_told (Some held) front = (
         [],
@@ -238,6 +241,9 @@ module _ {T K : Type 0} (t : tapes.Meaning T) (k : sinks.Meaning K) where
               let longer = front outcome (any_input command held [] outcome blind.reads plain) in
               record {
                 cut = tape_cut_first a b x outcome.acts nothing (subst (tapes.Broke t a b) longer.1 (Broke-front longer.0 broke));
+                taken = 0;
+                left = refl;
+                reaches = none_reached command held [] outcome [];
                 done = λ same still. absurd (cc);
                 silent = λ still. refl;
               },

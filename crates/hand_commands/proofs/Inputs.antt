@@ -1,6 +1,6 @@
 -- Inputs that begin with the lines of trains.
 use Rattle.std.proofs.Common.{◌≡◌, ℕ, ◌+◌, ◌≤◌, ◌<◌, List, [], ◌∷◌, ◌++◌, length, Option, Some, None, IfSome, codes, get_or, refl, sym, ap}
-use Rattle.std.proofs.Common.{◌∙◌, subst, arith, append_assoc}
+use Rattle.std.proofs.Common.{◌∙◌, subst, arith, append_assoc, append-nil}
 use Rattle.std.specs.Option.{option_map}
 use Rattle.std.proofs.lemmas.List.{length-append, append_cancel_left, nil_from_length}
 use Rattle.command_laws.specs.Inputs.{IsTrain}
@@ -53,6 +53,14 @@ read_behind (p ∷ ps) qs rest line here place at ending are few same equal read
         ),
       ),
     )
+
+-- the lines of some trains are these trains
+pub read_all : (ps : List ℕ) → ArePulses ps → length ps ≤ most_items → HasItems IsPulse 1 0 (train_lines ps) ps AtEnd
+read_all ps are few =
+    let P : List ℕ → Type 0 = λ input. HasItems IsPulse 1 0 input (ps ++ []) AtEnd in
+    let Q : List ℕ → Type 0 = λ qs. HasItems IsPulse 1 0 (train_lines ps) qs AtEnd in
+    subst Q (append-nil ps) (subst P (append-nil (train_lines ps))
+    (read_behind ps [] [] 1 (1 + length ps) 0 (length (train_lines ps)) AtEnd are (omega arith) refl (omega arith) refl))
 
 -- one train begins an input
 record SameTrain (x y : ℕ) (r q : List ℕ) : Type 0 where

@@ -7,7 +7,7 @@ use Rattle.qic_base.specs.Cartridge.{Cartridge, info_of}
 use Rattle.qic_base.proofs.Steps.{Done-told}
 use Rattle.qic_base.proofs.Writing.{TakesBoth}
 use Rattle.qic_base.specs.Acts.{Act, Outside, Failing, TapeFails, SourceFails, SinkFails, Went, Cut}
-use Rattle.qic_base.proofs.Joins.{went_both, went_then_cut, cut_is_longer}
+use Rattle.qic_base.proofs.Joins.{went_both}
 use Rattle.drive_spec.specs.Record.{Record, power_on}
 use Rattle.drive_states.specs.Unit.{UnitView, IsInserted}
 use Rattle.command_spec.specs.Input.{IsPulse, Ending, AtEnd, AtStop, AtFault, ItemsEnd, HasItems, most_items}
@@ -19,10 +19,17 @@ use Rattle.hand_commands.specs.declared.pulses.fault.PulseFault.{PulseFault}
 use Rattle.command_spec.specs.Pulses.{train_acts, train_line, train_lines, pulses_taken}
 use Rattle.command_laws.specs.PulseRuns.{train_act, after_trains, Answer, AllSent, ScriptFault, pulses_answer, outcome_of}
 use Rattle.hand_commands.specs.PulseRuns.{Leaves, Ended, CutOff}
-use Rattle.tape_script.specs.Reading.{GaveNoEnd}
+use Rattle.command_laws.proofs.CutFronts.{CutBehind, cut_longer, cut_then}
+use Rattle.command_laws.specs.Inputs.{IsTrain}
+use Rattle.command_spec.specs.Input.{ReachesLine}
+use Rattle.command_spec.specs.Machine.{acts_before}
+use Rattle.qic_base.specs.Source.{IsInput}
+use Rattle.tape_script.proofs.Lined.{IsLined-one_newline}
+use Rattle.tape_script.proofs.Reaching.{InLine, Took, front_in_line, in_line, none_of_line, took}
+use Rattle.tape_script.specs.Reading.{GaveFront, GaveNoEnd}
 use Rattle.hand_commands.specs.PulseLines.{Heard, HasNoTrain, Hears, HearsEnd}
 use Rattle.hand_commands.proofs.Hearing.{rests, source_cut, steps_cut}
-use Rattle.hand_commands.proofs.Inputs.{ArePulses, ArePulses-push, read_behind, comes_first, fault_rest}
+use Rattle.hand_commands.proofs.Inputs.{ArePulses, ArePulses-push, read_all, read_behind, comes_first, fault_rest}
 use Rattle.command_laws.proofs.PulseMachineLaws.{fronts_do_fronts}
 use Rattle.command_laws.proofs.PulseTrains.{after_trains-append, train_acts-append, train_lines-append, pulse_short, pulsed_row-counted}
 use Rattle.drive_spec.specs.Row.{pulsed_row}
@@ -68,6 +75,24 @@ known_told : (told : Option (Option Cartridge)) → (known : Option TapeInfo) ×
 known_told None = (None, tt)
 known_told (Some held) = (info_of held, refl)
 
+-- these trains came before others
+abbrev ComeFirst : Option TapeInfo → List Act → (trains : List ℕ) → Type 0
+ComeFirst known done trains = (rest : List Act) × (done ≡ train_acts (power_on known) trains ++ rest)
+
+-- The acts of trains that were read were cut off behind those of some: the lines of these had been given, and some bytes of the
+-- line behind them.
+record CutLine {T S K : Type 0} (t : tapes.Meaning T) (s : sources.Meaning S) (k : sinks.Meaning K) (start new : Outside T S K)
+    (known : Option TapeInfo) (sent : List ℕ) (failing : Failing) : Type 0 where
+  trains : List ℕ
+  are : ArePulses trains
+  few : length trains ≤ most_items
+  mid : S
+  gave : Gave s start.source mid (train_lines trains)
+  came : List ℕ
+  more : Gave s mid new.source came
+  line : InLine came
+  cut : CutBehind t s k start new (train_acts (power_on known) sent) failing (λ done. ComeFirst known done trains)
+
 module _ {T S K : Type 0} {t : tapes.Meaning T} {s : sources.Meaning S} {k : sinks.Meaning K} where
   -- the cartridge was put in
   pub begin : (start : Outside T S K) (unit : UnitView T) → k.took start.sink [] start.sink → tapes.Done t start.tape unit.tape [] →
@@ -91,26 +116,35 @@ module _ {T S K : Type 0} {t : tapes.Meaning T} {s : sources.Meaning S} {k : sin
   cut_off : (start new : Outside T S K) (now : S) (known : Option TapeInfo) (sent : List ℕ) (failing : Failing) →
       IsKnown t start.tape known → ArePulses sent →
       length sent ≤ most_items → Gave s start.source now (train_lines sent) →
-      Cut t s k start new (train_acts (power_on known) sent) failing →
+      CutLine t s k start new known sent failing →
       CutOff t s k start new failing
-  cut_off start new now known sent failing cartridge are few gave cut =
+  cut_off start new now known sent failing cartridge are few gave off =
       let behind = any_rest (s.left now) in
       let input : List ℕ = train_lines sent ++ behind.rest in
       let reading = each_pulses input in
       let front = fronts_do_fronts (power_on known) sent reading.0
       (comes_first sent behind.rest 1 0 reading.0 reading.1.0 are (omega arith) reading.1.1) in
+      let told : IsInput (s.left start.source) input = whole_told (s.left start.source) (s.left now)
+      (train_lines sent) behind.rest gave behind.told in
+      let R : List Act → Type 0 = λ done. ComeFirst known done off.trains in
+      let cut : CutBehind t s k start new (train_acts (power_on known) reading.0) failing R =
+      subst (λ (acts : List Act). CutBehind t s k start new acts failing R) front.1
+      (cut_longer t s k start new (train_acts (power_on known) sent) front.0 failing R off.cut) in
+      let done : List Act = acts_before t s k start new (train_acts (power_on known) reading.0) failing cut.0 in
+      let far : Took IsPulse (ComeFirst known done) ReachesLine input (s.left start.source) (s.left new.source) =
+      took IsPulse (ComeFirst known done) ReachesLine (s.left start.source) (s.left off.mid) (s.left new.source)
+      (train_lines off.trains) off.came off.trains input told off.gave off.more (read_all off.trains off.are off.few) cut.1
+      (done, refl) (λ rest. in_line off.came rest off.line) none_of_line in
       record {
         known = known;
         input = input;
-        over = record {
-          cartridge = cartridge;
-          bytes = whole_told (s.left start.source) (s.left now)
-              (train_lines sent) behind.rest gave behind.told;
-        };
+        over = record { cartridge = cartridge; bytes = told };
         outcome = outcome_of (power_on known) input reading.0 reading.1.0;
         plain = record { trains = reading.0; ending = reading.1.0; read = reading.1.1; comes = refl };
-        cut = subst (λ (acts : List Act). Cut t s k start new acts failing) front.1
-            (cut_is_longer t s k start new (train_acts (power_on known) sent) front.0 failing cut);
+        cut = cut.0;
+        taken = far.taken;
+        left = far.left;
+        reaches = far.reaches;
       }
 
   -- the tape failed as the cartridge was put in
@@ -119,8 +153,20 @@ module _ {T S K : Type 0} {t : tapes.Meaning T} {s : sources.Meaning S} {k : sin
   insert_failed start tape nothing broke =
       let new : Outside T S K = record start { tape = tape } in
       let known = known_told (t.told start.tape) in
-      cut_off start new start.source known.0 [] TapeFails known.1 tt (omega arith) (Gave-nothing s start.source start.source refl)
-      (steps_cut start new [] (omega arith) broke (record { took = nothing; later = omega arith }))
+      let gave : Gave s start.source start.source [] = Gave-nothing s start.source start.source refl in
+      let cut : Cut t s k start new [] TapeFails =
+      steps_cut start new [] (omega arith) broke (record { took = nothing; later = omega arith }) in
+      cut_off start new start.source known.0 [] TapeFails known.1 tt (omega arith) gave (record {
+        trains = [];
+        are = tt;
+        few = omega arith;
+        mid = start.source;
+        gave = gave;
+        came = [];
+        more = gave;
+        line = none_of_line [];
+        cut = (cut, (acts_before t s k start new [] TapeFails cut, refl));
+      })
 
   module _ (both : TakesBoth k) (start now new : Outside T S K) (r after : Record) (lines place : ℕ)
       (far : SoFar t s k start now r lines place) where
@@ -218,12 +264,24 @@ module _ {T S K : Type 0} {t : tapes.Meaning T} {s : sources.Meaning S} {k : sin
         )
 
     -- the source failed
-    source_failed : lines ≤ most_items → Cut t s k now new [] SourceFails → CutOff t s k start new SourceFails
-    source_failed few cut =
+    source_failed : lines ≤ most_items → Cut t s k now new [] SourceFails → GaveFront s now.source new.source →
+        CutOff t s k start new SourceFails
+    source_failed few cut front =
         let acts : List Act = train_acts (power_on far.known) far.trains in
-        cut_off start new now.source far.known far.trains SourceFails far.cartridge far.are (let n = far.number in omega arith) far.gave
-        (subst (λ (xs : List Act). Cut t s k start new xs SourceFails) (append-nil acts)
-        (went_then_cut t s k both start now new acts [] SourceFails far.went cut))
+        let R : List Act → Type 0 = λ done. ComeFirst far.known done far.trains in
+        let fewer : length far.trains ≤ most_items = (let n = far.number in omega arith) in
+        cut_off start new now.source far.known far.trains SourceFails far.cartridge far.are fewer far.gave (record {
+          trains = far.trains;
+          are = far.are;
+          few = fewer;
+          mid = now.source;
+          gave = far.gave;
+          came = front.0;
+          more = front.3;
+          line = front_in_line front.0 front.1 front.2;
+          cut = subst (λ (xs : List Act). CutBehind t s k start new xs SourceFails R) (append-nil acts)
+              (cut_then t s k both start now new acts [] SourceFails (λ done. Unit {0}) R far.went (cut, tt) (λ done any. (done, refl)));
+        })
 
     -- the act of a train was cut off
     act_failed : (failing : Failing) → lines < most_items →
@@ -231,21 +289,37 @@ module _ {T S K : Type 0} {t : tapes.Meaning T} {s : sources.Meaning S} {k : sin
         CutOff t s k start new failing
     act_failed failing few heard =
         let before : Record = after_trains (power_on far.known) far.trains in
+        let acts : List Act = train_acts (power_on far.known) far.trains in
+        let R : List Act → Type 0 = λ done. ComeFirst far.known done far.trains in
+        let cut : Cut t s k now new (train_act before heard.train ∷ []) failing =
+        subst (λ (x : Record). Cut t s k now new (train_act x heard.train ∷ []) failing) far.drive heard.came in
         cut_off start new new.source far.known (push far.trains heard.train) failing far.cartridge
         (ArePulses-push far.trains heard.train far.are heard.pulse)
-        (let n = far.number in let l = length_push far.trains heard.train in omega arith) (gave_push heard.train heard.gave)
-        (subst (λ (acts : List Act). Cut t s k start new acts failing)
-        (sym (train_acts-append (power_on far.known) far.trains (heard.train ∷ [])))
-        (went_then_cut t s k both start now new (train_acts (power_on far.known) far.trains)
-        (train_act before heard.train ∷ []) failing far.went
-        (subst (λ (x : Record). Cut t s k now new (train_act x heard.train ∷ []) failing) far.drive heard.came)))
+        (let n = far.number in let l = length_push far.trains heard.train in omega arith) (gave_push heard.train heard.gave) (record {
+          trains = far.trains;
+          are = far.are;
+          few = let n = far.number in omega arith;
+          mid = now.source;
+          gave = far.gave;
+          came = train_line heard.train;
+          more = heard.gave;
+          line = (
+            pulse_short (train_line heard.train) heard.train heard.pulse,
+            IsLined-one_newline (λ text. IsTrain text heard.train) (train_line heard.train) (length (train_line heard.train)) refl
+                heard.pulse,
+          );
+          cut = subst (λ (xs : List Act). CutBehind t s k start new xs failing R)
+              (sym (train_acts-append (power_on far.known) far.trains (heard.train ∷ [])))
+              (cut_then t s k both start now new acts (train_act before heard.train ∷ []) failing (λ done. Unit {0}) R far.went (cut, tt)
+              (λ done any. (done, refl)));
+        })
 
     -- how a line ended it
     pub line_failed : lines < most_items → (why : PulseFault) → Hears t s k now new r after (lines + 1) place (Err why) →
         runs.PulsesEnd t s k start new after (Err why)
     line_failed few (fault.Script number at) hears = faulty number at (omega arith) hears.0 hears.1 hears.2 hears.3 hears.4
         (λ within. hears.5)
-    line_failed few fault.Source hears = source_failed (omega arith) hears
+    line_failed few fault.Source hears = source_failed (omega arith) hears.0 hears.1
     line_failed few fault.Sink hears = act_failed SinkFails few hears
     line_failed few fault.Tape hears = act_failed TapeFails few hears
 
@@ -264,6 +338,6 @@ module _ {T S K : Type 0} {t : tapes.Meaning T} {s : sources.Meaning S} {k : sin
       (hears.0 ∙ ap (λ (n : ℕ). n + 1) (sym all)) hears.1 hears.2 (λ within. absurd (omega arith))
   end_came both start now r source lines place far all nothing (Err fault.Source) later stood hears =
       source_failed both start now (record now { source = source }) r r lines place far (omega arith)
-      (source_cut now source nothing later hears)
+      (source_cut now source nothing later hears.0) hears.1
   end_came both start now r source lines place far all nothing (Err fault.Sink) later stood hears = absurd hears
   end_came both start now r source lines place far all nothing (Err fault.Tape) later stood hears = absurd hears

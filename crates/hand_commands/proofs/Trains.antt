@@ -1,16 +1,17 @@
 -- How `pulses` ended, by how the sending of its trains did.
 use Rattle.std.proofs.Common.{◌≡◌, ℕ, true, List, [], Option, Some, None, IfSome, Result, Ok, Err, refl, sym, ap, ◌∙◌, subst, inl, inr}
-use Rattle.std.proofs.Common.{append-nil}
+use Rattle.std.proofs.Common.{append-nil, ◌++◌}
 use Rattle.std.specs.Prelude.{is_some}
 use Rattle.qic_base.specs.Cartridge.{Cartridge, info_of}
 use Rattle.qic_base.specs.declared.tape.TapeInfo.{TapeInfo}
 use Rattle.qic_base.specs.Sink as sinks
 use Rattle.qic_base.specs.Source as sources
 use Rattle.qic_base.specs.Tape as tapes
-use Rattle.qic_base.specs.Acts.{Act, text_of, Outside, Failing, TapeFails, SourceFails, SinkFails, Cut}
-use Rattle.drive_spec.specs.Record.{Record}
+use Rattle.qic_base.specs.Acts.{Act, text_of, Outside, Failing, TapeFails, SourceFails, SinkFails}
+use Rattle.drive_spec.specs.Record.{Record, power_on}
 use Rattle.command_spec.specs.declared.words.Words.TheVariants as words
-use Rattle.command_spec.specs.Input.{IsPulse, Ending, AtEnd, AtStop, AtFault, IsPulses}
+use Rattle.command_spec.specs.Input.{IsPulse, Ending, AtEnd, AtStop, AtFault, IsPulses, Reaches, ReachesLine}
+use Rattle.command_laws.proofs.CutFronts.{CutBehind}
 use Rattle.command_laws.proofs.TextFaults.{fault_line}
 use Rattle.command_laws.proofs.TextInputs as inputs
 use Rattle.hand_commands.specs.declared.pulses.fault.PulseFault.{PulseFault}
@@ -21,8 +22,8 @@ use Rattle.command_laws.proofs.PulseMachineLaws.{one_outcome, run_of, sends_of}
 use Rattle.command_spec.specs.declared.status.Status.{Status}
 use Rattle.command_spec.specs.declared.status.Status.TheVariants as status
 use Rattle.command_spec.specs.Outcome.{CommandOutcome}
-use Rattle.command_spec.specs.Pulses.{SentOutcome, AreLevels}
-use Rattle.command_spec.specs.Machine.{InputLeft, fault_of, may_come_from, NamesFault, IsOfBytes, IsCutOff, CommandEnds}
+use Rattle.command_spec.specs.Pulses.{SentOutcome, AreLevels, train_acts}
+use Rattle.command_spec.specs.Machine.{InputLeft, fault_of, may_come_from, NamesFault, IsOfBytes, IsCutOff, CommandEnds, acts_before}
 use Rattle.qic_base.specs.Source.{IsInput}
 
 -- ---- the fault of an input
@@ -134,6 +135,23 @@ module _ {T S K : Type 0} (t : tapes.Meaning T) (s : sources.Meaning S) (k : sin
             (names_fault run.known run.input run.outcome answer run.plain run.answered);
       })
 
+  -- the trains before the fault, on the drive that the cartridge makes
+  abbrev Reached : (held : Option Cartridge) (failing : Failing) (input : List ℕ) (taken : ℕ) → List Act → Type 0
+  Reached held failing input taken done = Reaches IsPulse
+      (λ trains. (rest : List Act) × (done ≡ train_acts (power_on (info_of held)) trains ++ rest)) ReachesLine input taken
+
+  reaching : (held : Option Cartridge) (failing : Failing) (run : runs.CutOff t s k old new failing) (outcome : CommandOutcome) →
+      run.outcome.acts ≡ outcome.acts → run.known ≡ info_of held →
+      CutBehind t s k old new outcome.acts failing (Reached held failing run.input run.taken)
+  reaching held failing run outcome acts same =
+      subst (λ (xs : List Act). CutBehind t s k old new xs failing (Reached held failing run.input run.taken)) acts (
+        run.cut,
+        subst (λ (known : Option TapeInfo). Reaches IsPulse
+            (λ trains. (rest : List Act)
+            × (acts_before t s k old new run.outcome.acts failing run.cut ≡ train_acts (power_on known) trains ++ rest))
+            ReachesLine run.input run.taken) same run.reaches,
+      )
+
   cut_off : (failing : Failing) → runs.CutOff t s k old new failing → is_some (s.left new.source) ≡ is_some (s.left old.source) →
       CommandEnds t s k words.Pulses old new (fault_of failing)
   cut_off failing run tells = inr (
@@ -142,16 +160,22 @@ module _ {T S K : Type 0} (t : tapes.Meaning T) (s : sources.Meaning S) (k : sin
     record {
       told = over_known (t.told old.tape) (s.left old.source) run.known run.input
           (λ held input. IsOfBytes words.Pulses (s.left old.source) input
-          × ((outcome : CommandOutcome) → SentOutcome held input outcome → IsCutOff t s k words.Pulses old new failing outcome))
+          × ((outcome : CommandOutcome) → SentOutcome held input outcome → IsCutOff t s k words.Pulses held input old new failing outcome))
           run.over.cartridge run.over.bytes
           (λ held same. (
             λ is. absurd (cc),
-            λ outcome plain. record {
-              cut = subst (λ (acts : List Act). Cut t s k old new acts failing)
-                  (same_acts run.known held run.input run.outcome outcome same run.plain plain) run.cut;
-              done = λ sink still. absurd (cc);
-              silent = λ still. absurd (cc);
-            },
+            λ outcome plain.
+                let acts : run.outcome.acts ≡ outcome.acts =
+                same_acts run.known held run.input run.outcome outcome same run.plain plain in
+                let off = reaching held failing run outcome acts same in
+                record {
+                  cut = off.0;
+                  taken = run.taken;
+                  left = run.left;
+                  reaches = off.1;
+                  done = λ sink still. absurd (cc);
+                  silent = λ still. absurd (cc);
+                },
           ));
       acts = run.outcome.acts;
       cut = run.cut;

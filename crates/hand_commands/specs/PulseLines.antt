@@ -5,7 +5,7 @@ use Rattle.qic_base.specs.Acts.{Outside, TapeFails, SourceFails, SinkFails, Went
 use Rattle.drive_spec.specs.Record.{Record}
 use Rattle.command_spec.specs.Input.{IsPulse}
 use Rattle.qic_base.specs.SourceCalls.{Gave}
-use Rattle.tape_script.specs.Reading.{BeginsWithNo, GaveEnd, GaveNoEnd}
+use Rattle.tape_script.specs.Reading.{BeginsWithNo, GaveEnd, GaveFront, GaveNoEnd}
 use Rattle.hand_commands.specs.declared.pulses.fault.PulseFault.{PulseFault}
 use Rattle.command_spec.specs.Pulses.{train_line}
 use Rattle.command_laws.specs.PulseRuns.{train_act}
@@ -42,7 +42,8 @@ Hears t s k old new before after line place (Ok None) =
     Went t s k old new [] × (after ≡ before) × GaveEnd s old.source new.source
 Hears t s k old new before after line place (Err (fault.Script number at)) =
     Went t s k old new [] × (after ≡ before) × (number ≡ line) × (at ≡ place) × GaveNoEnd s old.source new.source × HasNoTrain s old.source
-Hears t s k old new before after line place (Err fault.Source) = Cut t s k old new [] SourceFails
+Hears t s k old new before after line place (Err fault.Source) =
+    Cut t s k old new [] SourceFails × GaveFront s old.source new.source
 Hears t s k old new before after line place (Err fault.Sink) =
     Heard s old.source new.source (λ train. Cut t s k old new (train_act before train ∷ []) SinkFails)
 Hears t s k old new before after line place (Err fault.Tape) =
@@ -52,6 +53,6 @@ Hears t s k old new before after line place (Err fault.Tape) =
 abbrev pub HearsEnd : {S : Type 0} (s : sources.Meaning S) (old new : S) (line place : ℕ) → Result (Unit {0}) PulseFault → Type 0
 HearsEnd s old new line place (Ok done) = GaveEnd s old new
 HearsEnd s old new line place (Err (fault.Script number at)) = (number ≡ line) × (at ≡ place) × GaveNoEnd s old new
-HearsEnd s old new line place (Err fault.Source) = Rose (s.faults old) (s.faults new)
+HearsEnd s old new line place (Err fault.Source) = Rose (s.faults old) (s.faults new) × GaveFront s old new
 HearsEnd s old new line place (Err fault.Sink) = ⊥
 HearsEnd s old new line place (Err fault.Tape) = ⊥

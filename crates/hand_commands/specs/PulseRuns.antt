@@ -1,12 +1,15 @@
 -- What a run of `pulses` did to the outside (this project's own).
-use Rattle.std.specs.Prelude.{◌≡◌, ℕ, List, drop, Option, IfSome, Result, Ok, Err}
+use Rattle.std.specs.Prelude.{◌≡◌, ℕ, List, ◌++◌, drop, Option, IfSome, Result, Ok, Err}
 use Rattle.std.specs.Option.{option_map}
 use Rattle.qic_base.specs.declared.tape.TapeInfo.{TapeInfo}
 use Rattle.qic_base.specs.Sink as sinks
 use Rattle.qic_base.specs.Source as sources
 use Rattle.qic_base.specs.Tape as tapes
-use Rattle.qic_base.specs.Acts.{Outside, Failing, TapeFails, SourceFails, SinkFails, Went, Cut}
-use Rattle.drive_spec.specs.Record.{Record}
+use Rattle.qic_base.specs.Acts.{Act, Outside, Failing, TapeFails, SourceFails, SinkFails, Went, Cut}
+use Rattle.command_spec.specs.Input.{IsPulse, Reaches, ReachesLine}
+use Rattle.command_spec.specs.Machine.{acts_before}
+use Rattle.command_spec.specs.Pulses.{train_acts}
+use Rattle.drive_spec.specs.Record.{Record, power_on}
 use Rattle.hand_commands.specs.declared.pulses.fault.PulseFault.{PulseFault}
 use Rattle.hand_commands.specs.declared.pulses.fault.PulseFault.TheVariants as fault
 use Rattle.tape_script.specs.Reading.{LeftFromLine}
@@ -39,7 +42,8 @@ pub record Ended {T S K : Type 0} (t : tapes.Meaning T) (s : sources.Meaning S) 
   pub went : Went t s k old new outcome.acts
   pub left : Leaves s old.source new.source outcome.taken answer
 
--- A fault of this object of the outside cut it off, in the midst of the acts of the plain machine's outcome.
+-- A fault of this object of the outside cut it off, in the midst of the acts of the plain machine's outcome; of the input the lines
+-- were taken whose acts were done and written, and into the one behind them.
 pub record CutOff {T S K : Type 0} (t : tapes.Meaning T) (s : sources.Meaning S) (k : sinks.Meaning K) (old new : Outside T S K)
     (failing : Failing) : Type 0 where
   pub known : Option TapeInfo
@@ -48,6 +52,11 @@ pub record CutOff {T S K : Type 0} (t : tapes.Meaning T) (s : sources.Meaning S)
   pub outcome : PulseRun
   pub plain : PulsesOutcome known input outcome
   pub cut : Cut t s k old new outcome.acts failing
+  pub taken : ℕ
+  pub left : s.left new.source ≡ option_map (drop taken) (s.left old.source)
+  pub reaches : Reaches IsPulse
+      (λ trains. (rest : List Act)
+      × (acts_before t s k old new outcome.acts failing cut ≡ train_acts (power_on known) trains ++ rest)) ReachesLine input taken
 
 -- how a run ended, and with which drive
 abbrev pub PulsesEnd : {T S K : Type 0} (t : tapes.Meaning T) (s : sources.Meaning S) (k : sinks.Meaning K) (old new : Outside T S K)

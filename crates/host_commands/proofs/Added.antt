@@ -434,6 +434,9 @@ module _ {T S K : Type 0} (t : tapes.Meaning T) (s : sources.Meaning S) (k : sin
       prints_line : CommandPrints (words.Append name date) (text_of acts)
       prints_line = (length store.entries + 1, (entry.size, (entry.start, (entry.end, text_is))))
 
+      left_behind : s.left j ≡ option_map (drop outcome.taken) (s.left i)
+      left_behind = subst (λ (n : ℕ). s.left j ≡ option_map (drop n) (s.left i)) (sym (ap (bytes_taken None) ran.took)) ran.left
+
       -- the reply was written, ..
       pub append_done : (y : K) → sinks.Wrote k x y (reply entry) → CommandEnds t s k (words.Append name date) (outside a i x)
           (outside c j y) status.Done
@@ -442,7 +445,7 @@ module _ {T S K : Type 0} (t : tapes.Meaning T) (s : sources.Meaning S) (k : sin
         answered = sym is_done;
         told = told_ran j c (Fits has.bytes) free ran;
         went = replied y wrote;
-        left = subst (λ (n : ℕ). s.left j ≡ option_map (drop n) (s.left i)) (sym (ap (bytes_taken None) ran.took)) ran.left;
+        left = left_behind;
         sound = refl;
         none_taken = λ blind. absurd (cc);
         prints = ((λ is. prints_line), (λ other. absurd (other refl)));
@@ -454,8 +457,15 @@ module _ {T S K : Type 0} (t : tapes.Meaning T) (s : sources.Meaning S) (k : sin
       pub append_unsaid : (y : K) → sink_calls.BrokeOff k x y (reply entry) → CommandEnds t s k (words.Append name date) (outside a i x)
           (outside c j y) status.SinkFault
       append_unsaid y broke =
-          let off : IsCutOff t s k (words.Append name date) (outside a i x) (outside c j y) SinkFails outcome =
-          record { cut = broken y broke; done = λ same still. (is_done, all_did); silent = λ still. none_before } in
+          let off : (d : Cartridge) → IsCutOff t s k (words.Append name date) (Some d) ran.input (outside a i x) (outside c j y) SinkFails
+          outcome = λ d. record {
+            cut = broken y broke;
+            taken = outcome.taken;
+            left = left_behind;
+            reaches = omega arith;
+            done = λ same still. (is_done, all_did);
+            silent = λ still. none_before;
+          } in
           inr (
             SinkFails,
             refl,
@@ -467,9 +477,9 @@ module _ {T S K : Type 0} (t : tapes.Meaning T) (s : sources.Meaning S) (k : sin
                     (
                       (λ no. ran.content),
                       λ other plain.
-                          subst (IsCutOff t s k (words.Append name date) (outside a i x) (outside c j y) SinkFails)
+                          subst (IsCutOff t s k (words.Append name date) (Some d) ran.input (outside a i x) (outside c j y) SinkFails)
                           (plain_is_function (words.Append name date) (Some d) ran.input outcome other
-                          (is_plain ran.table ran.settling ran.input d is f) plain) off,
+                          (is_plain ran.table ran.settling ran.input d is f) plain) (off d),
                     ),
                   ));
               acts = outcome.acts;
@@ -530,6 +540,16 @@ module _ {T S K : Type 0} (t : tapes.Meaning T) (s : sources.Meaning S) (k : sin
         (is_plain is.table (settling_steps is.table (settled is.table c)) input c is
         (record { known = known; reads = (settled_keeps_table c is.table is.mounts.reads).table; settles = refl }))
 
+    -- no more was taken than that takes
+    no_more_taken : (c : Cartridge) (is : IsOpened c store opening.steps) → IsKnown (settled is.table c) store false → (input : List ℕ)
+        (outcome : CommandOutcome) → AppendOutcome name date (Some c) input outcome → (n : ℕ) → n ≤ length input →
+        n ≤ room store.words store.entries + 1 → n ≤ outcome.taken
+    no_more_taken c is known input outcome plain n there few =
+        let all : outcome.taken ≡ min (length input) (room store.words store.entries + 1) =
+        ap (λ (o : CommandOutcome). o.taken) (plain_is c is known input outcome plain)
+        ∙ taken_is (room store.words store.entries) input in
+        omega arith
+
     abbrev Cuts : (c : T) (j : S) (input : List ℕ) (failing : Failing) → Cartridge → Type 0
     Cuts c j input failing d =
         IsKnown d store false × ((table : List (List ℕ)) → TableIs d table → (reply : Entry → List ℕ) →
@@ -571,6 +591,9 @@ module _ {T S K : Type 0} (t : tapes.Meaning T) (s : sources.Meaning S) (k : sin
                         let all = ap (λ (xs : List Act). quiet opening.steps ∷ xs) off.parts
                         ∙ sym (ap (λ (o : CommandOutcome). o.acts) same) in record {
                           cut = tape_behind c j _ nothing off outcome.acts all;
+                          taken = cut.taken;
+                          left = cut.left;
+                          reaches = no_more_taken d is each.0 cut.input outcome plain cut.taken cut.there cut.few;
                           done = λ sink still. absurd (cc);
                           silent = λ still. off.wrote.took;
                         },
@@ -591,7 +614,7 @@ module _ {T S K : Type 0} (t : tapes.Meaning T) (s : sources.Meaning S) (k : sin
                 ∙ once.wrote.took);
             silent = λ still unlike. refl;
             reads = λ same. absurd (cc);
-            source_tells = cut.tells;
+            source_tells = ap is_some cut.left ∙ is_some-option_map (drop cut.taken) (s.left i);
           },
         )
       where
@@ -623,6 +646,9 @@ module _ {T S K : Type 0} (t : tapes.Meaning T) (s : sources.Meaning S) (k : sin
                         let all = ap (λ (xs : List Act). quiet opening.steps ∷ xs) off.parts
                         ∙ sym (ap (λ (o : CommandOutcome). o.acts) same) in record {
                           cut = source_behind c j _ nothing off outcome.acts off.rest all;
+                          taken = cut.taken;
+                          left = cut.left;
+                          reaches = no_more_taken d is each.0 cut.input outcome plain cut.taken cut.there cut.few;
                           done = λ sink still. absurd (cc);
                           silent = λ still. off.wrote.took;
                         },
@@ -633,7 +659,7 @@ module _ {T S K : Type 0} (t : tapes.Meaning T) (s : sources.Meaning S) (k : sin
             front = unsaid (text_of-append once.front [] ∙ append-nil (text_of once.front) ∙ once.wrote.took);
             silent = λ still unlike. refl;
             reads = λ same. refl;
-            source_tells = cut.tells;
+            source_tells = ap is_some cut.left ∙ is_some-option_map (drop cut.taken) (s.left i);
           },
         )
       where

@@ -115,6 +115,9 @@ module _ {T K : Type 0} (t : tapes.Meaning T) (k : sinks.Meaning K) (a b : T) (x
               appends_none words.Check None [] refl,
               λ outcome does. record {
                 cut = each outcome does;
+                taken = 0;
+                left = refl;
+                reaches = omega arith;
                 done = λ sink still. absurd (cc);
                 silent = λ still. absurd (cc);
               },

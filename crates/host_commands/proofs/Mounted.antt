@@ -31,7 +31,8 @@ use Rattle.command_laws.specs.RunTerms.{EndsBlind}
 use Rattle.command_laws.proofs.CommandOpened.{quiet}
 use Rattle.command_laws.proofs.CommandTold.{input_told, input_bytes}
 use Rattle.command_spec.specs.Machine.{may_come_from, CommandEnds}
-use Rattle.command_laws.proofs.CommandEndings.{Rules, nothing_front}
+use Rattle.command_laws.proofs.CommandEndings.{Rules, none_reached, nothing_front}
+use Rattle.volume_store.proofs.Ending.{none_left}
 use Rattle.volume_store.proofs.Mounted.{cut_first}
 use Rattle.volume_store.proofs.Started.{Present}
 use Rattle.cartridge_front.specs.declared.fault.StoreFault.{StoreFault}
@@ -333,6 +334,9 @@ input_unread t s k command a b i x cut nothing front = inr (
         (λ is. input_bytes (s.left i)),
         λ outcome plain. record {
           cut = opening_cut t s k nothing a b i x cut.steps outcome.acts (begins outcome plain).0 (begins outcome plain).1 cut.broke;
+          taken = 0;
+          left = none_left (s.left i);
+          reaches = none_reached command held (input_of (s.left i)) outcome [];
           done = λ sink still. absurd (cc);
           silent = λ still. refl;
         },

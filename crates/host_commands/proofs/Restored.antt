@@ -168,14 +168,14 @@ module _ {T K : Type 0} (t : tapes.Meaning T) (k : sinks.Meaning K) (number : �
       volume_at store.entries number ≡ Some e → (d : Cartridge) → (is : IsOpened d store opening.steps) →
       ((acts : List Act) (ending : GivingEnd) → Restores (mounting.settled is.table d) store.words (needed e) acts ending →
       Cut t no_source k (around b.tape x) (around c y) acts failing) →
-      (outcome : CommandOutcome) → RestoreOutcome number (Some d) outcome → IsCutOff t no_source k (words.Restore number) (around a x)
-      (around c y) failing outcome
+      (outcome : CommandOutcome) → RestoreOutcome number (Some d) outcome →
+      IsCutOff t no_source k (words.Restore number) (Some d) [] (around a x) (around c y) failing outcome
   restoring_cut c x y e failing both nothing numbered d is each outcome (m, mounts, does) =
       let same : m ≡ mounting.Mounted store.header store.words is.table store.entries = mounts_is_function d m _ mounts is.mounts in
       by_volume (subst (λ (n : Mounting). Opened (Gives number) d n outcome) same does)
     where
-      by_volume : Gives number d store.header store.words is.table store.entries outcome → IsCutOff t no_source k (words.Restore number)
-          (around a x) (around c y) failing outcome
+      by_volume : Gives number d store.header store.words is.table store.entries outcome →
+          IsCutOff t no_source k (words.Restore number) (Some d) [] (around a x) (around c y) failing outcome
       by_volume (inl none) = let p = none.0 in absurd (cc)
       by_volume (inr found) =
           let p = found.numbered in
@@ -186,13 +186,16 @@ module _ {T K : Type 0} (t : tapes.Meaning T) (k : sinks.Meaning K) (number : �
           let cut : Cut t no_source k (around a x) (around c y) (quiet opening.steps ∷ acts) failing =
           cut_behind t no_source k both nothing a b.tape tt x (around c y) opening.steps acts failing opening.did
           (each acts found.ending restores) in
-          let off : IsCutOff t no_source k (words.Restore number) (around a x) (around c y) failing
+          let off : IsCutOff t no_source k (words.Restore number) (Some d) [] (around a x) (around c y) failing
           (given (quiet opening.steps ∷ acts) (ending_status found.ending)) = record {
             cut = cut;
+            taken = 0;
+            left = refl;
+            reaches = omega arith;
             done = λ sink still. absurd (cc);
             silent = λ still. absurd (cc);
           } in
-          subst (IsCutOff t no_source k (words.Restore number) (around a x) (around c y) failing)
+          subst (IsCutOff t no_source k (words.Restore number) (Some d) [] (around a x) (around c y) failing)
           (ap (λ (ss : List TapeStep). given (quiet ss ∷ acts) (ending_status found.ending)) is.settles ∙ sym found.is) off
 
   -- a fault cut that off

@@ -27,7 +27,8 @@ use Rattle.volume_store.specs.Scrubbing.{MendEnds}
 use Rattle.command_spec.specs.declared.status.Status.{Status}
 use Rattle.command_spec.specs.Outcome.{CommandOutcome, Opened, WritableOutcome}
 use Rattle.volume_store.specs.Opening.{HasOpened}
-use Rattle.command_spec.specs.Machine.{IsCutOff, fault_of, may_come_from}
+use Rattle.command_spec.specs.Machine.{IsCutOff, acts_before, fault_of, may_come_from}
+use Rattle.command_laws.proofs.CommandEndings.{none_reached}
 use Rattle.volume_store.proofs.Opened.{IsKnown, went_behind, cut_behind, settled_told, opened_known, known_before, found_locked, never_both}
 use Rattle.volume_store.proofs.Opened.{unlocked}
 use Rattle.command_laws.proofs.CommandOpened.{quiet}
@@ -192,25 +193,29 @@ module _ (command : Words) (depth : Depth) (form : IsForm command depth) where
         (is : IsOpened d store opening.steps) → d.info.protected ≡ false →
         ((acts : List Act) → ScrubsAs depth (settled is.table d) store.words store.entries acts → Cut t no_source k (around b.tape x)
         (around c y) acts failing) →
-        (outcome : CommandOutcome) → WritableOutcome (ScrubsBy depth) (Some d) outcome → IsCutOff t no_source k command (around a x)
-        (around c y) failing outcome
+        (outcome : CommandOutcome) → WritableOutcome (ScrubsBy depth) (Some d) outcome →
+        IsCutOff t no_source k command (Some d) [] (around a x) (around c y) failing outcome
     mounted_cut c x y failing both nothing d is free each outcome (inl locked) = let p = locked.0 in absurd (cc)
     mounted_cut c x y failing both nothing d is free each outcome (inr (unlocked, (m, mounts, opened))) =
         let same : m ≡ mounting.Mounted store.header store.words is.table store.entries = mounts_is_function d m _ mounts is.mounts in
         by_acts (subst (λ (n : Mounting). Opened (ScrubsBy depth) d n outcome) same opened)
       where
-        by_acts : ScrubsBy depth d store.header store.words is.table store.entries outcome → IsCutOff t no_source k command (around a x)
-            (around c y) failing outcome
+        by_acts : ScrubsBy depth d store.header store.words is.table store.entries outcome →
+            IsCutOff t no_source k command (Some d) [] (around a x) (around c y) failing outcome
         by_acts on =
             let acts : List Act = on.acts in
             let cut : Cut t no_source k (around a x) (around c y) (quiet opening.steps ∷ acts) failing =
             cut_behind t no_source k both nothing a b.tape tt x (around c y) opening.steps acts failing opening.did (each acts on.scrubs) in
-            let off : IsCutOff t no_source k command (around a x) (around c y) failing (mended (quiet opening.steps ∷ acts)) = record {
+            let all : List Act = quiet opening.steps ∷ acts in
+            let off : IsCutOff t no_source k command (Some d) [] (around a x) (around c y) failing (mended all) = record {
               cut = cut;
+              taken = 0;
+              left = refl;
+              reaches = none_reached command (Some d) [] (mended all) (acts_before t no_source k (around a x) (around c y) all failing cut);
               done = λ sink still. let loud = form.prints in absurd (cc);
               silent = λ still. let loud = form.prints in absurd (cc);
             } in
-            subst (IsCutOff t no_source k command (around a x) (around c y) failing)
+            subst (IsCutOff t no_source k command (Some d) [] (around a x) (around c y) failing)
             (ap (λ (ss : List TapeStep). mended (quiet ss ∷ acts)) is.settles ∙ sym on.is) off
 
     -- a fault cut that off, over any tape in such acts

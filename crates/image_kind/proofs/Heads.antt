@@ -1,7 +1,7 @@
 -- The first eight bytes of a file, as a read gives them.
-use Rattle.std.proofs.Common.{◌≡◌, ◌≢◌, ℕ, ◌-◌, ◌<◌, ◌≤◌, nat_eq, nat_le, min, Bool, false, true, List, length}
+use Rattle.std.proofs.Common.{◌≡◌, ◌≢◌, ℕ, ◌-◌, ◌<◌, nat_eq, min, Bool, List, length}
 use Rattle.std.proofs.Common.{take, drop, Option, Some, None, IfSome}
-use Rattle.std.proofs.Common.{refl, sym, ap, ap₂, ◌∙◌, arith}
+use Rattle.std.proofs.Common.{sym, ap, ap₂, ◌∙◌, arith}
 use Rattle.std.proofs.lemmas.List.{take_all}
 use Rattle.image_kind.specs.Free.{free_by, is_free, is_stopped_len}
 

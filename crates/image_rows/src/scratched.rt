@@ -1,6 +1,6 @@
 //! A disk of which some bytes can't be read.
 
-ghost use Rattle.std.specs.Prelude.{◌≡◌, ◌≤◌, false};
+ghost use Rattle.std.specs.Prelude.{◌≡◌, ◌≤◌, false, None};
 ghost use Rattle.qic_base.specs.Tape.{Rose};
 
 use qic_base::{Disk, DiskFailed};
@@ -21,7 +21,7 @@ pub struct Scratched {
 }
 
 impl Model for Scratched {
-    ghost use Rattle.std.specs.Prelude.{ℕ, false};
+    ghost use Rattle.std.specs.Prelude.{ℕ, false, None};
     ghost use Rattle.tape_files.specs.Edge.{FileState};
 
     ghost Value = { FileState ℕ };
@@ -32,6 +32,7 @@ impl Model for Scratched {
       seen = d.seen;
       faults = d.faults;
       failed_changes = d.failed_changes;
+      failure = None;
     } };
 }
 
@@ -44,6 +45,7 @@ impl Scratched {
           seen = 0;
           faults = 0;
           failed_changes = 0;
+          failure = None;
         } }
     {
         Scratched {

@@ -5,7 +5,7 @@ use std::fs;
 use std::fs::{File, OpenOptions};
 use std::os::unix::fs::FileExt;
 use std::test::Fail;
-use tape_files::{FileDisk, NoImage, StderrSink, StdinSource, StdoutSink, open_image};
+use tape_files::{Failure, FileDisk, NoImage, StderrSink, StdinSource, StdoutSink, open_image};
 
 type Shown = (
     [Result<(), DiskFailed>; 4],
@@ -77,6 +77,9 @@ fn a_file_that_others_grow_and_cut_is_seen(rt: HostRuntime) -> Result<(), Fail> 
     Ok(())
 }
 
+/// Linux's number for a path below what is no folder.
+const ENOTDIR: u32 = 20;
+
 fn refusal(rt: &HostRuntime, path: &str) -> Option<NoImage> {
     open_image(rt, path).err()
 }
@@ -106,7 +109,7 @@ fn only_a_regular_file_that_nobody_has_is_an_image(rt: HostRuntime) -> Result<()
         Some(NoImage::Locked),
         Some(NoImage::NotRegular),
         Some(NoImage::NotRegular),
-        Some(NoImage::NotOpened),
+        Some(NoImage::NotOpened(Failure::Number(ENOTDIR))),
     ];
     assert_eq!(rt; seen, (want, None, true));
     Ok(())

@@ -7,7 +7,7 @@ use std::io::{ErrorKind, Write};
 use std::path::PathBuf;
 use std::test::Fail;
 use std::{fs, io};
-use tape_files::{NoImage, open_image, open_to_read};
+use tape_files::{Failure, NoImage, open_image, open_to_read};
 
 /// What was asked, a letter for each: `k` for the kind of what a path names, `l` for what a link names; and for an open
 /// `w` where it writes, `c` where it makes a new file, and `r` where it reads alone.
@@ -149,6 +149,9 @@ const KEPT: &str = "kept-of-a-test.img";
 /// No file at first.
 const MADE: &str = "made-of-a-test.img";
 
+/// Linux's number for a file that is there already.
+const EEXIST: u32 = 17;
+
 /// A path whose kind is asked first, so a device is not even opened; the answers to an open to write; and what the
 /// open file is, and its name once it is locked. Between the name and the lock stand the kinds of the three streams.
 const TABLE: [(Case<'static>, Option<NoImage>, &[u8; 12]); 10] = [
@@ -185,12 +188,12 @@ const TABLE: [(Case<'static>, Option<NoImage>, &[u8; 12]); 10] = [
     ),
     (
         (KEPT, Some(ErrorKind::NotFound), None),
-        Some(NoImage::NotOpened),
+        Some(NoImage::NotMade(Failure::Number(EEXIST))),
         b"kwlc--------",
     ),
     (
         (KEPT, Some(ErrorKind::StorageFull), None),
-        Some(NoImage::NotOpened),
+        Some(NoImage::NotOpened(Failure::Untold)),
         b"kw----------",
     ),
     ((MADE, None, None), None, b"kwlckkkklr--"),

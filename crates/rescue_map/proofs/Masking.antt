@@ -1,10 +1,11 @@
 -- Masks of sectors.
-use Rattle.std.proofs.Common.{◌≡◌, ◌≢◌, ◌⊎◌, ◌↔◌, inl, inr, ⊎_elim, ℕ, ◌+◌, ◌*◌, ◌/◌, ◌%◌, ◌^◌, ◌<◌, ◌≤◌, List, length, get_or, set, max}
-use Rattle.std.proofs.Common.{bit_or, sym, ap, ◌∙◌, subst, arith}
+use Rattle.std.proofs.Common.{◌≡◌, ◌≢◌, ◌⊎◌, ◌↔◌, inl, inr, ⊎_elim, ℕ, ◌+◌, ◌-◌, ◌*◌, ◌/◌, ◌%◌, ◌^◌, ◌<◌, ◌≤◌, List, length, get_or, set}
+use Rattle.std.proofs.Common.{min, max}
+use Rattle.std.proofs.Common.{bit_or, sym, ap, ◌∙◌, arith}
 use Rattle.std.specs.Int.{bit_at, w32}
 use Rattle.std.proofs.lemmas.Bool.{cases_eq, cases_lt}
 use Rattle.std.proofs.lemmas.List.{get_or_past, get_or-set_same, get_or-set_other}
-use Rattle.std.proofs.lemmas.Nat.Bits.{bit_at-zero, bit_at_set_same, bit_at_set_other}
+use Rattle.std.proofs.lemmas.Nat.Bits.{bit_at-zero, bit_at_ones, bit_at_set_same, bit_at_set_other}
 use Rattle.rescue_map.specs.Mask.{IsMarked}
 
 -- a mask of zero words has no sector
@@ -17,68 +18,85 @@ none_marked mask zero sector marked =
     let one : bit_at (get_or mask (sector / 32) 0) (sector % 32) ≡ 1 = marked in
     omega arith
 
--- ---- one sector more
+-- ---- one word more
 
-abbrev pub with_sector : List ℕ → ℕ → List ℕ
-with_sector mask sector = set mask (sector / 32) (bit_or (get_or mask (sector / 32) 0) (1 * 2 ^ (sector % 32) % 2 ^ 32))
-
-mark_here : (mask : List ℕ) (sector : ℕ) → sector / 32 < length mask → IsMarked (with_sector mask sector) sector
-mark_here mask sector here =
-    ap (λ (n : ℕ). bit_at n (sector % 32))
-    (get_or-set_same mask (sector / 32) (bit_or (get_or mask (sector / 32) 0) (1 * 2 ^ (sector % 32) % 2 ^ 32)) 0 here)
-    ∙ bit_at_set_same w32 (get_or mask (sector / 32) 0) (sector % 32) (omega arith)
-
-mark_other : (mask : List ℕ) (sector other : ℕ) → sector / 32 < length mask → other ≢ sector →
-    bit_at (get_or (with_sector mask sector) (other / 32) 0) (other % 32) ≡ bit_at (get_or mask (other / 32) 0) (other % 32)
-mark_other mask sector other here differ = ⊎_elim one_word two_words (cases_eq (other / 32) (sector / 32)) where
-  new : ℕ
-  new = bit_or (get_or mask (sector / 32) 0) (1 * 2 ^ (sector % 32) % 2 ^ 32)
-
-  one_word : other / 32 ≡ sector / 32 → bit_at (get_or (with_sector mask sector) (other / 32) 0) (other % 32) ≡ bit_at
-      (get_or mask (other / 32) 0) (other % 32)
-  one_word e =
-      let bit : other % 32 ≢ sector % 32 = λ same. differ (omega arith) in
-      ap (λ (k : ℕ). bit_at (get_or (with_sector mask sector) k 0) (other % 32)) e
-      ∙ ap (λ (n : ℕ). bit_at n (other % 32))
-      (get_or-set_same mask (sector / 32) (bit_or (get_or mask (sector / 32) 0) (1 * 2 ^ (sector % 32) % 2 ^ 32)) 0 here)
-      ∙ bit_at_set_other w32 (get_or mask (sector / 32) 0) (sector % 32) (omega arith) (other % 32) bit
-      ∙ ap (λ (k : ℕ). bit_at (get_or mask k 0) (other % 32)) (sym e)
-
-  two_words : other / 32 ≢ sector / 32 → bit_at (get_or (with_sector mask sector) (other / 32) 0) (other % 32) ≡ bit_at
-      (get_or mask (other / 32) 0) (other % 32)
-  two_words e = ap (λ (n : ℕ). bit_at n (other % 32))
-      (get_or-set_other mask (sector / 32) (other / 32) (bit_or (get_or mask (sector / 32) 0) (1 * 2 ^ (sector % 32) % 2 ^ 32)) 0 e)
-
--- the sectors from the first on up to this one are marked, and then this one, too
-pub mark_next : (old mask : List ℕ) (first sector : ℕ) → first ≤ sector → sector / 32 < length mask → (q : ℕ) →
-    (IsMarked mask q ↔ (IsMarked old q ⊎ ((first ≤ q) × (q < sector)))) →
-    (IsMarked (with_sector mask sector) q ↔ (IsMarked old q ⊎ ((first ≤ q) × (q < sector + 1))))
-mark_next old mask first sector behind here q far = ⊎_elim is_it is_other (cases_eq q sector) where
-  is_it : q ≡ sector → (IsMarked (with_sector mask sector) q ↔ (IsMarked old q ⊎ ((first ≤ q) × (q < sector + 1))))
+-- no bit of a word was marked, and then one after the other
+pub bit_next : (old word from bit b : ℕ) → bit < 32 → from ≤ bit → b < 32 →
+    ((bit_at word b ≡ 1) ↔ ((bit_at old b ≡ 1) ⊎ ((from ≤ b) × (b < bit)))) →
+    ((bit_at (bit_or word (1 * 2 ^ bit % 2 ^ 32)) b ≡ 1) ↔ ((bit_at old b ≡ 1) ⊎ ((from ≤ b) × (b < bit + 1))))
+bit_next old word from bit b within low small far = ⊎_elim is_it is_other (cases_eq b bit) where
+  is_it : b ≡ bit → ((bit_at (bit_or word (1 * 2 ^ bit % 2 ^ 32)) b ≡ 1) ↔ ((bit_at old b ≡ 1) ⊎ ((from ≤ b) × (b < bit + 1))))
   is_it e = (
     (λ m. inr (omega arith, omega arith)),
-    (λ m. let P : ℕ → Type 0 = λ n. IsMarked (with_sector mask sector) n in subst P (sym e) (mark_here mask sector here)),
+    (λ m. ap (λ (n : ℕ). bit_at (bit_or word (1 * 2 ^ bit % 2 ^ 32)) n) e ∙ bit_at_set_same w32 word bit within),
   )
 
-  is_other : q ≢ sector → (IsMarked (with_sector mask sector) q ↔ (IsMarked old q ⊎ ((first ≤ q) × (q < sector + 1))))
+  is_other : b ≢ bit → ((bit_at (bit_or word (1 * 2 ^ bit % 2 ^ 32)) b ≡ 1) ↔ ((bit_at old b ≡ 1) ⊎ ((from ≤ b) × (b < bit + 1))))
   is_other e =
-      let same = mark_other mask sector q here e in (
-        (λ m. ⊎_elim (λ o. inl o) (λ r. let a = r.0 in let b = r.1 in inr (omega arith, omega arith)) (far.0 (sym same ∙ m))),
-        (λ m. same ∙ far.1 (⊎_elim (λ o. inl o) (λ r. let a = r.0 in let b = r.1 in inr (omega arith, omega (arith, e))) m)),
+      let same = bit_at_set_other w32 word bit within b e in (
+        (λ m. ⊎_elim (λ o. inl o) (λ r. let x = r.0 in let y = r.1 in inr (omega arith, omega arith)) (far.0 (sym same ∙ m))),
+        (λ m. same ∙ far.1 (⊎_elim (λ o. inl o) (λ r. let x = r.0 in let y = r.1 in inr (omega arith, omega (arith, e))) m)),
       )
 
 -- up to the end
-pub mark_until : (old mask : List ℕ) (first sector end : ℕ) → sector ≤ max first end → end ≤ sector → (q : ℕ) →
-    (IsMarked mask q ↔ (IsMarked old q ⊎ ((first ≤ q) × (q < sector)))) → (IsMarked mask q ↔ (IsMarked old q ⊎ ((first ≤ q) × (q < end))))
-mark_until old mask first sector end within past q far = (
-  (λ m. ⊎_elim (λ o. inl o) (λ r. let a = r.0 in let b = r.1 in inr (omega arith, omega arith)) (far.0 m)),
-  (λ m. far.1 (⊎_elim (λ o. inl o) (λ r. let a = r.0 in let b = r.1 in inr (omega arith, omega arith)) m)),
+pub bits_over : (old word from to bit b : ℕ) → bit ≤ max from to → to ≤ bit →
+    ((bit_at word b ≡ 1) ↔ ((bit_at old b ≡ 1) ⊎ ((from ≤ b) × (b < bit)))) →
+    ((bit_at word b ≡ 1) ↔ ((bit_at old b ≡ 1) ⊎ ((from ≤ b) × (b < to))))
+bits_over old word from to bit b within past far = (
+  (λ m. ⊎_elim (λ o. inl o) (λ r. let x = r.0 in let y = r.1 in inr (omega arith, omega arith)) (far.0 m)),
+  (λ m. far.1 (⊎_elim (λ o. inl o) (λ r. let x = r.0 in let y = r.1 in inr (omega arith, omega arith)) m)),
 )
 
--- behind the end of the mask no sector of it is left
-pub mark_end : (old mask : List ℕ) (first sector end : ℕ) → sector < end → length mask ≤ sector / 32 → (q : ℕ) → q < 32 * length mask →
-    (IsMarked mask q ↔ (IsMarked old q ⊎ ((first ≤ q) × (q < sector)))) → (IsMarked mask q ↔ (IsMarked old q ⊎ ((first ≤ q) × (q < end))))
-mark_end old mask first sector end before past q within far = (
-  (λ m. ⊎_elim (λ o. inl o) (λ r. let a = r.0 in let b = r.1 in inr (omega arith, omega arith)) (far.0 m)),
-  (λ m. far.1 (⊎_elim (λ o. inl o) (λ r. let a = r.0 in let b = r.1 in inr (omega arith, omega arith)) m)),
+-- a full word has them all
+pub full_word : (word from to b : ℕ) → word ≡ 4294967295 → b < 32 →
+    ((bit_at word b ≡ 1) ↔ ((bit_at word b ≡ 1) ⊎ ((from ≤ b) × (b < to))))
+full_word word from to b full small =
+    ((λ m. inl m), (λ m. ap (λ (n : ℕ). bit_at n b) full ∙ bit_at_ones 32 b small))
+
+-- the bits of a word from one up to another, of those below 32, were marked, too
+abbrev pub MarksWord : (old word from to : ℕ) → Type 0
+MarksWord old word from to = (bit : ℕ) → bit < 32 → ((bit_at word bit ≡ 1) ↔ ((bit_at old bit ≡ 1) ⊎ ((from ≤ bit) × (bit < to))))
+
+-- a sector was marked before, or it lies in a range and in front of a word
+abbrev pub IsMarkedTo : (old : List ℕ) (first end index q : ℕ) → Type 0
+IsMarkedTo old first end index q = IsMarked old q ⊎ ((first ≤ q) × (q < end) × (q < 32 * index))
+
+-- the words in front of one are marked, and then that one, too
+pub word_next : (old mask : List ℕ) (first end index word : ℕ) → index < length mask →
+    MarksWord (get_or mask index 0) word (min (first - 32 * index) 32) (min (end - 32 * index) 32) → (q : ℕ) →
+    (IsMarked mask q ↔ IsMarkedTo old first end index q) → (IsMarked (set mask index word) q ↔ IsMarkedTo old first end (index + 1) q)
+word_next old mask first end index word here bits q far = ⊎_elim is_it is_other (cases_eq (q / 32) index) where
+  is_it : q / 32 ≡ index → (IsMarked (set mask index word) q ↔ IsMarkedTo old first end (index + 1) q)
+  is_it e =
+      let new : bit_at (get_or (set mask index word) (q / 32) 0) (q % 32) ≡ bit_at word (q % 32) =
+      ap (λ (k : ℕ). bit_at (get_or (set mask index word) k 0) (q % 32)) e
+      ∙ ap (λ (n : ℕ). bit_at n (q % 32)) (get_or-set_same mask index word 0 here) in
+      let before : bit_at (get_or mask (q / 32) 0) (q % 32) ≡ bit_at (get_or mask index 0) (q % 32) =
+      ap (λ (k : ℕ). bit_at (get_or mask k 0) (q % 32)) e in
+      let bit = bits (q % 32) (omega arith) in (
+        (λ m. ⊎_elim
+            (λ o. ⊎_elim (λ f. inl f) (λ r. let x = r.2 in absurd (omega arith)) (far.0 (before ∙ o)))
+            (λ r. let x = r.0 in let y = r.1 in inr (omega arith, omega arith, omega arith))
+            (bit.0 (sym new ∙ m))),
+        (λ m. new ∙ bit.1 (⊎_elim
+            (λ o. inl (sym before ∙ far.1 (inl o)))
+            (λ r. let x = r.0 in let y = r.1 in inr (omega arith, omega arith)) m)),
+      )
+
+  is_other : q / 32 ≢ index → (IsMarked (set mask index word) q ↔ IsMarkedTo old first end (index + 1) q)
+  is_other e =
+      let same : bit_at (get_or (set mask index word) (q / 32) 0) (q % 32) ≡ bit_at (get_or mask (q / 32) 0) (q % 32) =
+      ap (λ (n : ℕ). bit_at n (q % 32)) (get_or-set_other mask index (q / 32) word 0 e) in (
+        (λ m. ⊎_elim (λ o. inl o) (λ r. let x = r.0 in let y = r.1 in let z = r.2 in inr (x, y, omega arith)) (far.0 (sym same ∙ m))),
+        (λ m. same ∙ far.1 (⊎_elim (λ o. inl o)
+            (λ r. let x = r.0 in let y = r.1 in let z = r.2 in inr (x, y, omega (arith, e))) m)),
+      )
+
+-- the range ends in front of the word, or the mask does
+pub words_over : (old mask : List ℕ) (first end index q : ℕ) → end ≤ 32 * index ⊎ q < 32 * index →
+    (IsMarked mask q ↔ IsMarkedTo old first end index q) → (IsMarked mask q ↔ (IsMarked old q ⊎ ((first ≤ q) × (q < end))))
+words_over old mask first end index q over far = (
+  (λ m. ⊎_elim (λ o. inl o) (λ r. inr (r.0, r.1)) (far.0 m)),
+  (λ m. far.1 (⊎_elim (λ o. inl o) (λ r. let x = r.0 in let y = r.1 in
+      inr (x, y, ⊎_elim (λ (h : end ≤ 32 * index). omega arith) (λ (h : q < 32 * index). h) over)) m)),
 )

@@ -1,6 +1,6 @@
 //! The reading of a map.
 
-ghost use Rattle.std.specs.Prelude.{◌≡◌, ◌+◌, ◌<◌, ◌≤◌, ◌++◌, ◌∷◌, [], List, ℕ, length, Err};
+ghost use Rattle.std.specs.Prelude.{◌≡◌, ◌≢◌, ◌+◌, ◌<◌, ◌≤◌, ◌++◌, ◌∷◌, [], List, ℕ, length, Err};
 ghost use Rattle.qic_base.specs.Tape.{Rose};
 ghost use Rattle.rescue_map.specs.Form.{line_says};
 ghost use Rattle.rescue_map.specs.Map.{Going, behind_all};
@@ -105,6 +105,8 @@ pub fn read_map<S: Source>(
 ) -> Result<(), MapError>
     requires { 0 < length buffer.old }
     ensures reads { Reads S.means source.old source.new mask.new result }
+    ensures stood { result ≢ Err MapError.Source →
+        S.means.faults source.new ≡ S.means.faults source.old }
     ensures cause { result ≡ Err MapError.Source →
         Rose (S.means.faults source.old) (S.means.faults source.new) }
     ensures later { S.means.faults source.old ≤ S.means.faults source.new }

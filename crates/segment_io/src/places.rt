@@ -1,6 +1,6 @@
 //! The usable sectors of a segment, between their indexes and the first places of a workspace.
 
-ghost use Rattle.std.specs.Prelude.{◌≡◌, ◌<◌, ◌^◌, ℕ, List, length, map, IfSome};
+ghost use Rattle.std.specs.Prelude.{◌≡◌, ◌<◌, ◌^◌, ℕ, List, [], get_or, length, map, set, IfSome};
 ghost use Rattle.cartridge_spec.specs.Shape.{usable_count, usable_places};
 ghost use Rattle.qic_base.specs.TapeCalls.{ReadsSectors, chosen};
 ghost use Rattle.qic_base.specs.declared.tape.SectorView.{SectorView};
@@ -8,6 +8,17 @@ ghost use Rattle.segment_io.specs.Gathered.{Gathered};
 ghost use Rattle.segment_io.specs.Writes.{first_sectors};
 
 use qic_base::{LostSet, SECTOR, SECTORS, Sector};
+
+/// Copies a sector to a place, where it stands elsewhere.
+fn move_to(sectors: &mut [Sector], place: u8, index: u8)
+    requires place { place < length sectors.old }
+    requires index { index < length sectors.old }
+    ensures { sectors.new ≡ set sectors.old place (get_or sectors.old index []) }
+{
+    if place != index {
+        sectors[place as usize] = sectors[index as usize];
+    }
+}
 
 /// Moves the usable sectors to the front, in order of index. The answer is the places there of those that are not good.
 pub(crate) fn gather(sectors: &mut [Sector], usable: u32, good: LostSet) -> LostSet
@@ -22,7 +33,7 @@ pub(crate) fn gather(sectors: &mut [Sector], usable: u32, good: LostSet) -> Lost
     let mut place: u8 = 0;
     for index in 0..SECTORS {
         if LostSet::from_mask(usable).contains(index) {
-            sectors[place as usize] = sectors[index as usize];
+            move_to(sectors, place, index);
             if !good.contains(index) {
                 lost |= 1 << place;
             }

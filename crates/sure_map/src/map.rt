@@ -60,6 +60,7 @@ impl SureMap {
     pub fn push<K: Sink>(&mut self, mark: Mark, count: u32, sink: &mut K) -> Result<(), SinkFailed>
         requires { byte_count self.old + count < 2 ^ 32 }
         ensures writes { Writes K.means sink.old sink.new (ended_line self.old mark count) result }
+        ensures count { byte_count self.new ≡ byte_count self.old + count }
         ensures map { (marks : List Mark) (front : List ℕ) → IsMapOf self.old marks front →
             IsMapOf self.new (marks ++ replicate count mark) (front ++ ended_line self.old mark count) }
     {

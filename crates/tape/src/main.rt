@@ -6,12 +6,14 @@ ghost use Rattle.tape_cmd.specs.Lines.{status_code};
 
 mod refusal;
 
-use image_units::{Arguments, NO_IMAGE, OpenedImage, close_unit, open_unit, read_arguments};
-use refusal::{write_read_alone, write_refusal};
+use image_units::{Arguments, ImageUnit, NO_IMAGE, close_unit, open_unit, read_arguments};
+use refusal::{write_failure, write_refusal};
 use std::io::ErrorKind;
 use std::process::ExitCode;
 use tape_cmd::{Status, exit_status, run, write_status};
-use tape_files::{NoImage, NullStreams, StderrSink, StdinSource, StdoutSink, is_standard_error};
+use tape_files::{
+    Failure, NoImage, NullStreams, StderrSink, StdinSource, StdoutSink, is_standard_error,
+};
 use tape_script::{read_words, write_text};
 use word_hints::{Asks, hint_of, what_is_asked, write_help, write_hint, write_version};
 
@@ -44,7 +46,7 @@ fn answer(rt: &HostRuntime, arguments: &Arguments) -> u8 {
         return refuse_words(arguments.command.as_slice(), &mut errors);
     }
     match open_unit(rt, image) {
-        Ok(opened) => run_over_image(rt, &arguments.command, opened, &mut errors),
+        Ok(unit) => run_over_image(rt, &arguments.command, unit, &mut errors),
         Err(cause) => refuse(cause, image, &mut errors),
     }
 }
@@ -67,19 +69,13 @@ fn help(rt: &HostRuntime, asks: Asks) -> u8 {
 fn run_over_image(
     rt: &HostRuntime,
     command: &Vec<String>,
-    opened: OpenedImage,
+    mut unit: ImageUnit,
     errors: &mut StderrSink,
 ) -> u8 {
-    let OpenedImage {
-        mut unit,
-        reads_only,
-    } = opened;
     let mut source = StdinSource::new(rt.stdin());
     let mut sink = StdoutSink::new(rt.stdout());
     let status = run(rt.alloc(), command, &mut unit, &mut source, &mut sink);
-    let code = finish_over(status, reads_only, errors);
-    close_unit(unit);
-    code
+    finish_over(status, close_unit(unit), errors)
 }
 
 /// Answers the exit status where the words can't be had: there is no memory for them, which prints nothing, or one is no
@@ -119,21 +115,25 @@ fn refuse(cause: NoImage, image: &str, errors: &mut StderrSink) -> u8
         NoImage::IsErrorStream => {}
         _ => {
             // The exit status tells it, too, where standard error can't.
-            let _printed = write_refusal(cause, image, errors);
+            if write_text(b"tape: cannot open the image\n", errors).is_ok() {
+                let _printed = write_refusal(cause, image, errors);
+            }
         }
     }
     NO_IMAGE
 }
 
-/// Prints a status, and answers its exit status. Where the tape failed and the image was opened for reading alone, that is told.
-fn finish_over(status: Status, reads_only: bool, errors: &mut StderrSink) -> u8
+/// Prints a status, and answers its exit status. Where the tape failed it is told why a call of the image did.
+fn finish_over(status: Status, failure: Option<Failure>, errors: &mut StderrSink) -> u8
     ensures { result ≡ status_code status }
 {
-    let explained = reads_only && status == Status::TapeFault;
+    let tape_failed = status == Status::TapeFault;
     let code = finish(status, errors);
-    if explained {
-        // The exit status tells it, too, where standard error can't.
-        let _printed = write_read_alone(errors);
+    if let Some(failure) = failure {
+        if tape_failed {
+            // The exit status tells it, too, where standard error can't.
+            let _printed = write_failure(failure, errors);
+        }
     }
     code
 }

@@ -215,20 +215,23 @@ module _ {T K : Type 0} (t : tapes.Meaning T) (k : sinks.Meaning K) (seed count 
         (is : IsOpened d store opening.steps) →
         ((acts : List Act) (answer : Status) → Makes seed count (mounting.settled is.table d) store.words store.entries acts answer →
         Cut t no_source k (around b.tape x) (around c y) acts failing) →
-        (outcome : CommandOutcome) → OpenOutcome (Making seed count) (Some d) outcome → IsCutOff t no_source k (words.Make seed count)
-        (around a x) (around c y) failing outcome
+        (outcome : CommandOutcome) → OpenOutcome (Making seed count) (Some d) outcome →
+        IsCutOff t no_source k (words.Make seed count) (Some d) [] (around a x) (around c y) failing outcome
     making_cut c x y failing both nothing d is each outcome (m, mounts, does) =
         let same : m ≡ mounting.Mounted store.header store.words is.table store.entries = mounts_is_function d m _ mounts is.mounts in
         by_acts (subst (λ (n : Mounting). Opened (Making seed count) d n outcome) same does)
       where
         by_acts : Making seed count d store.header store.words is.table store.entries outcome →
-            IsCutOff t no_source k (words.Make seed count) (around a x) (around c y) failing outcome
+            IsCutOff t no_source k (words.Make seed count) (Some d) [] (around a x) (around c y) failing outcome
         by_acts found =
             let all : quiet opening.steps ∷ found.acts ≡ outcome.acts =
             ap (λ (ss : List TapeStep). quiet ss ∷ found.acts) is.settles ∙ sym (ap (λ (o : CommandOutcome). o.acts) found.is) in record {
               cut = subst (λ (acts : List Act). Cut t no_source k (around a x) (around c y) acts failing) all
                   (cut_behind t no_source k both nothing a b.tape tt x (around c y) opening.steps found.acts failing opening.did
                   (each found.acts found.answer found.makes));
+              taken = 0;
+              left = refl;
+              reaches = omega arith;
               done = λ sink still. absurd (cc);
               silent = λ still. absurd (cc);
             }
@@ -239,7 +242,7 @@ module _ {T K : Type 0} (t : tapes.Meaning T) (k : sinks.Meaning K) (seed count 
         EndsBlind t k (words.Make seed count) a c x y (fault_of failing)
     ran_cut c x y failing other both nothing cut =
         let Cuts : Option Cartridge → Type 0 = λ held. (outcome : CommandOutcome) → OpenOutcome (Making seed count) held outcome →
-        IsCutOff t no_source k (words.Make seed count) (around a x) (around c y) failing outcome in
+        IsCutOff t no_source k (words.Make seed count) held [] (around a x) (around c y) failing outcome in
         inr (
           failing,
           refl,

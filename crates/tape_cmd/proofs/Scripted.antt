@@ -6,19 +6,23 @@ use Rattle.std.proofs.lemmas.Bool.{eq-eqb}
 use Rattle.qic_base.specs.Cartridge.{Cartridge}
 use Rattle.qic_base.specs.Step.{Step as TapeStep}
 use Rattle.qic_base.proofs.Writing.{TakesBoth}
-use Rattle.qic_base.specs.Acts.{Act, text_of, Failing, TapeFails, SourceFails, SinkFails, Cut}
+use Rattle.qic_base.specs.Acts.{Act, text_of, Failing, TapeFails, SourceFails, SinkFails, Went}
 use Rattle.cartridge_spec.specs.Mounting.{Mounting}
 use Rattle.drive_states.specs.Unit.{UnitView}
 use Rattle.cartridge_laws.proofs.MountOnce.{mounts_is_function}
 use Rattle.command_spec.specs.Input.{Item, IsItem, Ending, AtEnd, AtStop, AtFault, IsScript}
 use Rattle.volume_script.specs.declared.fault.ScriptFault.{ScriptFault}
-use Rattle.command_spec.specs.Script.{end_line, ScriptDoes, Scripting}
+use Rattle.command_spec.specs.Script.{AreDone, Did, ItemsDo, ScriptDoes, Scripting, acts_of, end_line}
+use Rattle.cartridge_spec.specs.Header.{Header}
+use Rattle.cartridge_spec.specs.Table.{Entry}
+use Rattle.command_laws.proofs.CutFronts.{CutBehind, cut_then}
+use Rattle.qic_base.proofs.Steps.{Done-nothing}
 use Rattle.volume_script.specs.Answers.{Answer, AllDone, FaultIn, script_answer, script_status}
 use Rattle.volume_store.specs.Mounting.{StoreView, IsOpened}
 use Rattle.command_spec.specs.declared.status.Status.{Status}
-use Rattle.command_spec.specs.Outcome.{Opened, CommandOutcome, refused}
+use Rattle.command_spec.specs.Outcome.{Opened, CommandOutcome, refused, settling_act}
 use Rattle.volume_store.specs.Opening.{HasOpened}
-use Rattle.command_spec.specs.Machine.{CommandEnds, InputLeft, IsCutOff, NamesFault, fault_of, may_come_from}
+use Rattle.command_spec.specs.Machine.{CommandEnds, InputLeft, NamesFault, fault_of, may_come_from}
 use Rattle.tape_cmd.proofs.Printing.{Prints}
 use Rattle.tape_cmd.specs.Script.{status_of_script}
 use Rattle.volume_store.proofs.Opened.{went_behind, cut_behind, settled_told}
@@ -107,6 +111,15 @@ none_said why sound = absurd (cc)
 -- a front of a script's text is anything
 said : (text : List ℕ) → (rest : List ℕ) × ((replies : List ℕ) × (text ++ rest ≡ replies ++ end_line))
 said text = (end_line, (text, refl))
+
+-- items were carried out on the cartridge as it was mounted and settled
+are_done : (d : Cartridge) (items : List Item) (done : List Act) (header : Header) (words : List ℕ) (table : List (List ℕ))
+    (entries : List Entry) (dids : List Did) (rest : List Act) → mounting.Mounts d (mounting.Mounted header words table entries) →
+    ItemsDo (mounting.settled table d) words entries items dids → done ≡ (settling_act table d ∷ acts_of dids) ++ rest →
+    AreDone (Some d) done items
+are_done d [] done header words table entries dids rest mounts does is = tt
+are_done d (item ∷ items) done header words table entries dids rest mounts does is =
+    (header, (words, (table, (entries, (dids, (rest, (mounts, does, is)))))))
 
 module _ {T S K : Type 0} (t : tapes.Meaning T) (s : sources.Meaning S) (k : sinks.Meaning K) (a : T) (i : S) (x : K) where
   -- the opening was refused, or cut off
@@ -202,28 +215,39 @@ module _ {T S K : Type 0} (t : tapes.Meaning T) (s : sources.Meaning S) (k : sin
       fault = names_none status.TableMismatch (s.left i) (λ line place is. cc) (λ is. cc);
     })
 
-    -- over a mounted cartridge the acts of the outcome were cut off
-    scripting_cut : (failing : Failing) (input : List ℕ) (d : Cartridge) → (is : IsOpened d store opening.steps) →
-        ((came : CommandOutcome) → ScriptDoes (mounting.settled is.table d) store.words store.entries input came →
-        Cut t s k (outside b.tape i x) (outside c j y) came.acts failing) →
-        (outcome : CommandOutcome) → ScriptOutcome (Some d) input outcome → IsCutOff t s k words.Script (outside a i x)
-        (outside c j y) failing outcome
-    scripting_cut failing input d is each outcome (m, mounts, does) =
+    -- the opening went
+    opening_went : Went t s k (outside a i x) (outside b.tape i x) (quiet opening.steps ∷ [])
+    opening_went = went_behind t s k both nothing a b.tape i x (outside b.tape i x) opening.steps [] opening.did (record {
+      did = Done-nothing t b.tape;
+      wrote = record { took = nothing x; later = omega arith };
+      source_later = omega arith;
+    })
+
+    -- over a mounted cartridge the acts of the outcome were cut off, behind those of the items that were carried out
+    scripting_cut : (failing : Failing) (input : List ℕ) (items : List Item) (d : Cartridge) → (is : IsOpened d store opening.steps) →
+        runs.CutItems t s k store (outside b.tape i x) (outside c j y) failing input items (mounting.settled is.table d) →
+        (outcome : CommandOutcome) → ScriptOutcome (Some d) input outcome →
+        CutBehind t s k (outside a i x) (outside c j y) outcome.acts failing (λ done. AreDone (Some d) done items)
+    scripting_cut failing input items d is each outcome (m, mounts, does) =
         let same : m ≡ mounting.Mounted store.header store.words is.table store.entries = mounts_is_function d m _ mounts is.mounts in
         by_acts (subst (λ (n : Mounting). Opened (Scripting input) d n outcome) same does)
       where
-        by_acts : Scripting input d store.header store.words is.table store.entries outcome → IsCutOff t s k words.Script (outside a i x)
-            (outside c j y) failing outcome
+        by_acts : Scripting input d store.header store.words is.table store.entries outcome →
+            CutBehind t s k (outside a i x) (outside c j y) outcome.acts failing (λ done. AreDone (Some d) done items)
         by_acts found =
             let came : CommandOutcome = found.came in
             let all : quiet opening.steps ∷ came.acts ≡ outcome.acts =
-            ap (λ (ss : List TapeStep). quiet ss ∷ came.acts) is.settles ∙ sym (ap (λ (o : CommandOutcome). o.acts) found.is) in record {
-              cut = subst (λ (acts : List Act). Cut t s k (outside a i x) (outside c j y) acts failing) all
-                  (cut_behind t s k both nothing a b.tape i x (outside c j y) opening.steps came.acts failing opening.did
-                  (each came found.does));
-              done = λ sink still. absurd (cc);
-              silent = λ still. absurd (cc);
-            }
+            ap (λ (ss : List TapeStep). quiet ss ∷ came.acts) is.settles ∙ sym (ap (λ (o : CommandOutcome). o.acts) found.is) in
+            subst (λ (acts : List Act). CutBehind t s k (outside a i x) (outside c j y) acts failing (λ done. AreDone (Some d) done items))
+            all
+            (cut_then t s k both (outside a i x) (outside b.tape i x) (outside c j y) (quiet opening.steps ∷ []) came.acts failing
+            (runs.ItemsFirst store (mounting.settled is.table d) items) (λ done. AreDone (Some d) done items) opening_went
+            (each came found.does)
+            (λ done first.
+            are_done d items (quiet opening.steps ∷ done) store.header store.words is.table store.entries first.0 first.1.0 is.mounts
+            first.1.1.0
+            (ap (λ (acts : List Act). quiet opening.steps ∷ acts) first.1.1.1
+            ∙ ap (λ (ss : List TapeStep). quiet ss ∷ (acts_of first.0 ++ first.1.0)) is.settles)))
 
     -- a fault cut that off
     cut_so : (failing : Failing) → is_some (s.left j) ≡ is_some (s.left i) → runs.CutOff t s k store (outside b.tape i x)
@@ -234,12 +258,32 @@ module _ {T S K : Type 0} (t : tapes.Meaning T) (s : sources.Meaning S) (k : sin
       refl,
       record {
         told = settled_told t a b store opening
-            (λ d. (came : CommandOutcome) → ScriptDoes d store.words store.entries run.input came →
-            Cut t s k (outside b.tape i x) (outside c j y) came.acts failing) _ run.told
+            (runs.CutItems t s k store (outside b.tape i x) (outside c j y) failing run.input run.reaches.items) _ run.reaches.did
             (λ d is each. (
               run.input,
               run.is_told,
-              ((λ is. run.content), λ outcome plain. scripting_cut failing run.input d is each outcome plain),
+              (
+                (λ is. run.content),
+                λ outcome plain.
+                    let off = scripting_cut failing run.input run.reaches.items d is each outcome plain in record {
+                      cut = off.0;
+                      taken = run.taken;
+                      left = run.left;
+                      reaches = record {
+                        front = run.reaches.front;
+                        back = run.reaches.back;
+                        parts = run.reaches.parts;
+                        items = run.reaches.items;
+                        read = run.reaches.read;
+                        did = off.1;
+                        more = run.reaches.more;
+                        count = run.reaches.count;
+                        into = run.reaches.into;
+                      };
+                      done = λ sink still. absurd (cc);
+                      silent = λ still. absurd (cc);
+                    },
+              ),
             ));
         acts = quiet opening.steps ∷ run.acts;
         cut = cut_behind t s k both nothing a b.tape i x (outside c j y) opening.steps run.acts failing opening.did run.cut;

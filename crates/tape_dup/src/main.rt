@@ -1,10 +1,15 @@
 //! The program: the volumes of a cartridge copied onto another one, both in image files.
 #![tactic(auto)]
 
-use image_units::{Arguments, NO_IMAGE, OpenedImage, close_unit, open_unit, read_arguments};
+ghost use Rattle.std.specs.Prelude.{◌≡◌, ◌≢◌};
+ghost use Rattle.volume_copy.specs.Lines.{status_code};
+
+use file_hints::refusal_line;
+use image_units::{Arguments, NO_IMAGE, close_unit, open_unit, read_arguments};
 use std::io::ErrorKind;
 use std::process::ExitCode;
 use tape_files::{NoImage, NullStreams, StderrSink, StdoutSink};
+use tape_script::write_text;
 use volume_copy::{CopyStatus, exit_status, run_copy, write_status};
 
 /// The program has two images.
@@ -21,51 +26,53 @@ fn main(rt: HostRuntime) -> ExitCode {
 
 /// Copies the first image's volumes onto the second, and answers the exit status. An image is created where there is none.
 fn run_over_images(rt: &HostRuntime, arguments: &Arguments) -> u8 {
-    let [from, to] = arguments.images.as_slice() else {
+    let [from_path, to_path] = arguments.images.as_slice() else {
         return exit_status(&CopyStatus::Usage);
     };
-    let from = match open_unit(rt, from) {
-        Ok(
-            OpenedImage {
-                unit,
-                reads_only: _,
-            },
-        ) => unit,
-        Err(cause) => return refuse(cause),
+    let mut errors = StderrSink::new(rt.stderr());
+    let from = match open_unit(rt, from_path) {
+        Ok(unit) => unit,
+        Err(cause) => return refuse(cause, from_path, &mut errors),
     };
-    let mut to = match open_unit(rt, to) {
-        Ok(
-            OpenedImage {
-                unit,
-                reads_only: _,
-            },
-        ) => unit,
+    let mut to = match open_unit(rt, to_path) {
+        Ok(unit) => unit,
         Err(cause) => {
-            close_unit(from);
-            return refuse(cause);
+            let _ = close_unit(from);
+            return refuse(cause, to_path, &mut errors);
         }
     };
     let mut sink = StdoutSink::new(rt.stdout());
     let (status, from) = run_copy(rt.alloc(), &arguments.command, from, &mut to, &mut sink);
     // The exit status tells it, too, where standard error can't.
-    let _printed = write_status(&status, &mut StderrSink::new(rt.stderr()));
-    close_unit(from);
-    close_unit(to);
+    let _printed = write_status(&status, &mut errors);
+    let _ = close_unit(from);
+    let _ = close_unit(to);
     exit_status(&status)
 }
 
 /// The status where the words can't be had: there is no memory for them, or one is no UTF-8 text.
-fn unread(kind: ErrorKind) -> CopyStatus {
+fn unread(kind: ErrorKind) -> CopyStatus
+    ensures memory { kind ≡ ErrorKind.OutOfMemory → result ≡ CopyStatus.NoMemory }
+    ensures usage { kind ≢ ErrorKind.OutOfMemory → result ≡ CopyStatus.Usage }
+{
     match kind {
         ErrorKind::OutOfMemory => CopyStatus::NoMemory,
         _ => CopyStatus::Usage,
     }
 }
 
-/// The exit status where an image can't be opened.
-fn refuse(cause: NoImage) -> u8 {
+/// Prints which image can't be opened, and why, and answers the exit status. Nothing is printed into the image.
+fn refuse(cause: NoImage, image: &str, errors: &mut StderrSink) -> u8
+    ensures memory { cause ≡ NoImage.NoMemory → result ≡ status_code CopyStatus.NoMemory }
+    ensures refused { cause ≢ NoImage.NoMemory → result ≡ NO_IMAGE }
+{
     match cause {
-        NoImage::NoMemory => exit_status(&CopyStatus::NoMemory),
-        _ => NO_IMAGE,
+        NoImage::NoMemory => return exit_status(&CopyStatus::NoMemory),
+        NoImage::IsErrorStream => {}
+        _ => {
+            // The exit status tells it, too, where standard error can't.
+            let _printed = write_text(refusal_line("tape_dup", cause, image).bytes(), errors);
+        }
     }
+    NO_IMAGE
 }

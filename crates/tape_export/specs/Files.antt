@@ -7,15 +7,15 @@ use Rattle.qic_base.specs.Cartridge.{Cartridge}
 use Rattle.flat_dump.specs.Dump.{dump_of}
 use Rattle.flat_dump.specs.Export.{IsOn}
 use Rattle.flat_dump.specs.Held.{map_of}
-use Rattle.tape_export.specs.Charts.{IsOnDisk, LookBroke, SyncBroke, bytes_of, map_means}
+use Rattle.file_streams.specs.FileSink.{IsOnDisk, LookBroke, SyncBroke, bytes_of, sink_means}
+use Rattle.file_streams.specs.declared.sink.FileSink.{FileSink}
 use Rattle.tape_export.specs.Runs.{Ends, Runs}
-use Rattle.tape_export.specs.declared.map_file.MapFile.{MapFile}
 use Rattle.tape_export.specs.declared.status.ExportStatus.{ExportStatus}
 use Rattle.tape_export.specs.declared.status.ExportStatus.TheVariants.{Done, NotEmpty, SinkFault}
 
 -- The dump of the cartridge was written. The file of the map, where there is one, has just the text of the map, and
 -- nothing of it is pending.
-pub record BothKept {T K D : Type 0} (t : tapes.Meaning T) (k : sinks.Meaning K) (d : disks.Meaning D) (old new : Ends T K (MapFile D)) :
+pub record BothKept {T K D : Type 0} (t : tapes.Meaning T) (k : sinks.Meaning K) (d : disks.Meaning D) (old new : Ends T K (FileSink D)) :
     Type 0 where
   pub did : tapes.Done t old.tape new.tape []
   pub cartridge : Cartridge
@@ -25,16 +25,16 @@ pub record BothKept {T K D : Type 0} (t : tapes.Meaning T) (k : sinks.Meaning K)
   pub on_disk : IsOnDisk d new.chart
 
 -- the file of the map was found empty, and then the run ended so
-pub record RanOn {T K D : Type 0} (t : tapes.Meaning T) (k : sinks.Meaning K) (d : disks.Meaning D) (old new : Ends T K (MapFile D))
+pub record RanOn {T K D : Type 0} (t : tapes.Meaning T) (k : sinks.Meaning K) (d : disks.Meaning D) (old new : Ends T K (FileSink D))
     (how : ExportStatus) : Type 0 where
-  pub seen : MapFile D
+  pub seen : FileSink D
   pub empty : IfSome (bytes_of d seen) (λ bytes. bytes ≡ [])
-  pub runs : Runs t k (map_means d) (record old { chart = seen }) new how
+  pub runs : Runs t k (sink_means d) (record old { chart = seen }) new how
 
 -- dump and map were written, and the map was not put on the disk
-pub record NotKept {T K D : Type 0} (t : tapes.Meaning T) (k : sinks.Meaning K) (d : disks.Meaning D) (old new : Ends T K (MapFile D)) :
+pub record NotKept {T K D : Type 0} (t : tapes.Meaning T) (k : sinks.Meaning K) (d : disks.Meaning D) (old new : Ends T K (FileSink D)) :
     Type 0 where
-  pub written : MapFile D
+  pub written : FileSink D
   pub ran : RanOn t k d old (record new { chart = written }) Done
   pub broke : SyncBroke d written new.chart
 
@@ -44,7 +44,7 @@ pub record Untouched {T K M : Type 0} (old new : Ends T K M) : Type 0 where
   pub dump : new.dump ≡ old.dump
 
 -- how a run ended whose map is written into a file
-abbrev pub Exports : {T K D : Type 0} (t : tapes.Meaning T) (k : sinks.Meaning K) (d : disks.Meaning D) (old new : Ends T K (MapFile D)) →
+abbrev pub Exports : {T K D : Type 0} (t : tapes.Meaning T) (k : sinks.Meaning K) (d : disks.Meaning D) (old new : Ends T K (FileSink D)) →
     ExportStatus → Type 0
 Exports t k d old new Done = BothKept t k d old new
 Exports t k d old new NotEmpty = IfSome (bytes_of d old.chart) (λ bytes. bytes ≢ []) × Untouched old new

@@ -1,16 +1,17 @@
 //! The program: the flat dump of a cartridge in an image file, on standard output, and its map.
 #![tactic(auto)]
 
-ghost use Rattle.std.specs.Prelude.{◌≤◌, IfOk};
+ghost use Rattle.std.specs.Prelude.{◌≡◌, ◌≢◌, ◌≤◌, IfOk};
 ghost use Rattle.std.specs.Vec.{vec_capacity};
 ghost use Rattle.rescue_map.specs.Laws.{most_words};
+ghost use Rattle.tape_export.specs.Runs.{status_code};
 
-mod map_file;
 mod run;
 mod status;
 
 use cart_image::ImageTape;
-use map_file::MapFile;
+use file_hints::{HintLine, failure_line, refusal_line};
+use file_streams::FileSink;
 use program_words::{ExportWords, read_command_line, read_export_words};
 use qic_base::{MOST_SEGMENTS, NoMemory};
 use rescue_map::write_bytes;
@@ -18,7 +19,7 @@ use run::{export_files, unread};
 use status::ExportStatus;
 use std::alloc::Global;
 use std::process::ExitCode;
-use tape_files::{FileDisk, NoImage, NullStreams, StderrSink, StdoutSink, open_image};
+use tape_files::{Failure, FileDisk, NoImage, NullStreams, StderrSink, StdoutSink, open_image};
 
 fn main(rt: HostRuntime) -> ExitCode {
     // Held to the end, so that no file that is opened becomes a standard stream.
@@ -32,11 +33,7 @@ fn main(rt: HostRuntime) -> ExitCode {
 /// Does what the words ask for, and answers the exit status.
 fn run_over_words(rt: &HostRuntime, words: &Vec<String>) -> u8 {
     match read_export_words(rt.alloc(), words) {
-        Ok(asked) => match run_over_files(rt, asked) {
-            Ok(status) => finish(rt, status),
-            // Nothing is printed into a file that was asked for.
-            Err(status) => status.code(),
-        },
+        Ok(asked) => run_over_files(rt, asked),
         Err(error) => refuse_words(rt, &error),
     }
 }
@@ -62,52 +59,81 @@ fn make_mask(alloc: Global) -> Result<Vec<u32>, NoMemory>
     Ok(Vec::with_capacity(alloc, MOST_SEGMENTS)?)
 }
 
-/// The status of a file that can't be opened. An error is one that nothing may be printed of.
-fn unopened(cause: NoImage, status: ExportStatus) -> Result<ExportStatus, ExportStatus> {
+/// Prints that a file can't be opened, and why, and answers the exit status. Nothing is printed into the file.
+fn refuse_file(rt: &HostRuntime, status: ExportStatus, cause: NoImage, path: &str) -> u8
+    ensures memory { cause ≡ NoImage.NoMemory → result ≡ status_code ExportStatus.NoMemory }
+    ensures refused { cause ≢ NoImage.NoMemory → result ≡ status_code status }
+{
     match cause {
-        NoImage::NoMemory => Ok(ExportStatus::NoMemory),
-        NoImage::IsErrorStream => Err(status),
-        _ => Ok(status),
+        NoImage::NoMemory => finish(rt, ExportStatus::NoMemory),
+        NoImage::IsErrorStream => status.code(),
+        _ => finish_with(rt, status, &refusal_line("tape_export", cause, path)),
     }
 }
 
-/// Opens the files and exports the image. An error is a status that nothing may be printed of, since the file at fault is
-/// standard error.
-fn run_over_files(rt: &HostRuntime, asked: ExportWords) -> Result<ExportStatus, ExportStatus> {
+/// Opens the files and exports the image, and answers the exit status.
+fn run_over_files(rt: &HostRuntime, asked: ExportWords) -> u8 {
     let Ok(mut mask) = make_mask(rt.alloc()) else {
-        return Ok(ExportStatus::NoMemory);
+        return finish(rt, ExportStatus::NoMemory);
     };
     let image = match open_image(rt, asked.image) {
         Ok(image) => image,
-        Err(cause) => return unopened(cause, ExportStatus::NoImage),
+        Err(cause) => return refuse_file(rt, ExportStatus::NoImage, cause, asked.image),
     };
     let map = match asked.map {
         Some(path) => match open_image(rt, path) {
             Ok(map) => Some(map),
-            Err(cause) => return unopened(cause, ExportStatus::NoMap),
+            Err(cause) => return refuse_file(rt, ExportStatus::NoMap, cause, path),
         },
         None => None,
     };
-    Ok(run_over_disks(rt, &mut mask, image, map))
+    run_over_disks(rt, &mut mask, image, map)
 }
 
-/// Exports the image.
+/// Exports the image, and answers the exit status.
 fn run_over_disks(
     rt: &HostRuntime,
     mask: &mut Vec<u32>,
     image: FileDisk,
     map: Option<FileDisk>,
-) -> ExportStatus
+) -> u8
     requires { most_words ≤ vec_capacity mask.old }
 {
     let mut tape = ImageTape::open(image);
     let mut dump = StdoutSink::new(rt.stdout());
-    let mut chart = MapFile::new(map);
-    export_files(mask, &mut tape, &mut dump, &mut chart)
+    let mut chart = FileSink::new(map);
+    let status = export_files(mask, &mut tape, &mut dump, &mut chart);
+    finish_over(rt, status, tape.into_disk().failure())
+}
+
+/// Prints a status, and answers its exit status. Where the image failed it is told why a call of it did.
+fn finish_over(rt: &HostRuntime, status: ExportStatus, failure: Option<Failure>) -> u8
+    ensures { result ≡ status_code status }
+{
+    match (status, failure) {
+        (ExportStatus::TapeFault, Some(failure)) => {
+            finish_with(rt, status, &failure_line("tape_export", failure))
+        }
+        _ => finish(rt, status),
+    }
+}
+
+/// Prints a status, and a line behind it, and answers its exit status.
+fn finish_with(rt: &HostRuntime, status: ExportStatus, hint: &HintLine) -> u8
+    ensures { result ≡ status_code status }
+{
+    let mut errors = StderrSink::new(rt.stderr());
+    if write_bytes(status.line().as_bytes(), &mut errors).is_ok() {
+        // The exit status tells it, too, where standard error can't.
+        let _printed = write_bytes(hint.bytes(), &mut errors);
+    }
+    status.code()
 }
 
 /// Prints a status, and answers its exit status.
-fn finish(rt: &HostRuntime, status: ExportStatus) -> u8 {
+fn finish(rt: &HostRuntime, status: ExportStatus) -> u8
+    ensures { result ≡ status_code status }
+{
     // The exit status tells it, too, where standard error can't.
     let _printed = write_bytes(status.line().as_bytes(), &mut StderrSink::new(rt.stderr()));
     status.code()

@@ -1,14 +1,14 @@
 //! A run over opened files.
 
-ghost use Rattle.std.specs.Prelude.{◌≡◌, ◌≢◌, ◌≤◌};
+ghost use Rattle.std.specs.Prelude.{◌≡◌, ◌≢◌, ◌≤◌, ◌⊎◌, [], Err, IfErr, IfSome, OnOk};
 ghost use Rattle.std.specs.Vec.{vec_capacity};
 ghost use Rattle.rescue_map.specs.Laws.{most_words};
-ghost use Rattle.tape_export.specs.Charts.{IsFresh};
+ghost use Rattle.file_streams.specs.FileSink.{IsFresh, LookBroke, bytes_of};
 ghost use Rattle.tape_export.specs.Files.{Exports};
 ghost use Rattle.tape_export.specs.Runs.{Runs};
 
-use crate::map_file::MapFile;
 use crate::status::ExportStatus;
+use file_streams::FileSink;
 use flat_dump::{ExportError, export};
 use qic_base::{Disk, DiskFailed, Sink, SinkFailed, Tape};
 use rescue_map::write_map;
@@ -23,6 +23,25 @@ pub fn unread(kind: ErrorKind) -> ExportStatus
     match kind {
         ErrorKind::OutOfMemory => ExportStatus::NoMemory,
         _ => ExportStatus::Usage,
+    }
+}
+
+/// A file with a byte is refused, and one whose length can't be had.
+fn require_empty<D: Disk + Drop>(chart: &mut FileSink<D>) -> Result<(), ExportStatus>
+    requires { IsFresh chart.old }
+    ensures empty { OnOk result (IfSome (bytes_of D.means chart.new) (λ bytes. bytes ≡ [])) }
+    ensures fresh { OnOk result (IsFresh chart.new) }
+    ensures not_empty { result ≡ Err ExportStatus.NotEmpty →
+        IfSome (bytes_of D.means chart.old) (λ bytes. bytes ≢ []) }
+    ensures failed { result ≡ Err ExportStatus.SinkFault →
+        LookBroke D.means chart.old chart.new }
+    ensures only { IfErr result (λ cause.
+        (cause ≡ ExportStatus.NotEmpty) ⊎ (cause ≡ ExportStatus.SinkFault)) }
+{
+    match chart.is_empty() {
+        Ok(true) => Ok(()),
+        Ok(false) => Err(ExportStatus::NotEmpty),
+        Err(DiskFailed) => Err(ExportStatus::SinkFault),
     }
 }
 
@@ -54,7 +73,7 @@ pub fn export_files<T: Tape, K: Sink, D: Disk + Drop>(
     mask: &mut Vec<u32>,
     tape: &mut T,
     dump: &mut K,
-    chart: &mut MapFile<D>,
+    chart: &mut FileSink<D>,
 ) -> ExportStatus
     requires words { most_words ≤ vec_capacity mask.old }
     requires fresh { IsFresh chart.old }
@@ -62,7 +81,7 @@ pub fn export_files<T: Tape, K: Sink, D: Disk + Drop>(
         record { tape = tape.old; dump = dump.old; chart = chart.old }
         record { tape = tape.new; dump = dump.new; chart = chart.new } result }
 {
-    if let Err(status) = chart.require_empty() {
+    if let Err(status) = require_empty(chart) {
         return status;
     }
     match run_export(mask, tape, dump, chart) {

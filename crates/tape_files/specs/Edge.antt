@@ -1,9 +1,10 @@
 -- What real files and streams mean to the code above them: they count their failures, and tell nothing else (this
 -- project's own).
-use Rattle.std.specs.Prelude.{ℕ, Bool, true, false, None}
+use Rattle.std.specs.Prelude.{ℕ, Bool, true, false, Option, None}
 use Rattle.qic_base.specs.Disk as disks
 use Rattle.qic_base.specs.Sink as sinks
 use Rattle.qic_base.specs.Source as sources
+use Rattle.tape_files.specs.declared.failure.Failure.{Failure}
 
 -- A sync of a file asks for all that the system keeps of it, or for its data and what finds them.
 pub data SyncKind : Type 0 where
@@ -16,13 +17,14 @@ sync_kind true = Whole
 sync_kind false = DataAlone
 
 -- a file as a disk: the file, whether its length may have changed since the last sync that succeeded, the length that
--- it was seen to have, how often a call of it failed, and how often one that was no look
+-- it was seen to have, how often a call of it failed, how often one that was no look, and why the last one that failed did
 pub record FileState (F : Type 0) : Type 0 where
   pub file : F
   pub resized : Bool
   pub seen : ℕ
   pub faults : ℕ
   pub failed_changes : ℕ
+  pub failure : Option Failure
 
 -- it tells neither its bytes nor what a crash leaves
 abbrev pub file_means : {F : Type 0} → disks.Meaning (FileState F)

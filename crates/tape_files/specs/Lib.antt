@@ -2,6 +2,8 @@ pub mod Answers
 pub mod Apart
 pub mod Edge
 pub mod EdgeLaws
+pub mod Failures
 pub mod Paths
 pub mod ReadAlone
+pub mod Refusals
 pub mod Streams

@@ -1,12 +1,13 @@
 //! A file as a disk.
 
-ghost use Rattle.std.specs.Prelude.{◌≡◌, ◌-◌, ◌≤◌, ◌↔◌, Ok, true, false, length, min, IfOk, OnOk, OnErr, IsOk};
+ghost use Rattle.std.specs.Prelude.{◌≡◌, ◌-◌, ◌≤◌, ◌↔◌, Ok, Some, true, false, length, min, IfErr, IfOk, OnOk, OnErr, IsOk, IsSome};
 ghost use Rattle.qic_base.specs.Tape.{Rose};
 ghost use Rattle.qic_base.specs.Disk.{Look, SetLen, Sync, Stores};
 ghost use Rattle.tape_files.specs.Answers.{GaveAll};
 ghost use Rattle.tape_files.specs.Edge.{Whole, sync_kind, file_means};
-ghost use Rattle.tape_files.specs.ReadAlone.{is_read_alone};
+ghost use Rattle.tape_files.specs.Failures.{failure_by, last_failure};
 
+use crate::failure::Failure;
 use crate::file::{DiskFile, ImageFile};
 use crate::retry::read_from;
 use qic_base::{Disk, DiskFailed};
@@ -14,7 +15,7 @@ use std::io;
 use std::io::ErrorKind;
 use std::marker::Model;
 
-/// A file as a disk. A failure of the system is a failure of the call, and counted.
+/// A file as a disk. A failure of the system is a failure of the call, counted, and what the system said is kept.
 #[derive(Drop)]
 pub struct FileDisk<F: DiskFile + Drop = ImageFile> {
     file: F,
@@ -22,11 +23,14 @@ pub struct FileDisk<F: DiskFile + Drop = ImageFile> {
     faults: u64,
     /// How many of the faults were writes, new lengths and syncs.
     failed_changes: u64,
+    /// Why the last of the calls that failed did.
+    failure: Option<Failure>,
     /// Whether the length may have changed since the last sync that succeeded.
     resized: bool,
 }
 
 impl<F: DiskFile + Drop> Model for FileDisk<F> {
+    ghost use Rattle.std.specs.Prelude.{◌≤◌, IsSome};
     ghost use Rattle.tape_files.specs.Edge.{FileState};
 
     ghost Value = { FileState F };
@@ -37,13 +41,17 @@ impl<F: DiskFile + Drop> Model for FileDisk<F> {
       seen = d.seen;
       faults = d.faults;
       failed_changes = d.failed_changes;
+      failure = d.failure;
     } };
+
+    // What made a call fail is known.
+    ghost invariant = { λ d. 1 ≤ d.faults → IsSome d.failure };
 }
 
 impl<F: DiskFile + Drop> FileDisk<F> {
     /// A file that was opened. It is synced first, bytes and length: a run before may have ended between a write and its
     /// sync, and what this run reads has to be on the disk.
-    pub(crate) fn open(file: F) -> Result<FileDisk<F>, DiskFailed>
+    pub(crate) fn open(file: F) -> Result<FileDisk<F>, Failure>
         ensures synced { IfOk result (λ disk. F.synced Whole file disk.file) }
         ensures settled { IfOk result (λ disk. disk.resized ≡ false) }
         ensures seen { IfOk result (λ disk. disk.seen ≡ 0) }
@@ -55,14 +63,18 @@ impl<F: DiskFile + Drop> FileDisk<F> {
             seen: 0,
             faults: 0,
             failed_changes: 0,
+            failure: None,
             resized: true,
         };
-        disk.sync()?;
-        Ok(disk)
+        match disk.sync() {
+            Ok(()) => Ok(disk),
+            Err(DiskFailed) => Err(disk.failure.unwrap_or(Failure::Untold)),
+        }
     }
 
-    /// Counts a failure of the system.
-    fn count_fault(&mut self)
+    /// Counts a failure of the system, and keeps what it said.
+    fn count_fault(&mut self, error: &io::Error)
+        ensures failure { self.new.failure ≡ Some (failure_by error.now) }
         ensures failed { Rose self.old.faults self.new.faults }
         ensures later { self.old.faults ≤ self.new.faults }
         ensures changes { self.new.failed_changes ≡ self.old.failed_changes }
@@ -70,12 +82,14 @@ impl<F: DiskFile + Drop> FileDisk<F> {
         ensures file { self.new.file ≡ self.old.file }
         ensures resized { self.new.resized ≡ self.old.resized }
     {
+        self.failure = Some(Failure::of(error));
         self.faults = self.faults.saturating_add(1);
     }
 
     /// The answer of the system; a failure is counted.
     fn counted<T: Drop>(&mut self, answer: io::Result<T>) -> Result<T, DiskFailed>
         ensures value { IfOk result (λ value. answer ≡ Ok value) }
+        ensures failure { IfErr answer (λ error. self.new.failure ≡ Some (failure_by error)) }
         ensures succeeded { OnOk result (self.new ≡ self.old) }
         ensures failed { OnErr result (Rose self.old.faults self.new.faults) }
         ensures later { self.old.faults ≤ self.new.faults }
@@ -86,8 +100,8 @@ impl<F: DiskFile + Drop> FileDisk<F> {
     {
         match answer {
             Ok(value) => Ok(value),
-            Err(_) => {
-                self.count_fault();
+            Err(error) => {
+                self.count_fault(&error);
                 Err(DiskFailed)
             }
         }
@@ -96,6 +110,7 @@ impl<F: DiskFile + Drop> FileDisk<F> {
     /// The answer of the system to a write, a new length or a sync; a failure is counted among these, too.
     fn changed(&mut self, answer: io::Result<()>) -> Result<(), DiskFailed>
         ensures value { IfOk result (λ value. answer ≡ Ok value) }
+        ensures failure { IfErr answer (λ error. self.new.failure ≡ Some (failure_by error)) }
         ensures succeeded { OnOk result (self.new ≡ self.old) }
         ensures failed { OnErr result (Rose self.old.faults self.new.faults) }
         ensures later { self.old.faults ≤ self.new.faults }
@@ -115,11 +130,17 @@ impl<F: DiskFile + Drop> FileDisk<F> {
 }
 
 impl FileDisk {
-    /// Whether the file was opened for reading alone.
-    pub fn reads_only(&self) -> bool
-        ensures { result ≡ is_read_alone self.now }
+    /// Why the last call that failed did; none where none failed. Where a file is to be written that is opened for reading
+    /// alone, that is the cause, whatever the system calls it.
+    pub fn failure(&self) -> Option<Failure>
+        ensures failure { result ≡ last_failure self.now }
+        ensures told { 1 ≤ self.now.faults → IsSome result }
     {
-        self.file.reads_only()
+        if self.failed_changes > 0 && self.file.reads_only() {
+            Some(Failure::ReadAlone)
+        } else {
+            self.failure
+        }
     }
 }
 
@@ -234,7 +255,7 @@ mod tests {
     impl Counting {
         fn answer(&self) -> io::Result<()> {
             if self.fails {
-                Err(io::Error::from(ErrorKind::Other))
+                Err(io::Error::from_raw_os_error(5))
             } else {
                 Ok(())
             }
@@ -275,6 +296,10 @@ mod tests {
         }
     }
 
+    fn open<F: DiskFile + Drop>(file: F) -> Result<FileDisk<F>, DiskFailed> {
+        FileDisk::open(file).map_err(|_| DiskFailed)
+    }
+
     fn make_counting(fails: bool) -> Counting {
         Counting {
             fails,
@@ -295,7 +320,7 @@ mod tests {
 
     /// The syncs behind an opening, behind a length that is set, the first of them failing, and behind a write.
     fn syncs() -> Result<[Synced; 4], DiskFailed> {
-        let mut disk = FileDisk::open(make_counting(false))?;
+        let mut disk = open(make_counting(false))?;
         let opened = sync(&mut disk, false);
         disk.set_len(4)?;
         let resized = [sync(&mut disk, true), sync(&mut disk, false)];
@@ -305,9 +330,9 @@ mod tests {
 
     #[test]
     fn each_sync_is_one_of_the_kind_that_the_length_asks_for(rt: HostRuntime) -> Result<(), Fail> {
-        let seen = (syncs()?, FileDisk::open(make_counting(true)).is_err());
+        let seen = (syncs()?, FileDisk::open(make_counting(true)).err());
         let want = [(true, 1, 1), (false, 1, 1), (true, 2, 1), (true, 2, 2)];
-        assert_eq!(rt; seen, (want, true));
+        assert_eq!(rt; seen, (want, Some(Failure::Number(5))));
         Ok(())
     }
 
@@ -369,7 +394,7 @@ mod tests {
     /// What a write of five bytes leaves in a file that was made seven bytes long, as reads within it and behind it
     /// give it, and one once another hand cut it to four bytes.
     fn written() -> Result<[Read; 4], DiskFailed> {
-        let mut disk = FileDisk::open(Slow {
+        let mut disk = open(Slow {
             bytes: Cell::new(*b"........"),
             length: Cell::new(0),
         })?;
@@ -380,19 +405,25 @@ mod tests {
         Ok([whole[0], whole[1], whole[2], read(&mut disk, 0)])
     }
 
-    /// How often a disk failed that told seven bytes, one that told none, and one that told the four that a file had
-    /// been cut to, each read from its third byte on into three.
-    fn reads_of_a_cut_file() -> Result<[(Result<usize, DiskFailed>, u64); 3], DiskFailed> {
-        let mut disk = FileDisk::open(Slow {
+    type CutRead = (Result<usize, DiskFailed>, u64, Option<Failure>);
+
+    fn cut_read(disk: &mut FileDisk<Slow>) -> CutRead {
+        (disk.read_at(2, &mut [0; 3]), disk.faults, disk.failure)
+    }
+
+    /// How often a disk failed, and why, that told seven bytes, one that told none, and one that told the four that a file
+    /// had been cut to, each read from its third byte on into three.
+    fn reads_of_a_cut_file() -> Result<[CutRead; 3], DiskFailed> {
+        let mut disk = open(Slow {
             bytes: Cell::new(*b"shorten."),
             length: Cell::new(4),
         })?;
-        let untold = (disk.read_at(2, &mut [0; 3]), disk.faults);
+        let untold = cut_read(&mut disk);
         let _ = disk.len()?;
-        let told = (disk.read_at(2, &mut [0; 3]), disk.faults);
+        let told = cut_read(&mut disk);
         disk.set_len(7)?;
         disk.file.length.set(4);
-        Ok([(disk.read_at(2, &mut [0; 3]), disk.faults), untold, told])
+        Ok([cut_read(&mut disk), untold, told])
     }
 
     #[test]
@@ -404,7 +435,11 @@ mod tests {
             (Ok(0), *b"--------"),
             (Err(DiskFailed), *b".tap----"),
         ];
-        let cut = [(Err(DiskFailed), 1), (Ok(2), 0), (Ok(2), 0)];
+        let cut = [
+            (Err(DiskFailed), 1, Some(Failure::Shorter)),
+            (Ok(2), 0, None),
+            (Ok(2), 0, None),
+        ];
         assert_eq!(rt; seen, (written, cut));
         Ok(())
     }

@@ -1,11 +1,14 @@
 //! The opening of an image file.
 
-ghost use Rattle.std.specs.Prelude.{◌≡◌, ◌≢◌, ◌↔◌, false, Err, Some, IfErr, IfOk, IsOk, IsTrue};
+ghost use Rattle.std.specs.Prelude.{◌≡◌, ◌↔◌, false, Err, Some, IfErr, IfOk, IsOk, IsSomeAnd, IsTrue};
 ghost use Rattle.std.specs.Fs.{IsFile, file_type};
 ghost use Rattle.tape_files.specs.Answers.{IsUnlocked, KnowsNoLocks};
+ghost use Rattle.tape_files.specs.Failures.{failure_by};
+ghost use Rattle.tape_files.specs.Refusals.{IsLockRefusal};
 ghost use Rattle.tape_files.specs.Streams.{IsNoStream};
 
 use crate::FileDisk;
+use crate::failure::Failure;
 use crate::file::{ImageFile, as_synced};
 use crate::links::{behind_links, folder_of};
 use crate::opened::{open_alone, open_file};
@@ -16,8 +19,10 @@ use std::{fs, io};
 /// Why a path is no image. Nothing of what it names was read or written, but that a file may have been created.
 #[derive(Clone, Copy, Debug, PartialEq, Eq)]
 pub enum NoImage {
-    /// The system can neither open nor create it.
-    NotOpened,
+    /// The system doesn't open it, or tells nothing of it.
+    NotOpened(Failure),
+    /// There is none, and the system doesn't create it.
+    NotMade(Failure),
     /// Once it was locked the path named another file, or none.
     Moved,
     /// It is a folder, a device, a pipe or a socket.
@@ -29,9 +34,9 @@ pub enum NoImage {
     /// Another run has it.
     Locked,
     /// It can't be locked, for another cause than that the system knows no locks for it.
-    NotLocked,
+    NotLocked(Failure),
     /// What it holds, or its entry in its folder, could not be put on the disk.
-    NotSynced,
+    NotSynced(Failure),
     /// There was no memory for the name of its folder.
     NoMemory,
     /// It holds something else: it is no image, and none that is being made. What opens a file doesn't look at that.
@@ -47,6 +52,20 @@ const ENOSYS: i32 = 38;
 /// Linux's number for a lock that a network file system has nobody to keep.
 const ENOLCK: i32 = 37;
 
+/// The refusal of a file that the system doesn't open, or tells nothing of.
+pub(crate) fn not_opened(error: &io::Error) -> NoImage
+    ensures { result ≡ NoImage.NotOpened (failure_by error.now) }
+{
+    NoImage::NotOpened(Failure::of(error))
+}
+
+/// The refusal of a file of which the system doesn't put all on the disk.
+fn not_synced(error: &io::Error) -> NoImage
+    ensures { result ≡ NoImage.NotSynced (failure_by error.now) }
+{
+    NoImage::NotSynced(Failure::of(error))
+}
+
 /// Opens the image at a path, which is created, empty, where there is none, and opened for reading alone where it may not
 /// be written. Its bytes, its length and the entry of an empty one are on the disk then. Until it is dropped no other run
 /// can write it, where the system knows locks for it.
@@ -61,7 +80,7 @@ pub fn open_image<R: Files<File = File> + Alloc>(files: &R, path: &str) -> Resul
     if metadata.len() == 0 {
         sync_folder(files, path, file.reads_only())?;
     }
-    FileDisk::open(file).map_err(|_| NoImage::NotSynced)
+    FileDisk::open(file).map_err(|failure| NoImage::NotSynced(failure))
 }
 
 /// Opens the file at a path to read it alone; it is not created. It is refused where an image would be, and until it is
@@ -74,7 +93,7 @@ pub fn open_to_read<R: Files<File = File>>(files: &R, path: &str) -> Result<File
     require_regular_path(files, path)?;
     let image = open_alone(files, path)?;
     require_image(files, path, &image)?;
-    FileDisk::open(image).map_err(|_| NoImage::NotSynced)
+    FileDisk::open(image).map_err(|failure| NoImage::NotSynced(failure))
 }
 
 /// A device may act where it is only opened, so the kind of what a path names is asked before that.
@@ -89,9 +108,7 @@ fn require_regular_path(files: &impl Files, path: &str) -> Result<(), NoImage> {
 /// was put in its place, or took its name, would be written by the next run.
 fn require_image(files: &impl Files, path: &str, image: &ImageFile) -> Result<Metadata, NoImage> {
     let file = image.file();
-    let Ok(metadata) = file.metadata() else {
-        return Err(NoImage::NotOpened);
-    };
+    let metadata = file.metadata().map_err(|error| not_opened(&error))?;
     require_regular(&metadata)?;
     require_no_stream(number_of(&metadata), &stream_numbers(files))?;
     // A file that is opened for reading alone takes no other lock on some network file systems.
@@ -146,10 +163,14 @@ fn number_at(files: &impl Files, path: &str) -> Option<FileNumber> {
 
 /// Whether a path names the file that is standard error, so that what is printed there would be written into it.
 pub fn is_standard_error(files: &impl Files, path: &str) -> bool {
-    match number_at(files, path) {
-        Some(file) => number_at(files, "/proc/self/fd/2") == Some(file),
-        None => false,
-    }
+    are_one(number_at(files, path), number_at(files, "/proc/self/fd/2"))
+}
+
+/// Whether both numbers are known, and are those of one file.
+fn are_one(file: Option<FileNumber>, stream: Option<FileNumber>) -> bool
+    ensures { IsTrue result ↔ IsSomeAnd file (λ number. stream ≡ Some number) }
+{
+    file.is_some() && file == stream
 }
 
 fn stream_numbers(files: &impl Files) -> StreamNumbers {
@@ -195,12 +216,13 @@ fn knows_no_locks(error: &io::Error) -> bool
 fn require_unlocked(answer: Result<(), TryLockError>) -> Result<(), NoImage>
     ensures unlocked { IsOk result ↔ IsUnlocked answer }
     ensures locked { (result ≡ Err NoImage.Locked) ↔ (answer ≡ Err TryLockError.WouldBlock) }
+    ensures refused { IfErr result (IsLockRefusal answer) }
 {
     match answer {
         Ok(()) => Ok(()),
         Err(TryLockError::WouldBlock) => Err(NoImage::Locked),
         Err(TryLockError::Error(error)) if knows_no_locks(&error) => Ok(()),
-        Err(TryLockError::Error(_)) => Err(NoImage::NotLocked),
+        Err(TryLockError::Error(error)) => Err(NoImage::NotLocked(Failure::of(&error))),
     }
 }
 
@@ -212,13 +234,8 @@ fn sync_folder<R: Files<File = File> + Alloc>(
     reads_only: bool,
 ) -> Result<(), NoImage> {
     let real = behind_links(files, path)?;
-    let Ok(folder) = File::open(files, folder_of(real.as_path())) else {
-        return Err(NoImage::NotSynced);
-    };
-    match as_synced(folder.sync_all(), reads_only) {
-        Ok(()) => Ok(()),
-        Err(_) => Err(NoImage::NotSynced),
-    }
+    let folder = File::open(files, folder_of(real.as_path())).map_err(|error| not_synced(&error))?;
+    as_synced(folder.sync_all(), reads_only).map_err(|error| not_synced(&error))
 }
 
 #[cfg(test)]

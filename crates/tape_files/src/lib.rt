@@ -3,6 +3,7 @@
 #![tactic(auto)]
 
 mod disk;
+mod failure;
 mod file;
 mod image;
 mod links;
@@ -12,6 +13,7 @@ mod retry;
 mod streams;
 
 pub use disk::FileDisk;
+pub use failure::Failure;
 pub use file::{DiskFile, ImageFile};
 pub use image::{NoImage, is_standard_error, open_image, open_to_read};
 pub use null::NullStreams;

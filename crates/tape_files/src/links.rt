@@ -4,9 +4,13 @@ ghost use Rattle.std.specs.Prelude.{◌≡◌, ◌↔◌, ◌⊎◌, IsTrue, IfE
 ghost use Rattle.std.specs.IoError.{error_kind};
 ghost use Rattle.std.specs.Path.{path_buf_bytes, path_bytes};
 ghost use Rattle.tape_files.specs.Answers.{TellsNoLink};
+ghost use Rattle.tape_files.specs.Failures.{failure_by};
 ghost use Rattle.tape_files.specs.Paths.{behind_link, folder_name};
+ghost use Rattle.tape_files.specs.declared.failure.Failure.{Failure};
 
 use crate::NoImage;
+use crate::failure::Failure;
+use crate::image::not_opened;
 use std::alloc::Allocator;
 use std::fs::Files;
 use std::io::ErrorKind;
@@ -15,6 +19,9 @@ use std::{fs, io};
 
 /// The most links that Linux follows in a path.
 const MOST_LINKS: u32 = 40;
+
+/// Linux's number for a path that has more of them.
+const ELOOP: u32 = 40;
 
 /// Whether a path that can't be read as a link is none.
 fn is_no_link(error: &io::Error) -> bool
@@ -26,11 +33,11 @@ fn is_no_link(error: &io::Error) -> bool
 /// The refusal of a path whose link can't be read.
 fn unread(error: &io::Error) -> NoImage
     ensures memory { (result ≡ NoImage.NoMemory) ↔ (error_kind error.now ≡ ErrorKind.OutOfMemory) }
-    ensures kinds { (result ≡ NoImage.NoMemory) ⊎ (result ≡ NoImage.NotOpened) }
+    ensures kinds { (result ≡ NoImage.NoMemory) ⊎ (result ≡ NoImage.NotOpened (failure_by error.now)) }
 {
     match error.kind() {
         ErrorKind::OutOfMemory => NoImage::NoMemory,
-        _ => NoImage::NotOpened,
+        _ => not_opened(error),
     }
 }
 
@@ -47,7 +54,8 @@ fn follow<A: Allocator>(path: &mut PathBuf<A>, link: &PathBuf<A>) -> Result<(), 
 /// The path of what a path names: itself, or, where it is a symbolic link, what that names, and so on. Memory is taken
 /// for it. Nothing has to be there. It is refused for want of memory, or as one that can't be opened.
 pub fn behind_links<R: Files + Alloc>(files: &R, path: &str) -> Result<PathBuf<R::A>, NoImage>
-    ensures refused { IfErr result (λ cause. (cause ≡ NoImage.NoMemory) ⊎ (cause ≡ NoImage.NotOpened)) }
+    ensures refused { IfErr result (λ cause. (cause ≡ NoImage.NoMemory)
+        ⊎ ((failure : Failure) × (cause ≡ NoImage.NotOpened failure))) }
 {
     let Ok(mut real) = PathBuf::from_str(files.alloc(), path) else {
         return Err(NoImage::NoMemory);
@@ -59,7 +67,7 @@ pub fn behind_links<R: Files + Alloc>(files: &R, path: &str) -> Result<PathBuf<R
             Err(error) => return Err(unread(&error)),
         }
     }
-    Err(NoImage::NotOpened)
+    Err(NoImage::NotOpened(Failure::Number(ELOOP)))
 }
 
 /// The folder that a path names a file in, as the path is written: `.` where it is a name alone.

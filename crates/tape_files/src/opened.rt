@@ -6,7 +6,9 @@ ghost use Rattle.tape_files.specs.Answers.{ForbidsWriting, TellsNone};
 ghost use Rattle.tape_files.specs.Apart.{IsApart};
 
 use crate::NoImage;
+use crate::failure::Failure;
 use crate::file::ImageFile;
+use crate::image::not_opened;
 use crate::links::behind_links;
 use std::fs::{File, Files, OpenOptions};
 use std::io;
@@ -77,24 +79,15 @@ fn as_image(file: File, how: &OpenOptions) -> Result<ImageFile, NoImage>
     }
 }
 
-fn open_so<R: Files<File = File>>(
-    files: &R,
-    path: &str,
-    how: &OpenOptions,
-) -> Result<ImageFile, NoImage>
-    ensures reads_only { IfOk result (λ image. image.reads_only ≡ not (asks_write how.now)) }
-{
-    match how.open(files, path) {
-        Ok(file) => as_image(file, how),
-        Err(_) => Err(NoImage::NotOpened),
-    }
-}
-
 /// Opens the file at a path to read it alone.
 pub fn open_alone<R: Files<File = File>>(files: &R, path: &str) -> Result<ImageFile, NoImage>
     ensures { IfOk result (λ image. image.reads_only ≡ true) }
 {
-    open_so(files, path, &to_read())
+    let how = to_read();
+    match how.open(files, path) {
+        Ok(file) => as_image(file, &how),
+        Err(error) => Err(not_opened(&error)),
+    }
 }
 
 /// Makes the file that a path names, where its links lead. One that is there by now is left alone, and refused.
@@ -102,7 +95,11 @@ fn create<R: Files<File = File> + Alloc>(files: &R, path: &str) -> Result<ImageF
     ensures { IfOk result (λ image. image.reads_only ≡ false) }
 {
     let real = behind_links(files, path)?;
-    open_so(files, real.as_path().as_str(), &to_create())
+    let how = to_create();
+    match how.open(files, real.as_path()) {
+        Ok(file) => as_image(file, &how),
+        Err(error) => Err(NoImage::NotMade(Failure::of(&error))),
+    }
 }
 
 /// Opens the file at a path, which is created where there is none, and opened for reading alone where it may not be
@@ -118,7 +115,7 @@ pub fn open_file<R: Files<File = File> + Alloc>(
         Err(error) => match next_try(&error) {
             NextTry::Create => create(files, path),
             NextTry::ReadAlone => open_alone(files, path),
-            NextTry::Nothing => Err(NoImage::NotOpened),
+            NextTry::Nothing => Err(not_opened(&error)),
         },
     }
 }

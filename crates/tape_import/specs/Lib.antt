@@ -1,3 +1,2 @@
-pub mod Charts
 pub mod Runs
 pub mod Texts

@@ -1,20 +1,23 @@
 //! The program: an image file made of a flat dump, from standard input, and of its map.
 #![tactic(auto)]
 
-ghost use Rattle.std.specs.Prelude.{IfSome};
+ghost use Rattle.std.specs.Prelude.{◌≡◌, ◌≢◌, IfSome};
 ghost use Rattle.qic_base.specs.Cartridge.{IsLength};
+ghost use Rattle.tape_import.specs.Texts.{status_code};
 
-mod map_source;
 mod run;
 mod status;
 
-use map_source::MapSource;
+use file_hints::{HintLine, failure_line, refusal_line};
+use file_streams::FileSource;
 use program_words::{ImportWords, read_command_line, read_import_words};
+use rescue_map::write_bytes;
 use run::{run_import, unread};
 use status::{ImportStatus, write_status};
 use std::process::ExitCode;
 use tape_files::{
-    FileDisk, NoImage, NullStreams, StderrSink, StdinSource, StdoutSink, open_image, open_to_read,
+    Failure, FileDisk, NoImage, NullStreams, StderrSink, StdinSource, StdoutSink, open_image,
+    open_to_read,
 };
 
 fn main(rt: HostRuntime) -> ExitCode {
@@ -29,11 +32,7 @@ fn main(rt: HostRuntime) -> ExitCode {
 /// Does what the words ask for, and answers the exit status.
 fn run_over_words(rt: &HostRuntime, words: &Vec<String>) -> u8 {
     match read_import_words(rt.alloc(), words) {
-        Ok(asked) => match run_over_files(rt, asked) {
-            Ok(status) => finish(rt, status),
-            // Nothing is printed into a file that was asked for.
-            Err(status) => status.code(),
-        },
+        Ok(asked) => run_over_files(rt, asked),
         Err(error) => refuse_words(rt, &error),
     }
 }
@@ -52,60 +51,89 @@ fn refuse_words(rt: &HostRuntime, error: &clap::Error) -> u8 {
     }
 }
 
-/// The status of a file that can't be opened. An error is one that nothing may be printed of.
-fn unopened(cause: NoImage, status: ImportStatus) -> Result<ImportStatus, ImportStatus> {
+/// Prints that a file can't be opened, and why, and answers the exit status. Nothing is printed into the file.
+fn refuse_file(rt: &HostRuntime, status: ImportStatus, cause: NoImage, path: &str) -> u8
+    ensures memory { cause ≡ NoImage.NoMemory → result ≡ status_code ImportStatus.NoMemory }
+    ensures refused { cause ≢ NoImage.NoMemory → result ≡ status_code status }
+{
     match cause {
-        NoImage::NoMemory => Ok(ImportStatus::NoMemory),
-        NoImage::IsErrorStream => Err(status),
-        _ => Ok(status),
+        NoImage::NoMemory => finish(rt, ImportStatus::NoMemory),
+        NoImage::IsErrorStream => status.code(),
+        _ => finish_with(rt, status, &refusal_line("tape_import", cause, path)),
     }
 }
 
-/// Opens the files and imports the dump. An error is a status that nothing may be printed of, since the file at fault is
-/// standard error.
-fn run_over_files(rt: &HostRuntime, asked: ImportWords) -> Result<ImportStatus, ImportStatus>
+/// Opens the files and imports the dump, and answers the exit status.
+fn run_over_files(rt: &HostRuntime, asked: ImportWords) -> u8
     requires { IfSome asked.segments_per_track IsLength }
 {
     let image = match open_image(rt, asked.image) {
         Ok(image) => image,
-        Err(cause) => return unopened(cause, ImportStatus::NoImage),
+        Err(cause) => return refuse_file(rt, ImportStatus::NoImage, cause, asked.image),
     };
     let map = match asked.map {
         Some(path) => match open_to_read(rt, path) {
             Ok(map) => Some(map),
-            Err(cause) => return unopened(cause, ImportStatus::NoMap),
+            Err(cause) => return refuse_file(rt, ImportStatus::NoMap, cause, path),
         },
         None => None,
     };
-    Ok(run_over_disks(rt, asked.segments_per_track, image, map))
+    run_over_disks(rt, asked.segments_per_track, image, map)
 }
 
-/// Imports the dump on standard input into an image.
+/// Imports the dump on standard input into an image, and answers the exit status.
 fn run_over_disks(
     rt: &HostRuntime,
     segments_per_track: Option<u16>,
     mut image: FileDisk,
     map: Option<FileDisk>,
-) -> ImportStatus
+) -> u8
     requires { IfSome segments_per_track IsLength }
 {
     let mut chart = match map {
-        Some(disk) => Some(MapSource::new(disk)),
+        Some(disk) => Some(FileSource::new(disk)),
         None => None,
     };
     let mut dump = StdinSource::new(rt.stdin());
     let mut told = StdoutSink::new(rt.stdout());
-    run_import(
+    let status = run_import(
         segments_per_track,
         &mut chart,
         &mut dump,
         &mut image,
         &mut told,
-    )
+    );
+    finish_over(rt, status, image.failure())
+}
+
+/// Prints a status, and answers its exit status. Where the image failed it is told why a call of it did.
+fn finish_over(rt: &HostRuntime, status: ImportStatus, failure: Option<Failure>) -> u8
+    ensures { result ≡ status_code status }
+{
+    match (status, failure) {
+        (ImportStatus::DiskFault, Some(failure)) => {
+            finish_with(rt, status, &failure_line("tape_import", failure))
+        }
+        _ => finish(rt, status),
+    }
+}
+
+/// Prints a status, and a line behind it, and answers its exit status.
+fn finish_with(rt: &HostRuntime, status: ImportStatus, hint: &HintLine) -> u8
+    ensures { result ≡ status_code status }
+{
+    let mut errors = StderrSink::new(rt.stderr());
+    if write_status(status, &mut errors).is_ok() {
+        // The exit status tells it, too, where standard error can't.
+        let _printed = write_bytes(hint.bytes(), &mut errors);
+    }
+    status.code()
 }
 
 /// Prints a status, and answers its exit status.
-fn finish(rt: &HostRuntime, status: ImportStatus) -> u8 {
+fn finish(rt: &HostRuntime, status: ImportStatus) -> u8
+    ensures { result ≡ status_code status }
+{
     // The exit status tells it, too, where standard error can't.
     let _printed = write_status(status, &mut StderrSink::new(rt.stderr()));
     status.code()

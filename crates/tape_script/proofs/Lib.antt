@@ -3,6 +3,7 @@ pub mod Decimals
 pub mod Forms
 pub mod Lined
 pub mod Making
+pub mod Reaching
 pub mod Rests
 pub mod Splits
 pub mod Texts

@@ -2,12 +2,11 @@
 use Rattle.std.proofs.Common.{◌≡◌, ◌⊎◌, inl, inr, ℕ, ◌+◌, ◌-◌, ◌<◌, ◌≤◌, ◌&&◌, min, Bool, true, false, cond, List, [], ◌∷◌, ◌++◌, length}
 use Rattle.std.proofs.Common.{take, drop, All, Option, Some, None, IfSome, IfNone, refl, sym, ap, ◌∙◌, subst, arith, nat_lt, nat_le}
 use Rattle.std.proofs.Common.{append_assoc, append-nil}
-use Rattle.std.specs.Prelude.{is_some}
 use Rattle.std.specs.Option.{option_map}
 use Rattle.std.proofs.lemmas.Bool.{cases_lt, and_parts, ltb-true, cases_Bool}
 use Rattle.std.proofs.lemmas.List.{length-append, length-take}
 use Rattle.std.proofs.lemmas.List.Elements.{All-nil, All-append}
-use Rattle.std.proofs.Math.Seq.{take-append-add, take-nil}
+use Rattle.std.proofs.Math.Seq.{drop-append_seam, take-append-add, take-nil}
 use Rattle.qic_base.specs.Acts.{Act}
 use Rattle.cartridge_laws.specs.Shape.{Carries}
 use Rattle.cartridge_spec.specs.Shape.{mask_at, capacity}
@@ -23,10 +22,11 @@ pub whole_told : (before after : Option (List ℕ)) (bytes : List ℕ) → befor
 whole_told before None bytes gave = subst (λ (o : Option (List ℕ)). IfSome o (λ told. bytes ++ [] ≡ told)) (sym gave) tt
 whole_told before (Some rest) bytes gave = subst (λ (o : Option (List ℕ)). IfSome o (λ told. bytes ++ rest ≡ told)) (sym gave) refl
 
-pub still_tells : (before after : Option (List ℕ)) (bytes : List ℕ) → before ≡ option_map (λ rest. bytes ++ rest) after →
-    is_some after ≡ is_some before
-still_tells before None bytes gave = ap (λ (o : Option (List ℕ)). is_some o) (sym gave)
-still_tells before (Some rest) bytes gave = ap (λ (o : Option (List ℕ)). is_some o) (sym gave)
+pub dropped : (before after : Option (List ℕ)) (bytes : List ℕ) → before ≡ option_map (λ rest. bytes ++ rest) after →
+    after ≡ option_map (drop (length bytes)) before
+dropped before None bytes gave = sym (ap (option_map (drop (length bytes))) gave)
+dropped before (Some rest) bytes gave =
+    ap (λ (xs : List ℕ). Some xs) (sym (drop-append_seam bytes rest)) ∙ sym (ap (option_map (drop (length bytes))) gave)
 
 pub none_left : (after : Option (List ℕ)) → IfSome after (λ bytes. bytes ≡ []) → input_of after ≡ []
 none_left None ended = refl
@@ -53,8 +53,9 @@ bytes_untold None None None first came gave more content some =
 -- where none tells them, there may have been none
 pub told_bytes : (before after : Option (List ℕ)) (came : List ℕ) → before ≡ option_map (λ rest. came ++ rest) after →
     (bytes : List ℕ) × (before ≡ option_map (λ rest. bytes ++ rest) after) × IfNone before (All (λ (b : ℕ). b < 256) bytes)
-told_bytes (Some told) after came gave = (came, gave, tt)
-told_bytes None None came gave = ([], refl, All-nil (λ (b : ℕ). b < 256))
+    × (length bytes ≤ length came)
+told_bytes (Some told) after came gave = (came, gave, tt, omega arith)
+told_bytes None None came gave = ([], refl, All-nil (λ (b : ℕ). b < 256), omega arith)
 told_bytes None (Some left) came gave = absurd (cc)
 
 -- ---- acts that the input begins with

@@ -26,7 +26,7 @@ use Rattle.volume_input.specs.declared.fault.InputFault.TheVariants as fault
 use Rattle.volume_input.specs.declared.written.Written.{Written}
 use Rattle.volume_input.proofs.Filled.{Carry, GoesOn, carry_head, carries_some, filled_more, filled_ends, volume_ends, filled_behind}
 use Rattle.volume_input.proofs.Filled.{volume_behind, volume_full, taken_full, taken_last}
-use Rattle.volume_input.proofs.Inputs.{bytes_untold, told_bytes, untold_content, whole_told, still_tells, none_left, Begins, filled_begin}
+use Rattle.volume_input.proofs.Inputs.{bytes_untold, told_bytes, untold_content, whole_told, dropped, none_left, Begins, filled_begin}
 use Rattle.volume_input.proofs.Inputs.{next_begins}
 use Rattle.volume_input.proofs.Told.{Tells, tells_more}
 
@@ -266,12 +266,13 @@ module _ {T S : Type 0} {t : tapes.Meaning T} {s : sources.Meaning S} where
     -- ---- a fault
 
     -- the acts of some more were cut off, and the input asks for them
-    cut_off : (came : List ℕ) (acts : List Act) (failing : Failing) → Gave s now.source new.source came →
+    cut_off : (came : List ℕ) (acts : List Act) (failing : Failing) → length far.bytes + length came ≤ most →
+        Gave s now.source new.source came →
         IfNone (s.left now.source) (All (λ (b : ℕ). b < 256) came) → Cut t s no_sink now new acts failing →
         Begins words (far.front ++ segment ∷ rest) most exact (far.bytes ++ (came ++ input_of (s.left new.source)))
         (filled_acts words far.front far.bytes ++ acts) →
         InputCut t s words segments most exact start new failing
-    cut_off came acts failing gave content cut begins =
+    cut_off came acts failing few gave content cut begins =
         let done : List Act = filled_acts words far.front far.bytes in
         let behind : List ℕ = input_of (s.left new.source) in
         let input : List ℕ = (far.bytes ++ came) ++ behind in
@@ -286,7 +287,10 @@ module _ {T S : Type 0} {t : tapes.Meaning T} {s : sources.Meaning S} where
               ∙ ap (λ (ss : List ℕ). input_acts words ss most exact input) (sym far.parts))
               (cut_is_longer t s no_sink start new (done ++ acts) begins.0 failing
               (went_then_cut t s no_sink no_text start now new done acts failing far.went cut));
-          tells = still_tells (s.left start.source) (s.left new.source) (far.bytes ++ came) (all_gave came gave);
+          taken = length (far.bytes ++ came);
+          left = dropped (s.left start.source) (s.left new.source) (far.bytes ++ came) (all_gave came gave);
+          there = omega (arith, length-append (far.bytes ++ came) behind);
+          few = omega (arith, length-append far.bytes came);
         }
 
     pub source_failed : GaveWithin s now.source new.source (capacity (mask_at words segment)) (most - written.bytes) →
@@ -297,7 +301,11 @@ module _ {T S : Type 0} {t : tapes.Meaning T} {s : sources.Meaning S} where
         let came = told_bytes (s.left now.source) (s.left new.source) gave.0 gave.3 in
         let begins = filled_begin words far.front (segment ∷ rest) far.bytes most far.carry far.full far.going within exact
         (came.0 ++ input_of (s.left new.source)) in
-        cut_off came.0 [] SourceFails came.1 came.2 cut
+        let before : written.bytes ≡ length far.bytes = far.tells.bytes in
+        let inside : length far.bytes ≤ most = within in
+        let some : length gave.0 ≤ most - written.bytes = gave.2 in
+        let fewer : length came.0 ≤ length gave.0 = came.3 in
+        cut_off came.0 [] SourceFails (omega arith) came.1 came.2 cut
         (begins.0, ap (λ (acts : List Act). acts ++ begins.0) (append-nil done) ∙ begins.1)
 
     pub tape_failed : NextBroken t s words segment written.bytes most exact now new →
@@ -306,7 +314,10 @@ module _ {T S : Type 0} {t : tapes.Meaning T} {s : sources.Meaning S} where
         let came : List ℕ = come.bytes in
         let took = come.came.took in
         let before : written.bytes ≡ length far.bytes = far.tells.bytes in
-        cut_off came (segment_act words segment came ∷ []) TapeFails took.gave (untold_content (s.left now.source) came come.came.content)
+        let inside : length far.bytes ≤ most = within in
+        let fewer : length came ≤ most - written.bytes = took.within in
+        cut_off came (segment_act words segment came ∷ []) TapeFails (omega arith) took.gave
+        (untold_content (s.left now.source) came come.came.content)
         come.cut
         (next_begins words far.front segment rest far.bytes came (input_of (s.left new.source)) most exact far.carry here far.full within
         took.fits

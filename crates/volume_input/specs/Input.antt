@@ -1,5 +1,6 @@
 -- How the bytes of a source went into the segments of a volume (this project's own).
-use Rattle.std.specs.Prelude.{◌≡◌, ℕ, ◌-◌, ◌<◌, ◌≤◌, Bool, true, List, length, All, slice_index, is_some, IfNone, Result, Ok, Err}
+use Rattle.std.specs.Prelude.{◌≡◌, ℕ, ◌-◌, ◌<◌, ◌≤◌, Bool, true, List, length, drop, All, slice_index, IfNone, Result, Ok, Err}
+use Rattle.std.specs.Option.{option_map}
 use Rattle.cartridge_spec.specs.Appending.{taken_by}
 use Rattle.command_spec.specs.Append.{volume_acts, filled_acts, input_acts}
 use Rattle.qic_base.specs.Acts.{Outside, Went, Failing, Cut, TapeFails, SourceFails}
@@ -41,14 +42,18 @@ pub record EndedShort {T S : Type 0} (t : tapes.Meaning T) (s : sources.Meaning 
   pub went : Went t s no_sink old new (filled_acts words segments bytes)
   pub count : read ≡ length bytes
 
--- A fault of the tape or of the source cut that off, over the input that the source told, or some input where it tells none.
+-- A fault of the tape or of the source cut that off, over the input that the source told, or some input where it tells none. Of that
+-- no more bytes were taken than are wanted.
 pub record InputCut {T S : Type 0} (t : tapes.Meaning T) (s : sources.Meaning S) (words segments : List ℕ) (most : ℕ) (exact : Bool)
     (old new : Outside T S (Unit {0})) (failing : Failing) : Type 0 where
   pub input : List ℕ
   pub is_told : IsInput (s.left old.source) input
   pub content : IfNone (s.left old.source) (All (λ b. b < 256) input)
   pub cut : Cut t s no_sink old new (input_acts words segments most exact input) failing
-  pub tells : is_some (s.left new.source) ≡ is_some (s.left old.source)
+  pub taken : ℕ
+  pub left : s.left new.source ≡ option_map (drop taken) (s.left old.source)
+  pub there : taken ≤ length input
+  pub few : taken ≤ most
 
 abbrev pub InputEnds : {T S : Type 0} (t : tapes.Meaning T) (s : sources.Meaning S) (words segments : List ℕ) (most : ℕ) (exact : Bool)
     (old new : Outside T S (Unit {0})) → Result Written InputFault → Type 0

@@ -279,6 +279,9 @@ module _ {T S K : Type 0} (t : tapes.Meaning T) (s : sources.Meaning S) (k : sin
                 (would_be c store.words store.entries asked has.bytes rest.rest bytes_long
                 (record { acts = whole; entries = store.entries ++ has.entry ∷ [] }) does acts would) (unreplied broke))
                 (does (store.entries ++ has.entry ∷ []) refl);
+            given = has.bytes;
+            few = let long = bytes_long in omega arith;
+            gave = gave_bytes;
             acts = whole;
             cut = unreplied broke;
           }
@@ -374,6 +377,9 @@ module _ {T S K : Type 0} (t : tapes.Meaning T) (s : sources.Meaning S) (k : sin
               (reading b ran.behind) [] failing))
               (λ c each lost. (each, lost)) cut.told unread)
               free;
+          given = ran.lends.gave.0;
+          few = let long = given_long in let all = counted in omega arith;
+          gave = was_given;
           acts = cut.acts;
           cut = lift_cut cut.acts failing other cut.cut;
         }
@@ -564,11 +570,15 @@ module _ {T S K : Type 0} (t : tapes.Meaning T) (s : sources.Meaning S) (k : sin
                 (would_be c store.words store.entries asked bytes rest.rest (given.long ∙ all_long all.bytes all.all)
                 (record { acts = acts ++ reply (refusal_line refusal) ∷ []; entries = store.entries }) does zs would) cut)
                 (does_so bytes store.entries refl);
+            given = bytes;
+            few = let long = given.long in let all = all_long all.bytes all.all in omega arith;
+            gave = given.gave;
             acts = acts ++ reply (refusal_line refusal) ∷ [];
             cut = cut;
           }
       refused_ends (Err fault.Source) (failed, sink) =
           let rest = any_bytes (s.left i) in
+          let skipped = failed.skipped in
           let cut : Cut t s k (outside a i x) (outside b j2 x) acts SourceFails = record {
             front = acts;
             rest = [];
@@ -585,6 +595,10 @@ module _ {T S K : Type 0} (t : tapes.Meaning T) (s : sources.Meaning S) (k : sin
             told = Tells-map t a _ (λ c. (zs : List Act) → WouldDo c store.words store.entries asked rest.rest zs →
                 Cut t s k (outside a i x) (outside b j2 x) zs SourceFails)
                 (λ c known zs would. by_would c known.0 known.1 known.2.0 known.2.1 rest.rest zs would cut) refusing.told;
+            given = ran.lends.gave.0 ++ skipped.2.0;
+            few = let l = length-append ran.lends.gave.0 skipped.2.0 in let g = given_long in let c = counted in
+                let n = skipped.2.1 in let m = skipped.1 in omega arith;
+            gave = all_given skipped.2.0 skipped.2.2;
             acts = acts;
             cut = cut;
           })

@@ -15,18 +15,21 @@ use Rattle.qic_base.proofs.Joins.{cut_is_longer}
 use Rattle.segment_io.proofs.Going.{tells_always}
 use Rattle.command_spec.specs.declared.line.Line.{Line}
 use Rattle.command_spec.specs.declared.line.Line.TheVariants as line
-use Rattle.command_spec.specs.Input.{AtEnd, AtStop, AtFault, promised, most_items, IsLineText}
+use Rattle.command_spec.specs.Input.{AtEnd, AtStop, AtFault, EndsEarly, promised, most_items, IsLineText}
+use Rattle.command_spec.specs.Script.{ReachesItem}
+use Rattle.qic_base.specs.LineBytes.{NoNewline}
 use Rattle.qic_base.specs.SourceCalls.{Gave}
-use Rattle.tape_script.specs.Reading.{GaveInLine, GaveNoEnd, BeginsWithNo}
+use Rattle.tape_script.specs.Reading.{GaveFront, GaveInLine, GaveNoEnd, BeginsWithNo}
 use Rattle.qic_base.proofs.Giving.{Gave-Gave}
 use Rattle.tape_script.proofs.Lined.{IsLined-one_newline}
+use Rattle.tape_script.proofs.Reaching.{front_in_line, in_line}
 use Rattle.tape_script.proofs.Rests.{whole_told}
 use Rattle.volume_store.specs.Mounting.{StoreView}
-use Rattle.volume_script.specs.Heard.{HeardItem, HeardShort, HeardCut, NextDoes}
+use Rattle.volume_script.specs.Heard.{HeardItem, HeardShort, HeardCut, InItem, NextDoes}
 use Rattle.command_laws.specs.Inputs.{IsLine}
 use Rattle.command_laws.specs.ScriptItems.{EarlyDoes}
 use Rattle.volume_script.specs.Items.{ItemDone, ItemShort, ItemCut, ItemMismatched, WouldDo}
-use Rattle.command_spec.specs.Script.{EndsEarly, LineDoes}
+use Rattle.command_spec.specs.Script.{LineDoes}
 use Rattle.volume_script.proofs.Appended.{flip}
 use Rattle.volume_script.proofs.Content.{any_bytes, content_behind}
 use Rattle.volume_script.proofs.Input.{end_is_line, item_of, line_of_item, line_short, some_text}
@@ -44,6 +47,40 @@ early_of text bytes (line.Restore number) is short = absurd (omega arith)
 early_of text bytes line.Scrub is short = absurd (omega arith)
 early_of text bytes (line.Lose segment sector) is short = absurd (omega arith)
 early_of text bytes line.End is short = absurd (omega arith)
+
+-- ---- how far a line that was cut off reaches
+
+-- the front of a line
+pub front_into : (came : List ℕ) → length came ≤ 127 → NoNewline came → InItem came
+front_into came few none rest = inl (in_line came rest (front_in_line came few none))
+
+-- a line, and some of the bytes that it promises: of those that follow it there are enough, or they end early
+into_item : (text : List ℕ) (asked : Line) → IsLineText text asked → asked ≢ line.End → (given rest : List ℕ) →
+    length given ≤ promised asked → ReachesItem ((text ++ given) ++ rest) (length (text ++ given))
+into_item text asked is other given rest few = elim (cases_Bool (nat_le (promised asked) (length (given ++ rest)))) [
+  | inl enough ↦
+      let n : ℕ = promised asked in
+      let behind : List ℕ = given ++ rest in
+      let long : length (take n behind) ≡ n = length-take-le n behind (leb-true n (length behind) enough) in
+      inr (inl (
+        record { line = asked; bytes = take n behind },
+        (
+          text ++ take n behind,
+          (
+            drop n behind,
+            (
+              append_assoc text given rest ∙ ap (λ (bs : List ℕ). text ++ bs) (sym (take-append-drop n behind))
+                  ∙ sym (append_assoc text (take n behind) (drop n behind)),
+              item_of text (take n behind) asked is other long,
+              omega (arith, length-append text given, length-append text (take n behind)),
+            ),
+          ),
+        ),
+      ))
+  | inr fewer ↦
+      inr (inr (subst EndsEarly (sym (append_assoc text given rest))
+      (early_of text (given ++ rest) asked is (leb-false (promised asked) (length (given ++ rest)) fewer))))
+]
 
 -- ---- behind the last line that may be an item
 
@@ -234,6 +271,9 @@ module _ {T S K : Type 0} (t : tapes.Meaning T) (s : sources.Meaning S) (k : sin
             Cut t s k (outside a i x) (outside b j y) acts failing)
             (λ c each acts next. earlier_cut a i m x (outside b j y) acts failing later
             (each acts (would_next c number place cut.rest acts within next))) cut.told;
+        given = text ++ cut.given;
+        gave = Gave-Gave s i m j text cut.given gave cut.gave;
+        into = λ rest. into_item text asked is other cut.given rest cut.few;
         acts = cut.acts;
         cut = earlier_cut a i m x (outside b j y) cut.acts failing later cut.cut;
       }
@@ -241,9 +281,9 @@ module _ {T S K : Type 0} (t : tapes.Meaning T) (s : sources.Meaning S) (k : sin
   module _ (store after : StoreView) (a b : T) (i m j : S) (x y : K) (later : s.faults i ≤ s.faults m) where
     -- ---- the source failed before the line's end
 
-    pub unheard : TakesNone k → (number place : ℕ) → Rose (s.faults i) (s.faults m) → HeardCut t s k store (outside a i x)
+    pub unheard : TakesNone k → (number place : ℕ) → Rose (s.faults i) (s.faults m) → GaveFront s i m → HeardCut t s k store (outside a i x)
         (outside a m x) number place SourceFails
-    unheard none number place rose =
+    unheard none number place rose front =
         let rest = any_bytes (s.left i) in
         let cut : Cut t s k (outside a i x) (outside a m x) [] SourceFails = record {
           front = [];
@@ -261,6 +301,9 @@ module _ {T S K : Type 0} (t : tapes.Meaning T) (s : sources.Meaning S) (k : sin
           told = tells_always t a (λ c. (acts : List Act) → NextDoes c store.words store.entries number place rest.rest acts →
               Cut t s k (outside a i x) (outside a m x) acts SourceFails)
               (λ c acts next. cut_is_longer t s k (outside a i x) (outside a m x) [] acts SourceFails cut);
+          given = front.0;
+          gave = front.3;
+          into = front_into front.0 front.1 front.2;
           acts = [];
           cut = cut;
         }

@@ -9,8 +9,7 @@ use Rattle.command_laws.proofs.ScriptInput.{same_line}
 use Rattle.command_laws.proofs.TextLined.{end_no_newline}
 use Rattle.command_spec.specs.Command.{Word, SpellsPart}
 use Rattle.command_laws.specs.Inputs.{words_of}
-use Rattle.command_spec.specs.Input.{IsLineText, IsItem, promised, Item, IsFault, most_items}
-use Rattle.command_spec.specs.Script.{EndsEarly}
+use Rattle.command_spec.specs.Input.{EndsEarly, IsLineText, IsItem, promised, Item, IsFault, most_items}
 use Rattle.command_spec.specs.declared.line.Line.{Line}
 use Rattle.tape_script.proofs.Rests.{Rest, stop_rest}
 use Rattle.volume_script.proofs.Content.{stop_bytes, zero_byte}

@@ -90,6 +90,9 @@ module _ {T S K : Type 0} (t : tapes.Meaning T) (s : sources.Meaning S) (k : sin
             (λ c each xs would.
             let w = would_without c store.words store.entries asked left.rest xs quiet would in
             subst (λ (zs : List Act). Cut t s k (outside a i x) (outside b i y) zs failing) w.1 (each w.0 w.2)) told;
+        given = [];
+        few = omega arith;
+        gave = Gave-nothing s i i refl;
         acts = acts;
         cut = cut;
       }

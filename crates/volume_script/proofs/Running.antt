@@ -1,6 +1,6 @@
 -- A run of a script, item after item: the acts so far went, and then those of what is left went or were cut off.
-use Rattle.std.proofs.Common.{◌≡◌, ◌≢◌, ℕ, ◌+◌, ◌*◌, ◌<◌, ◌≤◌, List, [], ◌∷◌, ◌++◌, length, drop, None, IfSome, IfNone, Result, Ok, Err}
-use Rattle.std.proofs.Common.{codes, refl, sym, ap, ◌∙◌, subst, arith, inl, inr, append_assoc, append-nil, ◌⊎◌}
+use Rattle.std.proofs.Common.{◌≡◌, ◌≢◌, ℕ, ◌+◌, ◌*◌, ◌<◌, ◌≤◌, List, [], ◌∷◌, ◌++◌, length, drop, IfSome, IfNone, Result, Ok, Err}
+use Rattle.std.proofs.Common.{Option, None, Some, codes, refl, sym, ap, ◌∙◌, subst, arith, inl, inr, append_assoc, append-nil, ◌⊎◌}
 use Rattle.std.proofs.lemmas.List.{length-append, length_push}
 use Rattle.std.proofs.Math.Seq.{drop-append_seam}
 use Rattle.qic_base.specs.Cartridge.{Cartridge}
@@ -13,7 +13,7 @@ use Rattle.cartridge_spec.specs.Settling.{changed_by}
 use Rattle.segment_io.proofs.Going.{tells_always}
 use Rattle.command_spec.specs.declared.line.Line.{Line}
 use Rattle.command_spec.specs.Input.{Item, IsItem, IsFault, Ending, AtEnd, AtStop, AtFault, ItemsEnd, HasItems, IsScript, most_items}
-use Rattle.command_spec.specs.Input.{promised, IsLineText, input_status}
+use Rattle.command_spec.specs.Input.{EndsEarly, promised, IsLineText, input_status}
 use Rattle.qic_base.specs.SourceCalls.{Gave, HasEnded}
 use Rattle.qic_base.proofs.Giving.{Gave-Gave, Gave-end, Gave-nothing}
 use Rattle.command_laws.proofs.TextInputs.{one_reading, no_ending}
@@ -23,17 +23,22 @@ use Rattle.volume_store.specs.Mounting.{StoreView}
 use Rattle.volume_store.proofs.Ending.{back}
 use Rattle.volume_script.specs.declared.fault.ScriptFault.{ScriptFault}
 use Rattle.volume_script.specs.Ending.{HearsEnd, RepliesEnd}
-use Rattle.volume_script.specs.Heard.{longest, HeardItem, HeardNone, HeardShort, HeardCut, Hears, NextDoes}
+use Rattle.volume_script.specs.Heard.{longest, HeardItem, HeardNone, HeardShort, HeardCut, Hears, InItem, NextDoes}
 use Rattle.command_laws.specs.ScriptItems.{EarlyDoes}
-use Rattle.command_spec.specs.Script.{end_line, Did, EndDoes, EndsEarly, ItemsDo, ScriptDoes, acts_of, cartridge_behind, entries_behind}
+use Rattle.command_spec.specs.Script.{end_line, Did, EndDoes, ItemsDo, ScriptDoes, acts_of, cartridge_behind, entries_behind}
 use Rattle.command_spec.specs.Script.{place_behind, reply, items_taken}
-use Rattle.volume_script.specs.Runs.{Leaves, Ended, CutOff}
+use Rattle.volume_script.specs.Runs.{Leaves, Ended, CutItems, CutOff, ItemsFirst}
+use Rattle.command_laws.proofs.CutFronts.{CutBehind, cut_then}
+use Rattle.command_laws.proofs.TextLined.{end_no_newline}
+use Rattle.command_spec.specs.Machine.{acts_before}
+use Rattle.command_spec.specs.Script.{ReachesItem}
+use Rattle.tape_script.proofs.Reaching.{Took, none_of_line, took}
 use Rattle.volume_script.specs.Answers.{Answer, AllDone, FaultIn, script_answer, script_status}
 use Rattle.command_laws.specs.ScriptTerms.{FaultDoes, ItemDoes}
 use Rattle.command_spec.specs.Outcome.{CommandOutcome}
 use Rattle.volume_script.proofs.Appended.{flip}
 use Rattle.volume_script.proofs.Content.{any_bytes, content_both, ended_content, no_content}
-use Rattle.volume_script.proofs.Hearing.{early_of}
+use Rattle.volume_script.proofs.Hearing.{early_of, front_into}
 use Rattle.volume_script.proofs.Input.{no_line_fault, no_line_early, early_fault, none_content, none_rest, on_content, on_rest}
 use Rattle.volume_script.proofs.Input.{stop_content}
 use Rattle.command_laws.proofs.ScriptLifting.{TakesNone, replied_went, replied_cut}
@@ -60,6 +65,18 @@ status_is (AtFault number place) = refl
 
 plain_place : (texts : List ℕ) → 0 + length texts ≡ length texts
 plain_place texts = omega arith
+
+-- what is so of an input is so of the bytes that are told
+input_has : (o : Option (List ℕ)) (input : List ℕ) (P : List ℕ → Type 0) → IsInput o input → P input → IfSome o P
+input_has None input P told is = tt
+input_has (Some bytes) input P told is = subst P told is
+
+-- nothing reaches into any item, and the line `end` into a line
+none_into : InItem []
+none_into rest = inl (none_of_line rest)
+
+stop_into : InItem (codes "end\n")
+stop_into rest = inl (omega arith, end_no_newline)
 
 -- what the items so far did, by the plain machine
 pub record Ran (first now : StoreView) (items : List Item) (acts : List Act) (c : Cartridge) : Type 0 where
@@ -227,31 +244,57 @@ module _ {T S K : Type 0} {t : tapes.Meaning T} {s : sources.Meaning S} {k : sin
         CutOff t s k first start new failing
     cut_so failing few heard =
         let input : List ℕ = far.texts ++ heard.rest in
+        let is_told : IsInput (s.left start.source) input =
+        whole_told (s.left start.source) (s.left now.source) far.texts heard.rest far.gave heard.is_told in
+        let Cuts : List Item → Cartridge → Type 0 = λ items. CutItems t s k first start new failing input items in
+        let Told : List Item → Type 0 = λ items. tape_calls.Tells t start.tape (Cuts items) in
+        let told : Told far.items =
+        Tells-map t start.tape _ (Cuts far.items) (λ c both_told outcome does. by_outcome c both_told.0 both_told.1 outcome does)
+        (at_start (λ c. (acts : List Act) → NextDoes c store.words store.entries (lines + 1) place heard.rest acts →
+        Cut t s k now new acts failing) heard.told) in
+        let none : Told [] =
+        Tells-map t start.tape (Cuts far.items) (Cuts [])
+        (λ c each outcome does.
+        let off = each outcome does in
+        (off.0, ([], (acts_before t s k start new outcome.acts failing off.0, (tt, refl))))) told in
+        let far_off : Took IsItem Told ReachesItem input (s.left start.source) (s.left new.source) =
+        took IsItem Told ReachesItem (s.left start.source) (s.left now.source) (s.left new.source) far.texts heard.given far.items input
+        is_told far.gave heard.gave read_all told none heard.into (λ back. inl (none_of_line back)) in
         record {
           input = input;
-          is_told = whole_told (s.left start.source) (s.left now.source) far.texts heard.rest far.gave heard.is_told;
+          is_told = is_told;
           content = content_both (s.left start.source) (s.left now.source) far.texts heard.rest far.gave far.content heard.content;
-          told = Tells-map t start.tape _ (λ c. (outcome : CommandOutcome) → ScriptDoes c first.words first.entries input outcome →
-              Cut t s k start new outcome.acts failing)
-              (λ c both_told outcome does. by_outcome c both_told.0 both_told.1 outcome does)
-              (at_start (λ c. (acts : List Act) → NextDoes c store.words store.entries (lines + 1) place heard.rest acts →
-              Cut t s k now new acts failing) heard.told);
+          taken = far_off.taken;
+          left = far_off.left;
+          reaches = far_off.reaches;
           acts = far.acts ++ heard.acts;
           cut = went_then_cut t s k both start now new far.acts heard.acts failing far.went heard.cut;
         }
       where
+        -- all items so far
+        read_all : HasItems IsItem 1 0 far.texts far.items AtEnd
+        read_all =
+            subst (λ (bs : List ℕ). HasItems IsItem 1 0 bs far.items AtEnd) (append-nil far.texts)
+            (read_end far.items far.texts [] 1 0 (lines + 1) place AtEnd far.reads (let n = far.number in omega arith)
+            (let n = far.number in omega arith) (let b = far.bytes in omega arith) refl)
+
+        -- these acts were cut off behind those of the items so far
+        OffSo : Cartridge → List Act → Type 0
+        OffSo c acts = CutBehind t s k start new acts failing (ItemsFirst first c far.items)
+
         -- the acts of the machine's outcome begin with those so far and the next ones
         later : (c : Cartridge) (ran : Ran first store far.items far.acts c) (rears : List Did) (last next_acts others : List Act) →
             acts_of rears ++ last ≡ next_acts ++ others →
-            Cut t s k now new next_acts failing → Cut t s k start new (acts_of (ran.dids ++ rears) ++ last) failing
+            Cut t s k now new next_acts failing → OffSo c (acts_of (ran.dids ++ rears) ++ last)
         later c ran rears last next_acts others is cut =
             let parts : far.acts ++ (next_acts ++ others) ≡ acts_of (ran.dids ++ rears) ++ last =
             ap (λ (acts : List Act). far.acts ++ acts) (sym is) ∙ sym (append_assoc far.acts (acts_of rears) last)
             ∙ ap (λ (acts : List Act). (acts ++ acts_of rears) ++ last) ran.are ∙ ap (λ (acts : List Act). acts ++ last)
             (sym (acts_of-append ran.dids rears)) in
-            subst (λ (acts : List Act). Cut t s k start new acts failing) parts
-            (went_then_cut t s k both start now new far.acts (next_acts ++ others) failing far.went
-            (cut_is_longer t s k now new next_acts others failing cut))
+            subst (OffSo c) parts
+            (cut_then t s k both start now new far.acts (next_acts ++ others) failing (λ done. Unit {0}) (ItemsFirst first c far.items)
+            far.went (cut_is_longer t s k now new next_acts others failing cut, tt)
+            (λ done any. (ran.dids, (done, (ran.ran_so, ap (λ (acts : List Act). acts ++ done) ran.are)))))
 
         -- the next acts, by the items that are left
         by_more : (c : Cartridge) (ran : Ran first store far.items far.acts c) →
@@ -262,7 +305,7 @@ module _ {T S K : Type 0} {t : tapes.Meaning T} {s : sources.Meaning S} {k : sin
             ItemsDo (cartridge_behind c ran.dids) first.words (entries_behind first.entries ran.dids) more rears →
             (more ≡ [] → EndDoes (cartridge_behind c (ran.dids ++ rears)) first.words
             (entries_behind first.entries (ran.dids ++ rears)) heard.rest ending last) →
-            Cut t s k start new (acts_of (ran.dids ++ rears) ++ last) failing
+            OffSo c (acts_of (ran.dids ++ rears) ++ last)
         by_more c ran each [] [] ending last read ran_so ends =
             let here = ends refl in
             let P : Cartridge → Type 0 = λ d. EndDoes d first.words (entries_behind first.entries ran.dids) heard.rest ending last in
@@ -287,7 +330,7 @@ module _ {T S K : Type 0} {t : tapes.Meaning T} {s : sources.Meaning S} {k : sin
             ((acts : List Act) → NextDoes (changed_by (steps_of far.acts) c) store.words store.entries (lines + 1) place heard.rest acts →
             Cut t s k now new acts failing) →
             (outcome : CommandOutcome) → ScriptDoes c first.words first.entries (far.texts ++ heard.rest) outcome →
-            Cut t s k start new outcome.acts failing
+            OffSo c outcome.acts
         by_outcome c ran each outcome does =
             let input : List ℕ = far.texts ++ heard.rest in
             let reading = split_reading far.items far.texts heard.rest 1 0 (lines + 1) place input does.items does.ending far.reads refl
@@ -300,8 +343,8 @@ module _ {T S K : Type 0} {t : tapes.Meaning T} {s : sources.Meaning S} {k : sin
             let R : List ℕ → Type 0 = λ bs. EndDoes (cartridge_behind c (ran.dids ++ doing.rears)) first.words
             (entries_behind first.entries (ran.dids ++ doing.rears)) bs does.ending does.last in
             let V : List Item → Type 0 = λ is. Reads far.texts is in
-            subst (λ (o : CommandOutcome). Cut t s k start new o.acts failing) (sym does.is)
-            (subst (λ (ds : List Did). Cut t s k start new (acts_of ds ++ does.last) failing) (sym doing.whole)
+            subst (λ (o : CommandOutcome). OffSo c o.acts) (sym does.is)
+            (subst (λ (ds : List Did). OffSo c (acts_of ds ++ does.last)) (sym doing.whole)
             (by_more c ran each reading.more doing.rears does.ending does.last reading.read doing.ran_so
             (λ none.
             let all : does.items ≡ far.items = reading.whole ∙ ap (λ (xs : List Item). far.items ++ xs) none ∙ append-nil far.items in
@@ -331,7 +374,7 @@ module _ {T S K : Type 0} {t : tapes.Meaning T} {s : sources.Meaning S} {k : sin
         (went : Went t s k now (outside tape source sink) [])
         (does : (c : Cartridge) → EndDoes c store.words store.entries rest ending (reply end_line ∷ []))
         (only : (c : Cartridge) (acts : List Act) → EndDoes c store.words store.entries rest ending acts →
-        (reply end_line ∷ []) ≡ acts) where
+        (reply end_line ∷ []) ≡ acts) (given : List ℕ) (gave : Gave s now.source source given) (into : InItem given) where
       replied_end : sinks.Wrote k sink y end_line → script_answer ending ≡ AllDone →
           ((read : IsScript (far.texts ++ rest) far.items ending) →
           Leaves s start.source source (items_taken (far.texts ++ rest) far.items ending read) AllDone) →
@@ -352,6 +395,9 @@ module _ {T S K : Type 0} {t : tapes.Meaning T} {s : sources.Meaning S} {k : sin
                 Cut t s k now (outside tape source y) acts SinkFails)
                 (λ c acts next. subst (λ (zs : List Act). Cut t s k now (outside tape source y) zs SinkFails)
                 (end_alone c rest ending acts (reply end_line ∷ []) ends (only c acts) next) cut);
+            given = given;
+            gave = gave;
+            into = into;
             acts = reply end_line ∷ [];
             cut = cut;
           })
@@ -365,18 +411,18 @@ module _ {T S K : Type 0} {t : tapes.Meaning T} {s : sources.Meaning S} {k : sin
     at_end tape source sink y went (inl end) (Ok done) wrote =
         let behind = ended_rest (s.left now.source) end.0 in
         replied_end tape source sink y behind.rest AtEnd behind.told (ended_content (s.left now.source) behind.rest behind.has) behind.has
-        went (λ c. refl) (λ c acts is. sym is) wrote refl
+        went (λ c. refl) (λ c acts is. sym is) [] end.1 none_into wrote refl
         (λ read. left_behind (s.left start.source) (s.left source) far.texts (length (far.texts ++ behind.rest))
         (Gave-end s start.source now.source source far.texts far.gave end.1)
         (ap (λ rest. length (far.texts ++ rest)) behind.has ∙ ap length (append-nil far.texts)))
     at_end tape source sink y went (inl end) (Err fault.Sink) broke =
         let behind = ended_rest (s.left now.source) end.0 in
         unreplied_end tape source sink y behind.rest AtEnd behind.told (ended_content (s.left now.source) behind.rest behind.has) behind.has
-        went (λ c. refl) (λ c acts is. sym is) broke
+        went (λ c. refl) (λ c acts is. sym is) [] end.1 none_into broke
     at_end tape source sink y went (inr stop) (Ok done) wrote =
         let behind = stop_rest (s.left now.source) (s.left source) stop in
         replied_end tape source sink y behind.rest AtStop behind.told (stop_content (s.left now.source) (s.left source) stop) behind.has
-        went (λ c. refl) (λ c acts is. sym is) wrote refl
+        went (λ c. refl) (λ c acts is. sym is) (codes "end\n") stop stop_into wrote refl
         (λ read. left_behind (s.left start.source) (s.left source) (far.texts ++ codes "end\n")
         (items_taken (far.texts ++ behind.rest) far.items AtStop read)
         (Gave-Gave s start.source now.source source far.texts (codes "end\n") far.gave stop)
@@ -386,7 +432,7 @@ module _ {T S K : Type 0} {t : tapes.Meaning T} {s : sources.Meaning S} {k : sin
     at_end tape source sink y went (inr stop) (Err fault.Sink) broke =
         let behind = stop_rest (s.left now.source) (s.left source) stop in
         unreplied_end tape source sink y behind.rest AtStop behind.told (stop_content (s.left now.source) (s.left source) stop) behind.has
-        went (λ c. refl) (λ c acts is. sym is) broke
+        went (λ c. refl) (λ c acts is. sym is) (codes "end\n") stop stop_into broke
     at_end tape source sink y went (inl end) (Err (fault.Input line at)) never = absurd never
     at_end tape source sink y went (inl end) (Err fault.TableMismatch) never = absurd never
     at_end tape source sink y went (inl end) (Err fault.Source) never = absurd never
@@ -398,9 +444,14 @@ module _ {T S K : Type 0} {t : tapes.Meaning T} {s : sources.Meaning S} {k : sin
 
     -- ---- the input is at fault
 
+    -- no more than a line, or all, where an append's bytes end early
+    abbrev FarEnough : (source : S) (bytes : List ℕ) (at : ℕ) → Type 0
+    FarEnough source bytes at =
+        (length bytes ≤ 128) ⊎ (HasEnded s source × IfSome (s.left start.source) (λ all. EndsEarly (drop at all)))
+
     -- what is left behind a fault
-    behind_fault : (source : S) (bytes : List ℕ) (number at : ℕ) → at ≡ place → Gave s now.source source bytes → (length bytes ≤ 128)
-        ⊎ HasEnded s source →
+    behind_fault : (source : S) (bytes : List ℕ) (number at : ℕ) → at ≡ place → Gave s now.source source bytes →
+        FarEnough source bytes at →
         Leaves s start.source source 0 (FaultIn number at)
     behind_fault source bytes number at equal gave far_enough = (
       length bytes,
@@ -414,7 +465,7 @@ module _ {T S K : Type 0} {t : tapes.Meaning T} {s : sources.Meaning S} {k : sin
         IfSome (s.left now.source) (λ bytes. bytes ≡ rest) →
         IfNone (s.left now.source) (AreBytes rest) → IsFault IsItem (lines + 1) rest → Went t s k now new last →
         Gave s now.source new.source bytes →
-        (length bytes ≤ 128) ⊎ HasEnded s new.source →
+        FarEnough new.source bytes at →
         tape_calls.Tells t now.tape (λ c. FaultDoes c store.words store.entries number rest last) →
         Ended t s k first start new (FaultIn number at)
     faulty new rest bytes number at last same equal told content is went gave far_enough does =
@@ -445,7 +496,13 @@ module _ {T S K : Type 0} {t : tapes.Meaning T} {s : sources.Meaning S} {k : sin
         flip (s.left now.source) rest (subst (λ (l : List ℕ). IsInput (s.left now.source) l)
         (ap (λ (l : List ℕ). rest ++ l) behind.has ∙ append-nil rest) whole) in
         faulty new rest rest number at heard.acts same equal told heard.content (early_fault (lines + 1) rest early) heard.went heard.gave
-        (inr heard.ended)
+        (inr (
+          heard.ended,
+          input_has (s.left start.source) (far.texts ++ rest) (λ all. EndsEarly (drop at all))
+              (whole_told (s.left start.source) (s.left now.source) far.texts rest far.gave told)
+              (subst EndsEarly
+              (sym (ap (λ (n : ℕ). drop n (far.texts ++ rest)) (equal ∙ far.bytes) ∙ drop-append_seam far.texts rest)) early),
+        ))
         (Tells-map t now.tape (λ c. EarlyDoes c store.words store.entries heard.asked heard.bytes heard.acts)
         (λ c. FaultDoes c store.words store.entries number rest heard.acts)
         (λ c does. early_does c heard.text heard.bytes heard.asked heard.acts heard.is heard.short number (omega arith) does) heard.told)
@@ -514,7 +571,7 @@ module _ {T S K : Type 0} {t : tapes.Meaning T} {s : sources.Meaning S} {k : sin
         (inl (let l = on.gave.1 in let f = on.few in omega arith))
         (tells_always t now.tape (λ c. FaultDoes c store.words store.entries number behind.rest [])
         (λ c. inr ((λ within. absurd (omega arith)), refl)))
-    end_failed source fault.Source all later stood rose =
+    end_failed source fault.Source all later stood (rose, front) =
         let rest = any_bytes (s.left now.source) in
         let cut : Cut t s k now (outside now.tape source now.sink) [] SourceFails = record {
           front = [];
@@ -532,6 +589,9 @@ module _ {T S K : Type 0} {t : tapes.Meaning T} {s : sources.Meaning S} {k : sin
           told = tells_always t now.tape (λ c. (acts : List Act) → NextDoes c store.words store.entries (lines + 1) place rest.rest acts →
               Cut t s k now (outside now.tape source now.sink) acts SourceFails)
               (λ c acts next. cut_is_longer t s k now (outside now.tape source now.sink) [] acts SourceFails cut);
+          given = front.0;
+          gave = front.3;
+          into = front_into front.0 front.1 front.2;
           acts = [];
           cut = cut;
         })

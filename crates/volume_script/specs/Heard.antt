@@ -11,7 +11,7 @@ use Rattle.volume_store.specs.Mounting.{StoreView}
 use Rattle.volume_script.specs.Items.{ItemMismatched}
 use Rattle.volume_script.specs.declared.fault.ScriptFault.{ScriptFault}
 use Rattle.command_laws.specs.ScriptItems.{EarlyDoes}
-use Rattle.command_spec.specs.Script.{Did, EndDoes}
+use Rattle.command_spec.specs.Script.{Did, EndDoes, ReachesItem}
 use Rattle.command_laws.specs.ScriptTerms.{ItemDoes}
 use Rattle.qic_base.specs.Sink as sinks
 use Rattle.qic_base.specs.Source as sources
@@ -68,6 +68,10 @@ NextDoes c words entries number place rest acts =
     × ((did : Did) × (did.acts ≡ acts) × ItemDoes c words entries item did))))))
     ⊎ ((ending : Ending) × ItemsEnd IsItem number place rest ending × EndDoes c words entries rest ending acts)
 
+-- bytes that reach into a line, or into an item, whatever follows them
+abbrev pub InItem : List ℕ → Type 0
+InItem bytes = (rest : List ℕ) → ReachesItem (bytes ++ rest) (length bytes)
+
 -- a fault of the outside cut that off, whatever is left
 pub record HeardCut {T S K : Type 0} (t : tapes.Meaning T) (s : sources.Meaning S) (k : sinks.Meaning K) (store : StoreView)
     (old new : Outside T S K) (number place : ℕ) (failing : Failing) : Type 0 where
@@ -76,6 +80,9 @@ pub record HeardCut {T S K : Type 0} (t : tapes.Meaning T) (s : sources.Meaning 
   pub content : IfNone (s.left old.source) (All (λ b. b < 256) rest)
   pub told : tape_calls.Tells t old.tape (λ c. (acts : List Act) → NextDoes c store.words store.entries number place rest acts →
       Cut t s k old new acts failing)
+  pub given : List ℕ
+  pub gave : Gave s old.source new.source given
+  pub into : InItem given
   -- and over any tape
   pub acts : List Act
   pub cut : Cut t s k old new acts failing

@@ -1,5 +1,5 @@
 -- What one line of a script did to the outside, with what follows it (this project's own).
-use Rattle.std.specs.Prelude.{◌≡◌, ℕ, List, length, ◌<◌, ◌⊎◌, ◌++◌, All, IfSome, IfNone, Result, Ok, Err}
+use Rattle.std.specs.Prelude.{◌≡◌, ℕ, List, length, ◌<◌, ◌≤◌, ◌⊎◌, ◌++◌, All, IfSome, IfNone, Result, Ok, Err}
 use Rattle.cartridge_spec.specs.Table.{Entry}
 use Rattle.command_laws.specs.ScriptItems.{EarlyDoes}
 use Rattle.command_spec.specs.Input.{promised}
@@ -47,7 +47,7 @@ WouldDo c words entries asked rest acts =
     × ((did : Did) × (did.acts ≡ acts) × LineDoes c words entries asked bytes did))))
     ⊎ ((length rest < promised asked) × EarlyDoes c words entries asked rest acts)
 
--- A fault of the outside cut it off, whatever is left of the source.
+-- A fault of the outside cut it off, whatever is left of the source, which gave no more bytes than the line promises.
 pub record ItemCut {T S K : Type 0} (t : tapes.Meaning T) (s : sources.Meaning S) (k : sinks.Meaning K) (store : StoreView)
     (old new : Outside T S K) (asked : Line) (failing : Failing) : Type 0 where
   pub rest : List ℕ
@@ -55,6 +55,9 @@ pub record ItemCut {T S K : Type 0} (t : tapes.Meaning T) (s : sources.Meaning S
   pub content : IfNone (s.left old.source) (All (λ b. b < 256) rest)
   pub told : tape_calls.Tells t old.tape
       (λ c. (acts : List Act) → WouldDo c store.words store.entries asked rest acts → Cut t s k old new acts failing)
+  pub given : List ℕ
+  pub few : length given ≤ promised asked
+  pub gave : Gave s old.source new.source given
   -- and over any tape
   pub acts : List Act
   pub cut : Cut t s k old new acts failing

@@ -7,6 +7,7 @@ use Rattle.qic_base.specs.Source as sources
 use Rattle.qic_base.specs.Tape as tapes
 use Rattle.qic_base.specs.Alone.{reading}
 use Rattle.qic_base.specs.SourceCalls.{Gave, HasEnded}
+use Rattle.tape_script.specs.Reading.{Skips}
 use Rattle.volume_store.specs.Appending.{AppendEnds, FaultsUnread}
 use Rattle.volume_store.specs.Mounting.{StoreView}
 use Rattle.volume_store.specs.declared.appended.Appended.{Appended}
@@ -46,17 +47,18 @@ pub record GaveShort {S : Type 0} (s : sources.Meaning S) (i j : S) (asked : ℕ
   pub ended : HasEnded s j
   pub later : s.faults j ≡ s.faults i
 
--- it failed
-pub record GaveNone {S : Type 0} (s : sources.Meaning S) (i j : S) : Type 0 where
+-- it failed before
+pub record GaveNone {S : Type 0} (s : sources.Meaning S) (i j : S) (asked : ℕ) : Type 0 where
   pub cause : Rose (s.faults i) (s.faults j)
   pub later : s.faults i ≤ s.faults j
+  pub skipped : Skips {E = Unit {0}} s i j asked (Err tt)
 
 abbrev pub Refuses : {S K : Type 0} (s : sources.Meaning S) (k : sinks.Meaning K) (i j : S) (x y : K) (left : ℕ) → Refusal →
     Result (Unit {0}) ItemFault → Type 0
 Refuses s k i j x y left why (Ok done) = GaveAll s i j left × sinks.Wrote k x y (refusal_line why)
 Refuses s k i j x y left why (Err fault.Short) = GaveShort s i j left × (y ≡ x)
 Refuses s k i j x y left why (Err fault.Sink) = GaveAll s i j left × sink_calls.BrokeOff k x y (refusal_line why)
-Refuses s k i j x y left why (Err fault.Source) = GaveNone s i j × (y ≡ x)
+Refuses s k i j x y left why (Err fault.Source) = GaveNone s i j left × (y ≡ x)
 Refuses s k i j x y left why (Err other) = ⊥
 
 -- what a reply that was written, or was not, makes of a line

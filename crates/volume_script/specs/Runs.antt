@@ -2,13 +2,14 @@
 use Rattle.std.specs.Prelude.{◌≡◌, ℕ, ◌++◌, ◌<◌, All, List, drop, IfNone, Result, Ok, Err}
 use Rattle.std.specs.Option.{option_map}
 use Rattle.qic_base.specs.Acts.{Act, text_of, Outside, Failing, TapeFails, SourceFails, SinkFails, Went, Cut}
-use Rattle.command_spec.specs.Input.{Item, Ending, IsScript}
-use Rattle.command_spec.specs.Machine.{LeftAtFault}
+use Rattle.command_spec.specs.Input.{Item, IsItem, Ending, IsScript, Reaches}
+use Rattle.command_spec.specs.Machine.{LeftAtFault, acts_before}
 use Rattle.volume_store.specs.Mounting.{StoreView}
 use Rattle.volume_script.specs.declared.fault.ScriptFault.{ScriptFault}
-use Rattle.command_spec.specs.Script.{end_line, ScriptDoes}
+use Rattle.command_spec.specs.Script.{Did, ItemsDo, ReachesItem, ScriptDoes, acts_of, end_line}
 use Rattle.volume_script.specs.Answers.{Answer, AllDone, FaultIn, script_answer, script_status}
 use Rattle.command_spec.specs.Outcome.{CommandOutcome}
+use Rattle.qic_base.specs.Cartridge.{Cartridge}
 use Rattle.qic_base.specs.Source.{IsInput}
 use Rattle.qic_base.specs.Sink as sinks
 use Rattle.qic_base.specs.Source as sources
@@ -50,14 +51,29 @@ pub record Mismatched {T S K : Type 0} (t : tapes.Meaning T) (s : sources.Meanin
   pub taken : ℕ
   pub left : s.left new.source ≡ option_map (drop taken) (s.left old.source)
 
--- A fault of this object of the outside cut it off, in the midst of the acts of the plain machine's outcome.
+-- the acts of some items come before others
+abbrev pub ItemsFirst : (store : StoreView) → Cartridge → List Item → (done : List Act) → Type 0
+ItemsFirst store c items done =
+    (dids : List Did) × ((rest : List Act) × (ItemsDo c store.words store.entries items dids × (done ≡ acts_of dids ++ rest)))
+
+-- this fault cut the acts of each outcome of an input off, behind all those of some items
+abbrev pub CutItems : {T S K : Type 0} (t : tapes.Meaning T) (s : sources.Meaning S) (k : sinks.Meaning K) (store : StoreView)
+    (old new : Outside T S K) (failing : Failing) (input : List ℕ) (items : List Item) → Cartridge → Type 0
+CutItems t s k store old new failing input items c =
+    (outcome : CommandOutcome) → ScriptDoes c store.words store.entries input outcome →
+    (cut : Cut t s k old new outcome.acts failing) × ItemsFirst store c items (acts_before t s k old new outcome.acts failing cut)
+
+-- A fault of this object of the outside cut it off, in the midst of the acts of the plain machine's outcome; of the input the items
+-- were taken that were carried out and answered before, and into what is behind them.
 pub record CutOff {T S K : Type 0} (t : tapes.Meaning T) (s : sources.Meaning S) (k : sinks.Meaning K) (store : StoreView)
     (old new : Outside T S K) (failing : Failing) : Type 0 where
   pub input : List ℕ
   pub is_told : IsInput (s.left old.source) input
   pub content : IfNone (s.left old.source) (All (λ b. b < 256) input)
-  pub told : tape_calls.Tells t old.tape (λ c. (outcome : CommandOutcome) → ScriptDoes c store.words store.entries input outcome →
-      Cut t s k old new outcome.acts failing)
+  pub taken : ℕ
+  pub left : s.left new.source ≡ option_map (drop taken) (s.left old.source)
+  pub reaches : Reaches IsItem (λ items. tape_calls.Tells t old.tape (CutItems t s k store old new failing input items)) ReachesItem
+      input taken
   -- and over any tape
   pub acts : List Act
   pub cut : Cut t s k old new acts failing

@@ -1,9 +1,9 @@
 -- How an append ended, by what its stages did.
 use Rattle.std.proofs.Common.{ℕ, List, ◌++◌, ap, ◌∙◌, ◌≡◌, ◌-◌, Option, Some, None, IfSome, subst, length, sym, arith, drop, refl, Result}
-use Rattle.std.proofs.Common.{◌<◌, false, [], ◌∷◌, Err, append-nil}
+use Rattle.std.proofs.Common.{◌<◌, false, [], ◌∷◌, Err, append-nil, ◌≤◌, ◌+◌, ◌&&◌, Bool, true, cond, min, take, nat_le, nat_lt}
 use Rattle.std.specs.Option.{option_map}
-use Rattle.std.specs.Prelude.{is_some, slice_index}
-use Rattle.std.proofs.lemmas.List.{length-append}
+use Rattle.std.specs.Prelude.{slice_index}
+use Rattle.std.proofs.lemmas.List.{length-append, length-take}
 use Rattle.std.proofs.lemmas.List.Elements.{All-nil}
 use Rattle.cartridge_laws.proofs.AppendDead.{live_written, settled_is_settled_for}
 use Rattle.cartridge_laws.proofs.AppendOrders.{end_least}
@@ -13,7 +13,7 @@ use Rattle.cartridge_laws.proofs.MountWhole.{table_is_area}
 use Rattle.cartridge_laws.proofs.Sayings.{data_of-parity}
 use Rattle.cartridge_laws.specs.AppendSettled.{IsSettledFor}
 use Rattle.cartridge_laws.specs.Table.{IsSoundList}
-use Rattle.cartridge_spec.specs.Appending.{taken_by}
+use Rattle.cartridge_spec.specs.Appending.{room, taken_by}
 use Rattle.cartridge_spec.specs.TableSegment.{TableIs, table_cells}
 use Rattle.cartridge_laws.specs.TableCells.{HasList}
 use Rattle.cartridge_spec.specs.Says.{TableSays, ByCode, LostSectors, with_parity}
@@ -23,6 +23,7 @@ use Rattle.command_laws.proofs.StoreBehind.{input_behind, settled_behind}
 use Rattle.command_laws.proofs.StoreEnding.{took_fits, list_more}
 use Rattle.command_laws.proofs.StoreSettled.{table_sectors, table_size}
 use Rattle.command_spec.specs.Append.{Taking, Fits, TooLong, TooShort, taking, Kept, room_in, input_writes, entry_acts, append_acts}
+use Rattle.command_spec.specs.Append.{has_promised_room}
 use Rattle.command_laws.specs.AppendTerms.{entry_for, free_in, bytes_taken, silently}
 use Rattle.gf256_qic.proofs.Parities.{parity_block}
 use Rattle.qic_base.proofs.Giving.{Gave-nothing}
@@ -40,7 +41,7 @@ use Rattle.volume_input.specs.declared.written.Written.{Written}
 use Rattle.volume_store.proofs.Taking.{given_content}
 use Rattle.cartridge_front.specs.Again.{IsSettledAgain, IsRefused, IsBrokenOff, IsAdded, IsOfReading, SettlesAgain, AddsEntry, entry_writes}
 use Rattle.volume_store.specs.Appending.{AppendEnds, kept_by, InputWent, InputWritten, InputBroke, InputIs, AppendRan, HasAppended}
-use Rattle.volume_store.specs.Appending.{AppendCut, TableRefused}
+use Rattle.volume_store.specs.Appending.{AppendCut, TableRefused, most_asked}
 use Rattle.volume_store.specs.Mounting.{StoreView}
 use Rattle.volume_store.specs.declared.appended.Appended.{Appended}
 use Rattle.cartridge_front.specs.declared.fault.StoreFault.{StoreFault}
@@ -89,9 +90,32 @@ pub none_left : (left : Option (List ℕ)) → left ≡ option_map (drop 0) left
 none_left None = refl
 none_left (Some bytes) = refl
 
-still_some : (before after : Option (List ℕ)) (n : ℕ) → after ≡ option_map (drop n) before → is_some after ≡ is_some before
-still_some None after n left = ap (λ (o : Option (List ℕ)). is_some o) left
-still_some (Some bytes) after n left = ap (λ (o : Option (List ℕ)). is_some o) left
+fits_kept : (b : Bool) (kept bytes : List ℕ) (need have : ℕ) → cond b (Fits kept) (TooLong need have) ≡ Fits bytes → kept ≡ bytes
+fits_kept true kept bytes need have is = (cc)
+fits_kept false kept bytes need have is = absurd (cc)
+
+promised_kept : (b d : Bool) (kept bytes : List ℕ) (asked read need have : ℕ) →
+    cond b (cond d (TooShort asked read) (Fits kept)) (TooLong need have) ≡ Fits bytes → kept ≡ bytes
+promised_kept true true kept bytes asked read need have is = absurd (cc)
+promised_kept true false kept bytes asked read need have is = (cc)
+promised_kept false d kept bytes asked read need have is = absurd (cc)
+
+pub fits_taken : (promised : Option ℕ) (bytes : List ℕ) → bytes_taken promised (Fits bytes) ≡ length bytes
+fits_taken None bytes = refl
+fits_taken (Some n) bytes = refl
+
+-- the bytes of a volume are no more than there are, and no more than are asked for
+fits_few : (have : ℕ) (promised : Option ℕ) (input bytes : List ℕ) → taking have promised input ≡ Fits bytes →
+    (length bytes ≤ length input) × (length bytes ≤ most_asked have promised)
+fits_few have None input bytes is =
+    let all : length input ≡ length bytes = ap (λ (xs : List ℕ). length xs)
+    (fits_kept (nat_le 1 have && nat_le (length input) have) input bytes (min (length input) (have + 1)) have is) in
+    let within : length bytes ≤ have = (took_fits have None input bytes is).1 in
+    (omega arith, omega arith)
+fits_few have (Some n) input bytes is =
+    let all : length (take n input) ≡ length bytes = ap (λ (xs : List ℕ). length xs)
+    (promised_kept (has_promised_room have (Some n)) (nat_lt (length input) n) (take n input) bytes n (length input) n have is) in
+    (omega (arith, length-take n input), omega (arith, length-take n input))
 
 abbrev pub made : (name : List ℕ) (date start end size : ℕ) → Entry
 made name date start end size = record {
@@ -181,7 +205,10 @@ module _ {T S : Type 0} (t : tapes.Meaning T) (s : sources.Meaning S) (store aft
         (subst (Broke t x0 x1) got.1 (Broke-front got.0 did.broke))) did.told;
     acts = record { steps = did.steps; text = [] } ∷ [];
     cut = broke_cut t s x0 x1 a (record { steps = did.steps; text = [] }) [] did.broke;
-    tells = refl;
+    taken = 0;
+    left = none_left (s.left a);
+    there = omega arith;
+    few = omega arith;
   }
   first_refused x0 x1 a sectors fault.NotFormatted did kind lists = absurd did
   first_refused x0 x1 a sectors (fault.Foreign field value) did kind lists = absurd did
@@ -251,7 +278,10 @@ module _ {T S : Type 0} (t : tapes.Meaning T) (s : sources.Meaning S) (store aft
       acts = first_act ∷ input_writes kept.words kept.entries promised broke.input;
       cut = went_then_cut t s no_sink no_text (reading x0 a) (reading x1 a) (reading x2 b) (first_act ∷ [])
           (input_writes kept.words kept.entries promised broke.input) failing first_went broke.cut;
-      tells = broke.tells;
+      taken = broke.taken;
+      left = broke.left;
+      there = broke.there;
+      few = broke.few;
     }
       where
         cut_before : (last : List Act) → Cut t s no_sink (reading x0 a) (reading x2 b)
@@ -340,6 +370,13 @@ module _ {T S : Type 0} (t : tapes.Meaning T) (s : sources.Meaning S) (store aft
         left = wrote.went.left;
       }
 
+      few_taken : (bytes_taken promised (Fits wrote.bytes) ≤ length input)
+          × (bytes_taken promised (Fits wrote.bytes) ≤ most_asked (room store.words store.entries) promised)
+      few_taken =
+          subst (λ (n : ℕ). (n ≤ length input) × (n ≤ most_asked (room store.words store.entries) promised))
+          (sym (fits_taken promised wrote.bytes))
+          (fits_few (room store.words store.entries) promised input wrote.bytes wrote.went.took)
+
       cut_last : (act : Act) → Broke t x2 x3 act.steps → Cut t s no_sink (reading x0 a) (reading x3 b)
           (first_act ∷ (ins ++ act ∷ [])) TapeFails
       cut_last act broke =
@@ -381,7 +418,10 @@ module _ {T S : Type 0} (t : tapes.Meaning T) (s : sources.Meaning S) (store aft
             × (did.steps ++ rest ≡ entry_writes store.entries new data_of)) did.told);
         acts = first_act ∷ (ins ++ record { steps = did.steps; text = [] } ∷ []);
         cut = cut_last (record { steps = did.steps; text = [] }) did.broke;
-        tells = still_some (s.left a) (s.left b) (bytes_taken promised (Fits wrote.bytes)) wrote.went.left;
+        taken = bytes_taken promised (Fits wrote.bytes);
+        left = wrote.went.left;
+        there = few_taken.0;
+        few = few_taken.1;
       }
 
       pub entry_refused : (why : StoreFault) → AddsEntry {A = Unit {0}} t x2 x3 store.entries new (Err why) →

@@ -6,7 +6,6 @@ use Rattle.std.proofs.lemmas.List.Elements.{All-nil}
 use Rattle.cartridge_spec.specs.TableSegment.{TableIs}
 use Rattle.cartridge_spec.specs.Settling.{settling_steps}
 use Rattle.command_spec.specs.Append.{Fits, input_writes}
-use Rattle.command_laws.specs.AppendTerms.{bytes_taken}
 use Rattle.qic_base.proofs.Giving.{Gave-nothing}
 use Rattle.qic_base.proofs.Joins.{went_then_cut}
 use Rattle.qic_base.proofs.Steps.{Tells-map, Broke-front}
@@ -15,7 +14,7 @@ use Rattle.qic_base.specs.Alone.{no_sink, reading}
 use Rattle.qic_base.specs.Step.{Step}
 use Rattle.volume_input.proofs.Inputs.{whole_told, untold_content}
 use Rattle.volume_input.specs.declared.written.Written.{Written}
-use Rattle.volume_store.proofs.Ending.{act_went, broke_cut}
+use Rattle.volume_store.proofs.Ending.{act_went, broke_cut, fits_taken}
 use Rattle.volume_input.proofs.Running.{no_text}
 use Rattle.volume_store.proofs.Taking.{given_content}
 use Rattle.cartridge_front.specs.Again.{IsOfReading, IsSettledAgain, SettlesAgain}
@@ -37,10 +36,6 @@ pub ordered : {T S : Type 0} (t : tapes.Meaning T) (s : sources.Meaning S) (old 
 ordered t s old new view store promised end r same is order =
     subst (λ (v : StoreView). InOrder t s old new v promised r) same
     (subst (λ (answer : Result Appended StoreFault). InOrder t s old new view promised answer) (sym is) order)
-
-fits_taken : (promised : Option ℕ) (bytes : List ℕ) → bytes_taken promised (Fits bytes) ≡ length bytes
-fits_taken None bytes = refl
-fits_taken (Some n) bytes = refl
 
 module _ {T S : Type 0} (t : tapes.Meaning T) (s : sources.Meaning S) (store : StoreView) (promised : Option ℕ) where
   -- ---- the settling was refused, or broke off

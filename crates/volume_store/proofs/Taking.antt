@@ -4,7 +4,7 @@ use Rattle.std.proofs.Common.{arith, sym, Some, ◌⊎◌, inl, inr, take, nat_l
 use Rattle.std.proofs.Common.{[], ◌∷◌, slice_get, Ok, Err, append_assoc}
 use Rattle.std.proofs.lemmas.Bool.{le-leb, lt-leb, le-ltb, lt-ltb, cases_lt}
 use Rattle.std.specs.Option.{option_map}
-use Rattle.std.proofs.Math.Seq.{drop-append_seam, take-append-add}
+use Rattle.std.proofs.Math.Seq.{take-append-add}
 use Rattle.std.proofs.lemmas.List.Elements.{All-nil, All-cons, All-append}
 use Rattle.std.proofs.lemmas.Option.{same_Some}
 use Rattle.std.proofs.lemmas.List.{length-append, take_all}
@@ -23,10 +23,10 @@ use Rattle.qic_base.specs.Alone.{no_sink, reading}
 use Rattle.qic_base.specs.Tape.{Rose}
 use Rattle.qic_base.specs.SourceCalls.{Gave, HasEnded, input_of}
 use Rattle.tape_script.specs.Reading.{Skips}
-use Rattle.volume_input.proofs.Inputs.{whole_told, still_tells, none_left, untold_content}
+use Rattle.volume_input.proofs.Inputs.{dropped, none_left, untold_content, whole_told}
 use Rattle.volume_input.specs.Input.{HasWritten, EndedShort}
 use Rattle.volume_input.specs.declared.written.Written.{Written}
-use Rattle.volume_store.specs.Appending.{InputWent, InputWritten, InputBroke, InputIs, TakesNone}
+use Rattle.volume_store.specs.Appending.{InputWent, InputWritten, InputBroke, InputIs, TakesNone, most_asked}
 use Rattle.cartridge_front.specs.declared.fault.StoreFault.{StoreFault}
 use Rattle.volume_input.proofs.Filled.{chosen, refused}
 use Rattle.qic_base.specs.Source as sources
@@ -92,12 +92,6 @@ pub given_content : (before after : Option (List ℕ)) (bytes : List ℕ) → be
 given_content (Some told) after bytes gave content = tt
 given_content None (Some left) bytes gave content = absurd (cc)
 given_content None None bytes gave content = subst (All (λ (b : ℕ). b < 256)) (sym (append-nil bytes)) content
-
-dropped : (before after : Option (List ℕ)) (bytes : List ℕ) → before ≡ option_map (λ rest. bytes ++ rest) after →
-    after ≡ option_map (drop (length bytes)) before
-dropped before None bytes gave = sym (ap (option_map (drop (length bytes))) gave)
-dropped before (Some rest) bytes gave =
-    ap (λ (xs : List ℕ). Some xs) (sym (drop-append_seam bytes rest)) ∙ sym (ap (option_map (drop (length bytes))) gave)
 
 -- at most one byte that was skipped, whatever it may be where it isn't told
 abbrev SkippedAs : (before after : Option (List ℕ)) (n : ℕ) → Type 0
@@ -175,16 +169,20 @@ module _ {T S : Type 0} (t : tapes.Meaning T) (s : sources.Meaning S) (words : L
     left = dropped (s.left old.source) (s.left new.source) bytes gave ∙ ap (λ (n : ℕ). option_map (drop n) (s.left old.source)) (sym taken);
   }
 
-  broke_with : (promised : Option ℕ) (failing : Failing) (bytes : List ℕ) → Gave s old.source new.source bytes →
+  broke_with : (promised : Option ℕ) (failing : Failing) (bytes : List ℕ) → length bytes ≤ most_asked have promised →
+      Gave s old.source new.source bytes →
       IfNone (s.left old.source) (All (λ (b : ℕ). b < 256) bytes) →
       Cut t s no_sink old new (input_writes words entries promised (bytes ++ input_of (s.left new.source))) failing →
       InputBroke t s words entries promised old new failing
-  broke_with promised failing bytes gave content cut = record {
+  broke_with promised failing bytes few gave content cut = record {
     input = bytes ++ input_of (s.left new.source);
     is_told = whole_told (s.left old.source) (s.left new.source) bytes gave;
     content = given_content (s.left old.source) (s.left new.source) bytes gave content;
     cut = cut;
-    tells = still_tells (s.left old.source) (s.left new.source) bytes gave;
+    taken = length bytes;
+    left = dropped (s.left old.source) (s.left new.source) bytes gave;
+    there = omega (arith, length-append bytes (input_of (s.left new.source)));
+    few = few;
   }
 
   -- ---- with a promise
@@ -322,7 +320,8 @@ module _ {T S : Type 0} (t : tapes.Meaning T) (s : sources.Meaning S) (words : L
   none_fails c none later rose skipped =
       let got = skipped_as (s.left a) (s.left c) skipped.2.0 skipped.0 (let few = skipped.1 in omega arith) skipped.2.1 skipped.2.2 in
       let input : List ℕ = got.0 ++ input_of (s.left c) in
-      broke_with t s words entries (reading x a) (reading x c) None SourceFails got.0 got.2 got.3
+      let one : length got.0 ≤ 1 = (let few = skipped.1 in let long = got.1 in omega arith) in
+      broke_with t s words entries (reading x a) (reading x c) None SourceFails got.0 (omega arith) got.2 got.3
       (subst (λ (acts : List Act). Cut t s no_sink (reading x a) (reading x c) acts SourceFails) (sym (no_writes input none))
       (record {
         front = [];
@@ -398,7 +397,10 @@ module _ {T S : Type 0} (t : tapes.Meaning T) (s : sources.Meaning S) (words : L
         InputBroke t s words entries None (reading x a) (reading y c) SourceFails
     more_fails rose skipped =
         let got = skipped_as (s.left b) (s.left c) skipped.2.0 skipped.0 (let few = skipped.1 in omega arith) skipped.2.1 skipped.2.2 in
-        broke_with t s words entries (reading x a) (reading y c) None SourceFails (has.bytes ++ got.0) (all_given got.0 got.2)
+        let one : length got.0 ≤ 1 = (let few = skipped.1 in let long = got.1 in omega arith) in
+        let full_long : length has.bytes ≡ had = long_all in
+        broke_with t s words entries (reading x a) (reading y c) None SourceFails (has.bytes ++ got.0)
+        (omega (arith, length-append has.bytes got.0)) (all_given got.0 got.2)
         (content_both (s.left a) (s.left b) (s.left c) has.bytes got.0 has.gave has.content got.3)
         (subst (λ (acts : List Act). Cut t s no_sink (reading x a) (reading y c) acts SourceFails) (writes_same got.0)
         (record {

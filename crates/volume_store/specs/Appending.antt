@@ -1,7 +1,7 @@
 -- What an append does, by the map, the list, the table's data and the input; and how the call ended (this project's own).
 use Rattle.cartridge_spec.specs.Appending.{room, entry_behind}
-use Rattle.std.specs.Prelude.{◌≡◌, ℕ, ◌<◌, List, drop, Option, All, IfSome, IfNone, [], length, is_some, Result, Ok, Err, ◌≤◌, ◌+◌, ◌∷◌}
-use Rattle.std.specs.Prelude.{◌++◌, ◌⊎◌, Some, true}
+use Rattle.std.specs.Prelude.{◌≡◌, ℕ, ◌<◌, List, drop, Option, All, IfSome, IfNone, [], length, Result, Ok, Err, ◌≤◌, ◌+◌, ◌∷◌}
+use Rattle.std.specs.Prelude.{◌++◌, ◌⊎◌, Some, None, true}
 use Rattle.std.specs.Option.{option_map}
 use Rattle.cartridge_spec.specs.TableSegment.{TableIs, table_cells}
 use Rattle.cartridge_spec.specs.Says.{LostSectors, ByCode, TableSays}
@@ -44,14 +44,22 @@ pub record InputWritten {T S : Type 0} (t : tapes.Meaning T) (s : sources.Meanin
   pub start : written.start ≡ (entry_behind words entries [] 0 bytes).start
   pub end : written.end ≡ (entry_behind words entries [] 0 bytes).end
 
--- A fault of the tape or of the source cut the writes off.
+-- of an input so many bytes are asked for at most
+abbrev pub most_asked : (have : ℕ) → (promised : Option ℕ) → ℕ
+most_asked have None = have + 1
+most_asked have (Some n) = n
+
+-- A fault of the tape or of the source cut the writes off. Of the input no more bytes were taken than are asked for.
 pub record InputBroke {T S : Type 0} (t : tapes.Meaning T) (s : sources.Meaning S) (words : List ℕ) (entries : List Entry)
     (promised : Option ℕ) (old new : Outside T S (Unit {0})) (failing : Failing) : Type 0 where
   pub input : List ℕ
   pub is_told : IsInput (s.left old.source) input
   pub content : IfNone (s.left old.source) (All (λ b. b < 256) input)
   pub cut : Cut t s no_sink old new (input_writes words entries promised input) failing
-  pub tells : is_some (s.left new.source) ≡ is_some (s.left old.source)
+  pub taken : ℕ
+  pub left : s.left new.source ≡ option_map (drop taken) (s.left old.source)
+  pub there : taken ≤ length input
+  pub few : taken ≤ most_asked (room words entries) promised
 
 abbrev pub InputIs : {T S : Type 0} (t : tapes.Meaning T) (s : sources.Meaning S) (words : List ℕ) (entries : List Entry)
     (promised : Option ℕ) (old new : Outside T S (Unit {0})) → Result Written StoreFault → Type 0
@@ -112,7 +120,8 @@ pub record TableRefused {T S : Type 0} (t : tapes.Meaning T) (s : sources.Meanin
   pub taken : ℕ
   pub left : s.left new.source ≡ option_map (drop taken) (s.left old.source)
 
--- A fault of the tape or of the source cut the acts off, whatever the reply would have been: it was not begun.
+-- A fault of the tape or of the source cut the acts off, whatever the reply would have been: it was not begun. Of the input no more
+-- bytes were taken than are asked for.
 pub record AppendCut {T S : Type 0} (t : tapes.Meaning T) (s : sources.Meaning S) (old new : Outside T S (Unit {0})) (store : StoreView)
     (name : List ℕ) (date : ℕ) (promised : Option ℕ) (failing : Failing) : Type 0 where
   pub input : List ℕ
@@ -123,7 +132,10 @@ pub record AppendCut {T S : Type 0} (t : tapes.Meaning T) (s : sources.Meaning S
   -- and over any tape
   pub acts : List Act
   pub cut : Cut t s no_sink old new acts failing
-  pub tells : is_some (s.left new.source) ≡ is_some (s.left old.source)
+  pub taken : ℕ
+  pub left : s.left new.source ≡ option_map (drop taken) (s.left old.source)
+  pub there : taken ≤ length input
+  pub few : taken ≤ most_asked (room store.words store.entries) promised
 
 -- where the table's segment says no data, a fault of the outside came before anything was done
 abbrev pub CutUnread : {T S : Type 0} (t : tapes.Meaning T) (s : sources.Meaning S) (old new : Outside T S (Unit {0})) → Failing → Type 0

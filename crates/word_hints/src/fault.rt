@@ -1,13 +1,12 @@
 //! Why a word is none of those that a command has at its place.
 
-ghost use Rattle.std.specs.Prelude.{ℕ, IfSome, IfNone};
-ghost use Rattle.command_spec.specs.Command.{Number, SpellsPart};
+ghost use Rattle.std.specs.Prelude.{◌≡◌, ◌↔◌, ℕ, IfNone, IfSome, IsTrue};
+ghost use Rattle.command_spec.specs.Command.{IsDateWord, IsNumber, Number, SpellsPart};
+ghost use Rattle.qic_base.specs.Field.{IsNameText};
+ghost use Rattle.word_hints.specs.Faults.{AreDigits, IsNameFault, IsNumberFault, IsWrittenFault};
 
 use qic_base::Name;
-use tape_script::{read_date, read_number_within};
-
-/// The most digits of a number.
-const MOST_DIGITS: usize = 9;
+use tape_script::{read_date, read_number};
 
 /// The most bytes of a name.
 const LONGEST_NAME: usize = 44;
@@ -33,26 +32,46 @@ pub enum WordFault {
     OtherWord,
 }
 
+/// Whether a word has decimal digits alone, and some.
+fn are_digits(word: &[u8]) -> bool
+    ensures { IsTrue result ↔ AreDigits word.now }
+{
+    !word.is_empty() && word.iter().all(u8::is_ascii_digit)
+}
+
+/// What is wrong in the writing of a word that is no number.
+fn written_fault(word: &[u8]) -> WordFault
+    requires { (n : ℕ) → ¬ (IsNumber word.now n) }
+    ensures { IsWrittenFault word.now result }
+{
+    if !are_digits(word) {
+        WordFault::NoNumber
+    } else if word[0] == b'0' {
+        WordFault::LeadingZero
+    } else {
+        WordFault::TooManyDigits
+    }
+}
+
 /// Why a word is no number from `least` to `greatest`; none where it is one.
 pub fn number_fault(word: &[u8], least: u32, greatest: u32) -> Option<WordFault>
-    ensures { IfSome result (λ fault. (n : ℕ) → ¬ (SpellsPart word.now (Number least greatest n))) }
+    ensures fits { IfNone result ((n : ℕ) × SpellsPart word.now (Number least greatest n)) }
+    ensures fails { IfSome result (λ fault. (n : ℕ) → ¬ (SpellsPart word.now (Number least greatest n))) }
+    ensures why { IfSome result (IsNumberFault word.now least greatest) }
 {
-    if read_number_within(word, least, greatest).is_some() {
-        return None;
+    match read_number(word) {
+        Some(number) if least <= number && number <= greatest => None,
+        Some(_) => Some(WordFault::OutOfRange { least, greatest }),
+        None => Some(written_fault(word)),
     }
-    Some(if word.is_empty() || !word.iter().all(u8::is_ascii_digit) {
-        WordFault::NoNumber
-    } else if word.len() > 1 && word[0] == b'0' {
-        WordFault::LeadingZero
-    } else if word.len() > MOST_DIGITS {
-        WordFault::TooManyDigits
-    } else {
-        WordFault::OutOfRange { least, greatest }
-    })
 }
 
 /// Why a word is no name; none where it is one.
-pub fn name_fault(word: &[u8]) -> Option<WordFault> {
+pub fn name_fault(word: &[u8]) -> Option<WordFault>
+    ensures fits { IfNone result (IsNameText word.now) }
+    ensures fails { IfSome result (λ fault. ¬ (IsNameText word.now)) }
+    ensures why { IfSome result (IsNameFault word.now) }
+{
     if Name::from_text(word).is_some() {
         None
     } else if word.is_empty() || word.len() > LONGEST_NAME {
@@ -63,10 +82,13 @@ pub fn name_fault(word: &[u8]) -> Option<WordFault> {
 }
 
 /// Why a word is no date; none where it is one.
-pub fn date_fault(word: &[u8]) -> Option<WordFault> {
-    if read_date(word).is_some() {
-        None
-    } else {
-        Some(WordFault::NoDate)
+pub fn date_fault(word: &[u8]) -> Option<WordFault>
+    ensures fits { IfNone result ((date : ℕ) × IsDateWord word.now date) }
+    ensures fails { IfSome result (λ fault. (date : ℕ) → ¬ (IsDateWord word.now date)) }
+    ensures why { IfSome result (λ fault. fault ≡ WordFault.NoDate) }
+{
+    match read_date(word) {
+        Some(_) => None,
+        None => Some(WordFault::NoDate),
     }
 }

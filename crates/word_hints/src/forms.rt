@@ -1,5 +1,8 @@
 //! The commands of `tape`, with what stands behind the first word of each.
 
+ghost use Rattle.std.specs.Prelude.{◌≡◌, ◌↔◌, map, IsTrue, MatchOption};
+ghost use Rattle.word_hints.specs.Forms.{Faults, HasNoRow, HasRow, place_of, row_of, rows};
+
 use crate::fault::{WordFault, date_fault, name_fault, number_fault};
 use qic_base::LONGEST;
 
@@ -21,7 +24,9 @@ pub(crate) enum Part {
 
 impl Part {
     /// Why a word is none of these; none where it is one.
-    pub(crate) fn fault(&self, word: &[u8]) -> Option<WordFault> {
+    pub(crate) fn fault(&self, word: &[u8]) -> Option<WordFault>
+        ensures { Faults (place_of self.now) word.now result }
+    {
         match *self {
             Part::Number { least, greatest } => number_fault(word, least, greatest),
             Part::Name => name_fault(word),
@@ -40,12 +45,12 @@ impl Part {
 /// A command: its first word, its form as it is told, how many words behind the first one it has at least, and what these have
 /// to be, as many as it may have.
 #[derive(Clone, Copy)]
-pub(crate) struct Form {
-    first: &'static str,
-    pub(crate) text: &'static str,
-    pub(crate) least: usize,
-    pub(crate) parts: &'static [Part],
-}
+pub(crate) struct Form(
+    pub &'static str,
+    pub &'static str,
+    pub usize,
+    pub &'static [Part],
+);
 
 const NUMBER: Part = Part::Number {
     least: 0,
@@ -62,109 +67,53 @@ const MADE: Part = Part::Number {
     greatest: MOST_MADE,
 };
 
+const NAME: Part = Part::Name;
+
+const DATE: Part = Part::Date;
+
+const ON_OR_OFF: Part = Part::Either("on", "off");
+
+const DEEP: Part = Part::Either("deep", "deep");
+
 const FORMS: [Form; 16] = [
-    Form {
-        first: "new",
-        text: "new N",
-        least: 1,
-        parts: &[SEGMENTS],
-    },
-    Form {
-        first: "defect",
-        text: "defect SEG SEC",
-        least: 2,
-        parts: &[NUMBER, NUMBER],
-    },
-    Form {
-        first: "lose",
-        text: "lose SEG SEC",
-        least: 2,
-        parts: &[NUMBER, NUMBER],
-    },
-    Form {
-        first: "protect",
-        text: "protect on | off",
-        least: 1,
-        parts: &[Part::Either("on", "off")],
-    },
-    Form {
-        first: "upgrade",
-        text: "upgrade",
-        least: 0,
-        parts: &[],
-    },
-    Form {
-        first: "format",
-        text: "format LABEL [DATE]",
-        least: 1,
-        parts: &[Part::Name, Part::Date],
-    },
-    Form {
-        first: "info",
-        text: "info",
-        least: 0,
-        parts: &[],
-    },
-    Form {
-        first: "append",
-        text: "append NAME [DATE]",
-        least: 1,
-        parts: &[Part::Name, Part::Date],
-    },
-    Form {
-        first: "list",
-        text: "list",
-        least: 0,
-        parts: &[],
-    },
-    Form {
-        first: "room",
-        text: "room",
-        least: 0,
-        parts: &[],
-    },
-    Form {
-        first: "check",
-        text: "check",
-        least: 0,
-        parts: &[],
-    },
-    Form {
-        first: "restore",
-        text: "restore N",
-        least: 1,
-        parts: &[NUMBER],
-    },
-    Form {
-        first: "scrub",
-        text: "scrub [deep]",
-        least: 0,
-        parts: &[Part::Either("deep", "deep")],
-    },
-    Form {
-        first: "pulses",
-        text: "pulses",
-        least: 0,
-        parts: &[],
-    },
-    Form {
-        first: "script",
-        text: "script",
-        least: 0,
-        parts: &[],
-    },
-    Form {
-        first: "make",
-        text: "make SEED COUNT",
-        least: 2,
-        parts: &[NUMBER, MADE],
-    },
+    Form("new", "new N", 1, &[SEGMENTS]),
+    Form("defect", "defect SEG SEC", 2, &[NUMBER, NUMBER]),
+    Form("lose", "lose SEG SEC", 2, &[NUMBER, NUMBER]),
+    Form("protect", "protect on | off", 1, &[ON_OR_OFF]),
+    Form("upgrade", "upgrade", 0, &[]),
+    Form("format", "format LABEL [DATE]", 1, &[NAME, DATE]),
+    Form("info", "info", 0, &[]),
+    Form("append", "append NAME [DATE]", 1, &[NAME, DATE]),
+    Form("list", "list", 0, &[]),
+    Form("room", "room", 0, &[]),
+    Form("check", "check", 0, &[]),
+    Form("restore", "restore N", 1, &[NUMBER]),
+    Form("scrub", "scrub [deep]", 0, &[DEEP]),
+    Form("pulses", "pulses", 0, &[]),
+    Form("script", "script", 0, &[]),
+    Form("make", "make SEED COUNT", 2, &[NUMBER, MADE]),
 ];
 
+/// The commands.
+fn forms() -> &'static [Form]
+    ensures { map row_of result.now ≡ rows }
+{
+    &FORMS
+}
+
+/// Whether a command begins with this word.
+fn begins(form: &Form, first: &[u8]) -> bool
+    ensures { IsTrue result ↔ ((row_of form.now).first ≡ first.now) }
+{
+    form.0.as_bytes() == first
+}
+
 /// The command whose first word this is.
-pub(crate) fn form_of(first: &[u8]) -> Option<Form> {
-    for form in FORMS.iter() {
-        if first == form.first.as_bytes() {
+pub(crate) fn form_of(first: &[u8]) -> Option<Form>
+    ensures { MatchOption result (HasNoRow rows first.now) (λ form. HasRow rows first.now (row_of form)) }
+{
+    for form in forms() {
+        if begins(form, first) {
             return Some(*form);
         }
     }

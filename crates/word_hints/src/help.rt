@@ -1,5 +1,9 @@
 //! The help and the version of the program.
 
+ghost use Rattle.std.specs.Prelude.{◌≡◌, ◌↔◌, Some, codes, map, string_bytes};
+ghost use Rattle.qic_base.specs.SinkCalls.{Writes};
+ghost use Rattle.word_hints.specs.Asked.{IsAlone, IsHelpWord, IsVersionWord};
+
 use qic_base::{Sink, SinkFailed};
 use tape_script::write_text;
 
@@ -10,15 +14,11 @@ pub enum Asks {
     Version,
 }
 
-/// Whether the words of a call ask for help or the version: there is one, and it is one of these.
-pub fn what_is_asked(images: &[String], command: &[String]) -> Option<Asks> {
-    if !command.is_empty() {
-        return None;
-    }
-    let [word] = images else {
-        return None;
-    };
-    let word = word.as_bytes();
+/// What a word asks for, where it asks for something.
+fn asked_by(word: &[u8]) -> Option<Asks>
+    ensures help { (result ≡ Some Asks.Help) ↔ IsHelpWord word.now }
+    ensures version { (result ≡ Some Asks.Version) ↔ IsVersionWord word.now }
+{
     if word == "--help".as_bytes() || word == "-h".as_bytes() {
         Some(Asks::Help)
     } else if word == "--version".as_bytes() {
@@ -28,13 +28,30 @@ pub fn what_is_asked(images: &[String], command: &[String]) -> Option<Asks> {
     }
 }
 
+/// Whether the words of a call ask for help or the version: there is one, and it is one of these.
+pub fn what_is_asked(images: &[String], command: &[String]) -> Option<Asks>
+    ensures help { (result ≡ Some Asks.Help)
+        ↔ IsAlone IsHelpWord (map string_bytes images.now) (map string_bytes command.now) }
+    ensures version { (result ≡ Some Asks.Version)
+        ↔ IsAlone IsVersionWord (map string_bytes images.now) (map string_bytes command.now) }
+{
+    match (images, command) {
+        ([word], []) => asked_by(word.as_bytes()),
+        _ => None,
+    }
+}
+
 /// Writes the commands with what each does.
-pub fn write_help<K: Sink>(sink: &mut K) -> Result<(), SinkFailed> {
+pub fn write_help<K: Sink>(sink: &mut K) -> Result<(), SinkFailed>
+    ensures { Writes K.means sink.old sink.new HELP.now result }
+{
     write_text(HELP, sink)
 }
 
 /// Writes the version of the program, and of the layout of the images that it makes.
-pub fn write_version<K: Sink>(sink: &mut K) -> Result<(), SinkFailed> {
+pub fn write_version<K: Sink>(sink: &mut K) -> Result<(), SinkFailed>
+    ensures { Writes K.means sink.old sink.new (codes "tape 1.0, images of version 2 and 1\n") result }
+{
     write_text(b"tape 1.0, images of version 2 and 1\n", sink)
 }
 

@@ -1,9 +1,19 @@
 //! Which of some words is wrong.
 
+ghost use Rattle.std.specs.Prelude.{◌≡◌, ◌+◌, ◌≤◌, ◌∷◌, ◌++◌, length, map, string_bytes, MatchOption};
+ghost use Rattle.qic_base.specs.SinkCalls.{Writes};
+ghost use Rattle.word_hints.specs.Forms.{place_of, row_of};
+ghost use Rattle.word_hints.specs.Hints.{AllFit, FirstFault, IsHint, IsHintBehind, IsShort};
+ghost use Rattle.word_hints.specs.Texts.{fault_text, hint_text, word_text};
+
 use crate::fault::WordFault;
-use crate::forms::{Form, form_of};
+use crate::forms::{Form, Part, form_of};
+use file_hints::is_shown;
 use qic_base::{Sink, SinkFailed};
-use tape_script::{write_number, write_text};
+use tape_script::{TextLine, write_text};
+
+/// The most bytes of a word that is printed.
+const LONGEST_SHOWN: usize = 60;
 
 /// What is wrong with words that are those of no command.
 #[derive(Clone, Copy, Debug, PartialEq, Eq)]
@@ -19,92 +29,130 @@ pub enum Hint<'a> {
 }
 
 /// What is wrong with the words.
-pub fn hint_of(words: &[String]) -> Hint<'_> {
+pub fn hint_of(words: &[String]) -> Hint<'_>
+    ensures hint { IsHint (map string_bytes words.now) result }
+    ensures short { IsShort result }
+{
     match words {
         [] => Hint::NoWord,
-        [first, behind @ ..] => match form_of(first.as_bytes()) {
-            Some(form) => hint_of_form(&form, behind),
-            None => Hint::NoCommand {
-                word: first.as_str(),
-            },
+        [first, behind @ ..] => hint_of_first(first, behind),
+    }
+}
+
+/// What is wrong with a first word, or with those behind it.
+fn hint_of_first<'a>(first: &'a String, behind: &'a [String]) -> Hint<'a>
+    ensures hint { IsHint (string_bytes first.now ∷ map string_bytes behind.now) result }
+    ensures short { IsShort result }
+{
+    match form_of(first.as_bytes()) {
+        Some(form) => hint_of_form(&form, behind),
+        None => Hint::NoCommand {
+            word: first.as_str(),
         },
     }
 }
 
 /// What is wrong with the words behind a command's first one.
-fn hint_of_form<'a>(form: &Form, behind: &'a [String]) -> Hint<'a> {
-    if form.least <= behind.len() && behind.len() <= form.parts.len() {
-        for (part, word) in form.parts.iter().zip(behind.iter()) {
-            if let Some(fault) = part.fault(word.as_bytes()) {
-                return Hint::Word {
-                    word: word.as_str(),
-                    fault,
-                };
-            }
+fn hint_of_form<'a>(form: &Form, behind: &'a [String]) -> Hint<'a>
+    ensures { IsHintBehind (row_of form.now) (map string_bytes behind.now) result }
+{
+    if form.2 <= behind.len() && behind.len() <= form.3.len() {
+        if let Some((word, fault)) = first_fault(form.3, behind) {
+            return Hint::Word { word, fault };
         }
     }
-    Hint::Form { form: form.text }
+    Hint::Form { form: form.1 }
 }
 
-/// Whether a word can be printed as it stands: it has 1 to 60 bytes, and no control character.
-fn is_shown(word: &str) -> bool {
-    let bytes = word.as_bytes();
-    !bytes.is_empty()
-        && bytes.len() <= 60
-        && bytes.iter().all(|byte| *byte >= 0x20 && *byte != 0x7F)
+/// The first of the words that may not stand at its place, and why it may not.
+fn first_fault<'a>(parts: &[Part], words: &'a [String]) -> Option<(&'a str, WordFault)>
+    ensures { MatchOption result (AllFit (map place_of parts.now) (map string_bytes words.now))
+        (λ found. FirstFault (map place_of parts.now) (map string_bytes words.now) found.0.now found.1) }
+{
+    let [part, parts @ ..] = parts else {
+        return None;
+    };
+    let [word, words @ ..] = words else {
+        return None;
+    };
+    match part.fault(word.as_bytes()) {
+        Some(fault) => Some((word.as_str(), fault)),
+        None => first_fault(parts, words),
+    }
 }
 
 /// Writes the line of a hint.
-pub fn write_hint<K: Sink>(hint: Hint<'_>, sink: &mut K) -> Result<(), SinkFailed> {
-    write_text(b"tape: ", sink)?;
+pub fn write_hint<K: Sink>(hint: Hint<'_>, sink: &mut K) -> Result<(), SinkFailed>
+    requires { IsShort hint }
+    ensures { Writes K.means sink.old sink.new (hint_text hint.entry) result }
+{
+    write_text(hint_line(hint).bytes(), sink)
+}
+
+/// The line of a hint.
+fn hint_line(hint: Hint<'_>) -> TextLine
+    requires { IsShort hint }
+    ensures { result ≡ hint_text hint.entry }
+{
+    let mut line = TextLine::new();
+    line.push_text(b"tape: ");
     match hint {
-        Hint::NoWord => write_text(b"a command is missing; tape --help tells them\n", sink),
+        Hint::NoWord => line.push_text(b"a command is missing; tape --help tells them\n"),
         Hint::NoCommand { word } => {
-            write_text(b"no command ", sink)?;
-            write_word(word, sink)?;
-            write_text(b"; tape --help tells them\n", sink)
+            line.push_text(b"no command ");
+            push_word(&mut line, word);
+            line.push_text(b"; tape --help tells them\n");
         }
         Hint::Form { form } => {
-            write_text(b"the command is ", sink)?;
-            write_text(form.as_bytes(), sink)?;
-            write_text(b"\n", sink)
+            line.push_text(b"the command is ");
+            line.push_text(form.as_bytes());
+            line.push_text(b"\n");
         }
         Hint::Word { word, fault } => {
-            write_word(word, sink)?;
-            write_text(b": ", sink)?;
-            write_fault(fault, sink)?;
-            write_text(b"\n", sink)
+            push_word(&mut line, word);
+            line.push_text(b": ");
+            push_fault(&mut line, fault);
+            line.push_text(b"\n");
         }
     }
+    line
 }
 
-/// Writes a word in quotes, where it can be printed.
-fn write_word<K: Sink>(word: &str, sink: &mut K) -> Result<(), SinkFailed> {
-    if !is_shown(word) {
-        return write_text(b"has a word that can't be shown", sink);
+/// Puts a word behind a line: in quotes, where it can be printed.
+fn push_word(line: &mut TextLine, word: &str)
+    requires { length line.old ≤ 80 }
+    ensures word { line.new ≡ line.old ++ word_text word.now }
+    ensures short { length line.new ≤ length line.old + 62 }
+{
+    if is_shown(word, LONGEST_SHOWN) {
+        line.push_text(b"'");
+        line.push_text(word.as_bytes());
+        line.push_text(b"'");
+    } else {
+        line.push_text(b"has a word that can't be shown");
     }
-    write_text(b"'", sink)?;
-    write_text(word.as_bytes(), sink)?;
-    write_text(b"'", sink)
 }
 
-/// Writes what is wrong with a word.
-fn write_fault<K: Sink>(fault: WordFault, sink: &mut K) -> Result<(), SinkFailed> {
+/// Puts what is wrong with a word behind a line.
+fn push_fault(line: &mut TextLine, fault: WordFault)
+    requires { length line.old ≤ 80 }
+    ensures fault { line.new ≡ line.old ++ fault_text fault }
+    ensures short { length line.new ≤ length line.old + 65 }
+{
     match fault {
-        WordFault::NoNumber => write_text(b"a number has decimal digits alone", sink),
-        WordFault::LeadingZero => write_text(b"a number has no leading zero", sink),
-        WordFault::TooManyDigits => write_text(b"a number has at most nine digits", sink),
+        WordFault::NoNumber => line.push_text(b"a number has decimal digits alone"),
+        WordFault::LeadingZero => line.push_text(b"a number has no leading zero"),
+        WordFault::TooManyDigits => line.push_text(b"a number has at most nine digits"),
         WordFault::OutOfRange { least, greatest } => {
-            write_number(u64::from(least), sink)?;
-            write_text(b" to ", sink)?;
-            write_number(u64::from(greatest), sink)
+            line.push_number(u64::from(least));
+            line.push_text(b" to ");
+            line.push_number(u64::from(greatest));
         }
-        WordFault::NameLength => write_text(b"a name has 1 to 44 bytes", sink),
-        WordFault::NameByte => write_text(
-            b"a name has printable ASCII alone, and no space at either end",
-            sink,
-        ),
-        WordFault::NoDate => write_text(b"a date is written as 1996-02-29T12:00:00", sink),
-        WordFault::OtherWord => write_text(b"not one of the words that may stand there", sink),
+        WordFault::NameLength => line.push_text(b"a name has 1 to 44 bytes"),
+        WordFault::NameByte => {
+            line.push_text(b"a name has printable ASCII alone, and no space at either end")
+        }
+        WordFault::NoDate => line.push_text(b"a date is written as 1996-02-29T12:00:00"),
+        WordFault::OtherWord => line.push_text(b"not one of the words that may stand there"),
     }
 }

@@ -12,7 +12,7 @@ returns-in-Some-clause-reads g c =
 pub returns-in_ok-good-in-None-clause-reads : goal.returns-in_ok-good-in-None-clause-reads
 returns-in_ok-good-in-None-clause-reads g c =
     reads-apart (g.D.Disk.means.told c.args.disk.now) _ c.args.layout c.args.segment c.args.wanted c.words-read.result.good
-    c.in_ok-good-in-None.good c.words-read.result.blank c.args.states.now c.args.into.now c.read_each_bytes.new.into
+    c.in_ok-good-in-None.good c.words-read.result.blank c.args.states.now c.args.into.now c.read_all_bytes.new.into
     c.in-None.ensures.looks.told
     (any-length (g.D.Disk.means.told c.args.disk.now) c.args.layout c.args.segment c.args.wanted c.args.states.now c.requires.states)
     c.words-read.ensures.good c.words-read.ensures.blank c.in_ok-good-in-None.ensures.bytes

@@ -1,24 +1,20 @@
-use Rattle.std.proofs.Common.{arith}
+use Rattle.std.proofs.Common.{inl, inr, arith}
 use Rattle.std.proofs.lemmas.List.{length-set}
-use Rattle.rescue_map.proofs.Masking.{mark_next, mark_until, mark_end}
+use Rattle.rescue_map.proofs.Masking.{word_next, words_over}
 use Rattle.rescue_map.proofs.mask.mark.Goals as goal
 
-pub loop-sector-preserved : goal.loop-sector-preserved
-loop-sector-preserved c = record {
-  marked = λ q within.
-      mark_next c.args.mask.now c.loop-sector.mask c.args.first c.loop-sector.sector (omega arith) c.if-word-mask.false q
-      (c.loop-sector.invariant.marked q (rw length-set at within));
-  within = omega arith;
-}
+pub loop-index-preserved : goal.loop-index-preserved
+loop-index-preserved c = λ q within.
+    word_next c.args.mask.now c.loop-index.mask c.args.first c.args.end c.loop-index.index c.mark_word.result c.if-index-mask.false
+    (rw (c.bits_before.ensures.bits, c.bits_before-in-loop-index.ensures.bits) at c.mark_word.ensures) q
+    (c.loop-index.invariant q (rw length-set at within))
 
 pub returns : goal.returns
 returns c = λ q within.
-    mark_until c.args.mask.now c.loop-sector.mask c.args.first c.loop-sector.sector c.args.end c.loop-sector.invariant.within
-    c.loop-sector-test.false q
-    (c.loop-sector.invariant.marked q (omega arith))
+    words_over c.args.mask.now c.loop-index.mask c.args.first c.args.end c.loop-index.index q (inl (omega arith))
+    (c.loop-index.invariant q (omega arith))
 
-pub returns-then-word-mask : goal.returns-then-word-mask
-returns-then-word-mask c = λ q within.
-    mark_end c.args.mask.now c.loop-sector.mask c.args.first c.loop-sector.sector c.args.end c.loop-sector-test.true c.if-word-mask.true q
-    (omega arith)
-    (c.loop-sector.invariant.marked q (omega arith))
+pub returns-then-index-mask : goal.returns-then-index-mask
+returns-then-index-mask c = λ q within.
+    words_over c.args.mask.now c.loop-index.mask c.args.first c.args.end c.loop-index.index q (inr (omega arith))
+    (c.loop-index.invariant q (omega arith))

@@ -9,8 +9,8 @@ use Rattle.segment_io.proofs.places.gather.Goals.{then-contains, then-not-contai
 pub loop-index-init : goal.loop-index-init
 loop-index-init c = begun c.args.usable c.args.good c.args.sectors.now c.requires.room
 
-pub bounds-sectors-place : goal.bounds-sectors-place
-bounds-sectors-place c = omega (arith, count_below c.args.usable c.loop-index.index)
+pub move_to-requires-clause-place : goal.move_to-requires-clause-place
+move_to-requires-clause-place c = omega (arith, count_below c.args.usable c.loop-index.index)
 
 pub overflow_shl-lost : goal.overflow_shl-lost
 overflow_shl-lost c = omega (arith, count_below c.args.usable c.loop-index.index)
@@ -43,7 +43,7 @@ loop-index-preserved c =
           gathered_as usable good (with_bad (is_lost good index) lost place) c.if-contains.lost (place + 1) c.if-contains.place
           (index + 1) old (set now place (get_or now index [])) c.if-contains.sectors
           (moved usable good lost place index old now used c.loop-index-test.true c.loop-index.invariant)
-          (w.lost-is ∙ more) w.place-is w.sectors-is
+          (w.lost-is ∙ more) w.place-is (w.sectors-is ∙ w.move_to.ensures)
       | else-contains w ↦
           let kept : IsLost usable index → ⊥ =
           λ is. false≢true (w.if-contains.ensures.lost.1 (subst (λ (m : ℕ). IsLost m index) (sym c.from_mask.ensures) is)) in

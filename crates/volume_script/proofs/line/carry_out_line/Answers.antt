@@ -130,4 +130,4 @@ returns-in-Err-clause-hears g c =
     unheard g.T.Tape.means g.S.Source.means g.K.Sink.means c.args.store.now c.args.store.now c.args.unit.now.tape c.args.unit.now.tape
     c.args.source.now c.read_line.new.source c.read_line.new.source
     c.args.sink.now c.args.sink.now c.in-Err.ensures.cause.later g.met.K.Sink.took_nothing c.args.line c.args.place
-    c.in-Err.ensures.cause.failed
+    c.in-Err.ensures.cause.failed c.in-Err.ensures.read

@@ -3,9 +3,11 @@ use Rattle.hand_commands.proofs.Hearing.{source_cut, unsent, unshown, shown}
 use Rattle.hand_commands.proofs.pulses.lines.carry_out_line.Goals as goal
 
 pub returns-in-Err-clause-hears : goal.returns-in-Err-clause-hears
-returns-in-Err-clause-hears g c =
-    source_cut record { tape = c.args.unit.now.tape; source = c.args.source.now; sink = c.args.sink.now } c.read.new.source
-    (g.met.K.Sink.took_nothing c.args.sink.now) c.in-Err.ensures.cause.later c.in-Err.ensures.cause.failed
+returns-in-Err-clause-hears g c = (
+  source_cut record { tape = c.args.unit.now.tape; source = c.args.source.now; sink = c.args.sink.now } c.read.new.source
+      (g.met.K.Sink.took_nothing c.args.sink.now) c.in-Err.ensures.cause.later c.in-Err.ensures.cause.failed,
+  c.in-Err.ensures.read,
+)
 
 pub returns-in-Err-send_train-clause-hears : goal.returns-in-Err-send_train-clause-hears
 returns-in-Err-send_train-clause-hears g c =

@@ -1,0 +1,10 @@
+pub mod Commands
+pub mod Counting
+pub mod Endings
+pub mod Finding
+pub mod Infos
+pub mod Masking
+pub mod Passing
+pub mod Ranging
+pub mod Runs
+pub mod Volumes

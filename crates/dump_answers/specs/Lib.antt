@@ -1,0 +1,5 @@
+pub mod Checking
+pub mod Commands
+pub mod Ends
+pub mod Pieces
+pub mod Tables

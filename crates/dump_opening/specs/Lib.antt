@@ -1,0 +1,6 @@
+pub mod Counts
+pub mod Headers
+pub mod Inputs
+pub mod Opened
+pub mod Sizes
+pub mod Texts

@@ -1,0 +1,7 @@
+pub mod Begun
+pub mod Laws
+pub mod Marks
+pub mod Put
+pub mod Sinks
+pub mod SoFar
+pub mod Whole

@@ -1,0 +1,48 @@
+-- A file that was looked at tells what it told.
+use Rattle.std.proofs.Common.{◌≡◌, ℕ, true, false, List, Option, Some, None, Result, Ok, Err, refl, sym}
+use Rattle.std.proofs.Common.{◌∙◌, ap, is_some}
+use Rattle.qic_base.specs.Disk.{Meaning, IsSettled, Failed, Look, Stores}
+use Rattle.qic_base.proofs.Disks.{told-look}
+use Rattle.cart_image.specs.Run.{Looked}
+use Rattle.cart_image.proofs.Runs.{Looks-settled}
+
+-- ---- the file is as it was
+
+-- a look that failed tells what was told, where nothing was pending
+failed-told : {D : Type 0} {m : Meaning D} {a b : D} → IsSettled m a → Failed m a b Look → (was now : Option (List ℕ)) → m.told a ≡ was →
+    m.told b ≡ now → m.told b ≡ m.told a
+failed-told {m = m} {a = a} {b = b} settled failed None None before after = after ∙ sym before
+failed-told {m = m} {a = a} {b = b} settled failed None (Some bytes) before after =
+    let same : is_some (m.told b) ≡ is_some (m.told a) = failed.tells in
+    let none : is_some (m.told a) ≡ false = ap is_some before in
+    let some : is_some (m.told b) ≡ true = ap is_some after in cc
+failed-told {m = m} {a = a} {b = b} settled failed (Some bytes) None before after =
+    let same : is_some (m.told b) ≡ is_some (m.told a) = failed.tells in
+    let some : is_some (m.told a) ≡ true = ap is_some before in
+    let none : is_some (m.told b) ≡ false = ap is_some after in cc
+failed-told {m = m} {a = a} {b = b} settled failed (Some bytes) (Some left) before after =
+    let torn = failed.torn left after in
+    after ∙ ap Some (torn.2 ∙ settled.only bytes torn.0 before torn.1) ∙ sym before
+
+looked-told : {D T E : Type 0} (m : Meaning D) (a b : D) (r : Result T E) → IsSettled m a → Looked m a b r → m.told b ≡ m.told a
+looked-told m a b (Ok x) settled looked = looked.told
+looked-told m a b (Err e) settled looked =
+    failed-told (Looks-settled looked.1 settled) looked.2 (m.told looked.0) (m.told b) refl refl ∙ looked.1.told
+
+tried-told : {D T E : Type 0} (m : Meaning D) (a b : D) (r : Result T E) → IsSettled m a → Stores m a b Look r → m.told b ≡ m.told a
+tried-told m a b (Ok x) settled stored = told-look stored
+tried-told m a b (Err e) settled failed = failed-told settled failed (m.told a) (m.told b) refl refl
+
+tried-settled : {D T E : Type 0} (m : Meaning D) (a b : D) (r : Result T E) → IsSettled m a → Stores m a b Look r → IsSettled m b
+tried-settled m a b (Err e) settled failed = failed.settled
+tried-settled m a b (Ok x) settled stored = record {
+  only = λ bytes left told may.
+      let was = stored.leaves left may in
+      was.2 ∙ settled.only bytes was.0 (sym (told-look stored) ∙ told) was.1;
+}
+
+-- two looks
+pub twice-told : {D S T E F : Type 0} (m : Meaning D) (a b c : D) (r : Result S E) (s : Result T F) → IsSettled m a →
+    Stores m a b Look r → Looked m b c s → m.told c ≡ m.told a
+twice-told m a b c r s settled first next =
+    looked-told m b c s (tried-settled m a b r settled first) next ∙ tried-told m a b r settled first

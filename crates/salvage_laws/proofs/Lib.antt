@@ -1,0 +1,13 @@
+pub mod Answered
+pub mod Fields
+pub mod Flags
+pub mod Headers
+pub mod ListText
+pub mod Masks
+pub mod SegmentGiven
+pub mod Standing
+pub mod Tables
+pub mod ToldBytes
+pub mod Views
+pub mod VolumeGiven
+pub mod VolumeTold

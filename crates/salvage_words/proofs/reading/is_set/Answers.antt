@@ -1,0 +1,9 @@
+use Rattle.std.proofs.Common.{◌∙◌}
+use Rattle.clap.specs.Matches.{found_of}
+use Rattle.salvage_words.proofs.Numbers.{flag_read}
+use Rattle.salvage_words.proofs.reading.is_set.Goals as goal
+
+pub returns : goal.returns
+returns c =
+    c.unwrap_or.ensures
+    ∙ flag_read _ (found_of c.args.matches.now) c.args.id.now c.get_one.result c.get_one.ensures.none c.get_one.ensures.value

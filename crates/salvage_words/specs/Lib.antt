@@ -1,0 +1,4 @@
+pub mod Matched
+pub mod Options
+pub mod Reading
+pub mod SalvageWords

@@ -1,8 +1,0 @@
-use Rattle.qic_base.proofs.Disks.{settled-told}
-use Rattle.tape_import.proofs.map_source.MapSource.new.Goals as goal
-
-pub invariant_of-result : goal.invariant_of-result
-invariant_of-result g c = record {
-  settled = λ bytes left told may.
-      (settled-told g.D.Disk.means c.args.disk (g.met.D.Disk.told_right c.args.disk) c.requires).only bytes left told may;
-}

@@ -1,8 +1,0 @@
-use Rattle.std.proofs.Common.{◌∙◌}
-use Rattle.tape_import.proofs.Looks.{told-still}
-use Rattle.tape_import.proofs.map_source.MapSourceSource.read.Goals as goal
-
-pub returns-in-Err-clause-kept : goal.returns-in-Err-clause-kept
-returns-in-Err-clause-kept g c =
-    let me = c.args.self.now in
-    c.fail-in-Err.ensures.kept ∙ told-still g.D.Disk.means me.disk c.read_at.new.self (record { only = me.settled }) c.in-Err.ensures.did

@@ -1,0 +1,115 @@
+//! The files that the words name.
+
+ghost use Rattle.std.specs.Prelude.{◌≡◌, ◌≢◌, ◌↔◌, IsTrue};
+ghost use Rattle.dump_spec.specs.declared.status.Status.TheVariants as ends;
+
+use dump_opening::DumpFiles;
+use dump_spec::{OpenedFile, Status};
+use file_streams::{FileSink, FileSource};
+use salvage_words::SalvageWords;
+use std::fs::{File, Files};
+use tape_files::{FileDisk, NoImage, open_image, open_to_read};
+
+/// The files of a run, opened: those that are read, and that of the sure map, where one is asked for.
+#[derive(Drop)]
+pub struct OpenFiles {
+    pub read: DumpFiles<FileDisk, FileSource<FileDisk>>,
+    pub sure: FileSink<FileDisk>,
+}
+
+/// Why a run has no files, and whether that may be told: nothing is printed where the file at fault is standard error.
+#[derive(Clone, Copy, Debug)]
+pub struct Unopened {
+    pub status: Status,
+    pub is_told: bool,
+}
+
+/// Why a run ends of which a file can't be opened.
+fn refuse(cause: NoImage, file: OpenedFile) -> Unopened
+    ensures memory { cause ≡ NoImage.NoMemory → result.status ≡ ends.NoMemory }
+    ensures file { cause ≢ NoImage.NoMemory → result.status ≡ ends.CannotOpen file }
+    ensures told { IsTrue result.is_told ↔ (cause ≢ NoImage.IsErrorStream) }
+{
+    let status = match cause {
+        NoImage::NoMemory => Status::NoMemory,
+        _ => Status::CannotOpen { file },
+    };
+    Unopened {
+        status,
+        is_told: cause != NoImage::IsErrorStream,
+    }
+}
+
+/// Opens a file that is read.
+fn open_one<R: Files<File = File>>(
+    files: &R,
+    path: &str,
+    file: OpenedFile,
+) -> Result<FileDisk, Unopened> {
+    match open_to_read(files, path) {
+        Ok(disk) => Ok(disk),
+        Err(cause) => Err(refuse(cause, file)),
+    }
+}
+
+/// Opens a file that is read, where one is named.
+fn open_named<R: Files<File = File>>(
+    files: &R,
+    path: Option<&str>,
+    file: OpenedFile,
+) -> Result<Option<FileDisk>, Unopened> {
+    match path {
+        Some(path) => Ok(Some(open_one(files, path, file)?)),
+        None => Ok(None),
+    }
+}
+
+/// Opens a text, where one is named.
+fn open_text<R: Files<File = File>>(
+    files: &R,
+    path: Option<&str>,
+    file: OpenedFile,
+) -> Result<Option<FileSource<FileDisk>>, Unopened> {
+    match path {
+        Some(path) => Ok(Some(FileSource::new(open_one(files, path, file)?))),
+        None => Ok(None),
+    }
+}
+
+/// Opens the file of the sure map, where one is named; it is created where there is none.
+fn open_sure<R: Files<File = File> + Alloc>(
+    files: &R,
+    path: Option<&str>,
+) -> Result<Option<FileDisk>, Unopened> {
+    match path {
+        Some(path) => match open_image(files, path) {
+            Ok(disk) => Ok(Some(disk)),
+            Err(cause) => Err(refuse(cause, OpenedFile::Sure)),
+        },
+        None => Ok(None),
+    }
+}
+
+/// Opens the files that the words name, one after the other. Each is locked then, those that are read against a run that would
+/// write them, and that of the sure map against every other.
+pub fn open_files<R: Files<File = File> + Alloc>(
+    files: &R,
+    words: SalvageWords,
+) -> Result<OpenFiles, Unopened> {
+    let dump = open_one(files, words.dump, OpenedFile::Dump)?;
+    let map = open_text(files, words.map, OpenedFile::Map)?;
+    let header = open_named(files, words.header, OpenedFile::Header)?;
+    let missing = open_text(files, words.missing, OpenedFile::Missing)?;
+    let bad = open_text(files, words.bad, OpenedFile::Bad)?;
+    let sure = open_sure(files, words.sure)?;
+    Ok(OpenFiles {
+        read: DumpFiles {
+            dump,
+            map,
+            header,
+            missing,
+            bad,
+        },
+        sure: FileSink::new(sure),
+    })
+}

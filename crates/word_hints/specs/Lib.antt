@@ -1,0 +1,5 @@
+pub mod Asked
+pub mod Faults
+pub mod Forms
+pub mod Hints
+pub mod Texts
