@@ -27,12 +27,7 @@ KNOWN = {
     "cart_image.proofs.FailedLooks failed-told: image_kind.proofs.Looks failed-told",
     "command_laws.proofs.CutFronts front_steps: qic_base.proofs.Joins steps_behind",
     "command_laws.proofs.CutFronts front_effects: qic_base.proofs.Joins effects_behind",
-    "dump_answers.proofs.Passing passed: segment_mending.proofs.Passing passed",
-    "dump_answers.proofs.Ranging range_parts: dump_output.proofs.Fronts range_part",
-    "dump_answers.proofs.Ranging range_parts: segment_mending.proofs.Looked range_part",
-    "dump_opening.proofs.Heading reads_one: segment_salvage.proofs.ReadingWhole one_reads",
     "dump_output.proofs.Fronts range_part: segment_mending.proofs.Looked range_part",
-    "hand_commands.proofs.Trains told_input: volume_script.proofs.Running input_has",
 }
 
 

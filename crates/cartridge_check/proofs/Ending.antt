@@ -1,10 +1,9 @@
 -- How a check ends, by how its stages did.
-use Rattle.std.proofs.Common.{◌≡◌, ◌≢◌, ℕ, ◌-◌, ◌*◌, Bool, true, false, List, [], ◌∷◌, ◌++◌, length, take, refl, sym, ap, ◌∙◌, subst}
-use Rattle.std.proofs.Common.{inl, inr, arith, append_assoc, append-nil, Option, Some, None, IfSome, IsSomeAnd, Result, Ok, Err}
+use Rattle.std.proofs.Common.{◌≡◌, ◌≢◌, ◌≤◌, ℕ, ◌+◌, ◌-◌, ◌*◌, Bool, true, false, List, [], ◌∷◌, ◌++◌, length, take, refl, sym, ap}
+use Rattle.std.proofs.Common.{◌∙◌, subst, inl, inr, arith, append_assoc, append-nil, Option, Some, None, IfSome, IsSomeAnd, Result, Ok, Err}
 use Rattle.std.specs.List.{AllZip, count_by}
 use Rattle.std.specs.Option.{option_map_or}
 use Rattle.std.specs.Prelude.{◌==◌, ◌&&◌, if◌then◌else◌, codes, decimal}
-use Rattle.std.proofs.lemmas.Bool.{lt-ltb}
 use Rattle.segment_io.proofs.Going.{tells_always}
 use Rattle.cartridge_front.proofs.Copies.{IsLearnt, told_learnt}
 use Rattle.cartridge_front.specs.Finding.{HasFormat, FindsHeader, FindsVolumes, ShowsVolumes, Leaves, NamesCause, is_of_mounting}
@@ -13,6 +12,7 @@ use Rattle.cartridge_front.specs.declared.table_reader.Unread.{Unread}
 use Rattle.cartridge_spec.specs.Mounting.{Mounted, Mounts}
 use Rattle.cartridge_spec.specs.Table.{Entry}
 use Rattle.cartridge_spec.specs.TableSegment.{TableIs}
+use Rattle.command_laws.proofs.CommandNumbers.{too_many}
 use Rattle.command_spec.specs.Check.{IsTold, MayBeTold, AreLines, IsCheck, Checks, check_line, check_refused, check_status, header_copies}
 use Rattle.command_spec.specs.Check.{in_front, is_bad, is_mendable, verdict_acts, verdict_lines}
 use Rattle.command_spec.specs.Outcome.{CommandOutcome, HeldOutcome, refused}
@@ -32,6 +32,7 @@ use Rattle.qic_base.proofs.Writing.{TakesBoth}
 use Rattle.qic_base.specs.Acts.{Act, text_of, Outside, Failing, TapeFails, SinkFails, Went, Cut}
 use Rattle.qic_base.specs.Alone.{no_source, around}
 use Rattle.qic_base.specs.Cartridge.{Cartridge}
+use Rattle.qic_base.specs.declared.TheConstants.{LONGEST}
 use Rattle.qic_base.specs.declared.tape.TapeInfo.{TapeInfo}
 use Rattle.volume_store.proofs.Refusals.{foreign_is_refused}
 use Rattle.volume_store.proofs.Started.{told_before}
@@ -43,7 +44,7 @@ use Rattle.cartridge_check.specs.Telling.{HasFew, HasTold, TellingCut, TellsAll}
 use Rattle.cartridge_check.specs.declared.fault.CheckFault.{CheckFault}
 use Rattle.cartridge_check.specs.declared.tally.Tally.{Tally}
 use Rattle.cartridge_check.proofs.Joining.{only_read, read_cut, told_both, told_then_broke, told_then_cut}
-use Rattle.cartridge_check.proofs.Parts.{lines_join, sound_all, sound_may, text_of_acts, zip_join, zip_length}
+use Rattle.cartridge_check.proofs.Parts.{counted_once, lines_join, sound_all, sound_may, text_of_acts, zip_join, zip_length}
 use Rattle.cartridge_check.proofs.Stages.{Begins, begins_with_all, begins_with_copies, begins_with_front, checks_all, checks_so, mounts_so}
 use Rattle.cartridge_check.proofs.Stages.{refused_header, refused_table}
 use Rattle.qic_base.specs.Sink as sinks
@@ -292,7 +293,7 @@ module _ {T K : Type 0} (t : tapes.Meaning T) (k : sinks.Meaning K) where
         header_turned (store.Foreign field value) read (found (λ is. cc)) (inl (lines_of header_copies lines.verdicts lines.may))
         (foreign_is_refused n field value cause)
     header_failed (store.Lost segment lost) both nothing read found kind cause =
-        header_turned (store.Lost segment lost) read (found (λ is. cc)) (lines_before lines.verdicts lines.may) (lt-ltb 3 lost cause.1)
+        header_turned (store.Lost segment lost) read (found (λ is. cc)) (lines_before lines.verdicts lines.may) (too_many lost cause.1)
     header_failed store.TableMismatch both nothing read found kind cause =
         header_turned store.TableMismatch read (found (λ is. cc)) (lines_before lines.verdicts lines.may) refl
     header_failed f both nothing read found kind cause = absurd (cc)
@@ -344,7 +345,7 @@ module _ {T K : Type 0} (t : tapes.Meaning T) (k : sinks.Meaning K) where
     table_failed (store.Foreign field value) both nothing read found kind formatted cause =
         table_turned (store.Foreign field value) formatted read (found (λ is. cc)) (foreign_is_refused n field value cause)
     table_failed (store.Lost segment lost) both nothing read found kind formatted cause =
-        table_turned (store.Lost segment lost) formatted read (found (λ is. cc)) (lt-ltb 3 lost cause.1)
+        table_turned (store.Lost segment lost) formatted read (found (λ is. cc)) (too_many lost cause.1)
     table_failed store.TableMismatch both nothing read found kind formatted cause =
         table_turned store.TableMismatch formatted read (found (λ is. cc)) refl
     table_failed f both nothing read found kind formatted cause = absurd (cc)
@@ -523,8 +524,20 @@ module _ {T K : Type 0} (t : tapes.Meaning T) (k : sinks.Meaning K) where
         answered = refl;
       }
 
-      pub counts_written : TakesBoth k → (y : K) → sinks.Wrote k c.sink y (tally_line tally) → HasChecked t k a (around c.tape y) tally
-      counts_written both y wrote =
+      few_counted : length all ≤ 28 * LONGEST → tally.mendable + tally.bad ≤ 28 * LONGEST
+      few_counted seen =
+          let each : length vs ≡ length all = zip_length MayBeTold all vs lines.may in
+          let low = few.segments in
+          let mend = few.mendable in
+          let bads = few.bad in
+          let both : count_by is_mendable vs + count_by is_bad vs ≤ length vs = counted_once vs in
+          let mendable : tally.mendable ≡ count_by is_mendable vs = (let e = lines.counted.mendable in omega arith) in
+          let bad : tally.bad ≡ count_by is_bad vs = (let e = lines.counted.bad in omega arith) in
+          omega arith
+
+      pub counts_written : length (looked_at words entries) ≤ 28 * LONGEST → TakesBoth k → (y : K) →
+          sinks.Wrote k c.sink y (tally_line tally) → HasChecked t k a (around c.tape y) tally
+      counts_written seen both y wrote =
           let went : Went t no_source k c (around c.tape y) (last ∷ []) = record {
             did = Done-nothing t c.tape;
             wrote = subst (sinks.Wrote k c.sink y) (counts_are ∙ sym (append-nil (check_line (length all) vs))) wrote;
@@ -541,6 +554,7 @@ module _ {T K : Type 0} (t : tapes.Meaning T) (k : sinks.Meaning K) where
                 (checks_all d words both'.0.0 table entries both'.0.1 vs both'.1))
                 (tells_two t a.tape Mounts_so Lines (λ d. Mounts_so d × Lines d) (λ d one two. (one, two)) front.mounts lines.told);
             prints = subst (λ (answer : Status). IsCheck answer (text_of (verdict_acts all vs ++ last ∷ []))) (sym status_is) is_check;
+            few = few_counted seen;
           }
 
       pub counts_cut : TakesBoth k → (y : K) → sink_calls.BrokeOff k c.sink y (tally_line tally) →
@@ -665,6 +679,7 @@ module _ {T K : Type 0} (t : tapes.Meaning T) (k : sinks.Meaning K) where
       went = went_both t no_source k both (around a x) (around b x) c [] checked.acts (insertion nothing) checked.went;
       told = told_before t a b put_in (λ held. HeldOutcome Checks held (ended checked.acts (tally_status tally))) checked.told;
       prints = checked.prints;
+      few = checked.few;
     }
     ends_since both nothing (Err fault.Sink) cut = cut_since both nothing SinkFails cut
     ends_since both nothing (Err fault.Tape) cut = cut_since both nothing TapeFails cut

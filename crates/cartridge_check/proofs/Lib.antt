@@ -1,5 +1,6 @@
 pub mod Ending
 pub mod Joining
+pub mod Looked
 pub mod Parts
 pub mod Stages
 pub mod Table

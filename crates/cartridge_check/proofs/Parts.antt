@@ -3,13 +3,13 @@ use Rattle.std.proofs.Common.{◌≡◌, ℕ, suc, ◌+◌, ◌≤◌, cond, Lis
 use Rattle.std.proofs.Common.{arith, append_assoc}
 use Rattle.std.specs.List.{AllZip, count_by}
 use Rattle.std.proofs.lemmas.List.{length-append}
-use Rattle.std.proofs.lemmas.List.Sums.{sum_by-append, count_by-le-length}
+use Rattle.std.proofs.lemmas.List.Sums.{sum_by-append, sum_by-cons, count_by-le-length}
 use Rattle.qic_base.specs.Acts.{Act, steps_of, text_of}
 use Rattle.command_spec.specs.Scrub.{Looked}
 use Rattle.command_spec.specs.Check.{MayBeTold, verdict_acts, verdict_line, verdict_lines, is_mendable, is_bad}
 use Rattle.cartridge_check.specs.Telling.{Counted, HasFew}
 use Rattle.command_spec.specs.declared.verdict.Verdict.{Verdict}
-use Rattle.command_spec.specs.declared.verdict.Verdict.TheVariants.{Sound}
+use Rattle.command_spec.specs.declared.verdict.Verdict.TheVariants.{Sound, Weak, Wrong, Unsettled, Contradicts, Gone}
 use Rattle.cartridge_check.specs.declared.tally.Tally.{Tally}
 
 -- ---- one list behind the other
@@ -123,3 +123,23 @@ few_more most more a within few = record {
   mendable = few.mendable;
   bad = few.bad;
 }
+
+-- no segment is counted twice
+pub counted_once : (vs : List Verdict) → count_by is_mendable vs + count_by is_bad vs ≤ length vs
+counted_once [] = omega arith
+counted_once (v ∷ vs) =
+    let rest = counted_once vs in
+    let mendable : count_by is_mendable (v ∷ vs) ≡ cond (is_mendable v) 1 0 + count_by is_mendable vs =
+    sum_by-cons (λ (u : Verdict). cond (is_mendable u) 1 0) v vs in
+    let bad : count_by is_bad (v ∷ vs) ≡ cond (is_bad v) 1 0 + count_by is_bad vs =
+    sum_by-cons (λ (u : Verdict). cond (is_bad u) 1 0) v vs in
+    let one : cond (is_mendable v) 1 0 + cond (is_bad v) 1 0 ≤ 1 = either v in
+    omega arith
+  where
+    either : (u : Verdict) → cond (is_mendable u) 1 0 + cond (is_bad u) 1 0 ≤ 1
+    either Sound = omega arith
+    either (Weak lost) = omega arith
+    either (Wrong sector) = omega arith
+    either Unsettled = omega arith
+    either Contradicts = omega arith
+    either (Gone lost) = omega arith

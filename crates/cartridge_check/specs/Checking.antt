@@ -1,15 +1,17 @@
 -- How a check ends: all segments told and counted, refused, or cut off; and how its stages do (this project's own).
-use Rattle.std.specs.Prelude.{◌≡◌, ◌≢◌, ℕ, ◌++◌, ◌&&◌, ◌==◌, ◌∷◌, [], List, Bool, true, false, if◌then◌else◌, nat_lt, codes, decimal, take}
-use Rattle.std.specs.Prelude.{IfSome, Result, Ok, Err}
+use Rattle.std.specs.Prelude.{◌≡◌, ◌≢◌, ◌≤◌, ◌+◌, ◌*◌, ℕ, ◌++◌, ◌&&◌, ◌==◌, ◌∷◌, [], List, Bool, true, false}
+use Rattle.std.specs.Prelude.{if◌then◌else◌, codes, decimal, take, IfSome, Result, Ok, Err}
 use Rattle.cartridge_front.specs.Finding.{HasFormat, FindsVolumes, ShowsVolumes}
 use Rattle.cartridge_spec.specs.Table.{Entry}
 use Rattle.cartridge_spec.specs.TableSegment.{TableIs}
+use Rattle.command_spec.specs.Numbers.{are_too_many}
 use Rattle.command_spec.specs.Outcome.{CommandOutcome, HeldOutcome, is_refused}
 use Rattle.command_spec.specs.Scrub.{whole_segment}
 use Rattle.command_spec.specs.declared.status.Status.{Status}
 use Rattle.header_segments.specs.declared.header.Header.{Header}
 use Rattle.qic_base.specs.Acts.{Act, text_of, Outside, Failing, TapeFails, SinkFails, Went, Cut}
 use Rattle.qic_base.specs.Alone.{no_source}
+use Rattle.qic_base.specs.declared.TheConstants.{LONGEST}
 use Rattle.command_spec.specs.Check.{Checks, IsCheck, check_refused, header_copies}
 use Rattle.cartridge_check.specs.Telling.{HasTold, TellingCut}
 use Rattle.cartridge_check.specs.declared.fault.CheckFault.{CheckFault}
@@ -50,7 +52,7 @@ abbrev pub is_refusal : CheckFault → Bool
 is_refusal fault.Sink = false
 is_refusal fault.Tape = false
 is_refusal (fault.Foreign field value) = is_refused field value
-is_refusal (fault.Lost lost) = nat_lt 3 lost
+is_refusal (fault.Lost lost) = are_too_many lost
 is_refusal other = true
 
 -- the refusal of a mounting as one of a check
@@ -80,6 +82,7 @@ pub record HasChecked {T K : Type 0} (t : tapes.Meaning T) (k : sinks.Meaning K)
     pub told : IfSome (t.told old.tape) (λ held. HeldOutcome Checks held (ended acts (tally_status tally)))
     -- and over any tape
     pub prints : IsCheck (tally_status tally) (text_of acts)
+    pub few : tally.mendable + tally.bad ≤ 28 * LONGEST
 
 -- It was refused, behind the lines of the segments that were looked at.
 pub record WasRefused {T K : Type 0} (t : tapes.Meaning T) (k : sinks.Meaning K) (old new : Outside T (Unit {0}) K) (why : CheckFault) :

@@ -1,6 +1,6 @@
 -- The volume table read again, settled again, and written with one entry more, by the answers of the calls (this project's
 -- own).
-use Rattle.std.specs.Prelude.{◌≡◌, ◌⊎◌, ℕ, ◌<◌, ◌++◌, List, [], ◌∷◌, length, take, Result, Ok, Err}
+use Rattle.std.specs.Prelude.{◌≡◌, ◌⊎◌, ℕ, ◌++◌, List, [], ◌∷◌, length, take, Result, Ok, Err}
 use Rattle.cartridge_laws.specs.TableCells.{HasList}
 use Rattle.cartridge_laws.specs.Slots.{slot_sector}
 use Rattle.qic_base.specs.Cartridge.{Cartridge}
@@ -12,6 +12,7 @@ use Rattle.cartridge_spec.specs.Says.{TableSays, LostSectors, ByCode}
 use Rattle.cartridge_spec.specs.Table.{table_with, Entry, Shows}
 use Rattle.cartridge_spec.specs.Appending.{table_writes}
 use Rattle.cartridge_spec.specs.Settling.{settling_steps}
+use Rattle.command_spec.specs.Numbers.{AreTooMany}
 use Rattle.cartridge_front.specs.Reading.{IsReadBut}
 use Rattle.cartridge_front.specs.declared.fault.StoreFault.{StoreFault}
 use Rattle.cartridge_front.specs.declared.fault.StoreFault.TheVariants.{Lost, TableMismatch, Tape}
@@ -32,10 +33,10 @@ FindsList c sectors entries (Err (Lost segment lost)) = TableSays (table_cells c
 FindsList c sectors entries (Err TableMismatch) = HasList c entries → ⊥
 FindsList c sectors entries (Err fault) = ⊥
 
--- the refusals of a reading, and its fault; lost sectors are those of segment 2, and more than three
+-- the refusals of a reading, and its fault; lost sectors are those of segment 2, and too many
 abbrev pub IsOfReading : {A : Type 0} → Result A StoreFault → Type 0
 IsOfReading (Ok answer) = Unit {0}
-IsOfReading (Err (Lost segment lost)) = (segment ≡ 2) × (3 < lost)
+IsOfReading (Err (Lost segment lost)) = (segment ≡ 2) × AreTooMany lost
 IsOfReading (Err TableMismatch) = Unit {0}
 IsOfReading (Err Tape) = Unit {0}
 IsOfReading (Err fault) = ⊥

@@ -18,7 +18,9 @@ use Rattle.cartridge_spec.specs.TableSegment.{table_cells, TableIs}
 use Rattle.cartridge_spec.specs.HeaderCopies.{CopyReads, CopyDoesNotRead, IsFormatted, IsUnformatted}
 use Rattle.cartridge_spec.specs.Mounting.{RefusesHeader}
 use Rattle.header_segments.specs.declared.header.Header.{Header}
+use Rattle.command_spec.specs.Numbers.{AreTooMany}
 use Rattle.header_segments.specs.Header.{header_of}
+use Rattle.header_segments.specs.Refusal.{FitsField}
 use Rattle.cartridge_laws.specs.HeaderLaws.{AreTaken}
 use Rattle.segment_io.specs.declared.fault.SegFault.{SegFault}
 use Rattle.segment_io.specs.declared.fault.SegFault.TheVariants as seg
@@ -75,10 +77,10 @@ IsForeign n Map value = value < 3
 IsForeign n Slot value = value < 232
 IsForeign n Range value = value < 232
 
--- a mounting that is refused for a foreign value names one, and for lost sectors segment 2 and more than three
+-- a mounting that is refused for a foreign value names one that its field can have, and for lost sectors segment 2 and too many
 abbrev pub NamesCause : {A : Type 0} → (n : ℕ) → Result A StoreFault → Type 0
-NamesCause n (Err (Foreign field value)) = IsForeign n field value
-NamesCause n (Err (Lost segment lost)) = (segment ≡ 2) × (3 < lost)
+NamesCause n (Err (Foreign field value)) = IsForeign n field value × FitsField field value
+NamesCause n (Err (Lost segment lost)) = (segment ≡ 2) × AreTooMany lost
 NamesCause n answer = Unit {0}
 
 -- ---- the header

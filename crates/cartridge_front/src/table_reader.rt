@@ -7,6 +7,7 @@ ghost use Rattle.qic_base.specs.TapeCalls.{Tells};
 ghost use Rattle.qic_base.specs.declared.tape.SectorView.{SectorView};
 ghost use Rattle.cartridge_spec.specs.TableSegment.{table_cells};
 ghost use Rattle.cartridge_laws.specs.Says.{LosesData};
+ghost use Rattle.command_spec.specs.Numbers.{AreTooMany};
 ghost use Rattle.drive_spec.specs.Terms.{is_referenced};
 ghost use Rattle.drive_states.specs.Reach.{reads_in};
 ghost use Rattle.host_driver.specs.Calls.{IsReady, Keeps};
@@ -137,7 +138,7 @@ pub fn read_table<T: Tape>(
         IsReadBut (table_cells c) unread work.new)) }
     // And where the tape tells nothing:
     ensures many { (named n : ℕ) → result ≡ Err (SegFault.Lost named n) →
-        (named ≡ 2) × (3 < n) }
+        (named ≡ 2) × AreTooMany n }
     ensures mismatch { (named : ℕ) → result ≡ Err (SegFault.Mismatch named) → named ≡ 2 }
     ensures room { length work.new ≡ 32 }
     ensures keeps { Keeps T.means host.new unit.old unit.new }

@@ -7,7 +7,7 @@ use Rattle.std.proofs.lemmas.List.Elements.{All-head, All-tail}
 use Rattle.std.specs.List.{AllZip}
 use Rattle.std.specs.Prelude.{◌==◌, ◌&&◌, count_by, if◌then◌else◌}
 use Rattle.cartridge_laws.proofs.Blocks.{says_always}
-use Rattle.cartridge_laws.proofs.MountOnce.{mounts_always, mounts_is_function}
+use Rattle.cartridge_laws.proofs.MountOnce.{mounts_always, mounts_is_function, not_lost}
 use Rattle.cartridge_laws.proofs.Sayings.{says_is_function}
 use Rattle.cartridge_laws.proofs.Segments.{cells_are_views, length-whole_cells}
 use Rattle.cartridge_laws.proofs.TableSayings.{table_says_is_function, table_says_always}
@@ -83,13 +83,7 @@ all_told_once c (l ∷ ls) (v ∷ vs) (w ∷ ws) a b =
 opens_by : (c : Cartridge) (saying : TableSaying) → TableSays (table_cells c) saying → (p : Bool) × TableOpens c p
 opens_by c (AsRead area) says = (true, (area, inl says))
 opens_by c (ByCode (Data area)) says = (true, (area, inr says))
-opens_by c (ByCode (LostSectors n)) says = (false, λ area is. refuted area is)
-  where
-    refuted : (area : List (List ℕ)) → TableIs c area → ⊥
-    refuted area (inl read) =
-        let same = table_says_is_function (table_cells c) (AsRead area) (ByCode (LostSectors n)) read says in cc
-    refuted area (inr coded) =
-        let same = table_says_is_function (table_cells c) (ByCode (Data area)) (ByCode (LostSectors n)) coded says in cc
+opens_by c (ByCode (LostSectors n)) says = (false, λ area is. not_lost c area n is says)
 opens_by c (ByCode Mismatch) says = (false, λ area is. refuted area is)
   where
     refuted : (area : List (List ℕ)) → TableIs c area → ⊥

@@ -297,28 +297,23 @@ append_order c ws entries name promised date bytes (Finds table) order =
     (sym (taken_entries kept name date (acts_on c ws entries name promised date bytes (Finds table)) became))
     (order_behind kept name date (Some promised) bytes became refl order)
 
-did_order : (ws : List ℕ) (a : Did) (es : List Entry) → a.entries ≡ es → IsSoundList (length ws - 1) es →
-    IsSoundList (length ws - 1) a.entries
-did_order ws a es same order = subst (λ (xs : List Entry). IsSoundList (length ws - 1) xs) (sym same) order
+did_order : (ws : List ℕ) {did is : Did} → did ≡ is → IsSoundList (length ws - 1) is.entries → IsSoundList (length ws - 1) did.entries
+did_order ws same order = subst (λ (d : Did). IsSoundList (length ws - 1) d.entries) (sym same) order
 
 line_order : (c : Cartridge) (ws : List ℕ) (entries : List Entry) (asked : Line) (bytes : List ℕ) (did : Did) →
     IsSoundList (length ws - 1) entries →
     LineDoes c ws entries asked bytes did → IsSoundList (length ws - 1) did.entries
 line_order c ws entries (line.Append name promised date) bytes did order (meeting, meets, is) =
-    did_order ws did _ (ap (λ (d : Did). d.entries) is) (append_order c ws entries name promised date bytes meeting order)
-line_order c ws entries line.List bytes did order is = did_order ws did entries (ap (λ (d : Did). d.entries) is) order
-line_order c ws entries (line.Restore number) bytes did order (inl is) = did_order ws did entries (ap (λ (d : Did). d.entries) is.1) order
+    did_order ws is (append_order c ws entries name promised date bytes meeting order)
+line_order c ws entries line.List bytes did order is = did_order ws is order
+line_order c ws entries (line.Restore number) bytes did order (inl is) = did_order ws is.1 order
 line_order c ws entries (line.Restore number) bytes did order (inr found) =
-    did_order ws did entries
-    (ap (λ (d : Did). d.entries) found.is ∙ given_entries ws entries number found.entry
-    (framed (pieces ws found.entry) found.acts) found.ending) order
-line_order c ws entries line.Scrub bytes did order (inl is) = did_order ws did entries (ap (λ (d : Did). d.entries) is.1) order
-line_order c ws entries line.Scrub bytes did order (inr (free, (acts, scrubs, is))) = did_order ws did entries
-    (ap (λ (d : Did). d.entries) is) order
-line_order c ws entries (line.Lose segment sector) bytes did order (inl is) = did_order ws did entries
-    (ap (λ (d : Did). d.entries) is.1) order
-line_order c ws entries (line.Lose segment sector) bytes did order (inr is) = did_order ws did entries
-    (ap (λ (d : Did). d.entries) is.1) order
+    let same = given_entries ws entries number found.entry (framed (pieces ws found.entry) found.acts) found.ending in
+    did_order ws found.is (subst (IsSoundList (length ws - 1)) (sym same) order)
+line_order c ws entries line.Scrub bytes did order (inl is) = did_order ws is.1 order
+line_order c ws entries line.Scrub bytes did order (inr (free, (acts, scrubs, is))) = did_order ws is order
+line_order c ws entries (line.Lose segment sector) bytes did order (inl is) = did_order ws is.1 order
+line_order c ws entries (line.Lose segment sector) bytes did order (inr is) = did_order ws is.1 order
 line_order c ws entries line.End bytes did order none = absurd none
 
 -- a made volume that is appended has room

@@ -9,7 +9,8 @@ use Rattle.cartridge_spec.specs.Settling.{changed_by, settling_steps}
 use Rattle.cartridge_spec.specs.Volumes.{Plain, Stands, entries_of}
 use Rattle.command_laws.proofs.CommandOneLoss.{nothing_torn}
 use Rattle.command_laws.proofs.CommandOpened.{quiet}
-use Rattle.command_laws.proofs.CommandSeveral.{WasTurned, behind_front, make_course, script_course, ScriptRan, left_then, make_has_printed}
+use Rattle.command_laws.proofs.CommandScripted.{script_course, ScriptRan}
+use Rattle.command_laws.proofs.CommandSeveral.{WasTurned, behind_front, make_course, left_then, make_has_printed}
 use Rattle.command_laws.proofs.CommandSeveral.{turned_left, MakeRan}
 use Rattle.command_laws.proofs.IntactBehind.{answered_behind_append, done_behind_append, stopped_behind_append}
 use Rattle.command_laws.proofs.IntactKeeping.{settled_is_intact, intact_is_one, one_comes}

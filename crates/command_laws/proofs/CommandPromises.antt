@@ -11,7 +11,8 @@ use Rattle.command_laws.proofs.CommandEnds.{is_a_fault, each_left}
 use Rattle.command_laws.proofs.CommandGivenBack.{gives_back}
 use Rattle.command_laws.proofs.CommandListing.{lists_appends, none_listed}
 use Rattle.command_laws.proofs.CommandMachineLaws.{machine_is_function_where, machine_answers_where}
-use Rattle.command_laws.proofs.CommandSeveral.{makes_volumes, carries_out_lines, none_made, none_scripted, makes_stop, scripts_stop}
+use Rattle.command_laws.proofs.CommandScripted.{carries_out_lines, none_scripted, scripts_stop}
+use Rattle.command_laws.proofs.CommandSeveral.{makes_volumes, none_made, makes_stop}
 use Rattle.command_laws.proofs.CommandSurvives.{survives_one_loss, none_survives}
 use Rattle.command_laws.proofs.CommandTable.{laws_of, has_values}
 use Rattle.command_laws.proofs.CommandTold.{input_told}

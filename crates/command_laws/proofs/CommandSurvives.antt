@@ -11,7 +11,8 @@ use Rattle.command_laws.proofs.CommandComesBack.{lines_come_answered, lines_come
 use Rattle.command_laws.proofs.CommandComesBack.{make_comes_printed, none_answered}
 use Rattle.command_laws.proofs.CommandEnds.{Laws, told_whole}
 use Rattle.command_laws.proofs.CommandOneLoss.{append_comes_back, nothing_torn, done_comes_back}
-use Rattle.command_laws.proofs.CommandSeveral.{ends_ran, untouched_now, over_any, over_stop}
+use Rattle.command_laws.proofs.CommandScripted.{over_any, over_stop}
+use Rattle.command_laws.proofs.CommandSeveral.{ends_ran, untouched_now}
 use Rattle.command_laws.proofs.CommandTold.{input_told}
 use Rattle.command_laws.proofs.CommandVolumes.{whole_of, of_bytes, each_weaker, done_now, now_weaker, Did, carried_out_did}
 use Rattle.command_laws.proofs.IntactKeeping.{one_comes}

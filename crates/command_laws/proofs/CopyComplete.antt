@@ -1,25 +1,26 @@
 -- A copy is Done where all is there that it needs.
 use Rattle.std.proofs.Common.{◌≡◌, ℕ, zero, suc, ◌+◌, ◌-◌, arith, true, false, List, [], ◌∷◌, length, take, drop, All, Option, Some, inl}
 use Rattle.std.proofs.Common.{inr, refl, sym, ap, ◌∙◌, subst, get_or, get_or-drop, slice_get}
-use Rattle.std.proofs.lemmas.List.{length-drop}
+use Rattle.std.proofs.lemmas.List.{length-drop, length-map}
 use Rattle.std.proofs.lemmas.List.Elements.{All-drop, All-get_or, All-head, All-tail}
 use Rattle.std.proofs.lemmas.Option.{slice_get-get_or}
 use Rattle.cartridge_laws.proofs.MountOnce.{mounts_is_function, not_lost}
 use Rattle.cartridge_laws.proofs.MountSettled.{settled_stands}
 use Rattle.cartridge_laws.proofs.MountStanding.{standing_mounts}
-use Rattle.cartridge_spec.specs.Appending.{has_room, with_all}
+use Rattle.cartridge_spec.specs.Appending.{has_room, with_all, with_bytes}
 use Rattle.cartridge_spec.specs.Mounting.{Mounting, Mounts, mounted_as, settled}
 use Rattle.cartridge_spec.specs.Settling.{changed_by}
 use Rattle.cartridge_spec.specs.Table.{Entry}
-use Rattle.cartridge_spec.specs.Volumes.{Plain, Stands, Volume, volume_length}
+use Rattle.cartridge_spec.specs.Volumes.{Plain, Stands, Volume, entries_of, volume_bytes, volume_length}
 use Rattle.command_laws.proofs.CopyGoing.{behind}
-use Rattle.command_laws.proofs.CopyLeaving.{copied_some, missing_is}
-use Rattle.command_laws.proofs.CopyStanding.{entries_in, open_behind, room_is, side_behind, side_for, with_volume}
-use Rattle.command_laws.proofs.CopyValues.{IsOriginal, originals}
+use Rattle.command_laws.proofs.CopyGiven.{given_of, read_text, with_entry}
+use Rattle.command_laws.proofs.CopyStanding.{open_behind, side_behind, side_for}
+use Rattle.command_laws.proofs.CopyStood.{copied_some, entries_in, missing_is}
+use Rattle.command_laws.proofs.CopyValues.{HasValues, IsOriginal, originals, restored_whole}
 use Rattle.command_laws.proofs.MadeMachineLaws.{never_unlocked}
 use Rattle.command_laws.proofs.MountedHeld.{mounted_open}
 use Rattle.command_laws.proofs.RestoreGivenBack.{given_whole}
-use Rattle.command_laws.proofs.RestoreStanding.{volume_is_long}
+use Rattle.command_laws.proofs.MountedSaying.{restores_anyway}
 use Rattle.command_laws.specs.CopyLaws.{CopyWithRoomIsDone}
 use Rattle.command_laws.specs.MountedKept.{IsOpen}
 use Rattle.command_spec.specs.Command.{ReadsAs}
@@ -71,6 +72,15 @@ module _ (c : Cartridge) (one : Plain) (reads : ReadsAs c one) where
 
 -- ---- one volume
 
+-- then the bytes that are given are its own
+given_own : (c : Cartridge) (one : Plain) (volume : Volume) → IsOriginal c one volume → GivesWhole c one volume →
+    given_of (side_for c one) volume.entry ≡ volume_bytes one.words volume
+given_own c one volume original gives =
+    let some = restores_anyway c one.words (pieces_in one volume) in
+    let all : Restores c one.words (pieces_in one volume) some.0 Restored =
+    subst (λ (ending : GivingEnd). Restores c one.words (pieces_in one volume) some.0 ending) (gives some.0 some.1 some.2) some.2 in
+    read_text (side_for c one) volume.entry some.0 all ∙ restored_whole c one volume some.0 original.has all
+
 volume_goes : (c : Cartridge) (one : Plain) (volume : Volume) (original : IsOriginal c one volume) (d : Cartridge) (p : Plain)
     (held : IsOpen d p) (acts : List Act) (answer : CopyStatus) →
     GivesWhole c one volume → has_room p (volume_length one.words volume.entry) ≡ true → CopiesVolume (side_for c one) volume.entry
@@ -78,13 +88,15 @@ volume_goes : (c : Cartridge) (one : Plain) (volume : Volume) (original : IsOrig
 volume_goes c one volume original d p held acts answer gives room (inl lost) =
     absurd (not_lost d p.table_area lost.lost held.table lost.says)
 volume_goes c one volume original d p held acts answer gives room (inr (table, reads, inl full)) =
-    let enough : has_room_for (side_for c one) volume.entry (side_for d p) ≡ true =
-    room_is c one volume original d p held ∙ ap (has_room p) (volume_is_long c one volume original.has) ∙ room in
+    let enough : has_room_for (side_for c one) volume.entry (side_for d p) ≡ true = room in
     absurd (let no : true ≡ false = sym enough ∙ full.none in cc)
 volume_goes c one volume original d p held acts answer gives room (inr (table, reads, inr is)) =
     is.answered ∙ ap giving_status (gives is.read is.ending is.restores)
 
 -- ---- volumes one after the other
+
+abbrev with_volume : (one : Plain) → Plain → Volume → Plain
+with_volume one p volume = with_bytes p volume.entry.name volume.entry.date (volume_bytes one.words volume)
 
 -- each has room when its turn comes
 abbrev HaveRoom : (one : Plain) → List Volume → Plain → Type 0
@@ -109,11 +121,17 @@ copies_go c one (volume ∷ volumes) are give d p held room acts answer (inl (ot
     (All-head (GivesWhole c one) volume volumes give) room.0 does))
 copies_go c one (volume ∷ volumes) are give d p held room acts answer (inr (first, rest, parts, does, behind)) =
     let original : IsOriginal c one volume = All-head (IsOriginal c one) volume volumes are in
+    let gives : GivesWhole c one volume = All-head (GivesWhole c one) volume volumes give in
+    let has : HasValues volume.entry = record { label = original.may.label; word = original.may.word } in
+    let same : with_entry (side_for c one) p volume.entry ≡ with_volume one p volume =
+    ap (λ (bytes : List ℕ). with_bytes p volume.entry.name volume.entry.date bytes) (given_own c one volume original gives) in
+    let f : Cartridge = changed_by (steps_of first) d in
     copies_go c one volumes (All-tail (IsOriginal c one) volume volumes are) (All-tail (GivesWhole c one) volume volumes give)
-    (changed_by (steps_of first) d) (with_volume one p volume)
-    (open_behind c one volume original d p held first does) room.1 rest answer
+    f (with_volume one p volume)
+    (subst (λ (q : Plain). IsOpen f q) same (open_behind (side_for c one) volume.entry has d p held first does)) room.1 rest answer
+    (subst (λ (q : Plain). Copies (side_for c one) (entries_in volumes) (side_for f q) rest answer) same
     (subst (λ (side : Side). Copies (side_for c one) (entries_in volumes) side rest answer)
-    (side_behind c one volume original d p held first) behind)
+    (side_behind (side_for c one) volume.entry has d p held first) behind))
 
 -- ---- the outcome
 
@@ -158,4 +176,4 @@ copy_with_room_is_done c one d other outcome whole can (m, mounts, does) =
         (can.room (length other.volumes + k) volume (omega arith) (slice_behind (length other.volumes) k one.volumes volume at))))
         rest outcome.status
         (subst (λ (es : List Entry). Copies (side_for still one) es (side_for (settled other.table_area d) other) rest outcome.status)
-        (missing_is one other can.like still (settled other.table_area d)) copies)
+        (ap (λ (n : ℕ). drop n (entries_of one)) (length-map other.volumes (λ (v : Volume). v.entry)) ∙ missing_is one other still) copies)

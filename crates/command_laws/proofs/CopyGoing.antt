@@ -1,19 +1,21 @@
 -- A copy that goes on behind some of the missing volumes.
-use Rattle.std.proofs.Common.{◌≡◌, ℕ, zero, suc, ◌+◌, ◌-◌, ◌≤◌, ◌==◌, ◌&&◌, arith, Bool, true, false, cond, List, [], ◌∷◌, ◌++◌, map}
+use Rattle.std.proofs.Common.{◌≡◌, ℕ, zero, suc, ◌+◌, ◌-◌, ◌≤◌, ◌==◌, ◌&&◌, arith, Bool, true, false, cond, List, [], ◌∷◌, ◌++◌}
 use Rattle.std.proofs.Common.{length, take, drop, Some, None, refl, sym, ap, ◌∙◌, subst, eq-eqb, length-append, length-drop}
 use Rattle.std.specs.Str.{bytes_eq}
-use Rattle.std.proofs.lemmas.List.{drop-map, length-map, length-take-le, map-append}
+use Rattle.std.proofs.lemmas.List.{length-map, length-take-le, map-append}
 use Rattle.std.proofs.lemmas.Slice.Eq.{bytes_eq-Decides}
 use Rattle.cartridge_laws.proofs.AppendBytes.{done_bytes}
 use Rattle.cartridge_laws.specs.AppendSettled.{MayAppendTo}
 use Rattle.cartridge_spec.specs.Appending.{Content, appended_volume, has_room, with_all, with_bytes}
-use Rattle.cartridge_spec.specs.Volumes.{volume_bytes, Plain, Stands, Volume, entries_of, volume_length}
+use Rattle.cartridge_spec.specs.Volumes.{Plain, Stands, Volume, entries_of, volume_length}
 use Rattle.cartridge_spec.specs.Table.{Entry}
-use Rattle.command_laws.proofs.CopyValues.{IsOriginal}
-use Rattle.command_laws.proofs.RestoreStanding.{volume_is_long}
+use Rattle.command_laws.proofs.CopyGiven.{given_long, given_may, given_of, with_entry}
+use Rattle.command_laws.proofs.CopyValues.{HasValues}
 use Rattle.command_laws.specs.CopyLaws.{CopyGoesOn}
-use Rattle.command_spec.specs.Copied.{BeginsLike, contents_of, copied, missing_contents}
-use Rattle.command_spec.specs.Copying.{difference, is_alike}
+use Rattle.command_laws.specs.MountedKept.{IsAppendable}
+use Rattle.command_spec.specs.Copied.{contents_of, copied, missing_contents}
+use Rattle.command_spec.specs.CopyGiven.{ListsLike, missing_on}
+use Rattle.command_spec.specs.Copying.{Side, difference, is_alike}
 use Rattle.qic_base.specs.Cartridge.{Cartridge}
 use Rattle.qic_base.specs.CartridgeTerms.{IsCartridge}
 
@@ -64,53 +66,52 @@ drop_next (suc n) (y ∷ xs) x rest is =
     subst (λ (m : ℕ). drop m (y ∷ xs) ≡ rest) same (drop_next n xs x rest is)
 
 -- with the next one of them the target is like the source, too
-module _ (c : Cartridge) (one : Plain) (volume : Volume) (original : IsOriginal c one volume) (p : Plain) where
+module _ (from : Side) (e : Entry) (values : HasValues e) (p : Plain) where
   abbrev bytes : List ℕ
-  bytes = volume_bytes one.words volume
+  bytes = given_of from e
 
   abbrev next : Plain
-  next = with_bytes p volume.entry.name volume.entry.date bytes
+  next = with_entry from p e
 
-  pub next_behind : (rest : List Volume) → behind one p ≡ volume ∷ rest → behind one next ≡ rest
-  next_behind rest is =
-      ap (λ (n : ℕ). drop n one.volumes) (length-append p.volumes (appended_volume p volume.entry.name volume.entry.date bytes ∷ []))
-      ∙ drop_next (length p.volumes) one.volumes volume rest is
+  pub next_missing : (rest : List Entry) → missing_on from p ≡ e ∷ rest → missing_on from next ≡ rest
+  next_missing rest is =
+      ap (λ (n : ℕ). drop n from.entries) (length-append p.volumes (appended_volume p e.name e.date bytes ∷ []))
+      ∙ drop_next (length p.volumes) from.entries e rest is
 
-  same_name : bytes_eq volume.entry.name volume.entry.name ≡ true
-  same_name = (bytes_eq-Decides volume.entry.name volume.entry.name).1 refl
+  same_name : bytes_eq e.name e.name ≡ true
+  same_name = (bytes_eq-Decides e.name e.name).1 refl
 
   next_alike : (d : Cartridge) → IsCartridge d → Stands d p → has_room p (length bytes) ≡ true →
-      is_alike one.words volume.entry p.words (appended_volume p volume.entry.name volume.entry.date bytes).entry ≡ true
+      is_alike from.words e p.words (appended_volume p e.name e.date bytes).entry ≡ true
   next_alike d whole stands room =
-      let may : MayAppendTo d p volume.entry.name volume.entry.date bytes = record {
+      let can : IsAppendable e.name e.date bytes = given_may from e values in
+      let may : MayAppendTo d p e.name e.date bytes = record {
         cartridge = whole;
         stands = stands;
         room = room;
-        label = original.may.label;
-        word = original.may.word;
-        content = original.may.content;
+        label = can.label;
+        word = can.word;
+        content = can.content;
       } in
-      let new : volume_length p.words (appended_volume p volume.entry.name volume.entry.date bytes).entry ≡ length bytes =
-      (done_bytes d p volume.entry.name volume.entry.date bytes may).0 in
-      let old : length bytes ≡ volume_length one.words volume.entry = volume_is_long c one volume original.has in
-      ap (λ (b : Bool). b && (volume.entry.date == volume.entry.date && volume_length one.words volume.entry == volume_length p.words
-      (appended_volume p volume.entry.name volume.entry.date bytes).entry)) same_name
-      ∙ ap (λ (b : Bool). b && volume_length one.words volume.entry == volume_length p.words
-      (appended_volume p volume.entry.name volume.entry.date bytes).entry) (eq-eqb volume.entry.date volume.entry.date refl)
+      let new : volume_length p.words (appended_volume p e.name e.date bytes).entry ≡ length bytes =
+      (done_bytes d p e.name e.date bytes may).0 in
+      let old : length bytes ≡ volume_length from.words e = given_long from e in
+      ap (λ (b : Bool). b && (e.date == e.date && volume_length from.words e == volume_length p.words
+      (appended_volume p e.name e.date bytes).entry)) same_name
+      ∙ ap (λ (b : Bool). b && volume_length from.words e == volume_length p.words
+      (appended_volume p e.name e.date bytes).entry) (eq-eqb e.date e.date refl)
       ∙ eq-eqb _ _ (sym (new ∙ old))
 
-  pub next_like : (d : Cartridge) (rest : List Volume) → IsCartridge d → Stands d p → has_room p (length bytes) ≡ true → BeginsLike one p →
-      behind one p ≡ volume ∷ rest → BeginsLike one next
+  pub next_like : (d : Cartridge) (rest : List Entry) → IsCartridge d → Stands d p → has_room p (length bytes) ≡ true → ListsLike from p →
+      missing_on from p ≡ e ∷ rest → ListsLike from next
   next_like d rest whole stands room like is =
-      let new : Entry = (appended_volume p volume.entry.name volume.entry.date bytes).entry in
+      let new : Entry = (appended_volume p e.name e.date bytes).entry in
       let list : entries_of next ≡ entries_of p ++ new ∷ [] =
-      map-append (λ (v : Volume). v.entry) p.volumes (appended_volume p volume.entry.name volume.entry.date bytes ∷ []) in
-      let there : drop (length (entries_of p)) (entries_of one) ≡ volume.entry ∷ map (λ (v : Volume). v.entry) rest =
-      ap (λ (n : ℕ). drop n (entries_of one)) (length-map p.volumes (λ (v : Volume). v.entry))
-      ∙ drop-map (λ (v : Volume). v.entry) (length p.volumes) one.volumes
-      ∙ ap (λ (vs : List Volume). map (λ (v : Volume). v.entry) vs) is in
-      ap (λ (fs : List Entry). difference one.words (entries_of one) p.words fs 1) list
-      ∙ like_more one.words (entries_of one) p.words (entries_of p) 1 volume.entry (map (λ (v : Volume). v.entry) rest) new like there
+      map-append (λ (v : Volume). v.entry) p.volumes (appended_volume p e.name e.date bytes ∷ []) in
+      let there : drop (length (entries_of p)) from.entries ≡ e ∷ rest =
+      ap (λ (n : ℕ). drop n from.entries) (length-map p.volumes (λ (v : Volume). v.entry)) ∙ is in
+      ap (λ (fs : List Entry). difference from.words from.entries p.words fs 1) list
+      ∙ like_more from.words from.entries p.words (entries_of p) 1 e rest new like there
       (next_alike d whole stands room)
 
 -- ---- several
@@ -141,7 +142,7 @@ parted (x ∷ xs) zero (suc j) (suc n) low high = ap (λ (vs : List Volume). x �
 parted (x ∷ xs) (suc i) (suc j) zero low high = absurd (omega arith)
 parted (x ∷ xs) (suc i) (suc j) (suc n) low high = parted xs i j n (omega arith) (omega arith)
 
-copied_count : (one other : Plain) (upto : ℕ) → length other.volumes ≤ upto → upto ≤ length one.volumes →
+pub copied_count : (one other : Plain) (upto : ℕ) → length other.volumes ≤ upto → upto ≤ length one.volumes →
     length (copied one other upto).volumes ≡ upto
 copied_count one other upto low high =
     let count : length (copied one other upto).volumes ≡ length other.volumes + length (missing_contents one other upto) =

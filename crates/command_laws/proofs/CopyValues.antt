@@ -1,8 +1,8 @@
 -- The volumes of a cartridge that stands for a plain one can be appended to another one: their names, dates and bytes.
-use Rattle.std.proofs.Common.{◌≡◌, ℕ, ◌-◌, ◌*◌, ◌/◌, ◌%◌, ◌^◌, ◌<◌, ◌≤◌, List, [], ◌∷◌, ◌++◌, All, Contains, Some, refl, sym, ap, ◌∙◌}
+use Rattle.std.proofs.Common.{◌≡◌, ℕ, ◌-◌, ◌*◌, ◌/◌, ◌%◌, ◌^◌, ◌<◌, ◌≤◌, List, [], ◌∷◌, All, Contains, Some, sym, ap, ◌∙◌}
 use Rattle.std.proofs.Common.{subst, arith, get_or, slice_get, length, drop, inl, inr}
 use Rattle.std.specs.Option.{option_map}
-use Rattle.std.proofs.lemmas.List.{append-nil, length-drop, length-map, length-take-le}
+use Rattle.std.proofs.lemmas.List.{length-drop, length-map, length-take-le}
 use Rattle.std.proofs.lemmas.List.Elements.{All-append, All-contains_itself, All-drop, All-from_get_or, All-get_or, All-head, All-tail}
 use Rattle.std.proofs.lemmas.List.Elements.{All-take, All-contains}
 use Rattle.std.proofs.lemmas.Option.{slice_get-get_or, slice_get-map, get_or_from_slice_get, unwrap_or-slice_get}
@@ -10,11 +10,9 @@ use Rattle.cartridge_spec.specs.Volumes.{bytes_in, volume_bytes, Plain, Stands, 
 use Rattle.cartridge_spec.specs.Formatting.{IsLabel}
 use Rattle.cartridge_spec.specs.Shape.{IsArea, sector_at}
 use Rattle.cartridge_spec.specs.Table.{Entry, Shows, entry_in, slot}
-use Rattle.command_laws.proofs.RestoreGiven.{given_begins_restored}
 use Rattle.command_laws.proofs.RestoreStanding.{few_or_first_lost, restores_byte_for_byte, restores_front}
 use Rattle.command_laws.specs.MountedKept.{IsAppendable}
 use Rattle.command_laws.specs.RestoreLaws.{HasVolume}
-use Rattle.command_spec.specs.Copying.{GivenBytes}
 use Rattle.command_spec.specs.Restore.{Restored, Restores, pieces_in}
 use Rattle.qic_base.specs.Acts.{Act, text_of}
 use Rattle.qic_base.specs.Cartridge.{Cartridge, IsSector}
@@ -76,7 +74,7 @@ shown_values area entries is shown = λ i d within.
 
 -- ---- a volume's bytes
 
-sectors_bytes : (sectors : List (List ℕ)) → All IsSector sectors → All (λ b. b < 256) (bytes_in sectors)
+pub sectors_bytes : (sectors : List (List ℕ)) → All IsSector sectors → All (λ b. b < 256) (bytes_in sectors)
 sectors_bytes [] are = All-from_get_or (λ b. b < 256) [] 0 (λ i h. absurd (omega arith))
 sectors_bytes (sector ∷ sectors) are =
     All-append (λ b. b < 256) sector (bytes_in sectors) (All-head IsSector sector sectors are).each
@@ -119,14 +117,10 @@ module _ (c : Cartridge) (one : Plain) (stands : Stands c one) where
   pub originals : All (IsOriginal c one) one.volumes
   originals = λ i d within. original i d within
 
--- what is given of a volume that was read whole is its bytes
-pub given_whole : (c : Cartridge) (one : Plain) (volume : Volume) (read : List Act) (bytes : List ℕ) → HasVolume c one volume →
-    GivenBytes c one.words (pieces_in one volume) bytes → Restores c one.words (pieces_in one volume) read Restored →
-    bytes ≡ volume_bytes one.words volume
-given_whole c one volume read bytes has given restores =
-    let front = given_begins_restored c one.words (pieces_in one volume) read Restored bytes restores given in
-    let all : bytes ≡ text_of read = front.1 ∙ ap (λ (rest : List ℕ). text_of read ++ rest) (front.2 refl) ∙ append-nil (text_of read) in
-    elim (few_or_first_lost c one.words (pieces_in one volume)) [
-      | inl few ↦ all ∙ (restores_byte_for_byte c one volume read Restored has few restores).1
-      | inr first ↦ absurd (let ends = (restores_front c one volume first read Restored has restores).ends in cc)
-    ]
+-- what is printed of a volume that was read whole is its bytes
+pub restored_whole : (c : Cartridge) (one : Plain) (volume : Volume) (read : List Act) → HasVolume c one volume →
+    Restores c one.words (pieces_in one volume) read Restored → text_of read ≡ volume_bytes one.words volume
+restored_whole c one volume read has restores = elim (few_or_first_lost c one.words (pieces_in one volume)) [
+  | inl few ↦ (restores_byte_for_byte c one volume read Restored has few restores).1
+  | inr first ↦ absurd (let ends = (restores_front c one volume first read Restored has restores).ends in cc)
+]

@@ -6,7 +6,7 @@ use Rattle.command_spec.specs.Machine.{acts_before}
 use Rattle.qic_base.proofs.Joins.{steps_of-append, text_of-append}
 use Rattle.qic_base.proofs.Steps.{Broke-front, Done-Broke, Done-Done, Rose-after, Torn-nothing, effects-append}
 use Rattle.qic_base.proofs.Writing.{TakesBoth, Wrote-Wrote}
-use Rattle.qic_base.specs.Acts.{Act, Cut, Failing, Outside, Parted, SinkCut, SinkFails, SourceCut, SourceFails, TapeCut, TapeFails, Went}
+use Rattle.qic_base.specs.Acts.{Act, Cut, Failing, Outside, SinkFails, SourceFails, TapeCut, TapeFails, Went}
 use Rattle.qic_base.specs.Acts.{WroteAndBroke, next_steps, steps_of, text_of}
 use Rattle.qic_base.specs.Cartridge.{Cartridge}
 use Rattle.qic_base.specs.Step.{Step, Torn, effects}

@@ -16,7 +16,8 @@ use Rattle.cartridge_laws.proofs.MountSettled.{settled_keeps_table}
 use Rattle.command_spec.specs.Restore.{HasNumber, Piece, piece_cells, pieces_in, volume_at}
 use Rattle.cartridge_spec.specs.Says.{unreadable_count}
 use Rattle.cartridge_laws.proofs.MountStanding.{can_be_read}
-use Rattle.command_laws.proofs.CommandSeveral.{some_made, some_scripted}
+use Rattle.command_laws.proofs.CommandScripted.{some_scripted}
+use Rattle.command_laws.proofs.CommandSeveral.{some_made}
 use Rattle.command_laws.proofs.CommandSurvives.{stopped_comes_back}
 use Rattle.command_laws.proofs.CommandTable.{has_values}
 use Rattle.command_laws.proofs.CommandVolumes.{appended_or_not}

@@ -14,7 +14,7 @@ use Rattle.cartridge_spec.specs.Settling.{changed_by}
 use Rattle.cartridge_spec.specs.Volumes.{Plain, Stands, entries_of}
 use Rattle.command_laws.proofs.CommandAppends.{append_done, append_refused, append_stopped}
 use Rattle.command_laws.proofs.CommandSeveral.{WasTurned, behind_front, make_done, make_printed, make_stopped, mounted_or_turned}
-use Rattle.command_laws.proofs.CommandSeveral.{script_answered, script_stopped}
+use Rattle.command_laws.proofs.CommandScripted.{script_answered, script_stopped}
 use Rattle.command_laws.proofs.CommandTable.{copies_stay_bare, copies_stay_clean, laws_of, only_new_renews}
 use Rattle.command_laws.proofs.LifeFormats.{Makes, torn_by}
 use Rattle.command_laws.proofs.MountedHeld.{mounted_held}

@@ -194,7 +194,7 @@ can_append seed words volume zero entries few = tt
 can_append seed words volume (suc count) entries few =
     (omega arith, can_append seed words (volume + 1) count (entries ++ made_entry seed words entries volume ∷ []) (omega arith))
 
-abbrev AreWears : List MakeStep → Type 0
+abbrev pub AreWears : List MakeStep → Type 0
 AreWears [] = Unit {0}
 AreWears (AppendMade volume ∷ items) = ⊥
 AreWears (WearSector segment sector ∷ items) = AreWears items
@@ -229,7 +229,7 @@ wears_in words (s ∷ ss) =
     wears_both (cond (s % 100 == 0) (wearing s (first_two words s)) []) (wearing_in words ss)
     (wears_if (s % 100 == 0) (wearing s (first_two words s)) (wears_one s (first_two words s))) (wears_in words ss)
 
-wears_volumes : (words : List ℕ) (es : List Entry) → AreWears (wearing_volumes words es)
+pub wears_volumes : (words : List ℕ) (es : List Entry) → AreWears (wearing_volumes words es)
 wears_volumes words [] = tt
 wears_volumes words (e ∷ es) =
     wears_both (wearing_in words (carrying_segments words e)) (wearing_volumes words es) (wears_in words (carrying_segments words e))

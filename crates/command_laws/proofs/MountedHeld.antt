@@ -1,13 +1,9 @@
 -- What settling, worn sectors and scrubs leave of a mounted cartridge that stands for a plain one.
-use Rattle.std.proofs.Common.{◌≡◌, ℕ, false, List, subst, sym, ap, ◌∙◌, Bool, true, cond, refl, inl, inr, length, get_or, slice_get}
-use Rattle.std.proofs.Common.{slice_set, ◌<◌}
-use Rattle.std.specs.Prelude.{unwrap_or}
-use Rattle.std.proofs.lemmas.Bool.{cases_lt, cases_eq}
-use Rattle.std.proofs.lemmas.List.{get_or-set_same, set_past}
-use Rattle.std.proofs.lemmas.Option.{unwrap_or-slice_get}
+use Rattle.std.proofs.Common.{◌≡◌, ℕ, false, List, subst, sym, ap, ◌∙◌, Bool, true, cond, refl, inl, inr}
+use Rattle.std.proofs.Common.{◌<◌}
 use Rattle.cartridge_laws.proofs.AppendVolume.{old_order}
 use Rattle.cartridge_laws.proofs.ChangeStanding.{worn_stands}
-use Rattle.cartridge_laws.proofs.ChangeViews.{view_elsewhere}
+use Rattle.cartridge_laws.proofs.ChangeViews.{one_view}
 use Rattle.cartridge_laws.proofs.MountSettled.{settled_keeps_table, settled_stands, settled_is_whole}
 use Rattle.cartridge_laws.proofs.MountSettles.{settling_settles}
 use Rattle.cartridge_laws.proofs.MountStanding.{standing_data}
@@ -33,10 +29,8 @@ use Rattle.command_spec.specs.Scrub.{ScrubsAs}
 use Rattle.command_spec.specs.declared.depth.Depth.TheVariants.{Shallow}
 use Rattle.qic_base.specs.Acts.{Act, steps_of}
 use Rattle.qic_base.specs.Cartridge.{Cartridge, view_at}
-use Rattle.qic_base.specs.CartridgeTerms.{IsCartridge, place_of}
+use Rattle.qic_base.specs.CartridgeTerms.{IsCartridge}
 use Rattle.qic_base.specs.Step.{worn_view}
-use Rattle.qic_base.specs.declared.tape.SectorView.{SectorView}
-use Rattle.qic_base.specs.declared.tape.SectorView.TheVariants.{Blank}
 use Rattle.qic_base.specs.declared.tape.TapeInfo.{TapeInfo}
 use Rattle.cartridge_laws.proofs.ChangeLive.{worn_live}
 
@@ -99,19 +93,9 @@ mounted_open c plain whole stood mounts free =
 
 live_still : (c : Cartridge) (segment sector s i : ℕ) → IsLive (view_at c s i) → IsLive (view_at (worn segment sector c) s i)
 live_still c segment sector s i live =
-    let view : SectorView = worn_view (view_at c segment sector) in
-    let p : ℕ = place_of segment sector in
-    let q : ℕ = place_of s i in
-    elim (cases_eq q p) [
-      | inl same ↦ elim (cases_lt p (length c.views)) [
-        | inl within ↦ subst IsLive
-            (sym (unwrap_or-slice_get (slice_set c.views p view) q Blank
-            ∙ ap (λ (r : ℕ). get_or (slice_set c.views p view) r Blank) same
-            ∙ get_or-set_same c.views p view Blank within))
-            (worn_live (view_at c segment sector) (subst (λ (r : ℕ). IsLive (unwrap_or (slice_get c.views r) Blank)) same live))
-        | inr past ↦ subst (λ (vs : List SectorView). IsLive (unwrap_or (slice_get vs q) Blank)) (sym (set_past c.views p view past)) live
-      ]
-      | inr apart ↦ subst IsLive (sym (view_elsewhere c segment sector s i view apart)) live
+    elim (one_view c segment sector worn_view s i) [
+      | inl same ↦ subst IsLive (sym same) live
+      | inr here ↦ subst IsLive (sym here) (worn_live (view_at c s i) live)
     ]
 
 pub worn_held : (c : Cartridge) (plain : Plain) (segment sector : ℕ) → IsHeld c plain → sector < 32 → WearSpares c plain segment sector →

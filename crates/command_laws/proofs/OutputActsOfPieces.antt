@@ -2,18 +2,23 @@
 use Rattle.std.proofs.Common.{ℕ, List, [], ◌∷◌, All, sym, ap, subst, length, ◌≡◌, ◌+◌, ◌++◌, ◌∙◌, suc, true, false, refl, ◌≤◌, take, arith}
 use Rattle.std.proofs.Common.{length-append}
 use Rattle.std.proofs.lemmas.List.Elements.{All-head, All-tail}
-use Rattle.std.proofs.lemmas.List.Sums.{sum_by-cons}
+use Rattle.std.proofs.lemmas.List.Sums.{count_by-le-length, sum_by-cons}
 use Rattle.cartridge_laws.proofs.AppendSegments.{carrying_carry}
+use Rattle.cartridge_laws.proofs.Places.{count_below}
+use Rattle.cartridge_laws.proofs.Segments.{count_of_cells}
+use Rattle.cartridge_spec.specs.Says.{unreadable_count}
+use Rattle.cartridge_spec.specs.Shape.{is_unreadable, mask_at, usable_count}
 use Rattle.cartridge_spec.specs.Volumes.{carrying}
 use Rattle.command_laws.proofs.OutputJoining.{EndsAt-more}
 use Rattle.command_laws.proofs.RestoreCounts.{FitsIn, read_count, pieces_fit}
 use Rattle.command_laws.specs.OutputLaws.{RestoredAreOf, PrintedInNoStep, TextOfFirst}
 use Rattle.command_laws.specs.OutputText.{AreOf}
-use Rattle.command_spec.specs.Restore.{Piece, GivingEnd, Restores, Restored, LostIn, MismatchIn, PieceEnds, framed}
+use Rattle.command_spec.specs.Restore.{Piece, GivingEnd, Restores, Restored, LostIn, MismatchIn, PieceEnds, framed, piece_cells}
 use Rattle.command_laws.specs.RestoreTerms.{EndsAt, bytes_held}
 use Rattle.qic_base.specs.Acts.{Act, steps_of, text_of}
 use Rattle.qic_base.specs.Cartridge.{Cartridge}
 use Rattle.qic_base.specs.Step.{Step}
+use Rattle.qic_base.specs.declared.tape.SectorView.{SectorView}
 
 are_of : (c : Cartridge) (words : List ℕ) (needed : List Piece) (acts : List Act) (ending : GivingEnd) → All (FitsIn words) needed →
     Restores c words needed acts ending → AreOf needed acts
@@ -28,7 +33,13 @@ are_of c words (piece ∷ needed) (act ∷ acts) ending fit h = (
 ends_first : (c : Cartridge) (words : List ℕ) (piece : Piece) (needed : List Piece) (ending : GivingEnd) → PieceEnds c words piece ending →
     EndsAt (piece ∷ needed) 0 ending
 ends_first c words piece needed Restored ends = absurd ends
-ends_first c words piece needed (LostIn segment lost) ends = (ends.1.1, sym ends.0)
+ends_first c words piece needed (LostIn segment lost) ends =
+    let cells : List SectorView = piece_cells c words piece in
+    let count : unreadable_count cells ≤ length cells = count_by-le-length is_unreadable cells in
+    let size : length cells ≡ usable_count (mask_at words piece.segment) = count_of_cells c piece.segment (mask_at words piece.segment) in
+    let most : usable_count (mask_at words piece.segment) ≤ 32 = count_below (mask_at words piece.segment) 32 in
+    let all : unreadable_count cells ≡ lost = ends.1.0 in
+    ((ends.1.1, omega arith), sym ends.0)
 ends_first c words piece needed (MismatchIn segment) ends = sym ends.0
 
 ends_at : (c : Cartridge) (words : List ℕ) (needed : List Piece) (acts : List Act) (ending : GivingEnd) →

@@ -4,7 +4,7 @@ use Rattle.std.proofs.Common.{arith}
 use Rattle.std.proofs.lemmas.Bool.{cases_Bool}
 use Rattle.command_laws.proofs.Checked.{check_takes_no_step}
 use Rattle.command_laws.proofs.CommandEnds.{told_weaker}
-use Rattle.command_laws.proofs.CommandSeveral.{some_scripted}
+use Rattle.command_laws.proofs.CommandScripted.{some_scripted}
 use Rattle.command_laws.proofs.CommandSurvives.{stopped_comes_back}
 use Rattle.command_laws.proofs.CommandTable.{has_values}
 use Rattle.command_laws.proofs.CommandTable.RoomCommand.{room_takes_no_step}

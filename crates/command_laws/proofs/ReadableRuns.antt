@@ -48,7 +48,7 @@ use Rattle.qic_base.specs.Step.{Step, effects, Torn}
 use Rattle.qic_base.specs.declared.tape.SectorView.{SectorView}
 use Rattle.qic_base.specs.declared.tape.SectorView.TheVariants.{Holds}
 use Rattle.std.proofs.lemmas.Bool.{cases_Bool}
-use Rattle.command_laws.proofs.CommandSeveral.{over_any, over_stop}
+use Rattle.command_laws.proofs.CommandScripted.{over_any, over_stop}
 use Rattle.command_laws.proofs.ReadableProtected.{protected_script_reads}
 use Rattle.command_spec.specs.Several.{OverInput, Scripted}
 use Rattle.qic_base.specs.Source.{IsInput}

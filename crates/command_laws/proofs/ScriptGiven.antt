@@ -2,8 +2,8 @@
 use Rattle.std.proofs.Common.{◌≡◌, ℕ, ◌+◌, List, ◌++◌, Option, Some, None, refl, sym, ap, ◌-◌, length, take, ◌∙◌, ◌≤◌, drop, arith, IfSome}
 use Rattle.std.proofs.Common.{◌<◌, [], append-nil, subst}
 use Rattle.std.specs.Option.{option_map}
-use Rattle.std.proofs.Math.Seq.{take-append_seam}
-use Rattle.std.proofs.lemmas.List.{length-append, length-take, length-drop, take_all, nil_from_length, drop-take}
+use Rattle.std.proofs.Math.Seq.{drop-length, take-append_seam}
+use Rattle.std.proofs.lemmas.List.{length-append, length-take, length-drop, take_all, drop-take}
 use Rattle.qic_base.specs.Source.{IsInput}
 
 -- a source that tells nothing tells nothing later
@@ -57,13 +57,11 @@ told_short : (all rest given input : List ℕ) (n count left : ℕ) → all ≡ 
 told_short all rest given input n count left is long limit told short after =
     let sizes = length-take n all in
     let few : length all < n = (let e = ap length told in omega arith) in
-    let same : input ≡ all = told ∙ take_all n all (omega arith) in
     let parts = ap length is in
     let both = length-append given rest in
-    let none : length (drop (length input) (take n all)) ≡ 0 = (let d = length-drop (length input) (take n all) in let e = ap length told in
-    omega arith) in
-    let all_left : take left rest ≡ rest = take_all left rest (omega arith) in
-    let empty : rest ≡ [] = nil_from_length rest (let e = ap length (sym all_left ∙ after) in omega arith) in
+    let same : input ≡ all = told ∙ take_all n all (omega arith) in
+    let empty : rest ≡ [] =
+    sym (take_all left rest (omega arith)) ∙ after ∙ ap (drop (length input)) (sym told) ∙ drop-length input in
     (sym same ∙ sym (append-nil input) ∙ ap (λ (bs : List ℕ). input ++ bs) (sym empty), empty)
 
 pub record GaveFew (o p : Option (List ℕ)) (input : List ℕ) : Type 0 where

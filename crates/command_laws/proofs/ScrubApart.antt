@@ -52,7 +52,7 @@ segments_rise : (words ss : List ℕ) → IsRising ss → Rise (looked_segments 
 segments_rise words [] rise = tt
 segments_rise words (s ∷ ss) rise = (looked_all (λ t. s < t) words ss rise.0, segments_rise words ss rise.1)
 
-carrying_to : (words : List ℕ) (start end : ℕ) → All (λ s. s ≤ end) (carrying words start end)
+pub carrying_to : (words : List ℕ) (start end : ℕ) → All (λ s. s ≤ end) (carrying words start end)
 carrying_to words start end =
     All-filter (λ s. nat_le 4 (usable_count (mask_at words s))) (λ (s : ℕ). s ≤ end) (range_with_len start (end + 1 - start))
     (range_within (end + 1 - start) start end (λ some. omega arith))

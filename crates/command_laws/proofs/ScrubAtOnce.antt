@@ -2,7 +2,7 @@
 use Rattle.std.proofs.Common.{◌≡◌, ℕ, Bool, true, false, cond, List, ◌∷◌, refl, suc, ◌<◌, [], length, get_or, arith, All, ap, ◌∙◌, subst}
 use Rattle.std.proofs.lemmas.List.Elements.{All-nil, All-cons, All-head, All-tail}
 use Rattle.std.proofs.lemmas.List.{append-nil}
-use Rattle.cartridge_laws.proofs.AppendKeeping.{AreIn, steps_kept, in_append}
+use Rattle.cartridge_laws.proofs.AppendKeeping.{AreIn, IsKeptBut, steps_kept, in_append}
 use Rattle.cartridge_laws.proofs.FormatStanding.{same_cells}
 use Rattle.cartridge_laws.proofs.Places.{usable_small, AreSmall}
 use Rattle.cartridge_laws.specs.AppendWrites.{AreWrites}
@@ -13,6 +13,7 @@ use Rattle.command_laws.proofs.ScrubApart.{looked_rise}
 use Rattle.command_laws.specs.ScrubLaws.{ScrubsAtOnce}
 use Rattle.command_laws.specs.ScrubPlain.{looking_acts, SayInTurn}
 use Rattle.command_laws.specs.ScrubSayings.{SayAtOnce, acts_at_once, Rise}
+use Rattle.command_laws.specs.SilentSectors.{IsSameIn}
 use Rattle.command_spec.specs.Scrub.{mending_writes, Looked, reads, steps_in, line_in, looked_at}
 use Rattle.command_laws.specs.ScrubTerms.{last_act, counts_of, look_act, scrub_acts}
 use Rattle.qic_base.proofs.Joins.{steps_of-append}
@@ -65,7 +66,7 @@ steps_stay P c l s is =
 -- ---- a cartridge with the same views in these segments
 
 abbrev pub AreAlike : (c d : Cartridge) → List Looked → Type 0
-AreAlike c d ls = All (λ l. (i : ℕ) → i < 32 → view_at d l.segment i ≡ view_at c l.segment i) ls
+AreAlike c d ls = All (λ l. IsSameIn c d l.segment) ls
 
 mending_alike : (c d : Cartridge) (segment : ℕ) (places : List ℕ) (sectors : List (List ℕ)) → AreSmall places →
     ((i : ℕ) → i < 32 → view_at d segment i ≡ view_at c segment i) →
@@ -89,20 +90,17 @@ steps_alike c d l Mismatch same = refl
 
 -- ---- all of them
 
-later_alike : (c d : Cartridge) (l : Looked) (s : Saying) (ls : List Looked) → All (λ m. l.segment < m.segment) ls → AreAlike c d ls →
-    AreAlike c (changed_by (steps_in d l s) d) ls
-later_alike c d l s [] past alike = All-nil
-    (λ (m : Looked). (i : ℕ) → i < 32 → view_at (changed_by (steps_in d l s) d) m.segment i ≡ view_at c m.segment i)
-later_alike c d l s (m ∷ ms) past alike =
-    let e : Cartridge = changed_by (steps_in d l s) d in
-    let kept = steps_kept (λ t i. t ≡ l.segment) (steps_in d l s) d (steps_stay (λ t. t ≡ l.segment) d l s refl) in
-    let behind : l.segment < m.segment = All-head (λ (n : Looked). l.segment < n.segment) m ms past in
-    let here : (i : ℕ) → i < 32 → view_at d m.segment i ≡ view_at c m.segment i =
-    All-head (λ (n : Looked). (i : ℕ) → i < 32 → view_at d n.segment i ≡ view_at c n.segment i) m ms alike in
-    All-cons (λ (n : Looked). (i : ℕ) → i < 32 → view_at e n.segment i ≡ view_at c n.segment i) m ms
-    (λ i h. kept.others m.segment i h (λ (same : m.segment ≡ l.segment). omega arith) ∙ here i h)
-    (later_alike c d l s ms (All-tail (λ (n : Looked). l.segment < n.segment) m ms past)
-    (All-tail (λ (n : Looked). (i : ℕ) → i < 32 → view_at d n.segment i ≡ view_at c n.segment i) m ms alike))
+-- what is written to a segment leaves those as they are that are looked at later
+pub later_alike : (c d e : Cartridge) (segment : ℕ) (ls : List Looked) → IsKeptBut (λ s i. s ≡ segment) d e →
+    All (λ m. segment < m.segment) ls → AreAlike c d ls → AreAlike c e ls
+later_alike c d e segment [] kept past alike = All-nil (λ (m : Looked). IsSameIn c e m.segment)
+later_alike c d e segment (m ∷ ms) kept past alike =
+    let behind : segment < m.segment = All-head (λ (n : Looked). segment < n.segment) m ms past in
+    All-cons (λ (n : Looked). IsSameIn c e n.segment) m ms
+    (λ i h. kept.others m.segment i h (λ (same : m.segment ≡ segment). omega arith)
+    ∙ All-head (λ (n : Looked). IsSameIn c d n.segment) m ms alike i h)
+    (later_alike c d e segment ms kept (All-tail (λ (n : Looked). segment < n.segment) m ms past)
+    (All-tail (λ (n : Looked). IsSameIn c d n.segment) m ms alike))
 
 pub record AtOnce (c d : Cartridge) (ls : List Looked) (ss : List Saying) : Type 0 where
   pub say : SayAtOnce c ls ss
@@ -113,11 +111,12 @@ turn_at_once [] [] c d rise alike say = record { say = tt; acts = refl }
 turn_at_once [] (s ∷ ss) c d rise alike say = absurd say
 turn_at_once (l ∷ ls) [] c d rise alike say = absurd say
 turn_at_once (l ∷ ls) (s ∷ ss) c d rise alike say =
-    let here : (i : ℕ) → i < 32 → view_at d l.segment i ≡ view_at c l.segment i =
-    All-head (λ (n : Looked). (i : ℕ) → i < 32 → view_at d n.segment i ≡ view_at c n.segment i) l ls alike in
+    let here : IsSameIn c d l.segment = All-head (λ (n : Looked). IsSameIn c d n.segment) l ls alike in
     let rest : AtOnce c (changed_by (steps_in d l s) d) ls ss =
     turn_at_once ls ss c (changed_by (steps_in d l s) d) rise.1
-    (later_alike c d l s ls rise.0 (All-tail (λ (n : Looked). (i : ℕ) → i < 32 → view_at d n.segment i ≡ view_at c n.segment i) l ls alike))
+    (later_alike c d (changed_by (steps_in d l s) d) l.segment ls
+    (steps_kept (λ t i. t ≡ l.segment) (steps_in d l s) d (steps_stay (λ t. t ≡ l.segment) d l s refl)) rise.0
+    (All-tail (λ (n : Looked). IsSameIn c d n.segment) l ls alike))
     say.1 in
     record {
       say = (subst (λ (cells : List SectorView). Says cells s) (same_cells c d l.segment l.mask here) say.0, rest.say);

@@ -10,7 +10,7 @@ use Rattle.cartridge_spec.specs.Says.{Saying, Says, Data, Mismatch, unreadable_c
 use Rattle.cartridge_spec.specs.Settling.{changed_by}
 use Rattle.cartridge_spec.specs.Volumes.{worn}
 use Rattle.command_laws.proofs.ScrubApart.{contains_cases, contains_first, contains_more}
-use Rattle.command_laws.proofs.ScrubAtOnce.{AreAlike, steps_alike, steps_stay, alike}
+use Rattle.command_laws.proofs.ScrubAtOnce.{AreAlike, steps_alike, steps_stay, alike, later_alike}
 use Rattle.cartridge_laws.proofs.AppendKeeping.{steps_kept}
 use Rattle.command_laws.specs.ScrubFound.{FindAtOnce, finds_at_once, without_all}
 use Rattle.command_laws.specs.ScrubSayings.{Rise, SayAtOnce, acts_at_once}
@@ -123,21 +123,6 @@ pub record FoundAtOnce (depth : Depth) (c d : Cartridge) (ls : List Looked) (fs 
   pub found : FindAtOnce depth c ls fs
   pub acts : finding_acts d ls fs ≡ finds_at_once c ls fs
 
-later_same : (depth : Depth) (c d : Cartridge) (l : Looked) (f : Finding) (ls : List Looked) → All (λ m. l.segment < m.segment) ls →
-    AreAlike c d ls →
-    AreAlike c (changed_by (steps_for d l f) d) ls
-later_same depth c d l f [] past same = All-nil (λ (m : Looked). IsSameIn c (changed_by (steps_for d l f) d) m.segment)
-later_same depth c d l f (m ∷ ms) past same =
-    let e : Cartridge = changed_by (steps_for d l f) d in
-    let kept = steps_kept (λ t i. t ≡ l.segment) (steps_for d l f) d (steps_stay (λ t. t ≡ l.segment) (without f.wrong l d) l f.saying refl)
-    in
-    let behind : l.segment < m.segment = All-head (λ (n : Looked). l.segment < n.segment) m ms past in
-    let here : IsSameIn c d m.segment = All-head (λ (n : Looked). IsSameIn c d n.segment) m ms same in
-    All-cons (λ (n : Looked). IsSameIn c e n.segment) m ms
-    (λ i h. kept.others m.segment i h (λ (is : m.segment ≡ l.segment). omega arith) ∙ here i h)
-    (later_same depth c d l f ms (All-tail (λ (n : Looked). l.segment < n.segment) m ms past)
-    (All-tail (λ (n : Looked). IsSameIn c d n.segment) m ms same))
-
 turn_at_once : (depth : Depth) (ls : List Looked) (fs : List Finding) (c d : Cartridge) → Rise ls → AreAlike c d ls →
     FindInTurn depth d ls fs →
     FoundAtOnce depth c d ls fs
@@ -149,7 +134,9 @@ turn_at_once depth (l ∷ ls) (f ∷ fs) c d rise same found =
     let now : Finds depth c l f = finds_same depth d c l f (same_back c d l.segment here) found.0 in
     let rest : FoundAtOnce depth c (changed_by (steps_for d l f) d) ls fs =
     turn_at_once depth ls fs c (changed_by (steps_for d l f) d) rise.1
-    (later_same depth c d l f ls rise.0 (All-tail (λ (n : Looked). IsSameIn c d n.segment) l ls same)) found.1 in
+    (later_alike c d (changed_by (steps_for d l f) d) l.segment ls (steps_kept (λ t i. t ≡ l.segment) (steps_for d l f) d
+    (steps_stay (λ t. t ≡ l.segment) (without f.wrong l d) l f.saying refl)) rise.0
+    (All-tail (λ (n : Looked). IsSameIn c d n.segment) l ls same)) found.1 in
     let steps : steps_for d l f ≡ steps_for c l f =
     steps_alike (without f.wrong l c) (without f.wrong l d) l f.saying (without_same c d l f.wrong (finds_small depth c l f now) here) in
     record {

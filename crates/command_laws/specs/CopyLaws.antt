@@ -5,6 +5,7 @@ use Rattle.cartridge_spec.specs.Settling.{changed_by}
 use Rattle.cartridge_spec.specs.Volumes.{Plain, Stands}
 use Rattle.command_laws.specs.ActStops.{IsLeftBy}
 use Rattle.command_spec.specs.Copied.{BeginsLike, CanBeCopied, StandAlike, StandsPrinted, StandsUpTo, copied}
+use Rattle.command_spec.specs.CopyGiven.{GivenBy, KeepsOrGains, KeepsOrPrints, StandsWithAll}
 use Rattle.command_spec.specs.Copying.{CopyOutcome, CopyYields}
 use Rattle.qic_base.specs.Acts.{steps_of, text_of}
 use Rattle.qic_base.specs.Cartridge.{Cartridge}
@@ -57,6 +58,28 @@ PrintedCopiesStand =
     (c : Cartridge) (one : Plain) (d : Cartridge) (other : Plain) (outcome : CopyOutcome) (text : List ℕ) (left : Option Cartridge) →
     IsCartridge d → StandAlike c one d other → CopyYields (Some c) (Some d) outcome → IsLeftBy d outcome.acts text left →
     StandsPrinted one other (length text) left
+
+-- Whatever the source is, a stop in what is done to the target leaves it with some of the missing volumes, in their order, each as a
+-- restore of it gives it, ..
+abbrev pub StoppedCopyGives : Type 0
+StoppedCopyGives =
+    (from : Option Cartridge) (d : Cartridge) (other : Plain) (outcome : CopyOutcome) (left : Option Cartridge) → IfSome from IsCartridge →
+    IsCartridge d → Stands d other → IsTableLive d → CopyYields from (Some d) outcome → Torn (steps_of outcome.acts) (Some d) left →
+    KeepsOrGains from other left
+
+-- .. with those whose lines were written whole, ..
+abbrev pub PrintedCopyGives : Type 0
+PrintedCopyGives =
+    (from : Option Cartridge) (d : Cartridge) (other : Plain) (outcome : CopyOutcome) (text : List ℕ) (left : Option Cartridge) →
+    IfSome from IsCartridge → IsCartridge d → Stands d other → IsTableLive d → CopyYields from (Some d) outcome →
+    IsLeftBy d outcome.acts text left → KeepsOrPrints from other text left
+
+-- .. and with all of them at Done, also where sectors of the target's volume table take no write
+abbrev pub DoneCopyGives : Type 0
+DoneCopyGives =
+    (from : Option Cartridge) (d : Cartridge) (other : Plain) (outcome : CopyOutcome) → IfSome from IsCartridge → IsCartridge d →
+    Stands d other → CopyYields from (Some d) outcome → outcome.status ≡ status.Done →
+    GivenBy from other (λ side. StandsWithAll side other (Some (changed_by (steps_of outcome.acts) d)))
 
 -- a target whose volume table takes each write goes on to do so
 abbrev pub CopiedTableLives : Type 0

@@ -5,7 +5,9 @@ pub mod CheckLaws
 pub mod CommandFields
 pub mod CommandLaws
 pub mod CommandRecord
+pub mod CopyIntact
 pub mod CopyLaws
+pub mod CopyRoom
 pub mod CutLaws
 pub mod DeepScrubLaws
 pub mod FirstRuns

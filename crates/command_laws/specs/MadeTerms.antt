@@ -7,6 +7,7 @@ use Rattle.cartridge_spec.specs.Table.{Entry}
 use Rattle.command_spec.specs.Append.{append_acts, kept_over}
 use Rattle.command_spec.specs.Make.{made_bytes, made_length, MakeStep, WearSector, Runs, ScrubAll, appending, made_answer, made_list}
 use Rattle.command_spec.specs.Make.{made_name, making, sum_acts, wearing_volumes, after_item}
+use Rattle.command_spec.specs.Numbers.{AreTooMany}
 use Rattle.command_spec.specs.Restore.{RestoresVolume, ending_status}
 use Rattle.command_spec.specs.declared.status.Status.{Status}
 use Rattle.qic_base.specs.Acts.{Act, text_of}
@@ -68,7 +69,7 @@ AppendedFrom seed volume count words entries other n = Unit {0}
 abbrev pub IsAppendAnswer : (seed : ℕ) → (words : List ℕ) → List Entry → (volume : ℕ) → Status → Type 0
 IsAppendAnswer seed words entries volume status.Protected = Unit {0}
 IsAppendAnswer seed words entries volume status.TableMismatch = Unit {0}
-IsAppendAnswer seed words entries volume (status.Lost segment lost) = (segment ≡ 2) × (3 < lost)
+IsAppendAnswer seed words entries volume (status.Lost segment lost) = (segment ≡ 2) × AreTooMany lost
 IsAppendAnswer seed words entries volume answer = made_answer seed words entries volume ≡ answer
 
 -- the sum of the volume with this number, as a step of a run

@@ -1,7 +1,8 @@
 -- Parts of a restore: its pieces, and where it ends (this project's own).
-use Rattle.std.specs.Prelude.{ℕ, List, [], length, take, ◌≡◌, ◌<◌, slice_get, IsSomeAnd, sum_by}
+use Rattle.std.specs.Prelude.{ℕ, List, [], length, take, ◌≡◌, slice_get, IsSomeAnd, sum_by}
 use Rattle.cartridge_spec.specs.Volumes.{bytes_in}
 use Rattle.cartridge_spec.specs.Table.{Entry}
+use Rattle.command_spec.specs.Numbers.{AreTooMany}
 use Rattle.command_spec.specs.Restore.{GivingEnd, Restored, LostIn, MismatchIn, Piece, RestoresVolume, framed, pieces}
 use Rattle.command_spec.specs.Script.{Did, given_as}
 use Rattle.qic_base.specs.Acts.{Act}
@@ -24,5 +25,5 @@ RestoreDoes c words entries number did =
 -- with so many pieces read: all of them, or the next one's segment is the one that says no data
 abbrev pub EndsAt : List Piece → (done : ℕ) → GivingEnd → Type 0
 EndsAt needed done Restored = done ≡ length needed
-EndsAt needed done (LostIn segment lost) = (3 < lost) × IsSomeAnd (slice_get needed done) (λ piece. piece.segment ≡ segment)
+EndsAt needed done (LostIn segment lost) = AreTooMany lost × IsSomeAnd (slice_get needed done) (λ piece. piece.segment ≡ segment)
 EndsAt needed done (MismatchIn segment) = IsSomeAnd (slice_get needed done) (λ piece. piece.segment ≡ segment)

@@ -1,7 +1,11 @@
 //! What a copy onto another cartridge comes to. Each law is the contract of a function that does nothing, so that other
 //! crates can rest on it; their proofs import the lemmas of this crate's `proofs`.
 
-ghost use Rattle.command_laws.specs.CopyLaws.{CopiedTableLives, CopiesOneThing, CopiesSomething, CopyGoesOn, CopyWithRoomIsDone, DoneCopyStands, PrintedCopiesStand, StoppedCopyStands, StoppedSourceStands};
+ghost use Rattle.command_laws.specs.CopyLaws.{CopiedTableLives, CopiesOneThing, CopiesSomething, CopyGoesOn, CopyWithRoomIsDone, DoneCopyGives, DoneCopyStands, PrintedCopiesStand, PrintedCopyGives, StoppedCopyGives, StoppedCopyStands, StoppedSourceStands};
+ghost use Rattle.command_laws.specs.CopyIntact.{CopyRunAgain, CopyRunAgainIsDone, DoneCopyComesBack, PrintedCopyComesBack, StoppedCopyCanBeRead, StoppedCopyComesBack};
+ghost use Rattle.command_laws.specs.CopyRoom.{FullAnswerNamesRoom, FullCopyNamesRoom};
+
+use qic_base::{Sink, Tape};
 
 /// A copy has one status and prints one text.
 pub fn a_copy_is_one()
@@ -20,6 +24,14 @@ pub fn a_copy_adds_the_missing_volumes()
     ensures done { DoneCopyStands }
     ensures stopped { StoppedCopyStands }
     ensures source { StoppedSourceStands }
+{}
+
+/// Whatever the source is, and what its sectors hold, a copy leaves the target with some of the missing volumes, in their order
+/// and each just as a restore of it gives it; with those whose lines were written whole; and with all of them at Done.
+pub fn a_copy_gives_what_a_restore_gives()
+    ensures done { DoneCopyGives }
+    ensures stopped { StoppedCopyGives }
+    ensures printed { PrintedCopyGives }
 {}
 
 /// A copy, done or stopped, leaves each sector of the target's volume table taking writes, where each did.
@@ -43,4 +55,28 @@ pub fn a_copy_with_room_is_done()
 /// written whole.
 pub fn printed_copies_stand()
     ensures { PrintedCopiesStand }
+{}
+
+/// A copy that is refused as full names the length of the first volume that was not copied, and just the room behind the
+/// target's volumes and those that were.
+pub fn a_full_copy_names_the_room<A: Tape, B: Tape, K: Sink>()
+    ensures outcome { FullCopyNamesRoom }
+    ensures answer { FullAnswerNamesRoom A.means B.means K.means }
+{}
+
+/// The target of a copy comes back where then one sector more of its table's segment is lost, whatever the source is: with
+/// the volumes whose lines were written whole, and with all of them at Done.
+pub fn the_target_of_a_copy_comes_back()
+    ensures done { DoneCopyComesBack }
+    ensures stopped { StoppedCopyComesBack }
+    ensures printed { PrintedCopyComesBack }
+{}
+
+/// The volume table of a target that a stopped copy leaves can be read, where it could be before. A copy that is run again over
+/// what was left of both cartridges leaves all of the volumes at Done, as one without a stop does; and where all was there that
+/// the first one needed, it is Done.
+pub fn a_copy_run_again<A: Tape, B: Tape, K: Sink>()
+    ensures reads { StoppedCopyCanBeRead }
+    ensures done { CopyRunAgain A.means B.means K.means }
+    ensures complete { CopyRunAgainIsDone A.means B.means K.means }
 {}

@@ -11,6 +11,7 @@ use Rattle.cartridge_spec.specs.Table.{Entry}
 use Rattle.cartridge_spec.specs.TableSegment.{TableIs, table_cells}
 use Rattle.command_spec.specs.Command.{Command, plain_command, none_of_them, Word}
 use Rattle.command_spec.specs.Lines.{place_line, number_line}
+use Rattle.command_spec.specs.Numbers.{AreTooMany}
 use Rattle.command_spec.specs.Outcome.{CommandOutcome, HeldOutcome, refused}
 use Rattle.command_spec.specs.Scrub.{Looked, Finding, HasFoundBy, cells_at, looked_at, reads, whole_segment}
 use Rattle.command_spec.specs.declared.status.Status.{Status}
@@ -153,7 +154,7 @@ MayBeTold looked (Weak lost) = (1 ≤ lost) × (lost ≤ 3)
 MayBeTold looked (Wrong sector) = sector < 32
 MayBeTold looked Unsettled = looked.segment ≡ 2
 MayBeTold looked Contradicts = Unit {0}
-MayBeTold looked (Gone lost) = (3 < lost) × (lost ≤ 32)
+MayBeTold looked (Gone lost) = AreTooMany lost
 
 -- the lines of these segments
 pub record AreLines (looked : List Looked) (text : List ℕ) : Type 0 where

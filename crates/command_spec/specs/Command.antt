@@ -1,6 +1,6 @@
 -- All that is said of a command, in one record: how its words are spelled, what kind of a command it is, what it needs,
 -- does, prints and keeps (this project's own).
-use Rattle.std.specs.Prelude.{◌≡◌, ℕ, ◌≤◌, List, decimal, [], ◌∷◌, ◌⊎◌, ◌==◌, ◌++◌, if◌then◌else◌, Bool, false, Option}
+use Rattle.std.specs.Prelude.{◌≡◌, ℕ, ◌≤◌, List, decimal, [], ◌∷◌, ◌⊎◌, ◌==◌, ◌++◌, if◌then◌else◌, Bool, false, true, Option}
 use Rattle.std.specs.List.{AllZip}
 use Rattle.command_spec.specs.Lines.{date_form}
 use Rattle.qic_base.specs.Field.{IsDate, date_word, IsNameText, filled}
@@ -68,7 +68,7 @@ pub record Traits : Type 0 where
   pub lines : Bool
   pub goes : Bool
   pub memory : Bool
-  -- a missing cartridge stops it; a protected one does; it names a sector; one that was never formatted
+  -- a missing cartridge stops it; a protected one does; it names a sector that not each one has; one that was never formatted
   pub cartridge : Bool
   pub writable : Bool
   pub sector : Bool
@@ -146,7 +146,8 @@ pub record Command : Type 1 where
   pub keeps_copies : Cartridge → Type 0
   pub keeps_unread : Cartridge → Type 0
   pub keeps_live : Type 0
-  -- there is no room for so many bytes, with so much room; and of so many volumes none has this number
+  -- what it names there can be; there is no room for so many bytes, with so much room; and of so many volumes none has this number
+  pub can_be : Bool
   pub is_full : (need have : ℕ) → Bool
   pub is_no_volume : (number count : ℕ) → Bool
 
@@ -170,6 +171,7 @@ plain_command forms yields prints = record {
   keeps_copies = λ c. Unit {0};
   keeps_unread = λ c. Unit {0};
   keeps_live = Unit {0};
+  can_be = true;
   is_full = λ need have. false;
   is_no_volume = λ number count. false;
 }

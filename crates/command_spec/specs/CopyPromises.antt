@@ -10,6 +10,8 @@ use Rattle.cartridge_spec.specs.Settling.{settling_steps}
 use Rattle.cartridge_spec.specs.Table.{Entry}
 use Rattle.cartridge_spec.specs.Volumes.{Plain, Stands}
 use Rattle.command_spec.specs.Copied.{CanBeCopied, StandAlike, StandsPrinted, StandsUpTo, copied, copied_lines, BeginsLike}
+use Rattle.command_spec.specs.CopyGiven.{GivenBy, KeepsOrGains, KeepsOrPrints, StandsWithAll}
+use Rattle.command_spec.specs.CopyOneLoss.{ComesBackWithAll, SettlesOrComesBack}
 use Rattle.command_spec.specs.Copying.{CopyOutcome, CopyYields, foreign_fault, giving_status}
 use Rattle.command_spec.specs.Headline.{EachLeft, ToldNow}
 use Rattle.command_spec.specs.Lines.{count_line}
@@ -277,6 +279,28 @@ TargetGrows from held left =
     (c : Cartridge) (one : Plain) (d : Cartridge) (other : Plain) → from ≡ Some c → held ≡ Some d → StandAlike c one d other →
     StandsUpTo one other left
 
+-- Whatever the source is: of a target whose volume table takes each write.
+abbrev pub TargetGains : (from : Option Cartridge) → (held left : Option Cartridge) → Type 0
+TargetGains from held left = (d : Cartridge) (other : Plain) → held ≡ Some d → Stands d other → IsTableLive d → KeepsOrGains from other left
+
+-- .. when it is over, and this was printed
+pub record CopyGave {A B K : Type 0} (b : tapes.Meaning B) (k : sinks.Meaning K) (old new : Decks A B K) (from : Option Cartridge)
+    (to : Plain) : Type 0 where
+  pub text : List ℕ
+  pub took : k.took old.sink text new.sink
+  pub printed : ToldNow b new.to (KeepsOrPrints from to text)
+
+-- .. and where one sector of the table's segment is lost besides
+abbrev pub TargetComesBack : (from : Option Cartridge) → (held left : Option Cartridge) → Type 0
+TargetComesBack from held left =
+    (d : Cartridge) (other : Plain) → held ≡ Some d → Stands d other → IsTableLive d → SettlesOrComesBack from d other [] left
+
+pub record CopyComesBack {A B K : Type 0} (b : tapes.Meaning B) (k : sinks.Meaning K) (old new : Decks A B K) (from : Option Cartridge)
+    (d : Cartridge) (to : Plain) : Type 0 where
+  pub text : List ℕ
+  pub took : k.took old.sink text new.sink
+  pub comes : ToldNow b new.to (SettlesOrComesBack from d to text)
+
 -- When it is over this was printed, and the target has at least the volumes whose lines were written whole.
 pub record CopyIsOver {A B K : Type 0} (b : tapes.Meaning B) (k : sinks.Meaning K) (old new : Decks A B K) (from to : Plain) : Type 0 where
   pub text : List ℕ
@@ -348,5 +372,22 @@ pub record CopyPromises {A B K : Type 0} (a : tapes.Meaning A) (b : tapes.Meanin
       b.told old.to ≡ Some (Some d) →
       Stands c one → Stands d other → BeginsLike one other → answer ≡ status.Done →
       ToldNow b new.to (λ left. IsSomeAnd left (λ e. Stands e (copied one other (length one.volumes))))
+  -- Whatever the source is, and what its sectors hold: the target stands for its volumes, with some of the missing ones behind them, in
+  -- their order and each just as a restore of it gives it; with those whose lines were written whole when it is over; and with all of
+  -- them at Done, whatever its volume table takes.
+  pub to_gains : IfSome (a.told old.from) (λ from. EachLeft b old.to new.to (TargetGains from))
+  pub gave : (from : Option Cartridge) (d : Cartridge) (other : Plain) → a.told old.from ≡ Some from → b.told old.to ≡ Some (Some d) →
+      Stands d other → IsTableLive d → CopyGave b k old new from other
+  pub gave_all : (from : Option Cartridge) (d : Cartridge) (other : Plain) → a.told old.from ≡ Some from →
+      b.told old.to ≡ Some (Some d) → Stands d other → answer ≡ status.Done →
+      ToldNow b new.to (λ left. GivenBy from other (λ side. StandsWithAll side other left))
+  -- A sector of the table's segment may be lost behind it, too: the target comes back with volumes of the source, those whose lines were
+  -- written whole among them, but where a stop came before its table was settled; and with all of them at Done.
+  pub to_returns : IfSome (a.told old.from) (λ from. EachLeft b old.to new.to (TargetComesBack from))
+  pub returns : (from : Option Cartridge) (d : Cartridge) (other : Plain) → a.told old.from ≡ Some from → b.told old.to ≡ Some (Some d) →
+      Stands d other → IsTableLive d → CopyComesBack b k old new from d other
+  pub returns_all : (from : Option Cartridge) (d : Cartridge) (other : Plain) → a.told old.from ≡ Some from →
+      b.told old.to ≡ Some (Some d) → Stands d other → IsTableLive d → answer ≡ status.Done →
+      ToldNow b new.to (λ left. GivenBy from other (λ side. ComesBackWithAll side other left))
   -- Two copies can be joined.
   pub joins : CopiesJoin a b k old new

@@ -3,6 +3,8 @@ pub mod Check
 pub mod Command
 pub mod Commands
 pub mod Copied
+pub mod CopyGiven
+pub mod CopyOneLoss
 pub mod CopyPromises
 pub mod Copying
 pub mod Headline
@@ -10,6 +12,7 @@ pub mod Input
 pub mod Lines
 pub mod Machine
 pub mod Make
+pub mod Numbers
 pub mod OneLoss
 pub mod Outcome
 pub mod Promises

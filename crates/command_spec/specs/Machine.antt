@@ -5,6 +5,7 @@ use Rattle.std.specs.Prelude.{◌||◌, ◌<◌, All, IfNone, ◌≢◌, is_some
 use Rattle.command_spec.specs.Command.{HasForm}
 use Rattle.command_spec.specs.Commands.{command_of, traits_of}
 use Rattle.command_spec.specs.Input.{most_items, EndsEarly}
+use Rattle.command_spec.specs.Numbers.{are_too_many, is_of_volume, is_segment_count}
 use Rattle.command_spec.specs.Outcome.{CommandOutcome, output_of, is_refused}
 use Rattle.command_spec.specs.declared.status.Status.{Status}
 use Rattle.command_spec.specs.declared.words.Words.{Words}
@@ -83,12 +84,12 @@ is_outcome status.Usage = false
 is_outcome status.NoMemory = false
 is_outcome answer = not (is_fault answer)
 
--- the commands that such an answer may come from, and with which numbers, whatever the tape and the source tell: a line at
--- fault is one of the first 65,537; a segment that doesn't read lost more than three sectors, and is that of the volume table,
--- or one behind it where the command may end in a volume's; a defect in front is in one of the segments 0 to 2; a foreign
--- value is not the one that its field has to have
+-- The commands that such an answer may come from, and with which numbers, whatever the tape and the source tell. A line at
+-- fault is one of the first 65,537. A segment that doesn't read lost more than three of its 32 sectors, and is that of the volume
+-- table, or one behind it where the command may end in a volume's. A defect in front is in one of the segments 0 to 2. A foreign
+-- value is one that its field can have, and not the one that it has to have. No more segments are counted than there can be.
 abbrev pub may_come_from : Status → Words → Bool
-may_come_from status.Done command = true
+may_come_from status.Done command = (command_of command).can_be
 may_come_from (status.ScriptFault line place) command = (traits_of command).lines && (nat_le 1 line && nat_le line (most_items + 1))
 may_come_from status.NoCartridge command = (traits_of command).cartridge
 may_come_from status.NotFormatted command = (traits_of command).mounts
@@ -97,13 +98,14 @@ may_come_from status.BadPlace command = (traits_of command).sector
 may_come_from status.NotBlank command = (traits_of command).blank
 may_come_from (status.Foreign field value) command = (traits_of command).mounts && is_refused field value
 may_come_from (status.Lost segment lost) command =
-    (traits_of command).mounts && (nat_lt 3 lost && (nat_le 2 segment && ((traits_of command).restores || segment == 2)))
+    (traits_of command).mounts && (are_too_many lost && (segment == 2 || ((traits_of command).restores && is_of_volume segment)))
 may_come_from (status.DefectInFront segment) command = (traits_of command).formats && nat_lt segment 3
 may_come_from status.TableMismatch command = (traits_of command).mounts
 may_come_from (status.Full need have) command = (command_of command).is_full need have
 may_come_from (status.NoVolume number count) command = (command_of command).is_no_volume number count
-may_come_from (status.Unsound mendable bad) command = (traits_of command).checks && nat_lt 0 (mendable + bad)
-may_come_from (status.Mismatch segment) command = (traits_of command).restores && nat_le 3 segment
+may_come_from (status.Unsound mendable bad) command =
+    (traits_of command).checks && (nat_lt 0 (mendable + bad) && is_segment_count (mendable + bad))
+may_come_from (status.Mismatch segment) command = (traits_of command).restores && is_of_volume segment
 may_come_from answer command = false
 
 -- where the source tells nothing, an input that gives volumes their bytes is one of bytes

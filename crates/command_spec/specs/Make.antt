@@ -1,8 +1,8 @@
 -- The plain machine of `make`: the volumes that it appends, the steps of a generated run, what each does, what a run may
 -- print, how many were appended by its answer, and the command (this project's own).
 use Rattle.std.specs.Prelude.{flat_map, fold, ℕ, ◌+◌, ◌*◌, ◌%◌, List, map, ◌++◌, codes, decimal, [], ◌∷◌, take, ◌==◌, if◌then◌else◌, length}
-use Rattle.std.specs.Prelude.{drop, Some, ◌≡◌, true, slice_get, IsSomeAnd, ◌^◌, sum, ◌⊎◌, false, ◌≢◌, ◌<◌, ◌≤◌, All, nat_lt}
-use Rattle.std.specs.List.{range_with_len}
+use Rattle.std.specs.Prelude.{drop, Some, ◌≡◌, true, slice_get, IsSomeAnd, ◌^◌, sum, ◌⊎◌, false, ◌≢◌, ◌<◌, ◌≤◌, All, nat_lt, ◌&&◌}
+use Rattle.std.specs.List.{list_any, range_with_len}
 use Rattle.cartridge_spec.specs.Appending.{room, entry_behind, Content, with_all}
 use Rattle.cartridge_spec.specs.Header.{Header}
 use Rattle.cartridge_spec.specs.TableSegment.{TableIs, table_cells}
@@ -13,6 +13,7 @@ use Rattle.cartridge_spec.specs.Shape.{mask_at, usable_places}
 use Rattle.cartridge_spec.specs.Table.{Entry}
 use Rattle.cartridge_spec.specs.Volumes.{carrying_segments, volume_length, Plain, entries_of}
 use Rattle.command_spec.specs.Append.{append_acts, has_promised_room, kept_over}
+use Rattle.command_spec.specs.Numbers.{AreTooMany}
 use Rattle.command_spec.specs.Outcome.{settling_act, CommandOutcome, WritableOutcome}
 use Rattle.command_spec.specs.Restore.{GivingEnd, Restored, RestoresVolume, pieces, volume_at, LosesFew, ending_status}
 use Rattle.command_spec.specs.Scrub.{Counts, looked_at, ScrubsAs, IsTextFor}
@@ -150,7 +151,7 @@ Runs seed c words entries (item ∷ items) acts answer =
 abbrev pub MaySum : (words : List ℕ) → (number : ℕ) → Entry → (text : List ℕ) → Status → Type 0
 MaySum words number e text status.Done = (total : ℕ) × (total < 2 ^ 32) × (text ≡ sum_line number (volume_length words e) total)
 MaySum words number e text (status.Lost segment lost) =
-    (text ≡ []) × ((read : ℕ) × ((3 < lost) × IsSomeAnd (slice_get (pieces words e) read) (λ piece. piece.segment ≡ segment)))
+    (text ≡ []) × ((read : ℕ) × (AreTooMany lost × IsSomeAnd (slice_get (pieces words e) read) (λ piece. piece.segment ≡ segment)))
 MaySum words number e text (status.Mismatch segment) =
     (text ≡ []) × ((read : ℕ) × IsSomeAnd (slice_get (pieces words e) read) (λ piece. piece.segment ≡ segment))
 MaySum words number e text answer = ⊥
@@ -161,7 +162,7 @@ MaySum words number e text answer = ⊥
 abbrev pub MayDo : (seed : ℕ) → (words : List ℕ) → List Entry → MakeStep → (text : List ℕ) → Status → Type 0
 MayDo seed words entries (AppendMade volume) text status.Protected = text ≡ []
 MayDo seed words entries (AppendMade volume) text status.TableMismatch = text ≡ []
-MayDo seed words entries (AppendMade volume) text (status.Lost segment lost) = (text ≡ []) × ((segment ≡ 2) × (3 < lost))
+MayDo seed words entries (AppendMade volume) text (status.Lost segment lost) = (text ≡ []) × ((segment ≡ 2) × AreTooMany lost)
 MayDo seed words entries (AppendMade volume) text answer = (text ≡ []) × (made_answer seed words entries volume ≡ answer)
 MayDo seed words entries (WearSector segment sector) text answer = (text ≡ []) × (answer ≡ status.Done)
 MayDo seed words entries ScrubAll text status.Done = (counts : Counts) × IsTextFor Shallow (looked_at words entries) counts text
@@ -230,7 +231,8 @@ pub record CanMake (c : Cartridge) (seed count : ℕ) : Type 0 where
   pub few : LoseFewBehind seed count (settled plain.table_area c) plain
 
 -- Where it is refused, the lines before the step that was refused are printed; where it is cut off, they may be any. `Full` is
--- answered of a volume that is longer than the room that there is. Volumes are added, but to a protected cartridge.
+-- answered of the length of one of its volumes, which is more than the room that there is. Volumes are added, but to a protected
+-- cartridge.
 abbrev pub make_command : (seed count : ℕ) → Command
 make_command seed count =
     record (plain_command ((Word (codes "make") ∷ AnyNumber seed ∷ Number 1 200 count ∷ []) ∷ [])
@@ -244,5 +246,5 @@ make_command seed count =
       needs = λ held input. IsSomeAnd held (λ c. IsUnprotected c × CanMake c seed count);
       keeps_volumes = λ c plain. c.info.protected ≡ true;
       keeps_list = λ c. c.info.protected ≡ true;
-      is_full = λ need have. nat_lt have need;
+      is_full = λ need have. nat_lt have need && list_any (λ volume. made_length seed volume == need) (range_with_len 1 count);
     }

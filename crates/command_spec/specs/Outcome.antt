@@ -1,5 +1,5 @@
 -- The outcome of a command, and how the opening of a cartridge ends (this project's own).
-use Rattle.std.specs.Prelude.{ℕ, List, ◌≡◌, Option, Some, None, ◌⊎◌, true, false, [], ◌==◌, nat_lt, Bool, not, ◌∷◌}
+use Rattle.std.specs.Prelude.{ℕ, List, ◌≡◌, Option, Some, None, ◌⊎◌, true, false, [], ◌==◌, ◌&&◌, nat_lt, Bool, not, ◌∷◌}
 use Rattle.cartridge_spec.specs.Header.{Header}
 use Rattle.cartridge_spec.specs.Mounting.{Mounting, Mounts}
 use Rattle.cartridge_spec.specs.Settling.{settling_steps}
@@ -9,7 +9,8 @@ use Rattle.qic_base.specs.Acts.{Act, text_of}
 use Rattle.qic_base.specs.Cartridge.{Cartridge, IsPlace}
 use Rattle.qic_base.specs.Step.{Step}
 use Rattle.qic_base.specs.declared.foreign.ForeignField.{ForeignField}
-use Rattle.qic_base.specs.declared.foreign.ForeignField.TheVariants.{FormatCode, FirstHeader, SecondHeader, FirstData, Tracks, TrackMaximum}
+use Rattle.qic_base.specs.declared.foreign.ForeignField.TheVariants.{FormatCode, FirstHeader, SecondHeader, FirstData, LastData}
+use Rattle.qic_base.specs.declared.foreign.ForeignField.TheVariants.{SegmentsPerTrack, Tracks, TrackMaximum}
 use Rattle.qic_base.specs.declared.foreign.ForeignField.TheVariants.{SectorMaximum, Map, Slot, Range}
 use Rattle.command_spec.specs.declared.status.Status.TheVariants as status
 use Rattle.cartridge_spec.specs.Mounting as mounting
@@ -68,20 +69,26 @@ acted steps text = record { acts = record { steps = steps; text = text } ∷ [];
 abbrev pub Shows : (prints : Header → (words : List ℕ) → List Entry → List ℕ) → Going
 Shows prints c header words table entries outcome = outcome ≡ acted (settling_steps table c) (prints header words entries)
 
--- A drive that reports some number of segments per track refuses such a value of this field. Two fields go by that number, so that
--- each value of theirs is refused by some; of the map the value is a segment in front, of the table a slot's number.
+-- a field of one byte or of two, which can have so many values, has another than this
+abbrev pub is_other : (values right value : ℕ) → Bool
+is_other values right value = nat_lt value values && not (value == right)
+
+-- A drive that reports some number of segments per track refuses such a value of this field, which has one byte or two. Two fields go
+-- by that number, so that each value of theirs is refused by some; of the map the value is a segment in front, of the table a slot's
+-- number.
 abbrev pub is_refused : ForeignField → (value : ℕ) → Bool
-is_refused FormatCode value = not (value == 2)
-is_refused FirstHeader value = not (value == 0)
-is_refused SecondHeader value = not (value == 1)
-is_refused FirstData value = not (value == 2)
-is_refused Tracks value = not (value == 28)
-is_refused TrackMaximum value = not (value == 149)
-is_refused SectorMaximum value = not (value == 128)
+is_refused FormatCode value = is_other 256 2 value
+is_refused FirstHeader value = is_other 65536 0 value
+is_refused SecondHeader value = is_other 65536 1 value
+is_refused FirstData value = is_other 65536 2 value
+is_refused LastData value = nat_lt value 65536
+is_refused SegmentsPerTrack value = nat_lt value 65536
+is_refused Tracks value = is_other 256 28 value
+is_refused TrackMaximum value = is_other 256 149 value
+is_refused SectorMaximum value = is_other 256 128 value
 is_refused Map value = nat_lt value 3
 is_refused Slot value = nat_lt value 232
 is_refused Range value = nat_lt value 232
-is_refused other value = true
 
 -- nothing was printed, and this answered behind some steps
 abbrev pub refused_behind : List Step → Status → CommandOutcome

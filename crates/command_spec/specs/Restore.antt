@@ -1,6 +1,6 @@
 -- The plain machine of `restore`: a volume's bytes, segment by segment, and how their giving ends (this project's own).
 use Rattle.std.specs.Prelude.{ℕ, zero, suc, ◌-◌, List, [], ◌∷◌, min, ◌≤◌, take, ◌≡◌, ◌++◌, codes, decimal, ◌<◌, All, length, slice_get}
-use Rattle.std.specs.Prelude.{Option, None, Some, ◌⊎◌, ◌==◌, ◌&&◌, true, IsSomeAnd, ◌||◌, nat_lt}
+use Rattle.std.specs.Prelude.{Option, None, Some, ◌⊎◌, ◌==◌, ◌&&◌, true, IsSomeAnd, ◌||◌, nat_lt, nat_le}
 use Rattle.cartridge_spec.specs.Volumes.{bytes_in, carrying_segments, volume_length, Plain, Volume, Stands}
 use Rattle.cartridge_spec.specs.Mounting.{settled}
 use Rattle.cartridge_spec.specs.TableSegment.{CanBeRead}
@@ -8,6 +8,7 @@ use Rattle.cartridge_spec.specs.Says.{cells_of, unreadable_count, Says, Data, Lo
 use Rattle.cartridge_spec.specs.Settling.{settling_steps}
 use Rattle.cartridge_spec.specs.Shape.{mask_at, capacity}
 use Rattle.cartridge_spec.specs.Table.{Entry}
+use Rattle.command_spec.specs.Numbers.{is_volume_count}
 use Rattle.command_spec.specs.Outcome.{settling_act, Going, refused_behind, OpenOutcome}
 use Rattle.command_spec.specs.declared.status.Status.{Status}
 use Rattle.qic_base.specs.Acts.{Act}
@@ -143,5 +144,6 @@ restore_command number =
       refused = restore_refused;
       needs = λ held input. IsSomeAnd held (λ c. (plain : Plain) × ((volume : Volume) × HasNumber c plain number volume
           × All (LosesFew c plain.words) (pieces_in plain volume)));
-      is_no_volume = λ named count. (named == number) && (number == 0 || nat_lt count number);
+      can_be = nat_le 1 number && is_volume_count number;
+      is_no_volume = λ named count. (named == number) && (is_volume_count count && (number == 0 || nat_lt count number));
     }

@@ -1,6 +1,6 @@
 -- The commands that take no stream and give none: the plain machine of each, and its record (this project's own).
 use Rattle.std.specs.Prelude.{◌≡◌, ℕ, [], ◌∷◌, codes, ◌⊎◌, true, false, Option, IsSomeAnd, ◌≤◌, Bool, if◌then◌else◌, ◌*◌, List, ◌<◌, ◌^◌}
-use Rattle.std.specs.Prelude.{length}
+use Rattle.std.specs.Prelude.{length, not}
 use Rattle.cartridge_spec.specs.Formatting.{HasNoHeader, clearing_steps, format_steps, IsFirstDefectInFront, HasNoDefectInFront}
 use Rattle.cartridge_spec.specs.Formatting.{IsFreshWith, IsLabel}
 use Rattle.cartridge_spec.specs.Header.{Header}
@@ -11,6 +11,7 @@ use Rattle.command_spec.specs.Command.{Command, plain_command, IsUnprotected, Ca
 use Rattle.command_spec.specs.Command.{dated}
 use Rattle.command_spec.specs.Lines.{blank_line, defect_line, lost_line, protected_line, upgraded_line, formatted_line, info_text}
 use Rattle.command_spec.specs.Lines.{list_text}
+use Rattle.command_spec.specs.Numbers.{is_sector, is_on_each}
 use Rattle.command_spec.specs.Outcome.{carried_out, CommandOutcome, HeldOutcome, refused, refused_behind, HasPlace, StepOutcome, acted}
 use Rattle.command_spec.specs.Outcome.{Shows, OpenOutcome}
 use Rattle.qic_base.specs.Cartridge.{IsLength, Cartridge, view_at}
@@ -43,8 +44,9 @@ abbrev pub defect_command : (segment sector : ℕ) → Command
 defect_command segment sector =
     record (plain_command ((Word (codes "defect") ∷ AnyNumber segment ∷ AnyNumber sector ∷ []) ∷ [])
     (λ held input outcome. DefectOutcome segment sector held outcome) (λ text. text ≡ defect_line segment sector)) {
-      traits = record none_of_them { cartridge = true; sector = true; blank = true };
+      traits = record none_of_them { cartridge = true; sector = not (is_on_each segment sector); blank = is_sector segment sector };
       needs = λ held input. IsSomeAnd held (λ c. HasPlace c segment sector × (spoil_answer (view_at c segment sector) ≡ true));
+      can_be = is_sector segment sector;
     }
 
 abbrev pub LoseOutcome : (segment sector : ℕ) → Option Cartridge → CommandOutcome → Type 0
@@ -57,11 +59,12 @@ abbrev pub lose_command : (segment sector : ℕ) → Command
 lose_command segment sector =
     record (plain_command ((Word (codes "lose") ∷ AnyNumber segment ∷ AnyNumber sector ∷ []) ∷ [])
     (λ held input outcome. LoseOutcome segment sector held outcome) (λ text. text ≡ lost_line segment sector)) {
-      traits = record none_of_them { cartridge = true; sector = true };
+      traits = record none_of_them { cartridge = true; sector = not (is_on_each segment sector) };
       needs = λ held input. IsSomeAnd held (λ c. HasPlace c segment sector);
       keeps_volumes = λ c plain. HasPlace c segment sector → WearSpares c plain segment sector;
       keeps_list = λ c. HasPlace c segment sector → 3 ≤ segment;
       keeps_unread = λ c. HasPlace c segment sector → (2 ≤ segment) ⊎ HasNoHeader c;
+      can_be = is_sector segment sector;
     }
 
 abbrev pub protect_command : Bool → Command

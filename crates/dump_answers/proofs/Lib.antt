@@ -4,7 +4,6 @@ pub mod Endings
 pub mod Finding
 pub mod Infos
 pub mod Masking
-pub mod Passing
 pub mod Ranging
 pub mod Runs
 pub mod Volumes

@@ -1,27 +1,12 @@
 -- The segments of a dump, one after the other, that pass a test.
-use Rattle.std.proofs.Common.{◌≡◌, ℕ, zero, suc, ◌+◌, ◌&&◌, Bool, true, false, cond, List, [], ◌∷◌, ◌++◌, refl, sym, ap, ◌∙◌, append-nil}
+use Rattle.std.proofs.Common.{◌≡◌, ℕ, suc, ◌+◌, ◌&&◌, Bool, true, false, cond, List, [], ◌∷◌, ◌++◌, refl, sym, ap, ◌∙◌, append-nil}
 use Rattle.std.proofs.Common.{arith}
 use Rattle.std.specs.Prelude.{filter}
 use Rattle.std.specs.List.{range_with_len}
 use Rattle.std.proofs.lemmas.List.Elements.{filter-append}
+use Rattle.command_laws.proofs.ScrubNamed.{range_more}
 use Rattle.dump_answers.specs.Pieces.{below}
-
-pub range_more : (a n : ℕ) → range_with_len a (suc n) ≡ range_with_len a n ++ ((a + n) ∷ [])
-range_more a zero = let e : a ≡ a + 0 = omega arith in ap (λ (k : ℕ). k ∷ []) e
-range_more a (suc n) =
-    let e : a + 1 + n ≡ a + suc n = omega arith in
-    ap (λ (xs : List ℕ). a ∷ xs) (range_more (a + 1) n ∙ ap (λ (k : ℕ). range_with_len (a + 1) n ++ (k ∷ [])) e)
-
-range_parts : (a n k : ℕ) → range_with_len a (n + k) ≡ range_with_len a n ++ range_with_len (a + n) k
-range_parts a zero k =
-    let e : a ≡ a + 0 = omega arith in
-    let f : 0 + k ≡ k = omega arith in
-    ap (range_with_len a) f ∙ ap (λ (b : ℕ). range_with_len b k) e
-range_parts a (suc n) k =
-    let e : a + 1 + n ≡ a + suc n = omega arith in
-    let f : suc n + k ≡ suc (n + k) = omega arith in
-    ap (range_with_len a) f
-    ∙ ap (λ (xs : List ℕ). a ∷ xs) (range_parts (a + 1) n k ∙ ap (λ (b : ℕ). range_with_len (a + 1) n ++ range_with_len b k) e)
+use Rattle.dump_output.proofs.Fronts.{range_part}
 
 -- ---- those below a number
 
@@ -55,7 +40,7 @@ pub below_front : (test : ℕ → Bool) (n k : ℕ) → n + k ≡ 65536 →
 unfolding below
 below_front test n k all = (
   filter test (range_with_len (0 + n) k),
-  ap (λ (m : ℕ). filter test (range_with_len 0 m)) (sym all) ∙ ap (filter test) (range_parts 0 n k)
+  ap (λ (m : ℕ). filter test (range_with_len 0 m)) (sym all) ∙ ap (filter test) (range_part 0 n k)
       ∙ filter-append test (range_with_len 0 n) (range_with_len (0 + n) k),
 )
 

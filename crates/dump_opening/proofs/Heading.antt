@@ -1,31 +1,14 @@
 -- A dump has one header, or none.
-use Rattle.std.proofs.Common.{◌≡◌, ⊎_elim, ℕ, ◌<◌, ◌≤◌, Bool, List, Option, Some, None, take, refl, sym, ap, subst, ◌∙◌, arith}
+use Rattle.std.proofs.Common.{◌≡◌, ⊎_elim, ℕ, ◌<◌, ◌≤◌, Bool, List, Option, Some, None, refl, sym, ap, subst, ◌∙◌, arith}
 use Rattle.std.proofs.lemmas.Bool.{cases_lt}
-use Rattle.cartridge_laws.proofs.TableSayings.{table_says_is_function}
-use Rattle.cartridge_spec.specs.Says.{AsRead}
-use Rattle.dump_laws.proofs.Determined.{one_counting}
 use Rattle.dump_spec.specs.Dump.{Dump}
-use Rattle.dump_spec.specs.HeaderPlace.{FoundHeader, IsHeader, IsFirstHeader, IsHeaderIn, ReadsAs}
+use Rattle.dump_spec.specs.HeaderPlace.{FoundHeader, IsHeader, IsFirstHeader, IsHeaderIn}
 use Rattle.dump_spec.specs.Pieces.{Layout}
-use Rattle.dump_spec.specs.declared.form.Form.{Form}
-use Rattle.dump_spec.specs.declared.form.Form.TheVariants as forms
-use Rattle.qic_base.specs.declared.tape.SectorView.{SectorView}
-use Rattle.silent_locate.proofs.Readings.{one_deep_reading}
-use Rattle.silent_locate.specs.Deep.{Deep}
-
-reads_one : (form : Form) (zero_lost : Bool) (cells : List SectorView) (one other : List (List ℕ)) → ReadsAs form zero_lost cells one →
-    ReadsAs form zero_lost cells other → one ≡ other
-reads_one forms.Sectors zero_lost cells one other p q =
-    let counted : p.counted ≡ q.counted = one_counting forms.Sectors zero_lost cells p.counted q.counted p.counts q.counts in
-    let here : Deep q.counted p.block p.wrong = subst (λ (cs : List SectorView). Deep cs p.block p.wrong) counted p.deep in
-    let block : p.block ≡ q.block = (one_deep_reading q.counted p.block q.block p.wrong q.wrong here q.deep).0 in
-    p.shown ∙ ap (λ (b : List (List ℕ)). take 29 b) block ∙ sym q.shown
-reads_one forms.Data zero_lost cells one other p q =
-    let same : AsRead one ≡ AsRead other = table_says_is_function cells (AsRead one) (AsRead other) p q in cc
+use Rattle.segment_salvage.proofs.ReadingWhole.{one_reads}
 
 area_one : (dump : Dump) (layout : Layout) (zero_lost : Bool) (segment : ℕ) (one other : List (List ℕ)) →
     IsHeaderIn dump layout zero_lost segment one → IsHeaderIn dump layout zero_lost segment other → one ≡ other
-area_one dump layout zero_lost segment one other p q = reads_one layout.form zero_lost _ one other p.reads q.reads
+area_one dump layout zero_lost segment one other p q = one_reads layout.form zero_lost _ one other p.reads q.reads
 
 first_one : (dump : Dump) (layout : Layout) (zero_lost : Bool) (s t : ℕ) (one other : List (List ℕ)) →
     IsFirstHeader dump layout zero_lost s one → IsFirstHeader dump layout zero_lost t other → s ≡ t

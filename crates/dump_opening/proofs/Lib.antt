@@ -2,7 +2,6 @@ pub mod Counting
 pub mod Heading
 pub mod Headers
 pub mod Knowing
-pub mod Passing
 pub mod Reading
 pub mod Refusing
 pub mod Rescuing

@@ -69,11 +69,12 @@ module _ {T K : Type 0} (t : tapes.Meaning T) (k : sinks.Meaning K) where
 
   -- it was carried out, and printed its output
   done : (command : Words) → IsBlind command → (a b : T) (x y : K) (outcome : CommandOutcome) →
-      outcome.status ≡ status.Done → outcome ≡ acted (first_act outcome).steps (first_act outcome).text →
+      may_come_from status.Done command ≡ true → outcome.status ≡ status.Done →
+      outcome ≡ acted (first_act outcome).steps (first_act outcome).text →
       CommandPrints command (first_act outcome).text →
       IfSome (t.told a) (λ held. Rules command held outcome) →
       tapes.Done t a b (first_act outcome).steps → sinks.Wrote k x y (first_act outcome).text → EndsBlind t k command a b x y status.Done
-  done command blind a b x y outcome ends one prints told did wrote =
+  done command blind a b x y outcome sound ends one prints told did wrote =
       let act : Act = first_act outcome in
       inl (record {
         outcome = acted act.steps act.text;
@@ -82,7 +83,7 @@ module _ {T K : Type 0} (t : tapes.Meaning T) (k : sinks.Meaning K) where
             (subst (λ (o : CommandOutcome). IfSome (t.told a) (λ held. Rules command held o)) one told);
         went = went_one a b x y act.steps act.text did wrote;
         left = refl;
-        sound = refl;
+        sound = sound;
         none_taken = λ blind. refl;
         prints = ((λ is. subst (CommandPrints command) (sym (append-nil act.text)) prints), (λ other. absurd (other refl)));
         silent = λ still other. absurd (other refl);
@@ -183,14 +184,15 @@ module _ {T K : Type 0} (t : tapes.Meaning T) (k : sinks.Meaning K) where
 
   -- it was carried out, and its output written or broken off
   pub printed : (command : Words) → IsBlind command → (a b : T) (x y : K) (outcome : CommandOutcome) (r : Result (Unit {0}) SinkFailed) →
-      outcome.status ≡ status.Done → outcome ≡ acted (first_act outcome).steps (first_act outcome).text →
+      may_come_from status.Done command ≡ true → outcome.status ≡ status.Done →
+      outcome ≡ acted (first_act outcome).steps (first_act outcome).text →
       CommandPrints command (first_act outcome).text →
       IfSome (t.told a) (λ held. Rules command held outcome) →
       tapes.Done t a b (first_act outcome).steps → sink_calls.Writes k x y (first_act outcome).text r →
       EndsBlind t k command a b x y (printed_status r)
-  printed command blind a b x y outcome (Ok all) ends one prints told did wrote =
-      done command blind a b x y outcome ends one prints told did wrote
-  printed command blind a b x y outcome (Err failed) ends one prints told did broke =
+  printed command blind a b x y outcome (Ok all) sound ends one prints told did wrote =
+      done command blind a b x y outcome sound ends one prints told did wrote
+  printed command blind a b x y outcome (Err failed) sound ends one prints told did broke =
       unprinted command blind a b x y outcome ends one prints told did broke
 
   abbrev tape_cut_first : (a b : T) (x : K) (acts : List Act) → ((z : K) → k.took z [] z) → tapes.Broke t a b (next_steps acts) →

@@ -1,10 +1,13 @@
 -- How a change by hand ends, by what the drive's call answered.
-use Rattle.std.proofs.Common.{◌≡◌, ◌≢◌, ◌⊎◌, ℕ, Option, Some, None, IfSome, IfNone, Result, Err, refl, subst, inl, inr}
-use Rattle.qic_base.specs.Cartridge.{IsPlace}
+use Rattle.std.proofs.Common.{◌≡◌, ◌≢◌, ◌⊎◌, ℕ, Option, Some, None, IfSome, IfNone, Result, Err, refl, subst, inl, inr, true, not}
+use Rattle.qic_base.specs.Cartridge.{IsLength, IsPlace}
 use Rattle.qic_base.specs.declared.tape.TapeInfo.{TapeInfo}
 use Rattle.drive_states.specs.declared.fault.HandFault.{HandFault}
 use Rattle.drive_states.specs.declared.fault.HandFault.TheVariants.{NoCartridge, BadPlace}
+use Rattle.command_laws.proofs.CommandNumbers.{place_there, place_missing}
 use Rattle.command_laws.proofs.ScriptPlaces.{place_or_not}
+use Rattle.command_spec.specs.Numbers.{is_on_each, is_sector}
+use Rattle.drive_states.specs.Sound.{HasLength}
 
 -- the drive knows a cartridge, and it has the sector
 pub record Reached (cartridge : Option TapeInfo) (segment sector : ℕ) (P : Type 0) : Type 0 where
@@ -56,6 +59,22 @@ pub no_place : (cartridge : Option TapeInfo) (segment sector : ℕ) (result : Re
 no_place None segment sector result P absent placed is never = absurd (cc)
 no_place (Some info) segment sector result P absent placed is never =
     record { info = info; known = refl; none = λ place. never (subst P is (placed place)) }
+
+-- a sector that was come to is one that there can be
+pub reached_there : (cartridge : Option TapeInfo) (segment sector : ℕ) {P : Type 0} → HasLength cartridge →
+    Reached cartridge segment sector P → is_sector segment sector ≡ true
+reached_there None segment sector long came = let known = came.known in cc
+reached_there (Some info) segment sector long came =
+    let same : info ≡ came.info = (let known = came.known in cc) in
+    place_there came.info.segments_per_track segment sector (subst (λ (i : TapeInfo). IsLength i.segments_per_track) same long) came.place
+
+-- .. and one that the cartridge hasn't, one that there may not be
+pub misplaced_there : (cartridge : Option TapeInfo) (segment sector : ℕ) → HasLength cartridge → Misplaced cartridge segment sector →
+    not (is_on_each segment sector) ≡ true
+misplaced_there None segment sector long out = let known = out.known in cc
+misplaced_there (Some info) segment sector long out =
+    let same : info ≡ out.info = (let known = out.known in cc) in
+    place_missing out.info.segments_per_track segment sector (subst (λ (i : TapeInfo). IsLength i.segments_per_track) same long) out.none
 
 -- ---- a call for the whole cartridge
 

@@ -11,6 +11,7 @@ use Rattle.qic_base.specs.Acts.{Act, text_of, Outside, Failing, TapeFails, Sourc
 use Rattle.drive_spec.specs.Record.{Record, power_on}
 use Rattle.command_spec.specs.declared.words.Words.TheVariants as words
 use Rattle.command_spec.specs.Input.{IsPulse, Ending, AtEnd, AtStop, AtFault, IsPulses, Reaches, ReachesLine}
+use Rattle.command_laws.proofs.CommandTold.{told_input}
 use Rattle.command_laws.proofs.CutFronts.{CutBehind}
 use Rattle.command_laws.proofs.TextFaults.{fault_line}
 use Rattle.command_laws.proofs.TextInputs as inputs
@@ -67,10 +68,6 @@ over_known : (told : Option (Option Cartridge)) (left : Option (List ℕ)) (know
     IfSome told (λ held. (input : List ℕ) × IsInput left input × P held input)
 over_known None left known input P cartridge bytes follows = tt
 over_known (Some held) left known input P cartridge bytes follows = (input, bytes, follows held cartridge)
-
-pub told_input : (left : Option (List ℕ)) (input : List ℕ) (P : List ℕ → Type 0) → IsInput left input → P input → IfSome left P
-told_input None input P told is = tt
-told_input (Some bytes) input P told is = subst P told is
 
 -- a line at fault is one of those that an input may have
 sound_answer : (known : Option TapeInfo) (input : List ℕ) (came : PulseRun) (answer : Answer) → PulsesOutcome known input came →

@@ -1,3 +1,4 @@
 pub mod FieldSets
+pub mod Fitting
 pub mod Refusals
 pub mod SpellingLaws

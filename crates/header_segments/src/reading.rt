@@ -1,12 +1,12 @@
 //! A header from bytes.
 
-ghost use Rattle.std.specs.Prelude.{◌≡◌, ◌-◌, ◌*◌, ◌<◌, ◌≤◌, ℕ, List, length, All, replicate, IfOk, OnErr, MatchResult};
+ghost use Rattle.std.specs.Prelude.{◌≡◌, ◌-◌, ◌*◌, ◌<◌, ◌≤◌, ℕ, List, length, All, replicate, IfSome, IfOk, IfErr, OnErr, MatchResult};
 ghost use Rattle.std.specs.Option.{option_map};
 ghost use Rattle.qic_base.specs.Cartridge.{IsLength};
 ghost use Rattle.cartridge_spec.specs.Header.{Holds, Shows, header_fields, profile_fields, tested, first_fault};
 ghost use Rattle.cartridge_laws.specs.HeaderTerms.{field_fault, map_fault, words_in};
 ghost use Rattle.header_segments.specs.Header.{header_of};
-ghost use Rattle.header_segments.specs.Refusal.{foreign, refusal};
+ghost use Rattle.header_segments.specs.Refusal.{IsBelow, IsFitting, foreign, refusal};
 
 use crate::fault::HeaderFault;
 use crate::fields::{
@@ -20,7 +20,8 @@ use qic_base::{ForeignField, Name, Sector, TRACKS, read_u16, read_u32};
 fn byte_fault(area: &[Sector], field: ForeignField, at: usize, value: u8) -> Option<HeaderFault>
     requires sectors { length area.now ≡ 29 }
     requires within { at < 1024 }
-    ensures { result ≡ option_map foreign (field_fault area.now (tested field at 1 value)) }
+    ensures fault { result ≡ option_map foreign (field_fault area.now (tested field at 1 value)) }
+    ensures fits { IfSome result (IsBelow field 256) }
 {
     let found = area[0][at];
     if found == value {
@@ -36,7 +37,8 @@ fn byte_fault(area: &[Sector], field: ForeignField, at: usize, value: u8) -> Opt
 fn number_fault(area: &[Sector], field: ForeignField, at: usize, value: u16) -> Option<HeaderFault>
     requires sectors { length area.now ≡ 29 }
     requires within { at < 1023 }
-    ensures { result ≡ option_map foreign (field_fault area.now (tested field at 2 value)) }
+    ensures fault { result ≡ option_map foreign (field_fault area.now (tested field at 2 value)) }
+    ensures fits { IfSome result (IsBelow field 65536) }
 {
     let found = read_u16(&area[0], at);
     if found == value {
@@ -52,8 +54,9 @@ fn number_fault(area: &[Sector], field: ForeignField, at: usize, value: u16) -> 
 fn profile_fault(area: &[Sector], segments_per_track: u16) -> Option<HeaderFault>
     requires sectors { length area.now ≡ 29 }
     requires long { IsLength segments_per_track }
-    ensures { result ≡
+    ensures fault { result ≡
         option_map foreign (first_fault area.now (profile_fields segments_per_track)) }
+    ensures fits { IfSome result IsFitting }
 {
     let last = TRACKS as u16 * segments_per_track - 1;
     byte_fault(area, ForeignField::FormatCode, 4, FORMAT_CODE)
@@ -70,8 +73,9 @@ fn profile_fault(area: &[Sector], segments_per_track: u16) -> Option<HeaderFault
 /// The first of the segments 0 to 2 that has a bad sector.
 fn marked_fault(map: &BadMap) -> Option<HeaderFault>
     requires { 3 ≤ length map.now }
-    ensures { (area : List (List ℕ)) (segments : ℕ) → map.now ≡ words_in area segments →
+    ensures fault { (area : List (List ℕ)) (segments : ℕ) → map.now ≡ words_in area segments →
         result ≡ option_map foreign (map_fault area) }
+    ensures fits { IfSome result IsFitting }
 {
     for segment in 0..3 {
         if map.usable(segment) != u32::MAX {
@@ -105,7 +109,8 @@ fn fault_in(area: &[Sector], segments_per_track: u16, map: &BadMap) -> Option<He
     requires sectors { length area.now ≡ 29 }
     requires long { IsLength segments_per_track }
     requires map { map.now ≡ words_in area.now (28 * segments_per_track) }
-    ensures { result ≡ refusal area.now segments_per_track }
+    ensures fault { result ≡ refusal area.now segments_per_track }
+    ensures fits { IfSome result IsFitting }
 {
     if read_u32(&area[0], 0) != SIGNATURE {
         return Some(HeaderFault::NoSignature);
@@ -121,6 +126,7 @@ pub fn decode(area: &[Sector], drive_segments: u16, map: &mut BadMap) -> Result<
     ensures shown { IfOk result (λ header. Shows area.now (header_of header) map.new) }
     ensures fault { MatchResult result (λ _. refusal area.now drive_segments ≡ None)
         (λ fault. refusal area.now drive_segments ≡ Some fault) }
+    ensures fits { IfErr result IsFitting }
     ensures unmarked { OnErr result (map.new ≡ replicate (28 * drive_segments) 0) }
 {
     let segments = TRACKS as u32 * u32::from(drive_segments);

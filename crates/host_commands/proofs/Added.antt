@@ -1,10 +1,10 @@
 -- How an append ends.
 use Rattle.std.proofs.Common.{ℕ, List, Option, Some, None, ◌≡◌, drop, refl, ◌≢◌, true, IfSome, length, ap, ◌∙◌, ◌+◌, ◌++◌, sym, ◌∷◌}
 use Rattle.std.proofs.Common.{append-nil, ◌&&◌, nat_le, min, Bool, false, subst, inl, inr, [], Result, Ok, Err, arith, append_assoc}
-use Rattle.std.specs.Prelude.{if◌then◌else◌, ◌≤◌, ◌↔◌, is_some, ◌==◌, nat_lt, ◌||◌}
+use Rattle.std.specs.Prelude.{if◌then◌else◌, ◌≤◌, ◌↔◌, is_some, ◌==◌, ◌||◌}
 use Rattle.std.specs.Option.{option_map}
 use Rattle.std.proofs.Math.Nat.{min-eq_left}
-use Rattle.std.proofs.lemmas.Bool.{leb-true, lt-ltb, cases_lt, or_left, or_right, and_cases, leb-false, eq-eqb}
+use Rattle.std.proofs.lemmas.Bool.{leb-true, cases_lt, or_left, or_right, and_cases, leb-false, eq-eqb}
 use Rattle.cartridge_laws.proofs.MountOnce.{one_table, not_lost}
 use Rattle.cartridge_laws.proofs.MountSettled.{settled_keeps_table}
 use Rattle.cartridge_spec.specs.Appending.{room, table_writes}
@@ -28,6 +28,8 @@ use Rattle.command_laws.specs.Outcomes.{Appends}
 use Rattle.command_laws.specs.CommandFields.{CommandPrints, FrontPrints}
 use Rattle.command_spec.specs.Lines.{reply_behind, appended_line}
 use Rattle.command_spec.specs.Outcome.{CommandOutcome, refused, refused_behind}
+use Rattle.command_laws.proofs.CommandNumbers.{too_many}
+use Rattle.command_spec.specs.Numbers.{are_too_many}
 use Rattle.command_spec.specs.Machine.{NamesFault, may_come_from, InputLeft, CommandEnds, IsOfBytes, IsCutOff}
 use Rattle.command_spec.specs.declared.status.Status.{Status}
 use Rattle.drive_spec.specs.Terms.{is_protected}
@@ -173,7 +175,7 @@ found_by_append : (name : List ℕ) (date : ℕ) (why : Status) → is_opening w
 found_by_append name date status.NoCartridge sound = refl
 found_by_append name date status.NotFormatted sound = refl
 found_by_append name date (status.Foreign field value) sound = sound
-found_by_append name date (status.Lost segment lost) sound = table_lost segment lost (segment == 2) sound (eq-eqb segment 2)
+found_by_append name date (status.Lost segment lost) sound = table_lost segment lost false sound
 found_by_append name date status.TableMismatch sound = refl
 found_by_append name date why sound = cc
 
@@ -699,8 +701,8 @@ module _ {T S K : Type 0} (t : tapes.Meaning T) (s : sources.Meaning S) (k : sin
         (append_locked nothing both free (mark.0 refl)))
     append_failed c j after (fault.Lost segment lost) nothing both free mark refusal =
         append_untabled c j (status.Lost segment lost) (λ d. TableSays (table_cells d) (ByCode (LostSectors lost))) nothing both
-        (table_lost segment lost (segment == 2)
-        (both_true (nat_lt 3 lost) (segment == 2) (lt-ltb 3 lost refusal.1) (eq-eqb segment 2 refusal.0)) (eq-eqb segment 2))
+        (table_lost segment lost false
+        (both_true (are_too_many lost) (segment == 2) (too_many lost refusal.1) (eq-eqb segment 2 refusal.0)))
         (λ line place is. cc) (λ is. cc)
         (λ d table is says. not_lost d table lost is says) refusal.2
     append_failed c j after fault.TableMismatch nothing both free mark refusal =

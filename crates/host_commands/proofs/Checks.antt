@@ -1,7 +1,7 @@
 -- How `check` ends: with its counts, refused, or cut off.
-use Rattle.std.proofs.Common.{◌≡◌, ◌≢◌, ◌<◌, ◌∙◌, ℕ, ◌+◌, Bool, List, [], true, false, None, refl, subst, sym, inl, inr}
+use Rattle.std.proofs.Common.{◌≡◌, ◌≢◌, ◌<◌, ◌≤◌, ◌∙◌, ℕ, ◌+◌, ◌*◌, Bool, List, [], true, false, None, refl, subst, sym, inl, inr}
 use Rattle.std.proofs.Common.{arith, if◌then◌else◌}
-use Rattle.std.proofs.lemmas.Bool.{cases_eq, eq-eqb, lt-ltb, false≢true}
+use Rattle.std.proofs.lemmas.Bool.{cases_eq, eq-eqb, le-leb, lt-ltb, false≢true}
 use Rattle.std.specs.Prelude.{◌==◌, ◌&&◌, nat_lt}
 use Rattle.cartridge_check.specs.Checking.{CheckCut, CheckEnds, CheckFails, HasChecked, WasRefused, ended, fault_status, is_refusal}
 use Rattle.cartridge_check.specs.Checking.{tally_status}
@@ -12,12 +12,14 @@ use Rattle.command_laws.proofs.CommandEndings.{appends_none}
 use Rattle.command_laws.specs.RunTerms.{EndsBlind}
 use Rattle.command_spec.specs.Check.{Checks, IsCheck, check_refused}
 use Rattle.command_spec.specs.Machine.{fault_of, may_come_from}
+use Rattle.command_spec.specs.Numbers.{are_too_many, is_segment_count}
 use Rattle.command_spec.specs.Outcome.{CommandOutcome, HeldOutcome}
 use Rattle.command_spec.specs.declared.status.Status.{Status}
 use Rattle.hand_commands.proofs.Endings.{none_taken, told_map}
 use Rattle.qic_base.specs.Acts.{Act, Failing, TapeFails, SourceFails, SinkFails, Cut, text_of}
 use Rattle.qic_base.specs.Alone.{no_source, around}
 use Rattle.qic_base.specs.Cartridge.{Cartridge}
+use Rattle.qic_base.specs.declared.TheConstants.{LONGEST}
 use Rattle.cartridge_check.specs.declared.fault.CheckFault.TheVariants as fault
 use Rattle.command_spec.specs.declared.status.Status.TheVariants as status
 use Rattle.command_spec.specs.declared.words.Words.TheVariants as words
@@ -39,10 +41,12 @@ some_counted mendable bad some = elim (cases_eq mendable 0) [
   ]
 ]
 
-counts_sound : (clean : Bool) (mendable bad : ℕ) → (mendable == 0 && bad == 0) ≡ clean →
+counts_sound : (clean : Bool) (mendable bad : ℕ) → (mendable == 0 && bad == 0) ≡ clean → mendable + bad ≤ 28 * LONGEST →
     may_come_from (by_counts clean mendable bad) words.Check ≡ true
-counts_sound true mendable bad is = refl
-counts_sound false mendable bad is = lt-ltb 0 (mendable + bad) (some_counted mendable bad is)
+counts_sound true mendable bad is few = refl
+counts_sound false mendable bad is few =
+    both_true (nat_lt 0 (mendable + bad)) (is_segment_count (mendable + bad)) (lt-ltb 0 (mendable + bad) (some_counted mendable bad is))
+    (le-leb (mendable + bad) (28 * LONGEST) few)
 
 counts_printed : (clean : Bool) (mendable bad : ℕ) (text : List ℕ) → by_counts clean mendable bad ≢ status.Done →
     IsCheck (by_counts clean mendable bad) text → check_refused (by_counts clean mendable bad) text
@@ -53,7 +57,7 @@ refusal_sound : (why : CheckFault) → is_refusal why ≡ true → may_come_from
 refusal_sound fault.NoCartridge sound = refl
 refusal_sound fault.NotFormatted sound = refl
 refusal_sound (fault.Foreign field value) sound = sound
-refusal_sound (fault.Lost lost) sound = both_true (nat_lt 3 lost) true sound refl
+refusal_sound (fault.Lost lost) sound = both_true (are_too_many lost) true sound refl
 refusal_sound fault.TableMismatch sound = refl
 refusal_sound why sound = absurd (cc)
 
@@ -76,7 +80,7 @@ module _ {T K : Type 0} (t : tapes.Meaning T) (k : sinks.Meaning K) (a b : T) (x
     told = told_map (t.told a) _ _ is.told (λ held does. ([], tt, (appends_none words.Check None [] refl, does)));
     went = is.went;
     left = none_taken (tally_status tally) 0;
-    sound = counts_sound (tally.mendable == 0 && tally.bad == 0) tally.mendable tally.bad refl;
+    sound = counts_sound (tally.mendable == 0 && tally.bad == 0) tally.mendable tally.bad refl is.few;
     none_taken = λ blind. refl;
     prints = (
       (λ done. subst (λ (answer : Status). IsCheck answer (text_of is.acts)) done is.prints),

@@ -212,7 +212,7 @@ pub format_printed : {T K : Type 0} (t : tapes.Meaning T) (k : sinks.Meaning K) 
     Present t a b info → info.protected ≡ false → HasFormatted t info.segments_per_track label date b c words report →
     sink_calls.Writes k x y (formatted_line report.segments report.bad) r → EndsBlind t k (Format label date) a c x y (printed_status r)
 format_printed t k label date a b c x y info words report r there unlocked came writes =
-    printed t k (Format label date) is_blind a c x y (formatted info.segments_per_track words came.area) r refl refl
+    printed t k (Format label date) is_blind a c x y (formatted info.segments_per_track words came.area) r refl refl refl
     (28 * info.segments_per_track, (marked_sectors words, refl))
     (told_formatted t label date a b c info words report there unlocked came) (Done-Done there.did came.did)
     (subst (λ (text : List ℕ). sink_calls.Writes k x y text r) (line_is t label date info.segments_per_track b c words report came) writes)

@@ -1,6 +1,6 @@
 -- How the commands that mount a cartridge end.
 use Rattle.std.proofs.Common.{◌≡◌, ◌≢◌, ◌⊎◌, ℕ, ◌++◌, ◌∷◌, Bool, true, false, List, [], length, Option, Some, None, IfSome, IsSomeAnd}
-use Rattle.std.proofs.Common.{Result, Err, refl, sym, ap, ◌∙◌, subst, inl, inr, append-nil, arith, ◌&&◌, nat_le}
+use Rattle.std.proofs.Common.{Result, Err, refl, sym, ap, ◌∙◌, subst, inl, inr, append-nil, ◌&&◌}
 use Rattle.qic_base.specs.Cartridge.{Cartridge}
 use Rattle.qic_base.specs.declared.tape.TapeInfo.{TapeInfo}
 use Rattle.qic_base.specs.declared.sink.SinkFailed.{SinkFailed}
@@ -10,8 +10,8 @@ use Rattle.cartridge_laws.specs.HeaderTerms.{fault_as}
 use Rattle.cartridge_spec.specs.Table.{Entry}
 use Rattle.cartridge_laws.proofs.MountOnce.{mounts_is_function}
 use Rattle.command_laws.proofs.StoreTaking.{both_true}
-use Rattle.std.proofs.lemmas.Bool.{lt-ltb, eqb-true, eq-eqb, le-leb, and_parts}
-use Rattle.std.specs.Prelude.{◌==◌, nat_lt}
+use Rattle.std.proofs.lemmas.Bool.{and_parts, or_left}
+use Rattle.std.specs.Prelude.{◌==◌, ◌||◌}
 use Rattle.volume_store.specs.Mounting.{StoreView, IsSettling, SettlingBreaks, IsOpened}
 use Rattle.drive_states.specs.Unit.{UnitView}
 use Rattle.cartridge_spec.specs.Settling.{settling_steps}
@@ -30,7 +30,9 @@ use Rattle.command_laws.specs.CommandRecord.{is_unsound}
 use Rattle.command_laws.specs.RunTerms.{EndsBlind}
 use Rattle.command_laws.proofs.CommandOpened.{quiet}
 use Rattle.command_laws.proofs.CommandTold.{input_told, input_bytes}
+use Rattle.command_laws.proofs.CommandNumbers.{too_many}
 use Rattle.command_spec.specs.Machine.{may_come_from, CommandEnds}
+use Rattle.command_spec.specs.Numbers.{are_too_many}
 use Rattle.command_laws.proofs.CommandEndings.{Rules, none_reached, nothing_front}
 use Rattle.volume_store.proofs.Ending.{none_left}
 use Rattle.volume_store.proofs.Mounted.{cut_first}
@@ -175,7 +177,7 @@ open_failed t a b (open_fault.Refused (fault.Foreign field value)) fails =
     inl (turned t a b.tape (fault.Foreign field value) fails (foreign_is_refused fails.segments field value fails.cause))
 open_failed t a b (open_fault.Refused (fault.Lost segment lost)) fails =
     inl (turned t a b.tape (fault.Lost segment lost) fails
-    (both_true (nat_lt 3 lost) (segment == 2) (lt-ltb 3 lost fails.cause.1) (ap (λ (s : ℕ). s == 2) fails.cause.0)))
+    (both_true (are_too_many lost) (segment == 2) (too_many lost fails.cause.1) (ap (λ (s : ℕ). s == 2) fails.cause.0)))
 open_failed t a b (open_fault.Refused fault.TableMismatch) fails = inl (turned t a b.tape fault.TableMismatch fails refl)
 open_failed t a b (open_fault.Refused fault.Tape) fails = inr (refl, fails)
 open_failed t a b (open_fault.Refused f) fails = let kind = fails.kind in absurd (cc)
@@ -218,18 +220,17 @@ no_counts (status.Unsound mendable bad) sound = absurd (cc)
 no_counts why sound = refl
 
 -- a segment that an opening finds lost is that of the volume table
-pub table_lost : (segment lost : ℕ) (b : Bool) → (nat_lt 3 lost && segment == 2) ≡ true → (segment ≡ 2 → b ≡ true) →
-    (nat_lt 3 lost && (nat_le 2 segment && b)) ≡ true
-table_lost segment lost b sound allows =
-    let both = and_parts (nat_lt 3 lost) (segment == 2) sound in
-    let at : segment ≡ 2 = eqb-true segment 2 both.1 in
-    both_true (nat_lt 3 lost) (nat_le 2 segment && b) both.0 (both_true (nat_le 2 segment) b (le-leb 2 segment (omega arith)) (allows at))
+pub table_lost : (segment lost : ℕ) (other : Bool) → (are_too_many lost && segment == 2) ≡ true →
+    (are_too_many lost && (segment == 2 || other)) ≡ true
+table_lost segment lost other sound =
+    let both = and_parts (are_too_many lost) (segment == 2) sound in
+    both_true (are_too_many lost) (segment == 2 || other) both.0 (or_left (segment == 2) other both.1)
 
 found_by_list : (why : Status) → is_opening why ≡ true → may_come_from why words.List ≡ true
 found_by_list status.NoCartridge sound = refl
 found_by_list status.NotFormatted sound = refl
 found_by_list (status.Foreign field value) sound = sound
-found_by_list (status.Lost segment lost) sound = table_lost segment lost (segment == 2) sound (eq-eqb segment 2)
+found_by_list (status.Lost segment lost) sound = table_lost segment lost false sound
 found_by_list status.TableMismatch sound = refl
 found_by_list why sound = cc
 
@@ -237,7 +238,7 @@ found_by_info : (why : Status) → is_opening why ≡ true → may_come_from why
 found_by_info status.NoCartridge sound = refl
 found_by_info status.NotFormatted sound = refl
 found_by_info (status.Foreign field value) sound = sound
-found_by_info (status.Lost segment lost) sound = table_lost segment lost (segment == 2) sound (eq-eqb segment 2)
+found_by_info (status.Lost segment lost) sound = table_lost segment lost false sound
 found_by_info status.TableMismatch sound = refl
 found_by_info why sound = cc
 
@@ -283,11 +284,12 @@ refuses t k command goes a b x why follows nothing (inr (is, cut)) =
     (follows.plain held outcome rules))) cut.broke)
 
 shows : {T K : Type 0} (t : tapes.Meaning T) (k : sinks.Meaning K) (command : Words) (prints : Printing) (a : T) (b : UnitView T) (x y : K)
-    (store : StoreView) (r : Result (Unit {0}) SinkFailed) → Follows command (Shows prints) →
+    (store : StoreView) (r : Result (Unit {0}) SinkFailed) → Follows command (Shows prints) → may_come_from status.Done command ≡ true →
     CommandPrints command (prints store.header store.words store.entries) → HasOpened t a b store →
     sink_calls.Writes k x y (prints store.header store.words store.entries) r → EndsBlind t k command a b.tape x y (printed_status r)
-shows t k command prints a b x y store r follows text opening writes =
-    printed t k command follows.blind a b.tape x y (acted opening.steps (prints store.header store.words store.entries)) r refl refl text
+shows t k command prints a b x y store r follows sound text opening writes =
+    printed t k command follows.blind a b.tape x y (acted opening.steps (prints store.header store.words store.entries)) r sound
+    refl refl text
     (told_map (t.told a) _ _ opening.told
     (λ held is. follows.rules held (acted opening.steps (prints store.header store.words store.entries))
     (opened_is (Shows prints) (acted opening.steps (prints store.header store.words store.entries)) store opening.steps held is
@@ -301,7 +303,7 @@ list_refused t k a b x why nothing ends = refuses t k words.List (Shows listing)
 pub list_printed : {T K : Type 0} (t : tapes.Meaning T) (k : sinks.Meaning K) (a : T) (b : UnitView T) (x y : K) (store : StoreView)
     (r : Result (Unit {0}) SinkFailed) → HasOpened t a b store →
     sink_calls.Writes k x y (list_text store.words store.entries) r → EndsBlind t k words.List a b.tape x y (printed_status r)
-list_printed t k a b x y store r mounted printed = shows t k words.List listing a b x y store r list_follows
+list_printed t k a b x y store r mounted printed = shows t k words.List listing a b x y store r list_follows refl
     (store.header, (store.words, (store.entries, refl))) mounted printed
 
 pub info_refused : {T K : Type 0} (t : tapes.Meaning T) (k : sinks.Meaning K) (a : T) (b : UnitView T) (x : K) (why : Status) →
@@ -313,7 +315,7 @@ pub info_printed : {T K : Type 0} (t : tapes.Meaning T) (k : sinks.Meaning K) (a
     sink_calls.Writes k x y (info_text store.header store.words (length store.entries)) r → EndsBlind t k words.Info a b.tape x y
     (printed_status r)
 info_printed t k a b x y store r mounted printed =
-    shows t k words.Info telling a b x y store r info_follows (store.header, (store.words, (store.entries, refl))) mounted printed
+    shows t k words.Info telling a b x y store r info_follows refl (store.header, (store.words, (store.entries, refl))) mounted printed
 
 -- ---- commands that read an input
 

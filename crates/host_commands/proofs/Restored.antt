@@ -1,11 +1,12 @@
 -- How the restoring of a volume ends.
 use Rattle.std.proofs.Common.{◌≡◌, ◌≢◌, ℕ, false, List, [], ◌∷◌, length, true, Some, None, Ok, Err, refl, sym, ap, ◌∙◌, subst, inl, inr}
 use Rattle.std.proofs.Common.{arith}
-use Rattle.command_laws.proofs.RestoreBehind.{piece_behind}
+use Rattle.command_laws.proofs.RestoreBehind.{piece_between}
 use Rattle.cartridge_laws.specs.Table.{IsSoundList}
-use Rattle.std.specs.Prelude.{◌==◌, ◌&&◌, nat_lt, zero, suc, ◌||◌, nat_le, ◌≤◌}
-use Rattle.std.proofs.lemmas.Bool.{lt-ltb, eq-eqb, le-leb}
-use Rattle.std.proofs.lemmas.Option.{slice_get_cases, none-some}
+use Rattle.std.specs.Prelude.{◌==◌, ◌&&◌, nat_lt, zero, suc, ◌||◌, nat_le, ◌≤◌, ◌<◌, ◌*◌, ◌-◌}
+use Rattle.std.proofs.lemmas.Bool.{lt-ltb, eq-eqb, le-leb, or_right}
+use Rattle.std.proofs.lemmas.Option.{slice_get_cases, slice_get_within, none-some}
+use Rattle.command_laws.proofs.CommandNumbers.{of_volume, too_many}
 use Rattle.command_laws.proofs.StoreTaking.{both_true}
 use Rattle.command_laws.specs.RestoreTerms.{EndsAt}
 use Rattle.command_laws.specs.Outcomes.{RestoreOutcome}
@@ -20,6 +21,9 @@ use Rattle.qic_base.specs.Alone.{no_source, around}
 use Rattle.cartridge_spec.specs.Mounting.{Mounting}
 use Rattle.cartridge_spec.specs.Table.{Entry}
 use Rattle.drive_states.specs.Unit.{UnitView}
+use Rattle.host_driver.specs.Fits.{segments_of}
+use Rattle.qic_base.specs.declared.TheConstants.{LONGEST}
+use Rattle.volume_store.proofs.Storing.{length_learnt}
 use Rattle.cartridge_laws.proofs.MountOnce.{mounts_is_function}
 use Rattle.volume_output.specs.Output.{GaveVolume, VolumeCut}
 use Rattle.volume_store.specs.Mounting.{StoreView, IsOpened}
@@ -29,6 +33,7 @@ use Rattle.command_spec.specs.Outcome.{Opened, CommandOutcome, refused_behind}
 use Rattle.volume_store.specs.Opening.{HasOpened}
 use Rattle.command_spec.specs.Commands.{command_of}
 use Rattle.command_spec.specs.Machine.{IsCutOff, fault_of, may_come_from}
+use Rattle.command_spec.specs.Numbers.{are_too_many, is_of_volume, is_volume_count}
 use Rattle.command_laws.proofs.CommandOpened.{quiet}
 use Rattle.volume_store.proofs.Opened.{went_behind, cut_behind, settled_told}
 use Rattle.cartridge_front.specs.declared.fault.StoreFault.{StoreFault}
@@ -51,22 +56,32 @@ gives_first number c header ws table entries outcome (inl none) = ap (λ (o : Co
 gives_first number c header ws table entries outcome (inr found) = ap (λ (o : CommandOutcome). first_steps o) found.is
 
 -- there is no volume of the number
-none_sound : (entries : List Entry) (number : ℕ) → volume_at entries number ≡ None → (command_of (words.Restore number)).is_no_volume number
-    (length entries) ≡ true
-none_sound entries zero none = refl
-none_sound entries (suc n) none =
+none_sound : (entries : List Entry) (number : ℕ) → length entries ≤ 232 → volume_at entries number ≡ None →
+    (command_of (words.Restore number)).is_no_volume number (length entries) ≡ true
+none_sound entries zero few none = both_true (is_volume_count (length entries)) true (le-leb (length entries) 232 few) refl
+none_sound entries (suc n) few none =
     elim (slice_get_cases entries n).1 [
       | inl there ↦ absurd (none-some there.0 (sym none ∙ there.2))
       | inr past ↦
-          both_true (suc n == suc n) (suc n == 0 || nat_lt (length entries) (suc n)) (eq-eqb (suc n) (suc n) refl)
-          (or_second (suc n == 0) (nat_lt (length entries) (suc n)) (lt-ltb (length entries) (suc n) (omega (arith, past.0))))
+          both_true (suc n == suc n) (is_volume_count (length entries) && (suc n == 0 || nat_lt (length entries) (suc n)))
+          (eq-eqb (suc n) (suc n) refl)
+          (both_true (is_volume_count (length entries)) (suc n == 0 || nat_lt (length entries) (suc n)) (le-leb (length entries) 232 few)
+          (or_second (suc n == 0) (nat_lt (length entries) (suc n)) (lt-ltb (length entries) (suc n) (omega (arith, past.0)))))
     ]
+
+-- there is one, so it has a number that there can be
+there_sound : (entries : List Entry) (number : ℕ) (e : Entry) → length entries ≤ 232 → volume_at entries number ≡ Some e →
+    (command_of (words.Restore number)).can_be ≡ true
+there_sound entries zero e few there = absurd (cc)
+there_sound entries (suc n) e few there =
+    let below : n < length entries = slice_get_within entries n e there in
+    both_true (nat_le 1 (suc n)) (is_volume_count (suc n)) (le-leb 1 (suc n) (omega arith)) (le-leb (suc n) 232 (omega arith))
 
 found_by_restore : (number : ℕ) (why : Status) → is_opening why ≡ true → may_come_from why (words.Restore number) ≡ true
 found_by_restore number status.NoCartridge sound = refl
 found_by_restore number status.NotFormatted sound = refl
 found_by_restore number (status.Foreign field value) sound = sound
-found_by_restore number (status.Lost segment lost) sound = table_lost segment lost true sound (λ at. refl)
+found_by_restore number (status.Lost segment lost) sound = table_lost segment lost (is_of_volume segment) sound
 found_by_restore number status.TableMismatch sound = refl
 found_by_restore number why sound = cc
 
@@ -87,15 +102,16 @@ restore_refused t k number a b x why nothing ends = refuses t k (words.Restore n
 
 -- a segment that ends a restore is one of the volume's
 ending_sound : (number : ℕ) (ws : List ℕ) (last : ℕ) (entries : List Entry) (e : Entry) (done : ℕ) (ending : GivingEnd) →
-    IsSoundList last entries → volume_at entries number ≡ Some e →
+    length entries ≤ 232 → last < 28 * LONGEST → IsSoundList last entries → volume_at entries number ≡ Some e →
     EndsAt (pieces ws e) done ending → may_come_from (ending_status ending) (words.Restore number) ≡ true
-ending_sound number ws last entries e done Restored order there at = refl
-ending_sound number ws last entries e done (LostIn segment lost) order there at =
-    let behind : 3 ≤ segment = piece_behind ws last entries number e done segment order there at.1 in
-    both_true (nat_lt 3 lost) (nat_le 2 segment && true) (lt-ltb 3 lost at.0)
-    (both_true (nat_le 2 segment) true (le-leb 2 segment (omega arith)) refl)
-ending_sound number ws last entries e done (MismatchIn segment) order there at =
-    le-leb 3 segment (piece_behind ws last entries number e done segment order there at)
+ending_sound number ws last entries e done Restored few most order there at = there_sound entries number e few there
+ending_sound number ws last entries e done (LostIn segment lost) few most order there at =
+    let between = piece_between ws last entries number e done segment order there at.1 in
+    both_true (are_too_many lost) (segment == 2 || is_of_volume segment) (too_many lost at.0)
+    (or_right (segment == 2) (is_of_volume segment) (of_volume segment between.0 (omega (arith, between.1))))
+ending_sound number ws last entries e done (MismatchIn segment) few most order there at =
+    let between = piece_between ws last entries number e done segment order there at in
+    of_volume segment between.0 (omega (arith, between.1))
 
 -- some of the bytes, where a segment doesn't read
 refused_prints : (number : ℕ) (ending : GivingEnd) (text : List ℕ) → ending_status ending ≢ status.Done →
@@ -109,16 +125,23 @@ abbrev given : List Act → Status → CommandOutcome
 given acts answer = record { acts = acts; taken = 0; status = answer }
 
 module _ {T K : Type 0} (t : tapes.Meaning T) (k : sinks.Meaning K) (number : ℕ) (a : T) (b : UnitView T) (store : StoreView)
-    (opening : HasOpened t a b store) where
+    (opening : HasOpened t a b store) (few : length store.entries ≤ 232) where
   abbrev needed : Entry → List Piece
   needed e = pieces store.words e
+
+  last_there : 28 * segments_of store.host - 1 < 28 * LONGEST
+  last_there =
+      let long = length_learnt t store.host b opening.fits.host in
+      let least = long.shortest in
+      let most = long.longest in
+      omega arith
 
   -- there is no such volume
   pub none_given : (x : K) → ((z : K) → k.took z [] z) → volume_at store.entries number ≡ None →
       EndsBlind t k (words.Restore number) a b.tape x x (status.NoVolume number (length store.entries))
   none_given x nothing none =
       turned_behind t k (words.Restore number) (restore_follows number).blind a b.tape x
-      (status.NoVolume number (length store.entries)) opening.steps nothing (none_sound store.entries number none) refl (λ is. cc)
+      (status.NoVolume number (length store.entries)) opening.steps nothing (none_sound store.entries number few none) refl (λ is. cc)
       (told_map (t.told a) _ _ opening.told (λ held is input.
       opened_is (Gives number) (refused_behind opening.steps (status.NoVolume number (length store.entries))) store opening.steps held is
       (λ c table there mounts settles. inl
@@ -156,7 +179,8 @@ module _ {T K : Type 0} (t : tapes.Meaning T) (k : sinks.Meaning K) (number : �
             ));
         went = went_behind t no_source k both nothing a b.tape tt x (around c y) opening.steps gave.acts opening.did gave.went;
         left = none_taken (ending_status ending) 0;
-        sound = ending_sound number store.words _ store.entries e (length gave.acts) ending opening.fits.list numbered gave.ends;
+        sound = ending_sound number store.words _ store.entries e (length gave.acts) ending few last_there opening.fits.list numbered
+            gave.ends;
         none_taken = λ blind. refl;
         prints = ((λ done. tt), (λ other. refused_prints number ending (text_of (quiet opening.steps ∷ gave.acts)) other));
         silent = λ still. absurd (cc);

@@ -1,5 +1,5 @@
 -- How `room` ends: refused, cut off, or with its line.
-use Rattle.std.proofs.Common.{◌≡◌, ◌≢◌, ℕ, List, [], true, Option, Some, None, IfSome, IsSomeAnd, Result, Err, refl, ap, inl, inr}
+use Rattle.std.proofs.Common.{◌≡◌, ◌≢◌, ℕ, List, [], true, false, Option, Some, None, IfSome, IsSomeAnd, Result, Err, refl, ap, inl, inr}
 use Rattle.cartridge_spec.specs.Appending.{room}
 use Rattle.cartridge_spec.specs.Mounting.{Mounted}
 use Rattle.cartridge_spec.specs.Table.{Entry}
@@ -17,8 +17,6 @@ use Rattle.host_commands.specs.Opening.{OpeningEnds, OpeningRefused, is_opening}
 use Rattle.host_commands.specs.Statuses.{open_status}
 use Rattle.qic_base.specs.Cartridge.{Cartridge}
 use Rattle.qic_base.specs.declared.sink.SinkFailed.{SinkFailed}
-use Rattle.std.proofs.lemmas.Bool.{eq-eqb}
-use Rattle.std.specs.Prelude.{◌==◌}
 use Rattle.volume_store.specs.Looking.{FindsRoom, HasVolumes, LookFails}
 use Rattle.volume_store.specs.declared.opening.OpenFault.{OpenFault}
 use Rattle.cartridge_front.specs.declared.fault.StoreFault.TheVariants as fault
@@ -36,7 +34,7 @@ found_by_room : (why : Status) → is_opening why ≡ true → may_come_from why
 found_by_room status.NoCartridge sound = refl
 found_by_room status.NotFormatted sound = refl
 found_by_room (status.Foreign field value) sound = sound
-found_by_room (status.Lost segment lost) sound = table_lost segment lost (segment == 2) sound (eq-eqb segment 2)
+found_by_room (status.Lost segment lost) sound = table_lost segment lost false sound
 found_by_room status.TableMismatch sound = refl
 found_by_room why sound = cc
 
@@ -82,6 +80,6 @@ module _ {T K : Type 0} (t : tapes.Meaning T) (k : sinks.Meaning K) (a : T) (b :
       (room_line bytes) r →
       EndsBlind t k words.Room a b.tape x y (printed_status r)
   room_printed y bytes r finds writes =
-      printed t k words.Room blind a b.tape x y (acted [] (room_line bytes)) r refl refl
+      printed t k words.Room blind a b.tape x y (acted [] (room_line bytes)) r refl refl refl
       (finds.words, (finds.entries, ap room_line finds.is))
       (told_map (t.told a) _ _ finds.told (λ held has input. tells finds.words finds.entries bytes held finds.is has)) finds.did writes

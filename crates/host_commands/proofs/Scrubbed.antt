@@ -1,6 +1,5 @@
 -- How the scrubbing of a cartridge ends, in either form.
 use Rattle.std.proofs.Common.{◌≡◌, ◌≢◌, ◌++◌, true, false, ℕ, List, [], ◌∷◌, Option, Some, Err, refl, sym, ap, ◌∙◌, subst, inl, inr}
-use Rattle.std.proofs.lemmas.Bool.{eq-eqb}
 use Rattle.qic_base.specs.Cartridge.{Cartridge}
 use Rattle.qic_base.specs.Step.{Step as TapeStep}
 use Rattle.qic_base.proofs.Writing.{TakesBoth}
@@ -21,7 +20,7 @@ use Rattle.command_spec.specs.declared.depth.Depth.TheVariants.{Shallow, Deep}
 use Rattle.segment_mending.specs.Mending.{HasScrubbed, ScrubCut, reported}
 use Rattle.segment_mending.specs.declared.report.ScrubReport.{ScrubReport}
 use Rattle.command_spec.specs.declared.words.Words.{Words}
-use Rattle.std.specs.Prelude.{◌↔◌, ◌==◌}
+use Rattle.std.specs.Prelude.{◌↔◌}
 use Rattle.volume_store.specs.Mounting.{StoreView, IsOpened}
 use Rattle.volume_store.specs.Scrubbing.{MendEnds}
 use Rattle.command_spec.specs.declared.status.Status.{Status}
@@ -59,7 +58,7 @@ found_by_scrub : (why : Status) → is_opening why ≡ true → may_come_from wh
 found_by_scrub status.NoCartridge sound = refl
 found_by_scrub status.NotFormatted sound = refl
 found_by_scrub (status.Foreign field value) sound = sound
-found_by_scrub (status.Lost segment lost) sound = table_lost segment lost (segment == 2) sound (eq-eqb segment 2)
+found_by_scrub (status.Lost segment lost) sound = table_lost segment lost false sound
 found_by_scrub status.TableMismatch sound = refl
 found_by_scrub why sound = cc
 
@@ -67,7 +66,7 @@ found_by_deep : (why : Status) → is_opening why ≡ true → may_come_from why
 found_by_deep status.NoCartridge sound = refl
 found_by_deep status.NotFormatted sound = refl
 found_by_deep (status.Foreign field value) sound = sound
-found_by_deep (status.Lost segment lost) sound = table_lost segment lost (segment == 2) sound (eq-eqb segment 2)
+found_by_deep (status.Lost segment lost) sound = table_lost segment lost false sound
 found_by_deep status.TableMismatch sound = refl
 found_by_deep why sound = cc
 
@@ -82,6 +81,7 @@ pub record IsForm (command : Words) (depth : Depth) : Type 0 where
   appends : (traits_of command).appends ≡ false
   prints : (traits_of command).goes ≡ true
   locked : may_come_from status.Protected command ≡ true
+  done : may_come_from status.Done command ≡ true
   found : (why : Status) → is_opening why ≡ true → may_come_from why command ≡ true
   shows : (words : List ℕ) (entries : List Entry) (text : List ℕ) → ScrubShown depth words entries text → CommandPrints command text
   fronts : (words : List ℕ) (entries : List Entry) (text rest : List ℕ) → ScrubShown depth words entries (text ++ rest) →
@@ -95,6 +95,7 @@ scrub_form = record {
   appends = refl;
   prints = refl;
   locked = refl;
+  done = refl;
   found = found_by_scrub;
   shows = λ words entries text shown. (words, (entries, shown));
   fronts = λ words entries text rest shown. (rest, (words, (entries, shown)));
@@ -108,6 +109,7 @@ deep_form = record {
   appends = refl;
   prints = refl;
   locked = refl;
+  done = refl;
   found = found_by_deep;
   shows = λ words entries text shown. (words, (entries, shown));
   fronts = λ words entries text rest shown. (rest, (words, (entries, shown)));
@@ -181,7 +183,7 @@ module _ (command : Words) (depth : Depth) (form : IsForm command depth) where
               ));
           went = went_behind t no_source k both nothing a b.tape tt x (around c y) opening.steps acts opening.did went;
           left = refl;
-          sound = refl;
+          sound = form.done;
           none_taken = λ blind. refl;
           prints = ((λ done. form.shows store.words store.entries (text_of acts) text), (λ other. absurd (other refl)));
           silent = λ still. let loud = form.prints in absurd (cc);

@@ -1,6 +1,7 @@
 -- How the opening of a cartridge ends: refused, or with its table settled and what was found (this project's own).
-use Rattle.std.specs.Prelude.{◌≡◌, Option, Some, None, ◌&&◌, ◌==◌, nat_lt, Bool, true, false, [], ◌⊎◌, IfSome, Result, Ok, Err, IsSomeAnd}
+use Rattle.std.specs.Prelude.{◌≡◌, Option, Some, None, ◌&&◌, ◌==◌, Bool, true, false, [], ◌⊎◌, IfSome, Result, Ok, Err, IsSomeAnd}
 use Rattle.cartridge_spec.specs.Mounting.{Mounting, Mounts}
+use Rattle.command_spec.specs.Numbers.{are_too_many}
 use Rattle.command_spec.specs.Outcome.{is_refused}
 use Rattle.command_spec.specs.declared.status.Status.{Status}
 use Rattle.drive_states.specs.Unit.{UnitView}
@@ -39,7 +40,7 @@ abbrev pub is_opening : Status → Bool
 is_opening status.NoCartridge = true
 is_opening status.NotFormatted = true
 is_opening (status.Foreign field value) = is_refused field value
-is_opening (status.Lost segment lost) = nat_lt 3 lost && segment == 2
+is_opening (status.Lost segment lost) = are_too_many lost && segment == 2
 is_opening status.TableMismatch = true
 is_opening answer = false
 

@@ -23,6 +23,7 @@ pub fn restore<T: Tape, K: Sink>(
         Ok(store) => store,
         Err(status) => return status,
     };
+    prove!(store.count() <= 232);
     match store.restore(unit, number, Form::Alone, sink) {
         Ok(_) => Status::Done,
         Err(fault) => store_status(fault),

@@ -1,6 +1,6 @@
 //! A segment read.
 
-ghost use Rattle.std.specs.Prelude.{◌≡◌, ◌≢◌, ◌<◌, ◌^◌, ℕ, [], true, length, take, IfOk, OnOk, IsOkUnless};
+ghost use Rattle.std.specs.Prelude.{◌≡◌, ◌≢◌, ◌<◌, ◌≤◌, ◌^◌, ℕ, [], true, length, take, IfOk, OnOk, IsOkUnless};
 ghost use Rattle.qic_base.specs.Cartridge.{view_at};
 ghost use Rattle.qic_base.specs.TapeCalls.{Does, Tells, ReadsSectors};
 ghost use Rattle.cartridge_spec.specs.Code.{IsCodeBlock};
@@ -117,7 +117,7 @@ pub fn read_segment<T: Tape>(
     ensures within { IfOk result (λ lost. lost < 2 ^ usable_count usable) }
     ensures block { OnOk result (IsCodeBlock (take (usable_count usable) work.new)) }
     ensures many { (named n : ℕ) → result ≡ Err (SegFault.Lost named n) →
-        (named ≡ segment) × (3 < n) }
+        (named ≡ segment) × (3 < n) × (n ≤ 32) }
     ensures mismatch { (named : ℕ) → result ≡ Err (SegFault.Mismatch named) →
         named ≡ segment }
     ensures room { length work.new ≡ 32 }

@@ -1,11 +1,16 @@
 -- How a generated run ends.
 use Rattle.cartridge_spec.specs.Appending.{room}
-use Rattle.std.proofs.Common.{◌≡◌, ◌≢◌, ℕ, ◌<◌, ◌≤◌, ◌&&◌, nat_le, nat_lt, Bool, true, false, cond, List, [], ◌∷◌, Option, Some, None}
+use Rattle.std.proofs.Common.{◌≡◌, ◌≢◌, ℕ, ◌≤◌, ◌&&◌, nat_le, nat_lt, Bool, true, false, cond, List, [], ◌∷◌, Option, Some, None}
 use Rattle.std.proofs.Common.{IfSome, Result, Ok, Err, refl, sym, ap, ◌∙◌, subst, inl, inr, arith, length, ◌-◌}
 use Rattle.command_laws.proofs.CommandClean.{made_order}
-use Rattle.command_laws.proofs.RestoreBehind.{piece_behind}
+use Rattle.command_laws.proofs.CommandNumbers.{of_volume, too_many}
+use Rattle.command_laws.proofs.MadeLengths.{IsOfRun, all_of_run, has_value}
+use Rattle.command_laws.proofs.RestoreBehind.{piece_between}
 use Rattle.cartridge_laws.specs.Table.{IsSoundList}
-use Rattle.std.proofs.lemmas.Bool.{cases_Bool, leb-false, lt-ltb, le-leb}
+use Rattle.std.proofs.lemmas.Bool.{cases_Bool, eq-eqb, leb-false, lt-ltb, or_left, or_right}
+use Rattle.std.proofs.lemmas.List.Elements.{All-head, All-tail}
+use Rattle.std.specs.List.{range_with_len}
+use Rattle.std.specs.Prelude.{◌==◌, ◌||◌, ◌*◌, All, IsSomeAnd, slice_get}
 use Rattle.qic_base.specs.Cartridge.{Cartridge}
 use Rattle.qic_base.specs.Step.{Step as TapeStep}
 use Rattle.qic_base.proofs.Writing.{TakesBoth}
@@ -18,6 +23,10 @@ use Rattle.cartridge_laws.proofs.MountOnce.{mounts_is_function}
 use Rattle.command_spec.specs.Make.{made_length, MakeStep, AppendMade, WearSector, ScrubAll, SumVolume, after_item, making, made_answer}
 use Rattle.command_spec.specs.Make.{MayDo, MayRun, Making}
 use Rattle.command_spec.specs.Append.{has_promised_room}
+use Rattle.command_spec.specs.Numbers.{AreTooMany, are_too_many, is_of_volume}
+use Rattle.command_spec.specs.Restore.{pieces, volume_at}
+use Rattle.qic_base.specs.declared.TheConstants.{LONGEST}
+use Rattle.volume_store.proofs.Storing.{length_learnt}
 use Rattle.command_laws.specs.MadeTerms.{Makes}
 use Rattle.command_laws.specs.RunTerms.{EndsBlind}
 use Rattle.volume_store.specs.Mounting.{StoreView, IsOpened}
@@ -62,9 +71,10 @@ some_bytes : (seed volume : ℕ) → 1 ≤ made_length seed volume
 some_bytes seed volume = omega arith
 
 -- an append is carried out, or full
-append_sound : (seed count : ℕ) (ws : List ℕ) (es : List Entry) (volume : ℕ) (answer : Status) → made_answer seed ws es volume ≡ answer →
-    may_come_from answer (words.Make seed count) ≡ true
-append_sound seed count ws es volume answer is = by_room (has_promised_room (room ws es) (Some (made_length seed volume))) refl is
+append_sound : (seed count : ℕ) (ws : List ℕ) (es : List Entry) (volume : ℕ) (answer : Status) → IsOfRun seed count (AppendMade volume) →
+    made_answer seed ws es volume ≡ answer → may_come_from answer (words.Make seed count) ≡ true
+append_sound seed count ws es volume answer of_run is =
+    by_room (has_promised_room (room ws es) (Some (made_length seed volume))) refl is
   where
     by_room : (b : Bool) → has_promised_room (room ws es) (Some (made_length seed volume)) ≡ b →
         cond b status.Done (status.Full (made_length seed volume) (room ws es)) ≡ answer →
@@ -72,37 +82,46 @@ append_sound seed count ws es volume answer is = by_room (has_promised_room (roo
     by_room true there same = subst (λ (a : Status). may_come_from a (words.Make seed count) ≡ true) same refl
     by_room false none same =
         subst (λ (a : Status). may_come_from a (words.Make seed count) ≡ true) same
-        (full_more (room ws es) (made_length seed volume) (some_bytes seed volume) none)
+        (both_true (nat_lt (room ws es) (made_length seed volume)) (has_value (made_length seed) (range_with_len 1 count) volume)
+        (full_more (room ws es) (made_length seed volume) (some_bytes seed volume) none) of_run)
 
--- a segment that lost too much is the table's, or one behind it
-lost_sound : (seed count segment lost : ℕ) → 3 < lost → 2 ≤ segment → may_come_from (status.Lost segment lost)
-    (words.Make seed count) ≡ true
-lost_sound seed count segment lost many from =
-    both_true (nat_lt 3 lost) (nat_le 2 segment && true) (lt-ltb 3 lost many)
-    (both_true (nat_le 2 segment) true (le-leb 2 segment from) refl)
+-- a segment that lost too much is the table's, or a volume's
+lost_sound : (seed count segment lost : ℕ) → AreTooMany lost → (segment == 2 || is_of_volume segment) ≡ true →
+    may_come_from (status.Lost segment lost) (words.Make seed count) ≡ true
+lost_sound seed count segment lost many which =
+    both_true (are_too_many lost) (segment == 2 || is_of_volume segment) (too_many lost many) which
+
+-- a piece of a volume in the list
+sum_sound : (ws : List ℕ) (es : List Entry) (number : ℕ) (e : Entry) (read segment : ℕ) → length ws ≤ 28 * LONGEST →
+    IsSoundList (length ws - 1) es → volume_at es number ≡ Some e →
+    IsSomeAnd (slice_get (pieces ws e) read) (λ piece. piece.segment ≡ segment) → is_of_volume segment ≡ true
+sum_sound ws es number e read segment few order there at =
+    let between = piece_between ws (length ws - 1) es number e read segment order there at in
+    of_volume segment between.0 (omega (arith, between.0, between.1))
 
 -- each step is answered as a run may be, where the list is in order
 do_sound : (seed count : ℕ) (ws : List ℕ) (es : List Entry) (item : MakeStep) (text : List ℕ) (answer : Status) →
-    IsSoundList (length ws - 1) es → MayDo seed ws es item text answer →
+    length ws ≤ 28 * LONGEST → IsOfRun seed count item → IsSoundList (length ws - 1) es → MayDo seed ws es item text answer →
     may_come_from answer (words.Make seed count) ≡ true
-do_sound seed count ws es (AppendMade volume) text status.Protected order may = refl
-do_sound seed count ws es (AppendMade volume) text status.TableMismatch order may = refl
-do_sound seed count ws es (AppendMade volume) text (status.Lost segment lost) order may = let at : segment ≡ 2 = may.1.0 in
-    lost_sound seed count segment lost may.1.1 (omega arith)
-do_sound seed count ws es (AppendMade volume) text answer order may = append_sound seed count ws es volume answer may.1
-do_sound seed count ws es (WearSector segment sector) text answer order may =
+do_sound seed count ws es (AppendMade volume) text status.Protected few of_run order may = refl
+do_sound seed count ws es (AppendMade volume) text status.TableMismatch few of_run order may = refl
+do_sound seed count ws es (AppendMade volume) text (status.Lost segment lost) few of_run order may =
+    lost_sound seed count segment lost may.1.1 (or_left (segment == 2) (is_of_volume segment) (eq-eqb segment 2 may.1.0))
+do_sound seed count ws es (AppendMade volume) text answer few of_run order may =
+    append_sound seed count ws es volume answer of_run may.1
+do_sound seed count ws es (WearSector segment sector) text answer few of_run order may =
     subst (λ (a : Status). may_come_from a (words.Make seed count) ≡ true) (sym may.1) refl
-do_sound seed count ws es ScrubAll text status.Done order may = refl
-do_sound seed count ws es ScrubAll text status.Protected order may = refl
-do_sound seed count ws es ScrubAll text answer order may = absurd may
-do_sound seed count ws es (SumVolume number) text status.Done order may = refl
-do_sound seed count ws es (SumVolume number) text (status.Lost segment lost) order may =
+do_sound seed count ws es ScrubAll text status.Done few of_run order may = refl
+do_sound seed count ws es ScrubAll text status.Protected few of_run order may = refl
+do_sound seed count ws es ScrubAll text answer few of_run order may = absurd may
+do_sound seed count ws es (SumVolume number) text status.Done few of_run order may = refl
+do_sound seed count ws es (SumVolume number) text (status.Lost segment lost) few of_run order may =
     let at = may.2.1.1 in
-    let behind : 3 ≤ segment = piece_behind ws (length ws - 1) es number may.0 may.2.1.0 segment order may.1 at.1 in
-    lost_sound seed count segment lost at.0 (omega arith)
-do_sound seed count ws es (SumVolume number) text (status.Mismatch segment) order may =
-    le-leb 3 segment (piece_behind ws (length ws - 1) es number may.0 may.2.1.0 segment order may.1 may.2.1.1)
-do_sound seed count ws es (SumVolume number) text answer order may = absurd may.2
+    lost_sound seed count segment lost at.0
+    (or_right (segment == 2) (is_of_volume segment) (sum_sound ws es number may.0 may.2.1.0 segment few order may.1 at.1))
+do_sound seed count ws es (SumVolume number) text (status.Mismatch segment) few of_run order may =
+    sum_sound ws es number may.0 may.2.1.0 segment few order may.1 may.2.1.1
+do_sound seed count ws es (SumVolume number) text answer few of_run order may = absurd may.2
 
 -- a step that was carried out leaves a list in order
 order_behind : (seed : ℕ) (ws : List ℕ) (es : List Entry) (item : MakeStep) (text : List ℕ) → IsSoundList (length ws - 1) es →
@@ -115,13 +134,15 @@ order_behind seed ws es (SumVolume number) text order may = order
 
 -- .. and so is the run
 run_sound : (seed count : ℕ) (ws : List ℕ) (items : List MakeStep) (es : List Entry) (text : List ℕ) (answer : Status) →
-    IsSoundList (length ws - 1) es → MayRun seed ws es items text answer →
+    length ws ≤ 28 * LONGEST → All (IsOfRun seed count) items → IsSoundList (length ws - 1) es → MayRun seed ws es items text answer →
     may_come_from answer (words.Make seed count) ≡ true
-run_sound seed count ws [] es text answer order (none, done) = subst (λ (a : Status). may_come_from a (words.Make seed count) ≡ true)
-    (sym done) refl
-run_sound seed count ws (item ∷ items) es text answer order (inl (other, may)) = do_sound seed count ws es item text answer order may
-run_sound seed count ws (item ∷ items) es text answer order (inr (first, rest, parts, may, more)) =
-    run_sound seed count ws items (after_item seed ws es item) rest answer (order_behind seed ws es item first order may) more
+run_sound seed count ws [] es text answer few of_run order (none, done) =
+    subst (λ (a : Status). may_come_from a (words.Make seed count) ≡ true) (sym done) refl
+run_sound seed count ws (item ∷ items) es text answer few of_run order (inl (other, may)) =
+    do_sound seed count ws es item text answer few (All-head (IsOfRun seed count) item items of_run) order may
+run_sound seed count ws (item ∷ items) es text answer few of_run order (inr (first, rest, parts, may, more)) =
+    run_sound seed count ws items (after_item seed ws es item) rest answer few (All-tail (IsOfRun seed count) item items of_run)
+    (order_behind seed ws es item first order may) more
 
 -- it printed what such a run may print
 run_prints : (seed count : ℕ) (ws : List ℕ) (es : List Entry) (text : List ℕ) (answer : Status) →
@@ -152,7 +173,7 @@ found_by_make : (seed count : ℕ) (why : Status) → is_opening why ≡ true �
 found_by_make seed count status.NoCartridge sound = refl
 found_by_make seed count status.NotFormatted sound = refl
 found_by_make seed count (status.Foreign field value) sound = sound
-found_by_make seed count (status.Lost segment lost) sound = table_lost segment lost true sound (λ at. refl)
+found_by_make seed count (status.Lost segment lost) sound = table_lost segment lost (is_of_volume segment) sound
 found_by_make seed count status.TableMismatch sound = refl
 found_by_make seed count why sound = cc
 
@@ -177,6 +198,12 @@ module _ {T K : Type 0} (t : tapes.Meaning T) (k : sinks.Meaning K) (seed count 
       (rules []))) cut.broke)
 
   module _ (b : UnitView T) (store : StoreView) (opening : HasOpened t a b store) (free : IsUnlocked t a) where
+    few_words : length store.words ≤ 28 * LONGEST
+    few_words =
+        let all = opening.fits.words in
+        let most = (length_learnt t store.host b opening.fits.host).longest in
+        omega arith
+
     -- it came to its end, or to a refusal
     ran : (c : T) (x y : K) (answer : Status) → TakesBoth k → ((z : K) → k.took z [] z) →
         HasRun t k seed store.words store.entries (making seed count store.words store.entries) (around b.tape x) (around c y) answer →
@@ -203,6 +230,7 @@ module _ {T K : Type 0} (t : tapes.Meaning T) (k : sinks.Meaning K) (seed count 
           went = went_behind t no_source k both nothing a b.tape tt x (around c y) opening.steps run.acts opening.did run.went;
           left = none_taken answer 0;
           sound = run_sound seed count store.words (making seed count store.words store.entries) store.entries (text_of run.acts) answer
+              few_words (all_of_run seed count store.words store.entries)
               (subst (λ (n : ℕ). IsSoundList (n - 1) store.entries) (sym opening.fits.words) opening.fits.list) run.may;
           none_taken = λ no. refl;
           prints = run_prints seed count store.words store.entries (text_of run.acts) answer run.may;

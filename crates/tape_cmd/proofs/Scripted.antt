@@ -1,8 +1,7 @@
 -- How a script ends.
 use Rattle.std.proofs.Common.{◌≡◌, ◌≢◌, ℕ, true, List, [], ◌∷◌, ◌++◌, Option, Some, None, IfSome, Result, Ok, Err, refl, sym, ap, ◌∙◌}
 use Rattle.std.proofs.Common.{subst, inl, inr, arith}
-use Rattle.std.specs.Prelude.{is_some, ◌==◌}
-use Rattle.std.proofs.lemmas.Bool.{eq-eqb}
+use Rattle.std.specs.Prelude.{is_some, false}
 use Rattle.qic_base.specs.Cartridge.{Cartridge}
 use Rattle.qic_base.specs.Step.{Step as TapeStep}
 use Rattle.qic_base.proofs.Writing.{TakesBoth}
@@ -39,7 +38,7 @@ use Rattle.qic_base.specs.Tape as tapes
 use Rattle.cartridge_spec.specs.Mounting as mounting
 use Rattle.command_spec.specs.declared.words.Words.TheVariants as words
 use Rattle.command_laws.proofs.TextFaults.{fault_line}
-use Rattle.hand_commands.proofs.Trains.{told_input}
+use Rattle.command_laws.proofs.CommandTold.{told_input}
 use Rattle.volume_store.proofs.Ending.{none_left}
 use Rattle.host_commands.proofs.Added.{no_script, left_by_opening}
 use Rattle.qic_base.specs.SourceCalls.{input_of}
@@ -92,7 +91,7 @@ found_by_script : (why : Status) → is_opening why ≡ true → may_come_from w
 found_by_script status.NoCartridge sound = refl
 found_by_script status.NotFormatted sound = refl
 found_by_script (status.Foreign field value) sound = sound
-found_by_script (status.Lost segment lost) sound = table_lost segment lost (segment == 2) sound (eq-eqb segment 2)
+found_by_script (status.Lost segment lost) sound = table_lost segment lost false sound
 found_by_script status.TableMismatch sound = refl
 found_by_script why sound = cc
 

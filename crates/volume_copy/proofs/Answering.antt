@@ -41,7 +41,7 @@ from_kind : {T : Type 0} (t : tapes.Meaning T) (x y : T) (why : OpenFault) → O
 from_kind t x y open_fault.NoCartridge fails = tt
 from_kind t x y (open_fault.Refused fault.NotFormatted) fails = refl
 from_kind t x y (open_fault.Refused (fault.Foreign field value)) fails = foreign_is_refused fails.segments field value fails.cause
-from_kind t x y (open_fault.Refused (fault.Lost segment lost)) fails = lt-ltb 3 lost fails.cause.1
+from_kind t x y (open_fault.Refused (fault.Lost segment lost)) fails = lt-ltb 3 lost fails.cause.1.0
 from_kind t x y (open_fault.Refused fault.TableMismatch) fails = refl
 from_kind t x y (open_fault.Refused fault.Tape) fails = refl
 from_kind t x y (open_fault.Refused f) fails = let kind = fails.kind in absurd (cc)
@@ -51,7 +51,7 @@ to_kind t x y open_fault.NoCartridge fails = tt
 to_kind t x y (open_fault.Refused fault.NotFormatted) fails = refl
 to_kind t x y (open_fault.Refused (fault.Foreign field value)) fails = foreign_is_refused fails.segments field value fails.cause
 to_kind t x y (open_fault.Refused (fault.Lost segment lost)) fails =
-    and_from (segment == 2) (nat_lt 3 lost) (ap (λ (s : ℕ). s == 2) fails.cause.0) (lt-ltb 3 lost fails.cause.1)
+    and_from (segment == 2) (nat_lt 3 lost) (ap (λ (s : ℕ). s == 2) fails.cause.0) (lt-ltb 3 lost fails.cause.1.0)
 to_kind t x y (open_fault.Refused fault.TableMismatch) fails = refl
 to_kind t x y (open_fault.Refused fault.Tape) fails = refl
 to_kind t x y (open_fault.Refused f) fails = let kind = fails.kind in absurd (cc)

@@ -328,7 +328,7 @@ module _ {T : Type 0} (m : Meaning T) (s : SourceView T) (store : StoreView) (un
 
       of_part : (why : StoreFault) → ReadsPart m s.store store s.number s.done s.unit.tape unit.tape (Err why) → IsOfPart (Some why)
       of_part (fault.NoVolume number count) none = absurd (let some = sound.numbered in let other = none.none in cc)
-      of_part (fault.Lost segment lost) (e, at, found) = found.2.many
+      of_part (fault.Lost segment lost) (e, at, found) = found.2.many.0
       of_part (fault.Mismatch segment) part = tt
       of_part fault.Tape part = tt
       of_part fault.NotFormatted none = absurd none

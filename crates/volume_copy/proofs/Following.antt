@@ -1,6 +1,6 @@
 -- What follows of a copy's ends, where both tapes tell: completeness, and what is left of the target.
-use Rattle.std.proofs.Common.{◌≡◌, ◌≢◌, ◌⊎◌, ℕ, List, [], ◌∷◌, ◌++◌, length, Option, Some, None, IsSomeAnd, refl, ap, sym, subst, ◌∙◌, inl}
-use Rattle.std.proofs.Common.{inr, append-nil, append_assoc}
+use Rattle.std.proofs.Common.{◌≡◌, ◌≢◌, ◌⊎◌, ℕ, List, [], ◌∷◌, ◌++◌, length, Option, Some, None, IfSome, IsSomeAnd, refl, ap, sym}
+use Rattle.std.proofs.Common.{subst, ◌∙◌, inl, inr, append-nil, append_assoc}
 use Rattle.std.specs.Option.{option_map}
 use Rattle.std.specs.Prelude.{is_some}
 use Rattle.cartridge_laws.proofs.FormatWriting.{effects-some, some_and}
@@ -9,13 +9,18 @@ use Rattle.cartridge_spec.specs.Settling.{changed_by}
 use Rattle.cartridge_spec.specs.Volumes.{Plain, Stands}
 use Rattle.command_laws.proofs.CommandEnds.{LeftBy, each_left, told_whole}
 use Rattle.command_laws.proofs.CopyComplete.{copy_with_room_is_done}
-use Rattle.command_laws.proofs.CopyLeaving.{done_copy_stands, stopped_copy_stands}
+use Rattle.command_laws.proofs.CopyIntact.{done_copy_comes_back, printed_copy_comes_back, stopped_copy_comes_back}
+use Rattle.command_laws.proofs.CopyLeaving.{done_copy_gives, stopped_copy_gives}
 use Rattle.command_laws.proofs.CopyOutcomes.{copies_something}
-use Rattle.command_laws.proofs.CopyPrinted.{printed_copies_stand}
+use Rattle.command_laws.proofs.CopyPrinted.{printed_copies_stand, printed_copy_gives}
 use Rattle.command_laws.proofs.CopySteps.{copied_table_lives}
+use Rattle.command_laws.proofs.CopyStood.{done_copy_stands, stopped_copy_stands}
 use Rattle.command_laws.specs.ActStops.{IsLeftBy}
 use Rattle.command_spec.specs.Copied.{BeginsLike, CanBeCopied, StandAlike, StandsPrinted, StandsUpTo, copied}
-use Rattle.command_spec.specs.CopyPromises.{CopyEnds, CopyIsOver, CopyWent, Decks, HasRisen, NoDeckRose, TargetGrows, TargetLives, ToLeaves}
+use Rattle.command_spec.specs.CopyGiven.{GivenBy, KeepsOrGains, KeepsOrPrints, StandsWithAll}
+use Rattle.command_spec.specs.CopyOneLoss.{ComesBackWithAll, SettlesOrComesBack}
+use Rattle.command_spec.specs.CopyPromises.{CopyComesBack, CopyEnds, CopyGave, CopyIsOver, CopyWent, Decks, HasRisen, NoDeckRose}
+use Rattle.command_spec.specs.CopyPromises.{TargetComesBack, TargetGains, TargetGrows, TargetLives, ToLeaves}
 use Rattle.command_spec.specs.Copying.{CopyOutcome, CopyYields}
 use Rattle.command_spec.specs.Headline.{EachLeft, ToldNow}
 use Rattle.command_spec.specs.declared.copy_status.CopyStatus.{CopyStatus}
@@ -167,112 +172,247 @@ module _ {A B K : Type 0} (a : tapes.Meaning A) (b : tapes.Meaning B) (k : sinks
               (Some d)))
           by_left whole some (inr (outcome, plain, torn)) = stopped_copy_stands c one d other outcome left whole alike plain torn
 
+  -- whatever the source is
+  whole_held : (from : Option Cartridge) → a.told old.from ≡ Some from → IfSome from IsCartridge
+  whole_held from told = told_whole from (a.told old.from) (a.size old.from) laws.from_right told
+
+  pub to_gains : (from : Option Cartridge) → a.told old.from ≡ Some from → EachLeft b old.to new.to (ToLeaves from) → EachLeft b old.to
+      new.to (TargetGains from)
+  to_gains from from_told each = each_left_map b old.to new.to (ToLeaves from) (TargetGains from) follows each
+    where
+      follows : (held left : Option Cartridge) → b.told old.to ≡ Some held → ToLeaves from held left → TargetGains from held left
+      follows held left told leaves d other is standing live =
+          let whole : IsCartridge d = whole_to d (told ∙ ap (λ (h : Option Cartridge). Some h) is) in
+          by_left whole (copies_something from (Some d) (whole_held from from_told) whole)
+          (subst (λ (h : Option Cartridge). ToLeaves from h left) is leaves)
+        where
+          by_left : IsCartridge d → ((outcome : CopyOutcome) × CopyYields from (Some d) outcome) → ToLeaves from (Some d) left →
+              KeepsOrGains from other left
+          by_left whole some (inl same) =
+              stopped_copy_gives from d other some.0 left (whole_held from from_told) whole standing live some.1
+              (subst (λ (l : Option Cartridge). Torn (steps_of some.0.acts) (Some d) l) (sym same) (Torn-nothing (steps_of some.0.acts)
+              (Some d)))
+          by_left whole some (inr (outcome, plain, torn)) =
+              stopped_copy_gives from d other outcome left (whole_held from from_told) whole standing live plain torn
+
+  -- .. and where one sector of the table's segment is lost besides
+  pub to_returns : (from : Option Cartridge) → a.told old.from ≡ Some from → EachLeft b old.to new.to (ToLeaves from) → EachLeft b old.to
+      new.to (TargetComesBack from)
+  to_returns from from_told each = each_left_map b old.to new.to (ToLeaves from) (TargetComesBack from) follows each
+    where
+      follows : (held left : Option Cartridge) → b.told old.to ≡ Some held → ToLeaves from held left → TargetComesBack from held left
+      follows held left told leaves d other is standing live =
+          let whole : IsCartridge d = whole_to d (told ∙ ap (λ (h : Option Cartridge). Some h) is) in
+          by_left whole (copies_something from (Some d) (whole_held from from_told) whole)
+          (subst (λ (h : Option Cartridge). ToLeaves from h left) is leaves)
+        where
+          by_left : IsCartridge d → ((outcome : CopyOutcome) × CopyYields from (Some d) outcome) → ToLeaves from (Some d) left →
+              SettlesOrComesBack from d other [] left
+          by_left whole some (inl same) =
+              stopped_copy_comes_back from d other some.0 left (whole_held from from_told) whole standing live some.1
+              (subst (λ (l : Option Cartridge). Torn (steps_of some.0.acts) (Some d) l) (sym same) (Torn-nothing (steps_of some.0.acts)
+              (Some d)))
+          by_left whole some (inr (outcome, plain, torn)) =
+              stopped_copy_comes_back from d other outcome left (whole_held from from_told) whole standing live plain torn
+
   -- ---- when it is over
+
+  -- an outcome was cut off, or carried out: the text that was printed is a front of its own, and all of that at Done
+  record HasLeft (from : Option Cartridge) (d : Cartridge) (found : CopyStatus) : Type 0 where
+    outcome : CopyOutcome
+    plain : CopyYields from (Some d) outcome
+    text : List ℕ
+    more : List ℕ
+    whole : text ++ more ≡ text_of outcome.acts
+    all : found ≡ status.Done → (outcome.status ≡ status.Done) × (more ≡ [])
+    took : k.took old.sink text new.sink
+    left : Option Cartridge
+    now : b.told new.to ≡ Some left
+    is : IsLeftBy d outcome.acts text left
+
+  module _ (from : Option Cartridge) (d : Cartridge) (from_told : a.told old.from ≡ Some from)
+      (to_told : b.told old.to ≡ Some (Some d)) where
+    front_text : (front rest acts : List Act) → front ++ rest ≡ acts → text_of front ++ text_of rest ≡ text_of acts
+    front_text front rest acts parts = sym (text_of-append front rest) ∙ ap text_of parts
+
+    left_ends : (found : CopyStatus) → CopyEnds a b k old new found from (Some d) → HasLeft from d found
+    left_ends (status.From copy.Tape) cut = record {
+      outcome = cut.outcome;
+      plain = cut.plain;
+      text = text_of cut.front;
+      more = text_of cut.rest;
+      whole = front_text cut.front cut.rest cut.outcome.acts cut.parts;
+      all = λ is. absurd (cc);
+      took = cut.went.wrote.took;
+      left = effects (steps_of cut.front) (Some d);
+      now = went_left cut.front (Some d) to_told cut.went.did;
+      is = inl (record {
+        front = cut.front;
+        rest = cut.rest;
+        parts = cut.parts;
+        torn = Torn-nothing (next_steps cut.rest) (effects (steps_of cut.front) (Some d));
+        is_text = refl;
+      });
+    }
+    left_ends (status.To copy.Tape) cut =
+        let now = still_told (b.told old.to) (b.told new.to) (Some d) cut.cut.broke.tells to_told in record {
+          outcome = cut.outcome;
+          plain = cut.plain;
+          text = text_of cut.cut.front;
+          more = text_of cut.cut.rest;
+          whole = front_text cut.cut.front cut.cut.rest cut.outcome.acts cut.cut.parts;
+          all = λ is. absurd (cc);
+          took = cut.cut.wrote.took;
+          left = now.0;
+          now = now.1;
+          is = inl (record {
+            front = cut.cut.front;
+            rest = cut.cut.rest;
+            parts = cut.cut.parts;
+            torn = cut.cut.here (Some d) now.0 to_told now.1;
+            is_text = refl;
+          });
+        }
+    left_ends status.SinkFault cut =
+        let steps : List TapeStep = steps_of cut.cut.at.front ++ cut.cut.at.act.steps in
+        let front : List ℕ = text_of cut.cut.at.front in
+        let behind : List ℕ = text_of cut.cut.at.rest in record {
+          outcome = cut.outcome;
+          plain = cut.plain;
+          text = front ++ cut.cut.broke.part;
+          more = cut.cut.broke.rest ++ behind;
+          whole = append_assoc front cut.cut.broke.part (cut.cut.broke.rest ++ behind)
+              ∙ ap (λ (xs : List ℕ). front ++ xs) (sym (append_assoc cut.cut.broke.part cut.cut.broke.rest behind) ∙
+              ap (λ (xs : List ℕ). xs ++ behind) cut.cut.broke.parts)
+              ∙ front_text cut.cut.at.front (cut.cut.at.act ∷ cut.cut.at.rest) cut.outcome.acts cut.cut.at.parts;
+          all = λ is. absurd (cc);
+          took = cut.cut.broke.took;
+          left = effects steps (Some d);
+          now = cut.cut.did.told ∙ ap (option_map (effects steps)) to_told;
+          is = inr (record {
+            front = cut.cut.at.front;
+            act = cut.cut.at.act;
+            rest = cut.cut.at.rest;
+            parts = cut.cut.at.parts;
+            is = refl;
+            some = cut.cut.broke.part;
+            more = cut.cut.broke.rest;
+            written = cut.cut.broke.parts;
+            lacks = cut.cut.broke.some;
+            is_text = refl;
+          });
+        }
+    left_ends found went = record {
+      outcome = went.outcome;
+      plain = went.plain;
+      text = text_of went.outcome.acts;
+      more = [];
+      whole = append-nil (text_of went.outcome.acts);
+      all = λ is. (sym went.answered ∙ is, refl);
+      took = went.went.wrote.took;
+      left = effects (steps_of went.outcome.acts) (Some d);
+      now = went_left went.outcome.acts (Some d) to_told went.went.did;
+      is = inl (record { front = went.outcome.acts; rest = []; parts = append-nil went.outcome.acts; torn = refl; is_text = refl });
+    }
+
+    untouched : new ≡ old → answer ≢ status.Done → HasLeft from d answer
+    untouched same unlike =
+        let some = copies_something from (Some d) (whole_held from from_told) (whole_to d to_told) in record {
+          outcome = some.0;
+          plain = some.1;
+          text = [];
+          more = text_of some.0.acts;
+          whole = refl;
+          all = λ is. absurd (unlike is);
+          took = subst (λ (decks : Decks A B K). k.took old.sink [] decks.sink) (sym same) (laws.nothing old.sink);
+          left = Some d;
+          now = subst (λ (decks : Decks A B K). b.told decks.to ≡ Some (Some d)) (sym same) to_told;
+          is = inl (record {
+            front = [];
+            rest = some.0.acts;
+            parts = refl;
+            torn = Torn-nothing (next_steps some.0.acts) (Some d);
+            is_text = refl;
+          });
+        }
+
+    has_left : Ended → HasLeft from d answer
+    has_left (inl (same, unlike)) = untouched same unlike
+    has_left (inr ends) = left_ends answer (ends from (Some d) from_told to_told)
+
+    pub gave : Ended → (other : Plain) → Stands d other → IsTableLive d → CopyGave b k old new from other
+    gave ended other standing live =
+        let at = has_left ended in record {
+          text = at.text;
+          took = at.took;
+          printed = now_told (b.told new.to) (KeepsOrPrints from other at.text) at.left at.now
+              (printed_copy_gives from d other at.outcome at.text at.left (whole_held from from_told) (whole_to d to_told) standing live
+              at.plain at.is);
+        }
+
+    pub returns : Ended → (other : Plain) → Stands d other → IsTableLive d → CopyComesBack b k old new from d other
+    returns ended other standing live =
+        let at = has_left ended in record {
+          text = at.text;
+          took = at.took;
+          comes = now_told (b.told new.to) (SettlesOrComesBack from d other at.text) at.left at.now
+              (printed_copy_comes_back from d other at.outcome at.text at.left (whole_held from from_told) (whole_to d to_told) standing
+              live at.plain at.is);
+        }
+
+    -- what is left at Done
+    all_done : (Q : Option Cartridge → Type 0) →
+        ((outcome : CopyOutcome) → CopyYields from (Some d) outcome → outcome.status ≡ status.Done →
+        Q (Some (changed_by (steps_of outcome.acts) d))) →
+        ((held to : Option Cartridge) → a.told old.from ≡ Some held → b.told old.to ≡ Some to → CopyEnds a b k old new answer held to) →
+        answer ≡ status.Done → ToldNow b new.to Q
+    all_done Q leaves ends is =
+        let went : CopyWent a b k old new status.Done from (Some d) =
+        subst (λ (found : CopyStatus). CopyEnds a b k old new found from (Some d)) is (ends from (Some d) from_told to_told) in
+        now_told (b.told new.to) Q (Some (changed_by (steps_of went.outcome.acts) d))
+        (went_left went.outcome.acts (Some d) to_told went.went.did ∙ ap (λ (h : Option Cartridge). Some h)
+        (effects-some (steps_of went.outcome.acts) d))
+        (leaves went.outcome went.plain (sym went.answered))
+
+    pub gave_all : ((held to : Option Cartridge) → a.told old.from ≡ Some held → b.told old.to ≡ Some to → CopyEnds a b k old new answer
+        held to) → (other : Plain) → Stands d other → answer ≡ status.Done →
+        ToldNow b new.to (λ left. GivenBy from other (λ side. StandsWithAll side other left))
+    gave_all ends other standing is =
+        all_done (λ left. GivenBy from other (λ side. StandsWithAll side other left))
+        (λ outcome plain done. done_copy_gives from d other outcome (whole_held from from_told) (whole_to d to_told) standing plain done)
+        ends is
+
+    pub returns_all : ((held to : Option Cartridge) → a.told old.from ≡ Some held → b.told old.to ≡ Some to →
+        CopyEnds a b k old new answer held to) → (other : Plain) → Stands d other → IsTableLive d → answer ≡ status.Done →
+        ToldNow b new.to (λ left. GivenBy from other (λ side. ComesBackWithAll side other left))
+    returns_all ends other standing live is =
+        all_done (λ left. GivenBy from other (λ side. ComesBackWithAll side other left))
+        (λ outcome plain done. done_copy_comes_back from d other outcome (whole_held from from_told) (whole_to d to_told) standing live
+        plain done) ends is
 
   module _ (c : Cartridge) (one : Plain) (d : Cartridge) (other : Plain) (from_told : a.told old.from ≡ Some (Some c))
       (to_told : b.told old.to ≡ Some (Some d)) where
     whole_d : IsCartridge d
     whole_d = whole_to d to_told
 
-    -- the text is a front of that of the outcome, and all of it at Done
-    over_by : StandAlike c one d other → (found : CopyStatus) (outcome : CopyOutcome) → CopyYields (Some c) (Some d) outcome →
-        (text more : List ℕ) → text ++ more ≡ text_of outcome.acts →
-        (found ≡ status.Done → (outcome.status ≡ status.Done) × (more ≡ [])) → k.took old.sink text new.sink → (left : Option Cartridge) →
-        b.told new.to ≡ Some left →
-        IsLeftBy d outcome.acts text left → PrintsMissing b k old new found one other
-    over_by alike found outcome plain text more whole all took left now is =
+    pub prints : Ended → StandAlike c one d other → PrintsMissing b k old new answer one other
+    prints ended alike =
+        let at = has_left (Some c) d from_told to_told ended in
         let begins = text_begins c one d other (record {
           source = whole_from c from_told;
           target = whole_d;
-          stands =
-              alike.source;
+          stands = alike.source;
           standing = alike.target;
           like = alike.like;
-        }) outcome plain in record {
-          text = text;
-          rest = more ++ begins.rest;
-          parts = sym (append_assoc text more begins.rest) ∙ ap (λ (xs : List ℕ). xs ++ begins.rest) whole ∙ begins.parts;
-          all = λ done. ap (λ (xs : List ℕ). xs ++ begins.rest) (all done).1 ∙ begins.all (all done).0;
-          took = took;
-          printed = now_told (b.told new.to) (StandsPrinted one other (length text)) left now (printed_copies_stand c one d other outcome
-              text left whole_d alike plain is);
+        }) at.outcome at.plain in record {
+          text = at.text;
+          rest = at.more ++ begins.rest;
+          parts = sym (append_assoc at.text at.more begins.rest) ∙ ap (λ (xs : List ℕ). xs ++ begins.rest) at.whole ∙ begins.parts;
+          all = λ done. ap (λ (xs : List ℕ). xs ++ begins.rest) (at.all done).1 ∙ begins.all (at.all done).0;
+          took = at.took;
+          printed = now_told (b.told new.to) (StandsPrinted one other (length at.text)) at.left at.now
+              (printed_copies_stand c one d other at.outcome at.text at.left whole_d alike at.plain at.is);
         }
-
-    front_text : (front rest acts : List Act) → front ++ rest ≡ acts → text_of front ++ text_of rest ≡ text_of acts
-    front_text front rest acts parts = sym (text_of-append front rest) ∙ ap text_of parts
-
-    over_ends : StandAlike c one d other → (found : CopyStatus) → CopyEnds a b k old new found (Some c) (Some d) → PrintsMissing b k old new
-        found one other
-    over_ends alike (status.From copy.Tape) cut =
-        over_by alike (status.From copy.Tape) cut.outcome cut.plain (text_of cut.front) (text_of cut.rest)
-        (front_text cut.front cut.rest cut.outcome.acts cut.parts) (λ is. absurd (cc)) cut.went.wrote.took
-        (effects (steps_of cut.front) (Some d)) (went_left cut.front (Some d) to_told cut.went.did)
-        (inl (record {
-          front = cut.front;
-          rest = cut.rest;
-          parts = cut.parts;
-          torn = Torn-nothing (next_steps cut.rest)
-              (effects (steps_of cut.front) (Some d));
-          is_text = refl;
-        }))
-    over_ends alike (status.To copy.Tape) cut =
-        let now = still_told (b.told old.to) (b.told new.to) (Some d) cut.cut.broke.tells to_told in
-        over_by alike (status.To copy.Tape) cut.outcome cut.plain (text_of cut.cut.front) (text_of cut.cut.rest)
-        (front_text cut.cut.front cut.cut.rest cut.outcome.acts cut.cut.parts) (λ is. absurd (cc))
-        cut.cut.wrote.took now.0 now.1
-        (inl (record {
-          front = cut.cut.front;
-          rest = cut.cut.rest;
-          parts = cut.cut.parts;
-          torn = cut.cut.here (Some d) now.0 to_told now.1;
-          is_text = refl;
-        }))
-    over_ends alike status.SinkFault cut =
-        let steps : List TapeStep = steps_of cut.cut.at.front ++ cut.cut.at.act.steps in
-        let front : List ℕ = text_of cut.cut.at.front in
-        let behind : List ℕ = text_of cut.cut.at.rest in
-        over_by alike status.SinkFault cut.outcome cut.plain (front ++ cut.cut.broke.part) (cut.cut.broke.rest ++ behind)
-        (append_assoc front cut.cut.broke.part (cut.cut.broke.rest ++ behind)
-        ∙ ap (λ (xs : List ℕ). front ++ xs) (sym (append_assoc cut.cut.broke.part cut.cut.broke.rest behind) ∙
-        ap (λ (xs : List ℕ). xs ++ behind) cut.cut.broke.parts)
-        ∙ front_text cut.cut.at.front (cut.cut.at.act ∷ cut.cut.at.rest) cut.outcome.acts cut.cut.at.parts)
-        (λ is. absurd (cc)) cut.cut.broke.took (effects steps (Some d)) (cut.cut.did.told ∙ ap (option_map (effects steps)) to_told)
-        (inr (record {
-          front = cut.cut.at.front;
-          act = cut.cut.at.act;
-          rest = cut.cut.at.rest;
-          parts = cut.cut.at.parts;
-          is = refl;
-          some = cut.cut.broke.part;
-          more = cut.cut.broke.rest;
-          written = cut.cut.broke.parts;
-          lacks = cut.cut.broke.some;
-          is_text = refl;
-        }))
-    over_ends alike found went =
-        over_by alike found went.outcome went.plain (text_of went.outcome.acts) [] (append-nil (text_of went.outcome.acts))
-        (λ is. (sym went.answered ∙ is, refl)) went.went.wrote.took (effects (steps_of went.outcome.acts) (Some d))
-        (went_left went.outcome.acts (Some d) to_told went.went.did)
-        (inl (record { front = went.outcome.acts; rest = []; parts = append-nil went.outcome.acts; torn = refl; is_text = refl }))
-
-    over_alone : StandAlike c one d other → new ≡ old → answer ≢ status.Done → PrintsMissing b k old new answer one other
-    over_alone alike same unlike =
-        let some = copies_something (Some c) (Some d) (whole_from c from_told) whole_d in
-        over_by alike answer some.0 some.1 [] (text_of some.0.acts) refl (λ is. absurd (unlike is))
-        (subst (λ (decks : Decks A B K). k.took old.sink [] decks.sink) (sym same) (laws.nothing old.sink)) (Some d)
-        (subst (λ (decks : Decks A B K). b.told decks.to ≡ Some (Some d)) (sym same) to_told)
-        (inl (record {
-          front = [];
-          rest = some.0.acts;
-          parts = refl;
-          torn = Torn-nothing (next_steps some.0.acts) (Some d);
-          is_text =
-              refl;
-        }))
-
-    pub prints : Ended → StandAlike c one d other → PrintsMissing b k old new answer one other
-    prints (inl (same, unlike)) alike = over_alone alike same unlike
-    prints (inr ends) alike = over_ends alike answer (ends (Some c) (Some d) from_told to_told)
 
     pub over : Ended → StandAlike c one d other → CopyIsOver b k old new one other
     over ended alike = let all = prints ended alike in record { text = all.text; took = all.took; printed = all.printed }
@@ -281,21 +421,14 @@ module _ {A B K : Type 0} (a : tapes.Meaning A) (b : tapes.Meaning B) (k : sinks
         to) → Stands c one → Stands d other → BeginsLike one other → answer ≡ status.Done →
         ToldNow b new.to (λ left. IsSomeAnd left (λ e. Stands e (copied one other (length one.volumes))))
     done ends stands standing like is =
-        let went : CopyWent a b k old new status.Done (Some c) (Some d) =
-        subst (λ (found : CopyStatus). CopyEnds a b k old new found (Some c) (Some d)) is (ends (Some c) (Some d) from_told to_told) in
-        let stood : Stands (changed_by (steps_of went.outcome.acts) d) (copied one other (length one.volumes)) =
-        done_copy_stands c one d other went.outcome (record {
+        all_done (Some c) d from_told to_told (λ left. IsSomeAnd left (λ e. Stands e (copied one other (length one.volumes))))
+        (λ outcome plain done. done_copy_stands c one d other outcome (record {
           source = whole_from c from_told;
           target = whole_d;
           stands = stands;
-          standing =
-              standing;
+          standing = standing;
           like = like;
-        }) went.plain (sym went.answered) in
-        now_told (b.told new.to) (λ left. IsSomeAnd left (λ e. Stands e (copied one other (length one.volumes))))
-        (Some (changed_by (steps_of went.outcome.acts) d))
-        (went_left went.outcome.acts (Some d) to_told went.went.did ∙ ap (λ (h : Option Cartridge). Some h)
-        (effects-some (steps_of went.outcome.acts) d)) stood
+        }) plain done) ends is
 
     -- where all is there that it needs, it is Done
     pub complete : ((from to : Option Cartridge) → a.told old.from ≡ Some from → b.told old.to ≡ Some to → CopyEnds a b k old new answer

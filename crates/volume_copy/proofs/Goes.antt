@@ -228,7 +228,7 @@ module _ {A B : Type 0} (a : tapes.Meaning A) (b : tapes.Meaning B) (x y : B) (o
   append_kind fault.Source None ends kind = refl
   append_kind fault.Protected refused ends kind = refl
   append_kind (fault.Lost segment lost) refused ends kind =
-      and_from (segment == 2) (nat_lt 3 lost) (ap (λ (s : ℕ). s == 2) ends.0) (lt-ltb 3 lost ends.1)
+      and_from (segment == 2) (nat_lt 3 lost) (ap (λ (s : ℕ). s == 2) ends.0) (lt-ltb 3 lost ends.1.0)
   append_kind fault.TableMismatch refused ends kind = refl
   append_kind (fault.Full need have) refused ends kind =
       let most : ℕ = room store.words store.entries in

@@ -1,6 +1,6 @@
 -- The length of a volume fits the 32 bits in which an append is promised it.
-use Rattle.std.proofs.Common.{◌≡◌, ℕ, zero, suc, ◌+◌, ◌-◌, ◌*◌, ◌^◌, ◌<◌, ◌≤◌, Bool, true, false, List, [], ◌∷◌, Option, Some, None}
-use Rattle.std.proofs.Common.{IsSomeAnd, slice_get, refl, subst, arith}
+use Rattle.std.proofs.Common.{◌≡◌, ℕ, zero, suc, ◌+◌, ◌-◌, ◌*◌, ◌^◌, ◌<◌, ◌≤◌, Bool, true, false, List, [], ◌∷◌, Some}
+use Rattle.std.proofs.Common.{slice_get, refl, subst, arith}
 use Rattle.std.proofs.lemmas.Bool.{leb-true}
 use Rattle.std.proofs.lemmas.Option.{same_Some}
 use Rattle.std.specs.Prelude.{◌&&◌, ◌==◌, if◌then◌else◌, nat_le}
@@ -8,12 +8,12 @@ use Rattle.cartridge_laws.proofs.AppendSegments.{room_most}
 use Rattle.cartridge_laws.specs.Table.{LieBehind}
 use Rattle.cartridge_spec.specs.Table.{Entry}
 use Rattle.cartridge_spec.specs.Volumes.{capacity_between, volume_length}
-use Rattle.drive_states.specs.Sound.{HasLength}
+use Rattle.command_laws.proofs.RestoreBehind.{ends_by}
 use Rattle.drive_states.specs.Unit.{UnitView}
 use Rattle.host_driver.specs.Fits.{segments_of}
 use Rattle.qic_base.specs.Tape.{Meaning}
 use Rattle.qic_base.specs.declared.TheConstants.{LONGEST}
-use Rattle.qic_base.specs.declared.tape.TapeInfo.{TapeInfo}
+use Rattle.volume_store.proofs.Storing.{length_learnt}
 use Rattle.volume_store.specs.Mounting.{StoreFits, StoreView}
 
 by_fit : (b c : Bool) (size all : ℕ) → (c ≡ true → size ≤ all) → (if b && c then size else all) ≤ all
@@ -41,12 +41,6 @@ start_some (x ∷ xs) before last zero e order at =
     let here : 1 ≤ x.start = omega (arith, order.0) in subst (λ (y : Entry). 1 ≤ y.start) same here
 start_some (x ∷ xs) before last (suc i) e order at = start_some xs x.end last i e order.3 at
 
-end_within : (entries : List Entry) (before last i : ℕ) (e : Entry) → LieBehind before last entries → slice_get entries i ≡ Some e →
-    e.end ≤ last
-end_within [] before last i e order at = absurd (cc)
-end_within (x ∷ xs) before last zero e order at = subst (λ (y : Entry). y.end ≤ last) (same_Some x e at) order.2
-end_within (x ∷ xs) before last (suc i) e order at = end_within xs x.end last i e order.3 at
-
 -- on a cartridge of so many segments
 length_fits : (words : List ℕ) (e : Entry) (last : ℕ) → 1 ≤ e.start → e.end ≤ last → last ≤ 28 * LONGEST → volume_length words e < 2 ^ 32
 length_fits words e last some within most =
@@ -54,16 +48,11 @@ length_fits words e last some within most =
     let bound : capacity_between words e.start e.end ≤ 29696 * (e.end + 1) = capacity_most words e some in
     omega (arith, long, bound, within, most)
 
-few_segments : (cartridge : Option TapeInfo) (n : ℕ) → HasLength cartridge → IsSomeAnd cartridge (λ info. info.segments_per_track ≡ n) →
-    n ≤ LONGEST
-few_segments None n long there = absurd there
-few_segments (Some info) n long there = subst (λ (k : ℕ). k ≤ LONGEST) there long.longest
-
 -- a volume of a store that fits a unit
 pub length_of_fits : {T : Type 0} (m : Meaning T) (store : StoreView) (u : UnitView T) (i : ℕ) (e : Entry) → StoreFits m store u →
     slice_get store.entries i ≡ Some e → volume_length store.words e < 2 ^ 32
 length_of_fits m store u i e fits at =
     let n : ℕ = segments_of store.host in
-    let few : n ≤ LONGEST = few_segments u.drive.deck.cartridge n fits.host.sound.drive.deck.long fits.host.cartridge in
+    let few : n ≤ LONGEST = (length_learnt m store.host u fits.host).longest in
     length_fits store.words e (28 * n - 1) (start_some store.entries 2 (28 * n - 1) i e fits.list at)
-    (end_within store.entries 2 (28 * n - 1) i e fits.list at) (omega (arith, few))
+    (ends_by store.entries 2 (28 * n - 1) i e fits.list at) (omega (arith, few))

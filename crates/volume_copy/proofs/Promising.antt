@@ -4,14 +4,16 @@ use Rattle.std.proofs.Common.{sym, subst, ◌∙◌, inl, inr}
 use Rattle.std.specs.Prelude.{◌==◌}
 use Rattle.std.proofs.lemmas.Bool.{eqb-true}
 use Rattle.command_spec.specs.CopyPromises.{CopyEnds, CopyPromises, Decks, FromAnswers, HasKind, HasRisen, IsUnasked, PrintsCopies}
-use Rattle.command_spec.specs.CopyPromises.{TargetGrows, TargetLives, ToAnswers, ToLeaves}
+use Rattle.command_spec.specs.CopyPromises.{TargetComesBack, TargetGains, TargetGrows, TargetLives, ToAnswers}
+use Rattle.command_spec.specs.CopyPromises.{ToLeaves}
 use Rattle.command_spec.specs.Headline.{EachLeft}
 use Rattle.command_spec.specs.declared.copy_status.CopyStatus.{CopyStatus}
 use Rattle.qic_base.specs.Cartridge.{Cartridge}
 use Rattle.volume_copy.proofs.Answering.{IsOther, no_text, none_joins, run_joins, run_kind, run_printed, run_risen}
 use Rattle.volume_copy.proofs.Deciding.{from_left, from_stays, run_short, run_source, run_target}
 use Rattle.volume_copy.proofs.Ends.{AtStart, decks_of, run_ended, runs_end}
-use Rattle.volume_copy.proofs.Following.{Ended, complete, done, over, prints, to_grows, to_left, to_lives}
+use Rattle.volume_copy.proofs.Following.{Ended, complete, done, gave, gave_all, over, prints, returns, returns_all, to_gains}
+use Rattle.volume_copy.proofs.Following.{to_grows, to_left, to_lives, to_returns}
 use Rattle.volume_copy.specs.Printing.{PrintsLines}
 use Rattle.volume_copy.specs.Runs.{CopyRuns, RunEnds, Units, is_asked}
 use Rattle.command_spec.specs.declared.copy_fault.CopyFault.TheVariants as copy
@@ -111,6 +113,16 @@ module _ {A B K : Type 0} (a : tapes.Meaning A) (b : tapes.Meaning B) (k : sinks
             (λ from told. to_grows a b k before after laws answer from told (left_alive ended from told));
         over = λ c one d other from_told to_told alike. over a b k before after laws answer c one d other from_told to_told ended alike;
         done = λ c one d other from_told to_told stands standing like is. absurd (no_done is unasked);
+        to_gains = if_told (a.told before.from) (λ from. EachLeft b before.to after.to (TargetGains from))
+            (λ from told. to_gains a b k before after laws answer from told (left_alive ended from told));
+        gave = λ from d other from_told to_told standing live. gave a b k before after laws answer from d from_told to_told ended other
+            standing live;
+        gave_all = λ from d other from_told to_told standing is. absurd (no_done is unasked);
+        to_returns = if_told (a.told before.from) (λ from. EachLeft b before.to after.to (TargetComesBack from))
+            (λ from told. to_returns a b k before after laws answer from told (left_alive ended from told));
+        returns = λ from d other from_told to_told standing live. returns a b k before after laws answer from d from_told to_told ended
+            other standing live;
+        returns_all = λ from d other from_told to_told standing live is. absurd (no_done is unasked);
         joins = none_joins a b k before after still;
       }
     where
@@ -159,6 +171,18 @@ module _ {A B K : Type 0} (a : tapes.Meaning A) (b : tapes.Meaning B) (k : sinks
         over = λ c one d other from_told to_told alike. over a b k before after laws answer c one d other from_told to_told ended alike;
         done = λ c one d other from_told to_told stands standing like is. done a b k before after laws answer c one d other from_told
             to_told ends stands standing like is;
+        to_gains = if_told (a.told before.from) (λ from. EachLeft b before.to after.to (TargetGains from))
+            (λ from told. to_gains a b k before after laws answer from told (left_alive ended from told));
+        gave = λ from d other from_told to_told standing live. gave a b k before after laws answer from d from_told to_told ended other
+            standing live;
+        gave_all = λ from d other from_told to_told standing is. gave_all a b k before after laws answer from d from_told to_told ends other
+            standing is;
+        to_returns = if_told (a.told before.from) (λ from. EachLeft b before.to after.to (TargetComesBack from))
+            (λ from told. to_returns a b k before after laws answer from told (left_alive ended from told));
+        returns = λ from d other from_told to_told standing live. returns a b k before after laws answer from d from_told to_told ended
+            other standing live;
+        returns_all = λ from d other from_told to_told standing live is. returns_all a b k before after laws answer from d from_told to_told
+            ends other standing live is;
         joins = run_joins a b k laws.both laws.nothing old new answer runs;
       }
     where

@@ -1,5 +1,5 @@
 -- One segment read and given, or not.
-use Rattle.std.proofs.Common.{◌≡◌, ℕ, ◌<◌, Bool, true, false, List, [], ◌∷◌, ◌++◌, length, take, refl, sym, ap, ◌∙◌, subst, arith}
+use Rattle.std.proofs.Common.{◌≡◌, ℕ, Bool, true, false, List, [], ◌∷◌, ◌++◌, length, take, refl, sym, ap, ◌∙◌, subst, arith}
 use Rattle.std.proofs.Common.{append-nil, codes, decimal, Result, Ok, Err, IsErr}
 use Rattle.qic_base.specs.Cartridge.{Cartridge}
 use Rattle.qic_base.proofs.Steps.{Tells-map}
@@ -14,6 +14,7 @@ use Rattle.cartridge_laws.proofs.Segments.{count_of_cells}
 use Rattle.cartridge_spec.specs.Volumes.{bytes_in}
 use Rattle.segment_io.specs.Reading.{HasSolved}
 use Rattle.segment_io.proofs.Going.{tells_always}
+use Rattle.command_spec.specs.Numbers.{AreTooMany}
 use Rattle.command_spec.specs.Restore.{Piece, GivingEnd, Restored, LostIn, MismatchIn, IsRead, PieceEnds, Restores}
 use Rattle.command_laws.specs.RestoreTerms.{act_of}
 use Rattle.command_laws.proofs.RestoreEndings.{restores_is_function}
@@ -87,7 +88,7 @@ module _ {T K : Type 0} (t : tapes.Meaning T) (k : sinks.Meaning K) (words : Lis
       subst (Went t no_source k (around old sink) (around new sink)) (sym (printed_none lined []))
       (record { did = did; wrote = record { took = none sink; later = omega arith }; source_later = omega arith })
 
-  pub lost : (sink : K) → ((x : K) → k.took x [] x) → tapes.Done t old new [] → (named n : ℕ) → named ≡ segment → 3 < n →
+  pub lost : (sink : K) → ((x : K) → k.took x [] x) → tapes.Done t old new [] → (named n : ℕ) → named ≡ segment → AreTooMany n →
       tape_calls.Tells t old (λ c. (named ≡ segment) × Says (cells_of c segment mask) (LostSectors n)) →
       GaveVolume t k words (piece ∷ []) lined (around old sink) (around new sink) (LostIn named n)
   lost sink none did named n same many told =

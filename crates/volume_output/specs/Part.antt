@@ -3,6 +3,7 @@ use Rattle.std.specs.Prelude.{ℕ, ◌*◌, ◌<◌, ◌≤◌, ◌≡◌, List,
 use Rattle.qic_base.specs.Cartridge.{IsSector}
 use Rattle.cartridge_spec.specs.Says.{Says, Data}
 use Rattle.cartridge_spec.specs.Shape.{mask_at, data_count}
+use Rattle.command_spec.specs.Numbers.{AreTooMany}
 use Rattle.command_spec.specs.Restore.{Piece, PieceEnds, LostIn, MismatchIn, piece_cells}
 use Rattle.volume_output.specs.Piece.{piece_of}
 use Rattle.volume_output.specs.declared.fault.OutputFault.{OutputFault}
@@ -32,10 +33,10 @@ pub record ReadsPiece {T : Type 0} (t : tapes.Meaning T) (words : List ℕ) (pie
   pub size : length sectors ≡ data_count (mask_at words piece.segment)
   pub are : All IsSector sectors
 
--- its segment has so many unreadable sectors, more than three
+-- its segment has so many unreadable sectors, too many
 pub record LosesPiece {T : Type 0} (t : tapes.Meaning T) (words : List ℕ) (piece : Piece) (old new : T) (segment lost : ℕ) : Type 0 where
   pub named : segment ≡ piece.segment
-  pub many : 3 < lost
+  pub many : AreTooMany lost
   pub did : tapes.Done t old new []
   pub told : tape_calls.Tells t old (λ c. PieceEnds c words piece (LostIn segment lost))
 

@@ -1,6 +1,6 @@
 -- A run of a script, item after item: the acts so far went, and then those of what is left went or were cut off.
 use Rattle.std.proofs.Common.{◌≡◌, ◌≢◌, ℕ, ◌+◌, ◌*◌, ◌<◌, ◌≤◌, List, [], ◌∷◌, ◌++◌, length, drop, IfSome, IfNone, Result, Ok, Err}
-use Rattle.std.proofs.Common.{Option, None, Some, codes, refl, sym, ap, ◌∙◌, subst, arith, inl, inr, append_assoc, append-nil, ◌⊎◌}
+use Rattle.std.proofs.Common.{None, codes, refl, sym, ap, ◌∙◌, subst, arith, inl, inr, append_assoc, append-nil, ◌⊎◌}
 use Rattle.std.proofs.lemmas.List.{length-append, length_push}
 use Rattle.std.proofs.Math.Seq.{drop-append_seam}
 use Rattle.qic_base.specs.Cartridge.{Cartridge}
@@ -28,6 +28,7 @@ use Rattle.command_laws.specs.ScriptItems.{EarlyDoes}
 use Rattle.command_spec.specs.Script.{end_line, Did, EndDoes, ItemsDo, ScriptDoes, acts_of, cartridge_behind, entries_behind}
 use Rattle.command_spec.specs.Script.{place_behind, reply, items_taken}
 use Rattle.volume_script.specs.Runs.{Leaves, Ended, CutItems, CutOff, ItemsFirst}
+use Rattle.command_laws.proofs.CommandTold.{told_input}
 use Rattle.command_laws.proofs.CutFronts.{CutBehind, cut_then}
 use Rattle.command_laws.proofs.TextLined.{end_no_newline}
 use Rattle.command_spec.specs.Machine.{acts_before}
@@ -65,11 +66,6 @@ status_is (AtFault number place) = refl
 
 plain_place : (texts : List ℕ) → 0 + length texts ≡ length texts
 plain_place texts = omega arith
-
--- what is so of an input is so of the bytes that are told
-input_has : (o : Option (List ℕ)) (input : List ℕ) (P : List ℕ → Type 0) → IsInput o input → P input → IfSome o P
-input_has None input P told is = tt
-input_has (Some bytes) input P told is = subst P told is
 
 -- nothing reaches into any item, and the line `end` into a line
 none_into : InItem []
@@ -498,7 +494,7 @@ module _ {T S K : Type 0} {t : tapes.Meaning T} {s : sources.Meaning S} {k : sin
         faulty new rest rest number at heard.acts same equal told heard.content (early_fault (lines + 1) rest early) heard.went heard.gave
         (inr (
           heard.ended,
-          input_has (s.left start.source) (far.texts ++ rest) (λ all. EndsEarly (drop at all))
+          told_input (s.left start.source) (far.texts ++ rest) (λ all. EndsEarly (drop at all))
               (whole_told (s.left start.source) (s.left now.source) far.texts rest far.gave told)
               (subst EndsEarly
               (sym (ap (λ (n : ℕ). drop n (far.texts ++ rest)) (equal ∙ far.bytes) ∙ drop-append_seam far.texts rest)) early),

@@ -4,7 +4,7 @@ use Rattle.std.proofs.Common.{Some, None, IfSome, IsSomeAnd, refl, sym, ap, ◌�
 use Rattle.std.specs.Prelude.{if◌then◌else◌}
 use Rattle.std.specs.Option.{option_map, option_map_or}
 use Rattle.cartridge_laws.proofs.MountSettles.{settling_settles}
-use Rattle.qic_base.specs.Cartridge.{Cartridge}
+use Rattle.qic_base.specs.Cartridge.{Cartridge, IsLength}
 use Rattle.qic_base.specs.CartridgeTerms.{IsCartridge}
 use Rattle.qic_base.specs.Step.{Step, write_sector, changed, effects}
 use Rattle.qic_base.specs.Tape.{Meaning, Done}
@@ -21,6 +21,7 @@ use Rattle.cartridge_spec.specs.Shape.{sector_at, usable_places}
 use Rattle.cartridge_spec.specs.Says.{whole_mask, with_parity}
 use Rattle.cartridge_spec.specs.Code.{parity_sectors}
 use Rattle.drive_spec.specs.Terms.{is_protected, is_referenced}
+use Rattle.drive_states.specs.Sound.{HasLength}
 use Rattle.drive_states.specs.Unit.{UnitView}
 use Rattle.host_driver.specs.declared.host.Host.{Host}
 use Rattle.host_driver.specs.Fits.{Fits, AgreesWithTape, segments_of, deck_of}
@@ -163,6 +164,15 @@ told_there None told S P R there agrees gives fact = absurd there
 told_there (Some info) None S P R there agrees gives fact = tt
 told_there (Some info) (Some None) S P R there agrees gives fact = absurd agrees
 told_there (Some info) (Some (Some c)) S P R there agrees gives fact = gives c fact
+
+-- a host that fits a unit has learnt a length that there can be
+pub length_learnt : {T : Type 0} (m : Meaning T) (host : Host) (u : UnitView T) → Fits m host u → IsLength (segments_of host)
+length_learnt m host u fits = by_cartridge u.drive.deck.cartridge fits.sound.drive.deck.long fits.cartridge
+  where
+    by_cartridge : (cartridge : Option TapeInfo) → HasLength cartridge →
+        IsSomeAnd cartridge (λ info. info.segments_per_track ≡ segments_of host) → IsLength (segments_of host)
+    by_cartridge None long there = absurd there
+    by_cartridge (Some info) long there = subst (λ (n : ℕ). IsLength n) there long
 
 -- hosts that fit units with one cartridge have learnt one length
 pub one_length : {T : Type 0} (m : Meaning T) (one other : Host) (u v : UnitView T) → Fits m one u → Fits m other v →

@@ -7,6 +7,7 @@ use Rattle.cartridge_spec.specs.TableSegment.{TableIs, table_cells}
 use Rattle.cartridge_spec.specs.Says.{LostSectors, ByCode, TableSays}
 use Rattle.cartridge_spec.specs.Settling.{settling_steps}
 use Rattle.cartridge_spec.specs.Table.{Entry, Shows}
+use Rattle.command_spec.specs.Numbers.{AreTooMany}
 use Rattle.command_spec.specs.Append.{Taking, taking, room_in, input_writes, Fits, TooLong, TooShort, Kept, append_acts, has_promised_room}
 use Rattle.command_laws.specs.AppendTerms.{entry_for, bytes_taken, silently}
 use Rattle.qic_base.specs.Acts.{Outside, Went, Failing, Cut, TapeFails, SourceFails, Act}
@@ -157,7 +158,7 @@ abbrev pub AppendEnds : {T S : Type 0} (t : tapes.Meaning T) (s : sources.Meanin
 AppendEnds t s old new store after name date promised (Ok appended) = HasAppended t s old new store after name date promised appended
 AppendEnds t s old new store after name date promised (Err fault.Protected) = IsUntouched old new
 AppendEnds t s old new store after name date promised (Err (fault.Lost segment lost)) =
-    (segment ≡ 2) × (3 < lost) × TableRefused t s old new (λ c. TableSays (table_cells c) (ByCode (LostSectors lost)))
+    (segment ≡ 2) × AreTooMany lost × TableRefused t s old new (λ c. TableSays (table_cells c) (ByCode (LostSectors lost)))
 AppendEnds t s old new store after name date promised (Err fault.TableMismatch) = TableRefused t s old new (λ c. ⊥)
 AppendEnds t s old new store after name date promised (Err (fault.Full need have)) = AppendRan t s old new store name date promised
     (TooLong need have)

@@ -279,9 +279,8 @@ impl Store {
         }
     }
 
-    /// The data sectors of the segment that `part` read. It is called right behind a `part` that found one.
+    /// The data sectors of the segment that `part` read, where that was the last call and found one.
     pub fn part_data(&self) -> &[Sector]
-        requires { 0 < length self.now.part }
         ensures { result.now ≡ self.now.part }
     {
         let sectors = self.work.sectors();

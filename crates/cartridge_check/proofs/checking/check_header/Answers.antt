@@ -3,7 +3,7 @@ use Rattle.command_spec.specs.Check.{MayBeTold, header_copies}
 use Rattle.drive_states.specs.Reach.{reads_in}
 use Rattle.host_driver.proofs.Keeping.{mode_kept}
 use Rattle.qic_base.specs.Alone.{around}
-use Rattle.segment_mending.proofs.Passing.{passed}
+use Rattle.command_laws.proofs.Passing.{passed}
 use Rattle.cartridge_check.specs.declared.fault.CheckFault.{CheckFault}
 use Rattle.cartridge_check.proofs.Ending.{IsHeld, copies_failed, header_failed, header_read, is_held}
 use Rattle.cartridge_check.proofs.Parts.{few_after, zip_length}

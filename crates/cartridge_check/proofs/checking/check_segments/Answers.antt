@@ -10,11 +10,12 @@ use Rattle.host_driver.specs.declared.host.Host.{Host}
 use Rattle.qic_base.specs.Alone.{around}
 use Rattle.qic_base.specs.Sink as sinks
 use Rattle.qic_base.specs.SinkCalls as sink_calls
-use Rattle.segment_mending.proofs.Passing.{passed}
+use Rattle.command_laws.proofs.Passing.{passed}
 use Rattle.cartridge_check.specs.Telling.{HasTold}
 use Rattle.cartridge_check.specs.declared.fault.CheckFault.{CheckFault}
 use Rattle.cartridge_check.proofs.Ending.{Begun, InFront, all_told, begun, counts_cut, counts_written, front_done, front_failed}
 use Rattle.cartridge_check.proofs.Ending.{volumes_failed}
+use Rattle.cartridge_check.proofs.Looked.{looked_few}
 use Rattle.cartridge_check.proofs.checking.check_segments.Goals as goal
 
 pub returns-in_err-check_header : goal.returns-in_err-check_header
@@ -109,8 +110,16 @@ returns-in-Ok g c =
     let all : HasTold m k (looked_at words entries) a e _ c.tell_volumes.new.tally =
     all_told m k words (take 29 sectors) entries a d e _ _ front c.tell_volumes.new.tally g.met.K.Sink.took_both
     c.in_ok-tell_volumes.ensures.tells in
+    let same : length words ≡ 28 * segments_of host =
+    c.in_ok-check_header.ensures.map ∙ ap (λ (n : ℕ). 28 * n) (one_length m c.args.host.now host c.args.unit.now
+    c.check_header.new.unit c.requires.ready.fits c.in_ok-check_header.ensures.keeps.ready.fits
+    c.in_ok-check_header.ensures.keeps.same.cartridge) in
+    let order : IsSoundList (length words - 1) entries = subst (λ (n : ℕ). IsSoundList (n - 1) entries) (sym same)
+    (sound_volumes (take 29 sectors) (28 * segments_of host - 1) entries c.in_ok-check_table.ensures.shown) in
     counts_written m k words (take 29 sectors) entries a d e _ _ front c.tell_volumes.new.tally
-    (record { segments = omega arith; mendable = omega arith; bad = omega arith }) all g.met.K.Sink.took_both c.write_text.new.sink
+    (record { segments = omega arith; mendable = omega arith; bad = omega arith }) all
+    (looked_few m c.args.host.now c.args.unit.now words entries c.requires.ready.fits c.in_ok-check_header.ensures.map order)
+    g.met.K.Sink.took_both c.write_text.new.sink
     (subst (sinks.Wrote k c.tell_volumes.new.sink c.write_text.new.sink) (c.bytes.ensures ∙ c.counts_text.ensures) c.in-Ok.ensures)
 
 pub returns-in-Err : goal.returns-in-Err

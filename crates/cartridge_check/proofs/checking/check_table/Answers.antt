@@ -9,7 +9,7 @@ use Rattle.drive_states.specs.Reach.{reads_in}
 use Rattle.host_driver.proofs.Keeping.{mode_kept}
 use Rattle.host_driver.specs.Fits.{segments_of}
 use Rattle.qic_base.specs.Alone.{around}
-use Rattle.segment_mending.proofs.Passing.{passed}
+use Rattle.command_laws.proofs.Passing.{passed}
 use Rattle.volume_store.proofs.Storing.{one_length, still_referenced}
 use Rattle.cartridge_check.proofs.checking.check_table.Goals as goal
 

@@ -5,7 +5,7 @@ use Rattle.drive_states.specs.Reach.{reads_in}
 use Rattle.host_driver.proofs.Keeping.{cartridge_kept, mode_kept}
 use Rattle.qic_base.specs.Alone.{around}
 use Rattle.segment_io.proofs.Going.{front_segment}
-use Rattle.segment_mending.proofs.Passing.{passed}
+use Rattle.command_laws.proofs.Passing.{passed}
 use Rattle.cartridge_check.specs.declared.fault.CheckFault.{CheckFault}
 use Rattle.cartridge_check.proofs.Joining.{tells_longer, tells_then}
 use Rattle.cartridge_check.proofs.Parts.{few_after, few_more, zip_length}

@@ -1,6 +1,6 @@
 use Rattle.std.proofs.Common.{◌≡◌, Err}
 use Rattle.command_spec.specs.Scrub.{whole_segment}
-use Rattle.segment_mending.proofs.Passing.{passed}
+use Rattle.command_laws.proofs.Passing.{passed}
 use Rattle.cartridge_check.specs.declared.fault.CheckFault.{CheckFault}
 use Rattle.cartridge_check.proofs.Joining.{tells_failed, tells_once}
 use Rattle.cartridge_check.proofs.looking.tell_table.Goals as goal

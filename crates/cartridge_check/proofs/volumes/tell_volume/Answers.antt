@@ -7,7 +7,7 @@ use Rattle.command_spec.specs.Scrub.{Looked}
 use Rattle.drive_states.specs.Reach.{reads_in}
 use Rattle.host_driver.proofs.Keeping.{keeps_none, keeps_both, mode_kept}
 use Rattle.segment_mending.proofs.Looked.{carrying_below, below_none, segments_next, segments_whole, length-below}
-use Rattle.segment_mending.proofs.Passing.{passed}
+use Rattle.command_laws.proofs.Passing.{passed}
 use Rattle.cartridge_check.specs.Telling.{HasTold, TellsAll}
 use Rattle.cartridge_check.specs.declared.fault.CheckFault.{CheckFault}
 use Rattle.cartridge_check.proofs.Joining.{told_none, told_both, tells_then, tells_longer}

@@ -7,7 +7,7 @@ use Rattle.command_spec.specs.Scrub.{Looked, looked_volumes}
 use Rattle.drive_states.specs.Reach.{reads_in}
 use Rattle.host_driver.proofs.Keeping.{keeps_none, keeps_both, mode_kept}
 use Rattle.segment_mending.proofs.Looked.{volumes_more, volumes_part, LiesOn, lies_on}
-use Rattle.segment_mending.proofs.Passing.{passed}
+use Rattle.command_laws.proofs.Passing.{passed}
 use Rattle.volume_table.specs.Entry.{entry_of}
 use Rattle.cartridge_check.specs.Telling.{HasFew, HasTold, TellsAll}
 use Rattle.cartridge_check.specs.declared.fault.CheckFault.{CheckFault}

@@ -1,4 +1,4 @@
-use Rattle.std.proofs.Common.{◌≡◌, ◌<◌, ℕ, take, refl, sym, subst, arith}
+use Rattle.std.proofs.Common.{◌≡◌, ◌<◌, ◌≤◌, ℕ, take, refl, sym, subst, ◌∙◌, arith}
 use Rattle.qic_base.proofs.Steps.{Tells-map}
 use Rattle.cartridge_laws.specs.Says.{LosesData}
 use Rattle.cartridge_spec.specs.Says.{LostSectors, ByCode, TableSays}
@@ -8,7 +8,9 @@ use Rattle.segment_io.proofs.Going.{front_segment}
 use Rattle.cartridge_front.specs.declared.table_reader.Unread.{Unread}
 use Rattle.cartridge_front.specs.Finding.{FindsTable}
 use Rattle.cartridge_front.specs.Reading.{IsReadBut}
+use Rattle.cartridge_laws.proofs.Places.{count_below}
 use Rattle.cartridge_laws.proofs.Segments.{length-whole_cells}
+use Rattle.erasure_solve.specs.Lost.{lost_count}
 use Rattle.cartridge_front.proofs.TableSegment.{finds_read, finds_many, finds_solving, known_solving, read_known}
 use Rattle.cartridge_front.proofs.table_reader.read_table.Goals as goal
 
@@ -37,7 +39,8 @@ returns-in-TooMany-clause-many g c = λ named n same.
     let many = (c.in-TooMany.ensures.too_many c.in-TooMany.lost).0 refl in
     let one : 2 ≡ named = cc in
     let count : c.in-TooMany.lost ≡ n = cc in
-    (sym one, subst (λ (k : ℕ). 3 < k) count many.2)
+    let most : lost_count c.in_ok-lost.lost ≤ 32 = count_below c.in_ok-lost.lost 32 in
+    (sym one, (subst (λ (k : ℕ). 3 < k) count many.2, subst (λ (k : ℕ). k ≤ 32) (many.1 ∙ count) most))
 
 pub returns-in-AsRead-clause-known : goal.returns-in-AsRead-clause-known
 returns-in-AsRead-clause-known g c =

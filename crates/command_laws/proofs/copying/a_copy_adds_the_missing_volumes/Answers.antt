@@ -1,4 +1,5 @@
-use Rattle.command_laws.proofs.CopyLeaving.{done_copy_stands, stopped_copy_stands, stopped_source_stands}
+use Rattle.command_laws.proofs.CopyLeaving.{stopped_source_stands}
+use Rattle.command_laws.proofs.CopyStood.{done_copy_stands, stopped_copy_stands}
 use Rattle.command_laws.proofs.copying.a_copy_adds_the_missing_volumes.Goals as goal
 
 pub returns-clause-done : goal.returns-clause-done

@@ -4,7 +4,7 @@ use Rattle.qic_base.proofs.Disks.{told-look}
 use Rattle.dump_opening.specs.Opened.{Shows}
 use Rattle.dump_answers.specs.Checking.{Checks}
 use Rattle.dump_answers.proofs.Finding.{check_broke, check_cut, check_done, checks_next, checks_none}
-use Rattle.dump_answers.proofs.Passing.{passed}
+use Rattle.command_laws.proofs.Passing.{passed}
 use Rattle.dump_answers.proofs.checking.check_dump.Goals as goal
 
 one_same : (a b : ℕ) → a ∷ [] ≡ b ∷ [] → a ≡ b

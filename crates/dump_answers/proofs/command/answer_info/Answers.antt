@@ -9,7 +9,7 @@ use Rattle.dump_answers.specs.Ends.{CountsByFault, fault_of}
 use Rattle.dump_answers.specs.declared.ending.Cut.{Cut}
 use Rattle.dump_answers.specs.declared.ending.Ending.{Ending}
 use Rattle.dump_answers.proofs.Commands.{info_only, print_counts, prints_unread, text_prints}
-use Rattle.dump_answers.proofs.Passing.{passed}
+use Rattle.command_laws.proofs.Passing.{passed}
 use Rattle.dump_answers.proofs.command.answer_info.Goals as goal
 
 pub returns-clause-prints : goal.returns-clause-prints

@@ -6,7 +6,7 @@ use Rattle.dump_opening.specs.Opened.{Opens}
 use Rattle.dump_opening.specs.declared.opened.OpenError.{OpenError}
 use Rattle.dump_opening.specs.declared.opened.Opened.{Opened}
 use Rattle.dump_opening.proofs.Knowing.{few_bytes, header_refused, opened_is, size_refused, texts_refused}
-use Rattle.dump_opening.proofs.Passing.{passed}
+use Rattle.command_laws.proofs.Passing.{passed}
 use Rattle.dump_opening.proofs.opening.open_dump.Goals as goal
 
 pub returns-in_err-read_texts-clause-opens : goal.returns-in_err-read_texts-clause-opens

@@ -15,7 +15,7 @@ use Rattle.hand_commands.specs.Outcome.{first_steps}
 use Rattle.hand_commands.proofs.Endings.{IsBlind, told_map, told_both, told_back, printed, turned_down, turned_behind, cut_off}
 use Rattle.hand_commands.proofs.Endings.{cut_off_first, defect_absent, defect_misplaced, defect_placed, defect_front, defect_formatted}
 use Rattle.command_laws.proofs.CommandEndings.{Rules}
-use Rattle.hand_commands.proofs.Hands.{reached, unknown, no_place}
+use Rattle.hand_commands.proofs.Hands.{reached, reached_there, unknown, no_place, misplaced_there}
 use Rattle.qic_base.specs.CartridgeTerms.{IsInfoOf}
 use Rattle.hand_commands.proofs.defect.spoil.Goals as goal
 
@@ -32,7 +32,8 @@ returns-in-Ok g c =
     (IsInfoOf _) c.in_default.ensures.did c.in_default.ensures.inserted.known.told in
     rw c.printed.ensures (printed g.T.Tape.means g.K.Sink.means (Defect c.args.segment c.args.sector) is_blind c.args.unit.now.tape
     c.spoil.new.self.tape c.args.sink.now c.write_text.new.sink
-    (carried_out (Spoil c.args.segment c.args.sector) (defect_line c.args.segment c.args.sector)) c.write_text.result refl refl refl
+    (carried_out (Spoil c.args.segment c.args.sector) (defect_line c.args.segment c.args.sector)) c.write_text.result
+    (reached_there _ c.args.segment c.args.sector c.in_default.ensures.inserted.known.long came) refl refl refl
     (told_map _ _ (λ h. Rules (Defect c.args.segment c.args.sector) h
     (carried_out (Spoil c.args.segment c.args.sector) (defect_line c.args.segment c.args.sector)))
     (told_both _ (IsInfoOf _) (λ h. IfSome h (λ k. spoil_answer (view_at k c.args.segment c.args.sector) ≡ true)) before
@@ -67,7 +68,8 @@ returns-in-Err-BadPlace g c =
     (IsInfoOf _) c.in_default.ensures.did c.in_default.ensures.inserted.known.told in
     let same = c.spoil.ensures.untouched (inr is) in
     turned_down g.T.Tape.means g.K.Sink.means (Defect c.args.segment c.args.sector) is_blind c.args.unit.now.tape c.spoil.new.self.tape
-    c.args.sink.now status.BadPlace g.met.K.Sink.took_nothing refl refl (λ other. cc)
+    c.args.sink.now status.BadPlace g.met.K.Sink.took_nothing
+    (misplaced_there _ c.args.segment c.args.sector c.in_default.ensures.inserted.known.long out) refl (λ other. cc)
     (told_map _ (IsInfoOf _) (λ h. Rules (Defect c.args.segment c.args.sector) h (refused status.BadPlace)) before
     (λ held known. λ input. defect_misplaced c.args.segment c.args.sector out.info held (sym out.known ∙ known) out.none))
     (subst (λ (u : UnitView _). tapes.Done g.T.Tape.means c.args.unit.now.tape u.tape []) (sym same) c.in_default.ensures.did)
@@ -82,7 +84,8 @@ returns-in-Err-NotBlank g c =
     (IsInfoOf _) c.in_default.ensures.did c.in_default.ensures.inserted.known.told in
     let kept = rw is at came.fact in
     turned_behind g.T.Tape.means g.K.Sink.means (Defect c.args.segment c.args.sector) is_blind c.args.unit.now.tape c.spoil.new.self.tape
-    c.args.sink.now status.NotBlank (Spoil c.args.segment c.args.sector ∷ []) g.met.K.Sink.took_nothing refl refl (λ other. cc)
+    c.args.sink.now status.NotBlank (Spoil c.args.segment c.args.sector ∷ []) g.met.K.Sink.took_nothing
+    (reached_there _ c.args.segment c.args.sector c.in_default.ensures.inserted.known.long came) refl (λ other. cc)
     (told_map _ _ (λ h. Rules (Defect c.args.segment c.args.sector) h
     (refused_behind (Spoil c.args.segment c.args.sector ∷ []) status.NotBlank))
     (told_both _ (IsInfoOf _) (λ h. IfSome h (λ k. spoil_answer (view_at k c.args.segment c.args.sector) ≡ false)) before

@@ -13,7 +13,7 @@ use Rattle.hand_commands.specs.Outcome.{first_steps}
 use Rattle.hand_commands.proofs.Endings.{IsBlind, told_map, told_back, printed, turned_down, cut_off, cut_off_first, lose_absent}
 use Rattle.hand_commands.proofs.Endings.{lose_misplaced, lose_placed, lose_front}
 use Rattle.command_laws.proofs.CommandEndings.{Rules}
-use Rattle.hand_commands.proofs.Hands.{reached, unknown, no_place}
+use Rattle.hand_commands.proofs.Hands.{reached, reached_there, unknown, no_place, misplaced_there}
 use Rattle.qic_base.specs.CartridgeTerms.{IsInfoOf}
 use Rattle.hand_commands.proofs.lose.lose.Goals as goal
 
@@ -30,7 +30,8 @@ returns-in-Ok g c =
     (IsInfoOf _) c.in_default.ensures.did c.in_default.ensures.inserted.known.told in
     rw c.printed.ensures (printed g.T.Tape.means g.K.Sink.means (Lose c.args.segment c.args.sector) is_blind c.args.unit.now.tape
     c.wear.new.self.tape c.args.sink.now c.write_text.new.sink
-    (carried_out (Wear c.args.segment c.args.sector) (lost_line c.args.segment c.args.sector)) c.write_text.result refl refl refl
+    (carried_out (Wear c.args.segment c.args.sector) (lost_line c.args.segment c.args.sector)) c.write_text.result
+    (reached_there _ c.args.segment c.args.sector c.in_default.ensures.inserted.known.long came) refl refl refl
     (told_map _ (IsInfoOf _) (λ h. Rules (Lose c.args.segment c.args.sector) h
     (carried_out (Wear c.args.segment c.args.sector) (lost_line c.args.segment c.args.sector))) before
     (λ held known. λ input. lose_placed c.args.segment c.args.sector came.info held (sym came.known ∙ known) came.place))
@@ -62,7 +63,8 @@ returns-in-Err-BadPlace g c =
     (IsInfoOf _) c.in_default.ensures.did c.in_default.ensures.inserted.known.told in
     let same = c.wear.ensures.untouched (inr is) in
     turned_down g.T.Tape.means g.K.Sink.means (Lose c.args.segment c.args.sector) is_blind c.args.unit.now.tape c.wear.new.self.tape
-    c.args.sink.now status.BadPlace g.met.K.Sink.took_nothing refl refl (λ other. cc)
+    c.args.sink.now status.BadPlace g.met.K.Sink.took_nothing
+    (misplaced_there _ c.args.segment c.args.sector c.in_default.ensures.inserted.known.long out) refl (λ other. cc)
     (told_map _ (IsInfoOf _) (λ h. Rules (Lose c.args.segment c.args.sector) h (refused status.BadPlace)) before
     (λ held known. λ input. lose_misplaced c.args.segment c.args.sector out.info held (sym out.known ∙ known) out.none))
     (subst (λ (u : UnitView _). tapes.Done g.T.Tape.means c.args.unit.now.tape u.tape []) (sym same) c.in_default.ensures.did)

@@ -28,7 +28,7 @@ pub returns-in-Ok : goal.returns-in-Ok
 returns-in-Ok g c =
     rw c.printed.ensures (printed g.T.Tape.means g.K.Sink.means
     (New c.args.segments) is_blind c.args.unit.now.tape c.load_blank.new.self.tape c.args.sink.now c.write_text.new.sink
-    (carried_out (Renew c.args.segments) (blank_line c.args.segments)) c.write_text.result refl refl refl
+    (carried_out (Renew c.args.segments) (blank_line c.args.segments)) c.write_text.result refl refl refl refl
     (always c.args.segments _) c.in-Ok.ensures.1
     (rw (c.bytes.ensures, c.number_text.ensures, c.from.ensures) at c.write_text.ensures))
 

@@ -28,7 +28,7 @@ returns-in-Ok g c =
     (IsInfoOf _) c.in_default.ensures.did c.in_default.ensures.inserted.known.told in
     rw c.printed.ensures (printed g.T.Tape.means g.K.Sink.means (Protect c.args.on) is_blind c.args.unit.now.tape c.protect.new.self.tape
     c.args.sink.now c.write_text.new.sink
-    (carried_out (SetProtected c.args.on) (protected_line c.args.on)) c.write_text.result refl refl refl
+    (carried_out (SetProtected c.args.on) (protected_line c.args.on)) c.write_text.result refl refl refl refl
     (told_map _ (IsInfoOf _) (λ h. Rules (Protect c.args.on) h (carried_out (SetProtected c.args.on) (protected_line c.args.on))) before
     (λ held known. λ input. protect_present c.args.on came.info held (sym came.known ∙ known)))
     (Done-after_reads c.in_default.ensures.did (rw c.in-Ok.is at came.fact).1)

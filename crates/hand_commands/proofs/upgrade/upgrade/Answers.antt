@@ -29,7 +29,7 @@ returns-in-Ok g c =
     let done = (rw c.in-Ok.is at came.fact).1 in
     rw c.printed.ensures (printed g.T.Tape.means g.K.Sink.means Upgrade is_blind c.args.unit.now.tape c.upgrade.new.self.tape
     c.args.sink.now c.write_text.new.sink
-    (carried_out Upgrading (upgraded_line c.in-Ok.version)) c.write_text.result refl refl
+    (carried_out Upgrading (upgraded_line c.in-Ok.version)) c.write_text.result refl refl refl
     (c.in-Ok.version, done.layout.oldest, done.layout.newest, refl)
     (told_map _ _ (λ h. Rules Upgrade h (carried_out Upgrading (upgraded_line c.in-Ok.version)))
     (told_both _ (IsInfoOf _) (λ h. IfSome h (λ d. c.in-Ok.version ≡ d.version)) before

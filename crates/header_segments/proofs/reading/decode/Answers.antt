@@ -7,7 +7,7 @@ use Rattle.header_segments.proofs.reading.decode.Goals as goal
 pub returns-in-None-clause-shown : goal.returns-in-None-clause-shown
 returns-in-None-clause-shown c =
     let drive : number_in c.args.area.now 24 2 ≡ c.args.drive_segments =
-    refusal-segments c.args.area.now c.args.drive_segments (sym c.in-None.ensures) in
+    refusal-segments c.args.area.now c.args.drive_segments (sym c.in-None.ensures.fault) in
     let read : number_in c.args.area.now 24 2 ≡ c.fields_of.result.segments_per_track = c.fields_of.ensures 2 (number 0 0 0)
     (omega arith) in
     record {

@@ -1,4 +1,4 @@
-use Rattle.std.proofs.Common.{false, Err, subst}
+use Rattle.std.proofs.Common.{◌≤◌, ℕ, false, Err, subst}
 use Rattle.qic_base.specs.Alone.{around}
 use Rattle.cartridge_front.specs.declared.fault.StoreFault.{StoreFault}
 use Rattle.volume_store.specs.Restoring.{RestoreEnds}
@@ -13,13 +13,13 @@ returns-in-Err g c =
 pub returns-in-Ok-restore : goal.returns-in-Ok-restore
 returns-in-Ok-restore g c =
     restore_done g.T.Tape.means g.K.Sink.means c.args.number c.args.unit.now.tape c.open.new.unit c.in-Ok.store c.in-Ok.ensures
-    c.restore.new.unit.tape c.args.sink.now c.restore.new.sink c.in-Ok-restore.field-0 g.met.K.Sink.took_both g.met.K.Sink.took_nothing
-    c.in-Ok-restore.ensures.ends
+    (subst (λ (n : ℕ). n ≤ 232) c.count.ensures.count c.count.ensures.few) c.restore.new.unit.tape c.args.sink.now
+    c.restore.new.sink c.in-Ok-restore.field-0 g.met.K.Sink.took_both g.met.K.Sink.took_nothing c.in-Ok-restore.ensures.ends
 
 pub returns : goal.returns
 returns g c =
     rw c.store_status.ensures (restore_failed g.T.Tape.means g.K.Sink.means c.args.number c.args.unit.now.tape c.open.new.unit c.in-Ok.store
-    c.in-Ok.ensures
+    c.in-Ok.ensures (subst (λ (n : ℕ). n ≤ 232) c.count.ensures.count c.count.ensures.few)
     c.restore.new.unit.tape c.args.sink.now c.restore.new.sink c.in-Err-restore.fault g.met.K.Sink.took_both g.met.K.Sink.took_nothing
     c.in-Err-restore.ensures.ends)
 

@@ -14,7 +14,7 @@ use Rattle.segment_mending.specs.declared.locating.Unread.{Unread}
 use Rattle.segment_mending.specs.Locating.{IsFound, MayMend, finding_of, mending, unread_saying}
 use Rattle.segment_mending.specs.Looking.{Counted, with_mended, with_unread}
 use Rattle.segment_mending.specs.Mending.{reported}
-use Rattle.segment_mending.proofs.Passing.{passed}
+use Rattle.command_laws.proofs.Passing.{passed}
 use Rattle.segment_mending.proofs.Reading.{are_mended, are_unread, counted_mended, counted_unread, goes_behind, goes_on, looks_failed}
 use Rattle.segment_mending.proofs.Reading.{looks_once, telling}
 use Rattle.segment_mending.proofs.looking.look_at.Goals as goal

@@ -2,7 +2,7 @@ use Rattle.std.proofs.Common.{◌≡◌, Err}
 use Rattle.command_spec.specs.Scrub.{Looked}
 use Rattle.segment_mending.specs.declared.fault.ScrubFault.{ScrubFault}
 use Rattle.segment_mending.specs.Locating.{mending}
-use Rattle.segment_mending.proofs.Passing.{passed}
+use Rattle.command_laws.proofs.Passing.{passed}
 use Rattle.segment_mending.proofs.Reading.{goes_on, goes_failed}
 use Rattle.segment_mending.proofs.mending.mend.Goals as goal
 

@@ -7,7 +7,7 @@ use Rattle.segment_mending.specs.declared.fault.ScrubFault.{ScrubFault}
 use Rattle.segment_mending.specs.Looking.{HasLooked, Looks}
 use Rattle.segment_mending.specs.Mending.{reported}
 use Rattle.segment_mending.proofs.Joining.{looked_both, looks_then, looks_longer}
-use Rattle.segment_mending.proofs.Passing.{passed}
+use Rattle.command_laws.proofs.Passing.{passed}
 use Rattle.command_spec.specs.declared.depth.Depth.{Depth}
 use Rattle.segment_mending.proofs.scrubbing.look_at_front.Goals as goal
 

@@ -9,7 +9,7 @@ use Rattle.segment_mending.specs.Looking.{HasLooked, Looks}
 use Rattle.segment_mending.specs.Mending.{reported}
 use Rattle.segment_mending.proofs.Joining.{looked_none, looked_both, looks_then, looks_longer, few_after, few_more}
 use Rattle.segment_mending.proofs.Looked.{carrying_below, below_none, segments_next, segments_whole, length-below}
-use Rattle.segment_mending.proofs.Passing.{passed}
+use Rattle.command_laws.proofs.Passing.{passed}
 use Rattle.command_spec.specs.declared.depth.Depth.{Depth}
 use Rattle.segment_mending.proofs.volumes.look_at_volume.Goals as goal
 

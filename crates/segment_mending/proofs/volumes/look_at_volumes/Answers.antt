@@ -11,7 +11,7 @@ use Rattle.segment_mending.specs.Looking.{HasLooked, Looks, HasFew}
 use Rattle.segment_mending.specs.Mending.{reported}
 use Rattle.segment_mending.proofs.Joining.{looked_none, looked_both, looks_then, looks_longer, few_after}
 use Rattle.segment_mending.proofs.Looked.{volumes_more, volumes_part, LiesOn, lies_on}
-use Rattle.segment_mending.proofs.Passing.{passed}
+use Rattle.command_laws.proofs.Passing.{passed}
 use Rattle.command_spec.specs.declared.depth.Depth.{Depth}
 use Rattle.segment_mending.proofs.volumes.look_at_volumes.Goals as goal
 

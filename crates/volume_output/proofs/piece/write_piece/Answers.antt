@@ -11,7 +11,7 @@ returns-in-Err-Lost-clause-ends g c = λ words is.
     (is_lined c.args.form) c.args.unit.now.tape c.read_segment.new.unit.tape
     c.args.sink.now g.met.K.Sink.took_nothing (rw c.in-Err-Lost.field-0-is at c.in-Err-Lost.ensures.did) c.in-Err-Lost.segment
     c.in-Err-Lost.lost
-    named.0 named.1 ((rw c.in-Err-Lost.field-0-is at c.in-Err-Lost.ensures.solves) (λ same. cc)))
+    named.0 (named.1, named.2) ((rw c.in-Err-Lost.field-0-is at c.in-Err-Lost.ensures.solves) (λ same. cc)))
 
 pub returns-in-Err-Mismatch-clause-ends : goal.returns-in-Err-Mismatch-clause-ends
 returns-in-Err-Mismatch-clause-ends g c = λ words is.

@@ -1,7 +1,0 @@
--- An error that `?` passes on.
-use Rattle.std.proofs.Common.{◌≡◌, Result, Err, ap, ◌∙◌}
-use Rattle.std.proofs.lemmas.Result.{err_from_is_err_and}
-use Rattle.std.specs.Result.{IsErrAnd}
-
-pub passed : {A E : Type 0} (answer : Result A E) (fault : E) → IsErrAnd answer (λ given. given ≡ fault) → answer ≡ Err fault
-passed answer fault gives = let p = err_from_is_err_and answer gives in p.1 ∙ ap Err p.2
