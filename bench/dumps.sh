@@ -1,12 +1,14 @@
 #!/usr/bin/env bash
 # Times tape_import and tape_export of a cartridge of 100 segments per track, 91,750,400 bytes of sectors, with a map and
-# without, in a file on a disk and in one in memory: beside cp of the dump with one sync at its end.
+# without, in a file on a disk and in one in memory: beside cp of the dump with one sync at its end. So it times tape_salvage
+# of a volume of 60,000,000 bytes in such a dump, also with three lost sectors in each segment of it.
 #
 #     bench/dumps.sh [RUNS [FOLDER ..]]
 #
 # RUNS is how often each is timed, in turn (5); the FOLDERs are where the files lie (the top of this repository, and
 # /dev/shm). It prints the medians of the seconds on the wall and of those of a processor, the most resident memory that a
-# run took, and how many times the seconds on the wall of cp the first is.
+# run took, and how many times the seconds on the wall of cp the first is; of a salvage also the part of the bytes a second
+# of cp. The variable BIN may name another folder of the programs than out/bin, which make fills.
 set -euo pipefail
 runs=${1:-5}
 folders=("${@:2}")
@@ -17,8 +19,12 @@ top=$(cd "$(dirname "$0")/.." && pwd)
 bytes=91750400
 each=512
 
+# The volume's bytes, and its last segment; the first is 3.
+volume=60000000
+last=$((2 + (volume + 29695) / 29696))
+
 missing=''
-for tool in gcc awk sed sort cp cmp cut head nproc seq sync mktemp; do
+for tool in gcc awk sed sort cp cmp cut head nproc realpath sync mktemp tr; do
     command -v "$tool" >/dev/null || missing="$missing $tool"
 done
 for folder in "${folders[@]}"; do
@@ -37,9 +43,11 @@ make_room() {
 if [ -w /dev/shm ]; then make_room /dev/shm; else make_room "${TMPDIR:-/tmp}"; fi
 base=$made
 
-make -C "$top" tape_import tape_export >&2
-for name in tape_import tape_export; do
-    ln -s "$top/out/bin/$name" "$base/$name"
+programs='tape tape_import tape_export tape_salvage'
+# shellcheck disable=SC2086
+[ -n "${BIN:-}" ] || make -C "$top" $programs >&2
+for name in $programs; do
+    ln -s "$(realpath "${BIN:-$top/out/bin}/$name")" "$base/$name"
 done
 gcc -O2 -o "$base/volumes" "$top/bench/volumes.c"
 
@@ -54,6 +62,20 @@ awk -v bytes=$bytes -v each=$each 'BEGIN {
 "$base/tape_export" --map "$base/again" "$base/image" > "$base/dump"
 "$base/tape_import" --map "$base/again" "$base/image.again" < "$base/dump"
 "$base/tape_export" "$base/image.again" | cmp - "$base/dump"
+rm "$base"/image*
+
+# The same length with a volume in it, whole and with three lost sectors in each of its segments.
+echo 'making the volume' >&2
+head -c $volume /dev/urandom > "$base/volume"
+"$base/tape" "$base/image" new 100 >&2
+"$base/tape" "$base/image" format salvage >&2
+"$base/tape" "$base/image" append volume < "$base/volume" >&2
+"$base/tape_export" "$base/image" > "$base/whole"
+for ((segment = 3; segment <= last; segment++)); do
+    printf "lose $segment %d\\n" 0 1 2
+done | "$base/tape" "$base/image" script > "$base/said"
+"$base/tape_export" --map "$base/damaged.map" "$base/image" > "$base/damaged"
+rm "$base/image"
 
 # Runs a command, and puts down its seconds and its memory under a name.
 timed() {
@@ -74,6 +96,14 @@ export_to() {
     cmp "$room/out" "$room/dump"
 }
 
+# It ends with 1 where bytes were computed that nothing checks.
+salvage() {
+    rm -f "$room/out" "$room/out.sure"
+    # shellcheck disable=SC2016
+    timed "$1" sh -c '"$0" "$@" > out 2> said || [ $? = 1 ] && sync out' "$base/tape_salvage" "${@:2}" volume 1
+    cmp "$room/out" "$base/volume"
+}
+
 round() {
     rm -f "$room/copy"
     # shellcheck disable=SC2016
@@ -83,6 +113,8 @@ round() {
     export_to export
     export_to export_map --map out.map
     cmp "$room/out.map" "$base/again"
+    salvage salvage whole
+    salvage salvage_lost --map damaged.map --sure out.sure damaged
 }
 
 # The median of the seconds on the wall (1) or of a processor (2).
@@ -102,13 +134,20 @@ of_cp() {
         }'
 }
 
+of_rate() {
+    of_cp "$1" "$2" | tr -d '\n'
+    awk -v ours="$(median "$1" 1)" -v cp="$(median cp 1)" -v bytes=$bytes -v volume=$volume \
+        'BEGIN { printf ", %.2f of its rate\n", volume / ours / (bytes / cp) }'
+}
+
 echo "$(sed -n 's/^model name[^:]*: //p' /proc/cpuinfo | head -n 1), $(nproc) processors, load $(cut -d ' ' -f 1-3 /proc/loadavg); a dump of $bytes bytes; medians of $runs"
 for folder in "${folders[@]}"; do
     make_room "$folder"
     room=$made
     cp "$base/dump" "$room/dump"
     cp "$base/again" "$room/map"
-    sync "$room/dump" "$room/map"
+    cp "$base/whole" "$base/damaged" "$base/damaged.map" "$room"
+    sync "$room/dump" "$room/map" "$room/whole" "$room/damaged" "$room/damaged.map"
     for ((run = 1; run <= runs; run++)); do
         echo "$folder, run $run of $runs" >&2
         (cd "$room" && round)
@@ -120,5 +159,7 @@ for folder in "${folders[@]}"; do
     of_cp import_map 'import, with a map'
     of_cp export 'export and one sync'
     of_cp export_map 'export, with a map'
+    of_rate salvage 'salvage of a volume'
+    of_rate salvage_lost 'salvage, three lost of each'
     rm -rf "$room"
 done

@@ -1,11 +1,11 @@
 The examples of the manual
 ==========================
 
-Every command of the examples in the manual pages `tape.1`, `pulse_trace.1`, `tape_export.1`, `tape_import.1` and
-`tape_dup.1`, in their order, with exactly what is shown there, so that the examples stay true. Who changes a line here
-changes it there, too.
+Every command of the examples in the manual pages `tape.1`, `pulse_trace.1`, `tape_export.1`, `tape_import.1`,
+`tape_salvage.1` and `tape_dup.1`, in their order, with exactly what is shown there, so that the examples stay true. Who
+changes a line here changes it there, too.
 
-  $ for name in tape_export tape_import tape_dup; do command -v $name > /dev/null || exit 80; done
+  $ for name in tape_export tape_import tape_salvage tape_dup ddrescuelog; do command -v $name > /dev/null || exit 80; done
 
 tape
 ----
@@ -171,6 +171,59 @@ The dump and the map of before stand for those of a medium.
   scrub 4 3 0
   $ tape tape.img restore 1
   a page of text
+
+tape_salvage
+------------
+
+The data of the segments from 2 on, 29 sectors of each. The archive has a block of 512 bytes for its file's header, 96 for the
+48,894 bytes of it, and two of zero bytes; the whole is a multiple of 10,240.
+
+  $ tape notes.img new 3
+  blank 3
+  $ tape notes.img format notes
+  formatted 84 0
+  $ tar -c numbers | tape notes.img append notes
+  appended 1 51200 3 4
+  $ tape_export notes.img > notes.dump
+  $ for segment in $(seq 2 83); do
+  >   dd if=notes.dump bs=1024 skip=$((32 * segment)) count=29 status=none
+  > done > tape.dump
+  $ stat -c %s tape.dump
+  2435072
+  $ tape_salvage --form data tape.dump list
+  1 3 4 51200 1970-01-01T00:00:00 notes
+  volumes 1
+  $ tape_salvage --form data --sure notes.sure tape.dump volume 1 > notes.tar
+  $ tar -t -f notes.tar
+  numbers
+
+A dump of all sectors that lacks the sectors 0, 1, 2 and 4 of segment 3, of a volume of 48,894 bytes.
+
+  $ tape lost.img new 3
+  blank 3
+  $ tape lost.img format lost
+  formatted 84 0
+  $ tape lost.img append numbers < numbers
+  appended 1 48894 3 4
+  $ for sector in 0 1 2 4; do tape lost.img lose 3 $sector; done
+  lost 3 0
+  lost 3 1
+  lost 3 2
+  lost 3 4
+  $ tape_export --map lost.map lost.img > lost.dump
+  $ tape_salvage --map lost.map lost.dump check; echo $?
+  lost 3 4
+  check 84 0 1
+  tape_salvage: 0 segments can be mended, 1 not
+  1
+  $ tape_salvage --map lost.map --sure part.sure lost.dump volume 1 > part; echo $?
+  tape_salvage: 44798 bytes read, 0 unchecked, 4096 filled
+  1
+  $ ddrescuelog --list-blocks=- --block-size=1024 part.sure
+  0
+  1
+  2
+  4
 
 tape_dup
 --------

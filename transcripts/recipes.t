@@ -1,7 +1,8 @@
 Recipes
 =======
 
-  $ command -v tape_import > /dev/null && command -v ddrescue > /dev/null && command -v ddrescuelog > /dev/null || exit 80
+  $ command -v tape_import > /dev/null && command -v tape_salvage > /dev/null || exit 80
+  $ command -v ddrescue > /dev/null && command -v ddrescuelog > /dev/null || exit 80
   $ . "$TESTDIR/image.sh"
 
 What docs/RECIPES.md shows. Each recipe runs with `set -euo pipefail`.
@@ -73,6 +74,25 @@ A restore that fails gives the bytes before the segment that it names, and `tar`
   tape: segment 4 lost 4 sectors
   $ cmp part/page notes/page
   $ cmp part/numbers <(head -c 28160 notes/numbers)
+
+A salvage gives what lies behind, too. Segment 3 carries 29,696 bytes of the volume, and the first 4,096 of segment 4 are lost: those
+of `numbers` from 28,160 on, since 1,536 bytes stand before it in the archive.
+
+  $ recipe << 'END'
+  > tape_export --map cart.map cart.img > cart.dump
+  > tape_salvage --map cart.map --sure notes.sure cart.dump volume 1 > notes.tar || echo "status $?"
+  > tar -x -i -C part -f notes.tar
+  > END
+  tape_salvage: 57344 bytes read, 0 unchecked, 4096 filled
+  status 1
+  $ tail -n +5 notes.sure
+  0x00000000  0x00007400  +
+  0x00007400  0x00001000  -
+  0x00008400  0x00006C00  +
+  $ cmp part/page notes/page
+  $ cmp -n 28160 part/numbers notes/numbers
+  $ cmp -i 32256 part/numbers notes/numbers
+
   $ recipe << 'END'
   > tape cart.img restore 1 > notes.tar
   > echo not reached

@@ -30,7 +30,7 @@ A fourth is one too many, and that is told. What stands in front of it came out.
   $ stat -c %s notes.tar
   29696
 
-The recording of a seek to track 3 and of a broken-off report, by the second program:
+The recording of a seek to track 3 and of a broken-off report, by `pulse_trace`:
 
   $ { seq 0 12; seq 5000 5004; seq 9000 9005; echo '9100 0'; } | pulse_trace --gap 100
   0 13 SeekTrack

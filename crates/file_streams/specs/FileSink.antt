@@ -1,17 +1,22 @@
 -- A file as a sink: where no write failed, its bytes get longer by what it takes (this project's own).
-use Rattle.std.specs.Prelude.{◌≡◌, ◌==◌, ◌≤◌, ◌++◌, ◌⊎◌, Bool, ℕ, List, length, Option, Some, None, IfSome}
+use Rattle.std.specs.Prelude.{◌≡◌, ◌==◌, ◌≤◌, ◌++◌, ◌⊎◌, Bool, true, ℕ, List, length, Option, Some, None, IfSome}
 use Rattle.std.specs.Option.{option_map, option_and_then}
 use Rattle.qic_base.specs.Disk as disks
 use Rattle.qic_base.specs.Sink.{Meaning}
 use Rattle.file_streams.specs.declared.sink.FileSink.{FileSink}
 
+-- the file, if there is one
+abbrev pub file_of : {D : Type 0} → FileSink D → Option D
+file_of m = m.disk
+
 -- its bytes; None where there is no file, or it doesn't tell them
 abbrev pub bytes_of : {D : Type 0} → disks.Meaning D → FileSink D → Option (List ℕ)
 bytes_of d m = option_and_then d.told m.disk
 
--- whether it holds no byte, where it tells its bytes
-abbrev pub HoldsNothing : Bool → Option (List ℕ) → Type 0
-HoldsNothing empty told = IfSome told (λ bytes. empty ≡ (length bytes == 0))
+-- whether it holds no byte, where it tells its bytes; where there is no file nothing is held
+abbrev pub HoldsNothing : {D : Type 0} → disks.Meaning D → Bool → Option D → Type 0
+HoldsNothing d empty None = empty ≡ true
+HoldsNothing d empty (Some disk) = IfSome (d.told disk) (λ bytes. empty ≡ (length bytes == 0))
 
 -- the place is the end of the bytes
 abbrev pub IsEnd : ℕ → Option (List ℕ) → Type 0

@@ -40,7 +40,7 @@ fn append<D: Disk>(disk: &mut D, at: u64, from: &[u8]) -> Result<u64, DiskFailed
 }
 
 impl<D: Disk + Drop> FileSink<D> {
-    ghost use Rattle.file_streams.specs.FileSink.{HoldsNothing, IsFresh, IsOnDisk, LookBroke, SyncBroke, Took, bytes_of, sink_means};
+    ghost use Rattle.file_streams.specs.FileSink.{HoldsNothing, IsFresh, IsOnDisk, LookBroke, SyncBroke, Took, bytes_of, file_of, sink_means};
 
     /// A file of which nothing was asked yet, or none.
     pub fn new(disk: Option<D>) -> FileSink<D>
@@ -77,7 +77,7 @@ impl<D: Disk + Drop> FileSink<D> {
     /// Whether the file holds no byte; it is asked before anything is written. Where there is none nothing is held.
     pub fn is_empty(&mut self) -> Result<bool, DiskFailed>
         requires { IsFresh self.old }
-        ensures empty { IfOk result (λ empty. HoldsNothing empty (bytes_of D.means self.old)) }
+        ensures empty { IfOk result (λ empty. HoldsNothing D.means empty (file_of self.old)) }
         ensures kept { OnOk result (bytes_of D.means self.new ≡ bytes_of D.means self.old) }
         ensures fresh { OnOk result (IsFresh self.new) }
         ensures failed { OnErr result (LookBroke D.means self.old self.new) }

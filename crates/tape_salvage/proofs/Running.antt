@@ -1,0 +1,116 @@
+-- What was written behind an answer.
+use Rattle.std.proofs.Common.{◌≡◌, ◌∙◌, ◌++◌, ◌==◌, ℕ, Bool, true, false, List, [], Option, Some, None, Ok, IfSome, refl, sym, ap}
+use Rattle.std.proofs.Common.{subst, inl, inr, length, Err, ◌⊎◌}
+use Rattle.std.specs.Prelude.{if◌then◌else◌}
+use Rattle.std.specs.Option.{option_or}
+use Rattle.qic_base.specs.Disk as disks
+use Rattle.qic_base.specs.Sink as sinks
+use Rattle.dump_answers.specs.Ends.{Ends}
+use Rattle.dump_answers.specs.declared.ending.Cut.{Cut}
+use Rattle.dump_answers.specs.declared.ending.Ending.{Ending}
+use Rattle.dump_output.specs.declared.fault.PutFault.{PutFault}
+use Rattle.dump_output.specs.declared.fault.PutFault.TheVariants as faults
+use Rattle.dump_opening.specs.Inputs.{TellsFile}
+use Rattle.dump_spec.specs.Answers.{Answers, AnswersUnless, Inputs, bad_refusal, length_refusal, map_refusal, missing_refusal, refused}
+use Rattle.dump_spec.specs.Answers.{sure_refusal}
+use Rattle.dump_spec.specs.declared.asked.Asked.{Asked}
+use Rattle.dump_spec.specs.declared.status.Status.{Status}
+use Rattle.dump_spec.specs.declared.status.Status.TheVariants as status
+use Rattle.file_streams.specs.FileSink.{HoldsNothing, IsEnd, IsFresh, IsOnDisk, SyncBroke, bytes_of, longer_by, sink_means}
+use Rattle.file_streams.specs.declared.sink.FileSink.{FileSink}
+use Rattle.tape_salvage.specs.Runs.{IsAnswered, IsCut, IsNotKept, is_answer, is_done}
+use Rattle.tape_salvage.proofs.Sound.{answer_sound}
+
+-- a text that is written into an empty file is what it holds then
+written_first : {D : Type 0} (d : disks.Meaning D) (a b : FileSink D) (text : List ℕ) → IsFresh a →
+    IfSome (bytes_of d a) (λ bytes. bytes ≡ []) → sinks.Wrote (sink_means d) a b text → IfSome (bytes_of d b) (λ bytes. bytes ≡ text)
+written_first {D} d a b text fresh empty wrote =
+    filled (bytes_of d a) (bytes_of d b) empty (wrote.took.longer (wrote.later ∙ fresh.whole) (at_end (bytes_of d a) empty))
+  where
+    at_end : (told : Option (List ℕ)) → IfSome told (λ bytes. bytes ≡ []) → IsEnd a.at told
+    at_end None none = tt
+    at_end (Some bytes) none = fresh.begins ∙ sym (ap length none)
+
+    filled : (was now : Option (List ℕ)) → IfSome was (λ bytes. bytes ≡ []) → now ≡ longer_by text was → IfSome now (λ bytes. bytes ≡ text)
+    filled None now none is = rw is tt
+    filled (Some bytes) now none is = rw is (ap (λ (xs : List ℕ). xs ++ text) none)
+
+module _ {D K : Type 0} (d : disks.Meaning D) (k : sinks.Meaning K) (inputs : Inputs) (asked : Asked) (old new : K)
+    (begun written sure : FileSink D) (ending : Ending) where
+  pub answered : IsFresh begun → IfSome (bytes_of d begun) (λ bytes. bytes ≡ []) → Ends k (sink_means d) (Answers inputs asked)
+      (record { output = old; sure = begun }) (record { output = new; sure = written }) (Ok ending) →
+      bytes_of d sure ≡ bytes_of d written → (is_done ending.status ≡ true → IsOnDisk d sure) →
+      IsAnswered d k inputs asked old new sure ending
+  answered fresh empty ends kept on_disk = record {
+    answer = ends.answer;
+    answers = ends.answers;
+    status = ends.status;
+    sound = subst (λ (how : Status). is_answer how ≡ true) (sym ends.status) (answer_sound inputs asked ends.answer ends.answers);
+    warned = ends.warned;
+    printed = ends.wrote.printed;
+    mapped = subst (λ (told : Option (List ℕ)). IfSome told (λ bytes. bytes ≡ ends.answer.sure)) (sym kept)
+        (written_first d begun written ends.answer.sure fresh empty ends.wrote.mapped);
+    on_disk = on_disk;
+  }
+
+  pub not_kept : Ends k (sink_means d) (Answers inputs asked) (record { output = old; sure = begun })
+      (record { output = new; sure = written }) (Ok ending) → SyncBroke d written sure →
+      IsNotKept d k inputs asked old new sure (record { status = status.OutputFailed; warned = ending.warned })
+  not_kept ends broke = record {
+    answer = ends.answer;
+    answers = ends.answers;
+    status = refl;
+    warned = ends.warned;
+    printed = ends.wrote.printed;
+    written = written;
+    broke = broke;
+  }
+
+pub cut_off : {D K : Type 0} (d : disks.Meaning D) (k : sinks.Meaning K) (inputs : Inputs) (asked : Asked) (old new : K)
+    (begun written : FileSink D) (cut : Cut) (ending : Ending) → (cut.fault ≡ faults.Input → ending.status ≡ status.InputFailed) →
+    (cut.fault ≡ faults.Output → ending.status ≡ status.OutputFailed) → ending.warned ≡ cut.warned →
+    Ends k (sink_means d) (Answers inputs asked) (record { output = old; sure = begun }) (record { output = new; sure = written })
+    (Err cut) → IsCut k inputs asked old new ending
+cut_off d k inputs asked old new begun written cut ending input output same ends = record {
+  faulty = by cut.fault input output;
+  front = λ answer answers. (ends answer answers).took.printed;
+  warned = λ warned answer answers. (ends answer answers).warned (sym same ∙ warned);
+}
+  where
+    by : (fault : PutFault) → (fault ≡ faults.Input → ending.status ≡ status.InputFailed) →
+        (fault ≡ faults.Output → ending.status ≡ status.OutputFailed) →
+        (ending.status ≡ status.InputFailed) ⊎ (ending.status ≡ status.OutputFailed)
+    by faults.Input is_input is_output = inl (is_input refl)
+    by faults.Output is_input is_output = inr (is_output refl)
+
+-- nothing was written, which is a front of each answer
+pub cut_before : {K : Type 0} (k : sinks.Meaning K) (inputs : Inputs) (asked : Asked) (same : K) (ending : Ending) → k.took same [] same →
+    ending.status ≡ status.OutputFailed → ending.warned ≡ false → IsCut k inputs asked same same ending
+cut_before k inputs asked same ending nothing failed unwarned = record {
+  faulty = inr failed;
+  front = λ answer answers. record { front = []; rest = answer.printed; parts = refl; took = nothing };
+  warned = λ warned answer answers. absurd (cc);
+}
+
+-- ---- the file of the map
+
+-- the refusal of a file of these bytes, if there is one
+abbrev pub refusal_by : (empty : Bool) → Option Status
+refusal_by empty = if empty then None else Some status.SureNotEmpty
+
+pub refused_by : {D : Type 0} (d : disks.Meaning D) (file : Option D) (told : Option (List ℕ)) (empty : Bool) → TellsFile d file told →
+    HoldsNothing d empty file → sure_refusal told ≡ refusal_by empty
+refused_by d None None empty tells none = sym (ap refusal_by none)
+refused_by d (Some disk) (Some bytes) empty tells none =
+    let holds : empty ≡ (length bytes == 0) = subst (λ (t : Option (List ℕ)). IfSome t (λ xs. empty ≡ (length xs == 0))) tells none in
+    sym (ap refusal_by holds)
+refused_by d None (Some bytes) empty tells none = absurd tells
+refused_by d (Some disk) None empty tells none = absurd tells
+
+-- a file that holds a byte is refused first
+pub first_refusal : (inputs : Inputs) (asked : Asked) → sure_refusal inputs.sure ≡ Some status.SureNotEmpty →
+    Answers inputs asked (refused false status.SureNotEmpty)
+first_refusal inputs asked is =
+    let later : Option Status = option_or (map_refusal inputs.map)
+    (option_or (missing_refusal inputs.missing) (option_or (bad_refusal inputs.bad) (length_refusal inputs asked))) in
+    subst (λ (why : Option Status). AnswersUnless inputs asked (option_or why later) (refused false status.SureNotEmpty)) (sym is) refl

@@ -1,0 +1,21 @@
+use Rattle.std.proofs.Common.{inl, inr, refl}
+use Rattle.tape_salvage.proofs.Running.{answered, cut_off, not_kept}
+use Rattle.tape_salvage.proofs.run.answer_files.Goals as goal
+
+pub returns-in-Ok-keep_map-clause-writes : goal.returns-in-Ok-keep_map-clause-writes
+returns-in-Ok-keep_map-clause-writes g c = λ inputs tells sure.
+    inl (answered g.D.Disk.means g.K.Sink.means inputs c.args.asked.now c.args.output.now c.answer_dump.new.output c.args.sure.now
+    c.answer_dump.new.sure c.keep_map.new.sure c.in-Ok.ending c.requires.fresh c.requires.empty
+    (c.in-Ok.ensures.answers inputs tells sure) c.in-Ok-keep_map.ensures.kept c.in-Ok-keep_map.ensures.on_disk)
+
+pub returns-in-Err-keep_map-clause-writes : goal.returns-in-Err-keep_map-clause-writes
+returns-in-Err-keep_map-clause-writes g c = λ inputs tells sure.
+    inr (inr (not_kept g.D.Disk.means g.K.Sink.means inputs c.args.asked.now c.args.output.now c.answer_dump.new.output c.args.sure.now
+    c.answer_dump.new.sure c.keep_map.new.sure c.in-Ok.ending (c.in-Ok.ensures.answers inputs tells sure)
+    c.in-Err-keep_map.ensures.failed))
+
+pub returns-in-Err-clause-writes : goal.returns-in-Err-clause-writes
+returns-in-Err-clause-writes g c = λ inputs tells sure.
+    inr (inl (cut_off g.D.Disk.means g.K.Sink.means inputs c.args.asked.now c.args.output.now c.answer_dump.new.output c.args.sure.now
+    c.answer_dump.new.sure c.in-Err.field-0 (record { status = c.faulty.result; warned = c.in-Err.field-0.warned }) c.faulty.ensures.input
+    c.faulty.ensures.output refl (c.in-Err.ensures.answers inputs tells sure)))
