@@ -442,13 +442,13 @@ Where none was, nothing tells of it.
   check 84 1 0
   tape_salvage: 1 segments can be mended, 0 not
   [1]
-  $ tape_salvage alone.dump volume 1 | head -c 29696 | tr -d '\0' | wc -c
+  $ tape_salvage alone.dump volume 1 > alone.bytes; head -c 29696 alone.bytes | tr -d '\0' | wc -c
   tape_salvage: 47870 bytes read, 1024 unchecked, 0 filled
   0
   $ dd if=/dev/zero of=alone.dump bs=1024 seek=101 count=1 conv=notrunc status=none
   $ tape_salvage --zero-lost alone.dump check
   check 84 0 0
-  $ tape_salvage alone.dump volume 1 | head -c 29696 | tr -d '\0' | wc -c
+  $ tape_salvage alone.dump volume 1 > alone.bytes; head -c 29696 alone.bytes | tr -d '\0' | wc -c
   0
 
 The volume table may be one of the segments that contradict. A line tells of it, before all others, and changes no status.
