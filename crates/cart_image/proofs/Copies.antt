@@ -12,6 +12,7 @@ use Rattle.qic_base.specs.Tape.{Rose}
 use Rattle.cart_image.specs.declared.layout.Kind.TheVariants.{Planes}
 use Rattle.cart_image.specs.declared.layout.Part.TheVariants.{GateByte, FormedByte, DefectByte, Data}
 use Rattle.cart_image.specs.declared.segment.SegmentMarks.{SegmentMarks}
+use Rattle.cart_image.specs.Layout.{cell_len}
 use Rattle.cart_image.specs.Layout.{sectors, image_len, upgraded_len, plane_place, cell_place, cell, cell_with, cells_by, copy_segment}
 use Rattle.cart_image.specs.Layout.{copy_steps, upgrade_steps, put, resize, base_place, layout_place, mark_byte}
 use Rattle.cart_image.specs.Run.{Looks, Ran, Halted, Runs, Planned, after_steps}
@@ -27,21 +28,21 @@ abbrev pub Stays : (n : ℕ) → ℕ → Type 0
 Stays n k = (k < 16) ⊎ ((64 ≤ k) × (k < image_len n))
 
 module _ (n : ℕ) (bytes : List ℕ) (long : image_len n ≤ length bytes) where
-  pub cell-length : (q : ℕ) → q < sectors n → length (cell n bytes q) ≡ 1027
+  pub cell-length : (q : ℕ) → q < sectors n → length (cell n bytes q) ≡ cell_len
   unfolding cell
   cell-length q on = let k = length-between bytes (plane_place n Data q) (plane_place n Data q + 1024) (omega arith) in omega arith
 
   -- the byte that is copied to a place
   abbrev pub copied : ℕ → ℕ
-  copied k = get_or (cell n bytes ((k - image_len n) / 1027)) ((k - image_len n) % 1027) 0
+  copied k = get_or (cell n bytes ((k - image_len n) / cell_len)) ((k - image_len n) % cell_len) 0
 
-  pub copied-at : (q i : ℕ) → i < 1027 → copied (image_len n + 1027 * q + i) ≡ get_or (cell n bytes q) i 0
+  pub copied-at : (q i : ℕ) → i < cell_len → copied (image_len n + cell_len * q + i) ≡ get_or (cell n bytes q) i 0
   copied-at q i less =
-      let a : image_len n + 1027 * q + i - image_len n ≡ 1027 * q + i = omega arith in
-      let d : (1027 * q + i) / 1027 ≡ q = omega arith in
-      let m : (1027 * q + i) % 1027 ≡ i = omega arith in
-      ap (λ k. get_or (cell n bytes (k / 1027)) (k % 1027) 0) a
-      ∙ ap (λ c. get_or (cell n bytes c) ((1027 * q + i) % 1027) 0) d
+      let a : image_len n + cell_len * q + i - image_len n ≡ cell_len * q + i = omega arith in
+      let d : (cell_len * q + i) / cell_len ≡ q = omega arith in
+      let m : (cell_len * q + i) % cell_len ≡ i = omega arith in
+      ap (λ k. get_or (cell n bytes (k / cell_len)) (k % cell_len) 0) a
+      ∙ ap (λ c. get_or (cell n bytes c) ((cell_len * q + i) % cell_len) 0) d
       ∙ ap (λ j. get_or (cell n bytes q) j 0) m
 
   module _ (first : ℕ) where
@@ -62,7 +63,8 @@ module _ (n : ℕ) (bytes : List ℕ) (long : image_len n ≤ length bytes) wher
         Spares-both (Stays n) (upgraded_len n) (cells count) _ (cells-spare count (omega arith))
         (omega arith, (λ k at. ⊎_elim (λ low. inl (omega arith)) (λ mid. let b = mid.1 in inl (omega arith)) at), tt)
 
-    cells-reach : (count j i : ℕ) → first + count ≤ sectors n → j < count → i < 1027 → Reached (image_len n + 1027 * (first + j) + i)
+    cells-reach : (count j i : ℕ) → first + count ≤ sectors n → j < count → i < cell_len →
+        Reached (image_len n + cell_len * (first + j) + i)
         (cells count)
     cells-reach zero j i on less within = absurd (omega arith)
     cells-reach (suc count) j i on less within = ⊎_elim
@@ -86,14 +88,14 @@ module _ (n : ℕ) (bytes : List ℕ) (long : image_len n ≤ length bytes) wher
   copy-spare (suc count) on = Spares-both (Stays n) (upgraded_len n) (copy count) (copy_segment n count bytes)
       (copy-spare count (omega arith)) (cells-spare (32 * count) 32 (omega arith))
 
-  pub copy-reach : (count q i : ℕ) → count ≤ 28 * n → q < 32 * count → i < 1027 → Reached (image_len n + 1027 * q + i) (copy count)
+  pub copy-reach : (count q i : ℕ) → count ≤ 28 * n → q < 32 * count → i < cell_len → Reached (image_len n + cell_len * q + i) (copy count)
   copy-reach zero q i on less within = absurd (omega arith)
   copy-reach (suc count) q i on less within = ⊎_elim
       (λ earlier. Reached-first _ (copy count) (copy_segment n count bytes) (copy-reach count q i (omega arith) earlier within))
       (λ last.
       let there : 32 * count + (q - 32 * count) ≡ q = omega arith in
       Reached-later _ (copy count) (copy_segment n count bytes)
-      (subst (λ (p : ℕ). Reached (image_len n + 1027 * p + i) (copy_segment n count bytes)) there
+      (subst (λ (p : ℕ). Reached (image_len n + cell_len * p + i) (copy_segment n count bytes)) there
       (cells-reach (32 * count) 32 (q - 32 * count) i (omega arith) (omega arith) within)))
       (cases_lt q (32 * count))
 

@@ -14,6 +14,7 @@ use Rattle.cart_image.specs.declared.layout.Part.TheVariants.{GateByte, FormedBy
 use Rattle.cart_image.specs.declared.reading.SectorState.{SectorState}
 use Rattle.cart_image.specs.declared.reading.SectorState.TheVariants as state
 use Rattle.cart_image.specs.Image.{view_by, view_in, sector_bytes}
+use Rattle.cart_image.specs.Layout.{cell_len, cells_len}
 use Rattle.cart_image.specs.Layout.{place, end_of, touches, open_gate, formed_byte, defect_byte}
 use Rattle.qic_base.specs.TapeCalls.{is_readable, is_blank, bytes_read, ReadsSectors, KeepsOthers}
 use Rattle.cart_image.specs.State.{state_of, AreStatesOf, GotBytes}
@@ -37,8 +38,8 @@ range-within b p n a m few long =
 
 -- the bytes of a sector among those of the 32 cells of its segment
 pub cell-bytes : (l : Layout) (segment i p : ℕ) (b cells : List ℕ) → touches l.kind ≡ false → segment < 28 * l.segments_per_track → i < 32 →
-    p ≡ place l GateByte (32 * segment) → end_of l ≤ length b → cells ≡ slice_range b p (p + 32864) →
-    slice_range cells (3 + 1027 * i) (3 + 1027 * i + 1024) ≡ sector_bytes l b (place_of segment i)
+    p ≡ place l GateByte (32 * segment) → end_of l ≤ length b → cells ≡ slice_range b p (p + cells_len) →
+    slice_range cells (3 + cell_len * i) (3 + cell_len * i + 1024) ≡ sector_bytes l b (place_of segment i)
 cell-bytes l segment i p b cells in_cells on less at long is =
     let first = cell-at l (32 * segment) in_cells in
     let here = cell-at l (place_of segment i) in_cells in
@@ -47,9 +48,9 @@ cell-bytes l segment i p b cells in_cells on less at long is =
     let last = (laid_out l).before Data (place_of segment 31) (omega arith) in
     let last_at = cell-at l (place_of segment 31) in_cells in
     let last_behind = (in-cell l (place_of segment 31) in_cells).2 in
-    let e : p + (3 + 1027 * i) ≡ place l Data (place_of segment i) = omega arith in
-    ap (λ xs. slice_range xs (3 + 1027 * i) (3 + 1027 * i + 1024)) is
-    ∙ range-within b p 32864 (3 + 1027 * i) 1024 (omega arith) (omega arith)
+    let e : p + (3 + cell_len * i) ≡ place l Data (place_of segment i) = omega arith in
+    ap (λ xs. slice_range xs (3 + cell_len * i) (3 + cell_len * i + 1024)) is
+    ∙ range-within b p cells_len (3 + cell_len * i) 1024 (omega arith) (omega arith)
     ∙ ap (λ q. slice_range b q (q + 1024)) e
 
 -- .. and among those of its segment in planes
@@ -144,19 +145,20 @@ any-length told l segment wanted states are = IfSome_then told are (λ b is. λ 
 -- what was read of the segment at once
 pub reads-cells : (told : Option (List ℕ)) (l : Layout) (segment wanted good blank p : ℕ) (cells : List ℕ) (states : List SectorState)
     (old new : List (List ℕ)) → touches l.kind ≡ false → segment < 28 * l.segments_per_track → p ≡ place l GateByte (32 * segment)
-    → IfSome told (λ b. p + 32864 ≤ length b → cells ≡ slice_range b p (p + 32864))
+    → IfSome told (λ b. p + cells_len ≤ length b → cells ≡ slice_range b p (p + cells_len))
     → IfSome told (λ b. end_of l ≤ length b → AreStatesOf l segment wanted b states)
     → ((view : SectorView) (i : ℕ) → i < 32 → (is_lost wanted i ≡ true → slice_index_or states i state.Blank ≡ state_of view) →
     is_lost good i ≡ (is_lost wanted i && is_readable view))
     → ((view : SectorView) (i : ℕ) → i < 32 → (is_lost wanted i ≡ true → slice_index_or states i state.Blank ≡ state_of view) →
     is_lost blank i ≡ (is_lost wanted i && is_blank view))
-    → ((i : ℕ) → i < 32 → slice_index_or new i [] ≡ (if is_lost good i then slice_range cells (3 + 1027 * i) (3 + 1027 * i + 1024) else
+    → ((i : ℕ) → i < 32 → slice_index_or new i [] ≡
+    (if is_lost good i then slice_range cells (3 + cell_len * i) (3 + cell_len * i + 1024) else
     slice_index_or old i []))
     → IfSome told (λ b. end_of l ≤ length b → ReadsSectors wanted good blank (λ i. view_in l b (place_of segment i)) old new)
 reads-cells None l segment wanted good blank p cells states old new in_cells on at fact are goods blanks copied = tt
 reads-cells (Some b) l segment wanted good blank p cells states old new in_cells on at fact are goods blanks copied = λ long.
     let first = cell-at l (32 * segment) in_cells in
-    let is : cells ≡ slice_range b p (p + 32864) = fact (omega arith) in
+    let is : cells ≡ slice_range b p (p + cells_len) = fact (omega arith) in
     reads-are l segment wanted good blank b states old new (are long) goods blanks (λ i less.
     copied i less
     ∙ ap (λ part. if is_lost good i then part else slice_index_or old i []) (cell-bytes l segment i p b cells in_cells on less at long is))

@@ -26,6 +26,7 @@ use Rattle.cart_image.specs.declared.segment.SegmentStates.{SegmentStates}
 use Rattle.cart_image.specs.declared.tape.ImageTape.{ImageTape}
 use Rattle.cart_image.specs.Image.{cartridge_of, head_of, sector_bytes, view_by, view_in, read_as}
 use Rattle.cart_image.specs.ImageTape.{size_by}
+use Rattle.cart_image.specs.Layout.{cell_len, cells_len}
 use Rattle.cart_image.specs.Layout.{place, place_in, plane_place, base_of, end_of, sectors, touches, open_gate, formed_byte, defect_byte}
 use Rattle.cart_image.specs.Layout.{those, is_open, is_usable, is_unformed, format_segment_steps, format_plan}
 use Rattle.cart_image.specs.Run.{Looked}
@@ -69,7 +70,7 @@ marks-read (Some b) t1 t2 l segment pd pf pg m e1 e2 kind ed ef eg on hd hf hg =
             ∙ ap (λ k. place (record { segments_per_track = n; kind = k }) FormedByte (32 * segment)) kind in
             let lg : pg ≡ plane_place n GateByte (32 * segment) = eg
             ∙ ap (λ k. place (record { segments_per_track = n; kind = k }) GateByte (32 * segment)) kind in
-            let le : end_of l ≡ 64 + 1027 * sectors n = ap (λ k. end_of (record { segments_per_track = n; kind = k })) kind in
+            let le : end_of l ≡ 64 + cell_len * sectors n = ap (λ k. end_of (record { segments_per_track = n; kind = k })) kind in
             let d_is : m.defects ≡ slice_range b pd (pd + 32) = hd (omega arith) in
             let f_is : m.formed ≡ slice_range b pf (pf + 32) =
             told-fact t1 (λ c. pf + 32 ≤ length c → m.formed ≡ slice_range c pf (pf + 32)) b e1 hf (omega arith) in
@@ -416,34 +417,35 @@ part-told (Some b) t1 l q p j at part same here there few cells on fact = λ lon
     (omega arith)
 
 -- .. where all its bytes were read at once
-pub cell-at : (l : Layout) (q : ℕ) → touches l.kind ≡ false → place l GateByte q ≡ base_of l.kind l.segments_per_track + 1027 * q
+pub cell-at : (l : Layout) (q : ℕ) → touches l.kind ≡ false → place l GateByte q ≡ base_of l.kind l.segments_per_track + cell_len * q
 cell-at l q cells = by_kind l.kind cells
   where
     by_kind : (kind : Kind) → touches kind ≡ false →
-        place_in kind l.segments_per_track GateByte q ≡ base_of kind l.segments_per_track + 1027 * q
+        place_in kind l.segments_per_track GateByte q ≡ base_of kind l.segments_per_track + cell_len * q
     by_kind Planes is = cc
     by_kind Cells is = refl
     by_kind CellsBehind is = refl
 
 pub cells-marks : (told : Option (List ℕ)) (l : Layout) (segment p : ℕ) (cells : List ℕ) (m : SegmentMarks) → touches l.kind ≡ false →
     segment < 28 * l.segments_per_track → p ≡ place l GateByte (32 * segment)
-    → IfSome told (λ b. p + 32864 ≤ length b → cells ≡ slice_range b p (p + 32864))
-    → ((i : ℕ) → i < 32 → slice_index m.gates i ≡ slice_index cells (1027 * i)) →
-    ((i : ℕ) → i < 32 → slice_index m.formed i ≡ slice_index cells (1027 * i + 1)) →
-    ((i : ℕ) → i < 32 → slice_index m.defects i ≡ slice_index cells (1027 * i + 2))
+    → IfSome told (λ b. p + cells_len ≤ length b → cells ≡ slice_range b p (p + cells_len))
+    → ((i : ℕ) → i < 32 → slice_index m.gates i ≡ slice_index cells (cell_len * i)) →
+    ((i : ℕ) → i < 32 → slice_index m.formed i ≡ slice_index cells (cell_len * i + 1)) →
+    ((i : ℕ) → i < 32 → slice_index m.defects i ≡ slice_index cells (cell_len * i + 2))
     → IfSome told (λ b. end_of l ≤ length b → AreMarks l segment b m)
 cells-marks None l segment p cells m in_cells on here fact gates formed defects = tt
 cells-marks (Some b) l segment p cells m in_cells on here fact gates formed defects = λ long.
     let first = cell-at l (32 * segment) in_cells in
-    let is : cells ≡ slice_range b p (p + 32864) = fact (omega arith) in
+    let is : cells ≡ slice_range b p (p + cells_len) = fact (omega arith) in
     record {
       gates = λ i less. let at = cell-at l (place_of segment i) in_cells in
-          gates i less ∙ part-index b cells p (place l GateByte (place_of segment i)) (1027 * i) 32864 is (omega arith) (omega arith);
+          gates i less ∙ part-index b cells p (place l GateByte (place_of segment i)) (cell_len * i) cells_len is (omega arith)
+          (omega arith);
       formed = λ i less. let at = cell-at l (place_of segment i) in_cells in let f = (in-cell l (place_of segment i) in_cells).0 in
-          formed i less ∙ part-index b cells p (place l FormedByte (place_of segment i)) (1027 * i + 1) 32864 is (omega arith)
+          formed i less ∙ part-index b cells p (place l FormedByte (place_of segment i)) (cell_len * i + 1) cells_len is (omega arith)
           (omega arith);
       defects = λ i less. let at = cell-at l (place_of segment i) in_cells in let d = (in-cell l (place_of segment i) in_cells).1 in
-          defects i less ∙ part-index b cells p (place l DefectByte (place_of segment i)) (1027 * i + 2) 32864 is (omega arith)
+          defects i less ∙ part-index b cells p (place l DefectByte (place_of segment i)) (cell_len * i + 2) cells_len is (omega arith)
           (omega arith);
     }
 

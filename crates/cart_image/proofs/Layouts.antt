@@ -6,6 +6,7 @@ use Rattle.cart_image.specs.declared.layout.Kind.TheVariants.{Planes, Cells, Cel
 use Rattle.cart_image.specs.declared.layout.Layout.{Layout}
 use Rattle.cart_image.specs.declared.layout.Part.{Part}
 use Rattle.cart_image.specs.declared.layout.Part.TheVariants.{GateByte, FormedByte, DefectByte, Data}
+use Rattle.cart_image.specs.Layout.{cell_len}
 use Rattle.cart_image.specs.Layout.{sectors, image_len, base_of, end_of, width, plane_place, cell_place, place_in, place, touches}
 
 -- two parts that begin at a and b, and don't meet
@@ -63,7 +64,8 @@ module _ (n : ℕ) where
 
   module _ (base : ℕ) (late : 64 ≤ base) where
     -- a part lies in its sector's cell
-    in-cell : (p : Part) (q : ℕ) → (base + 1027 * q ≤ cell_place base p q) × (cell_place base p q + width p ≤ base + 1027 * q + 1027)
+    in-cell : (p : Part) (q : ℕ) → (base + cell_len * q ≤ cell_place base p q)
+        × (cell_place base p q + width p ≤ base + cell_len * q + cell_len)
     in-cell GateByte q = (omega arith, omega arith)
     in-cell FormedByte q = (omega arith, omega arith)
     in-cell DefectByte q = (omega arith, omega arith)
@@ -92,7 +94,7 @@ module _ (n : ℕ) where
     same-cell p r q k e (inl ne) = rw e (within p r k ne)
     same-cell p r q k e (inr ne) = absurd (ne e)
 
-    cells : IsLaidOut (cell_place base) (sectors n) (base + 1027 * sectors n)
+    cells : IsLaidOut (cell_place base) (sectors n) (base + cell_len * sectors n)
     cells = record {
       behind = λ p q on. let i = in-cell p q in let a = i.0 in omega arith;
       before = λ p q on. let i = in-cell p q in let a = i.1 in omega arith;
@@ -102,7 +104,7 @@ module _ (n : ℕ) where
           (λ e. same-cell p r q k e ne);
     }
 
-laid_out-in : (kind : Kind) (n : ℕ) → IsLaidOut (place_in kind n) (sectors n) (base_of kind n + 1027 * sectors n)
+laid_out-in : (kind : Kind) (n : ℕ) → IsLaidOut (place_in kind n) (sectors n) (base_of kind n + cell_len * sectors n)
 laid_out-in Planes n = planes n
 laid_out-in Cells n = cells n 64 (omega arith)
 laid_out-in CellsBehind n = cells n (image_len n) (omega arith)

@@ -18,7 +18,7 @@ use Rattle.cart_image.specs.declared.layout.Layout.{Layout}
 use Rattle.cart_image.specs.declared.layout.Part.TheVariants.{GateByte, FormedByte, Data}
 use Rattle.cart_image.specs.declared.reading.SectorState.{SectorState}
 use Rattle.cart_image.specs.declared.reading.SectorState.TheVariants as state
-use Rattle.cart_image.specs.Layout.{sectors, width, place, end_of, open_gate, closed_gate, synced, fill_writes, even}
+use Rattle.cart_image.specs.Layout.{sectors, width, place, end_of, open_gate, formed_byte, closed_gate, synced, fill_writes, even}
 use Rattle.cart_image.specs.Several.{takes_write}
 use Rattle.cart_image.specs.Layout.{chosen_by, overwrite_all, write_sectors_steps}
 use Rattle.cart_image.specs.Image.{head_of, view_in, views_in, segment_views, sector_bytes, read_as, cartridge_of}
@@ -285,7 +285,7 @@ module _ (h : Head) (bytes : List ℕ) (segment : ℕ) (is : head_of bytes ≡ S
         (λ e. cc) staged
 
     gates-formed : (i : ℕ) → i < 32 → formed left i ≡ formed bytes i
-    gates-formed i less = ap (λ b. b == 0xF0)
+    gates-formed i less = ap (λ b. b == formed_byte)
         (byte-spared l GateByte first closes bytes left (length-chosen written views is_readable) within whole kept FormedByte (first + i)
         (omega arith) (inl (λ e. cc)))
 
@@ -347,7 +347,7 @@ module _ (h : Head) (bytes : List ℕ) (segment : ℕ) (is : head_of bytes ≡ S
     data-stage = next-stage l Data first takes b1 left (length-chosen written views takes_write) within end1 kept bytes (λ e. cc) stage1
 
     data-formed : (i : ℕ) → i < 32 → formed left i ≡ formed bytes i
-    data-formed i less = ap (λ b. b == 0xF0)
+    data-formed i less = ap (λ b. b == formed_byte)
         (byte-spared l Data first takes b1 left (length-chosen written views takes_write) within end1 kept FormedByte (first + i)
         (omega arith) (inl (λ e. cc))) ∙ gates-formed b1 kept1 i less
 
@@ -411,7 +411,7 @@ module _ (h : Head) (bytes : List ℕ) (segment : ℕ) (is : head_of bytes ≡ S
     open-stage = next-stage l GateByte first takes b2 left (length-chosen written views takes_write) within end2 kept bytes (λ e. cc) stage2
 
     open-formed : (i : ℕ) → i < 32 → formed left i ≡ formed bytes i
-    open-formed i less = ap (λ b. b == 0xF0)
+    open-formed i less = ap (λ b. b == formed_byte)
         (byte-spared l GateByte first takes b2 left (length-chosen written views takes_write) within end2 kept FormedByte (first + i)
         (omega arith) (inl (λ e. cc))) ∙ data-formed b2 kept2 i less
 

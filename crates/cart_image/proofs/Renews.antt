@@ -20,7 +20,7 @@ use Rattle.cart_image.specs.declared.layout.Head.{Head}
 use Rattle.cart_image.specs.declared.layout.Kind.TheVariants.{Cells}
 use Rattle.cart_image.specs.declared.layout.Layout.{Layout}
 use Rattle.cart_image.specs.declared.layout.Part.TheVariants.{FormedByte, DefectByte}
-use Rattle.cart_image.specs.Layout.{signature, first_letter, head_len, sectors, image_len, place, new_head, put, resize, renew_steps}
+use Rattle.cart_image.specs.Layout.{signature, first_letter, head_len, sectors, image_len, place, made_head, put, resize, renew_steps}
 use Rattle.cart_image.specs.Image.{read_len, layout_by, head_by, head_of, view_by, view_in, views_in, cartridge_of, layout_of}
 use Rattle.cart_image.specs.Run.{after_steps, Crashed}
 use Rattle.cart_image.specs.Whole.{head_of-parts, cartridge_of-read, cartridge_of-none, layout_of-read, length-views}
@@ -98,6 +98,32 @@ Crashed-resize n bytes left rest (inr (inl synced)) = by_torn synced.0 synced.1.
         inr (inl (subst P (sym is) (subst (λ b. TornLength n b at) same torn)))
 Crashed-resize n bytes left rest (inr (inr behind)) = inr (inr behind)
 
+-- the head of an image that is made
+
+pub length-made : (referenced : Bool) (n : ℕ) → length (made_head referenced n) ≡ 64
+unfolding little_endian_bytes
+length-made referenced n = refl
+
+pub length-made-rest : (referenced : Bool) (n : ℕ) → length (drop 1 (made_head referenced n)) ≡ 63
+length-made-rest referenced n = let l = length-drop 1 (made_head referenced n) in let h = length-made referenced n in omega arith
+
+number : (n : ℕ) → IsLength n → n % 256 + 256 * (n / 256 % 256 + 256 * 0) ≡ n
+number n long = let h = long.longest in omega arith
+
+pub made-told : (referenced : Bool) (n : ℕ) → IsLength n → head_by (image_len n) (slice_range (made_head referenced n) 0 read_len)
+    ≡ Some (record { layout = record { segments_per_track = n; kind = Cells }; protected = false; referenced = referenced })
+unfolding layout_by little_endian_bytes number_at
+made-told true n long =
+    let least = le-leb 3 n long.shortest in
+    let most = le-leb n LONGEST long.longest in
+    let fits = le-leb (image_len n) (image_len n) (omega arith) in
+    rw (number n long, least, most, fits) refl
+made-told false n long =
+    let least = le-leb 3 n long.shortest in
+    let most = le-leb n LONGEST long.longest in
+    let fits = le-leb (image_len n) (image_len n) (omega arith) in
+    rw (number n long, least, most, fits) refl
+
 -- the new image
 
 module _ (n : ℕ) (long : IsLength n) where
@@ -105,14 +131,10 @@ module _ (n : ℕ) (long : IsLength n) where
   whole = image_len n
 
   abbrev head : List ℕ
-  head = new_head n
+  head = made_head false n
 
   abbrev tail_steps : List DiskStep
   tail_steps = resize head_len ++ (resize whole ++ (put 1 (drop 1 head) ++ put 0 (first_letter ∷ [])))
-
-  head-length : length head ≡ 64
-  unfolding little_endian_bytes
-  head-length = refl
 
   -- bytes that are the new image
   record IsNew (bytes : List ℕ) : Type 0 where
@@ -129,7 +151,7 @@ module _ (n : ℕ) (long : IsLength n) where
   new-head : (bytes : List ℕ) → IsNew bytes → slice_range bytes 0 read_len ≡ slice_range head 0 read_len
   new-head bytes new =
       let s = new.size in
-      let h = head-length in
+      let h = length-made false n in
       let a = length-between bytes 0 24 (omega arith) in
       let b = length-between head 0 24 (omega arith) in
       same_lists _ _ (a ∙ sym b) (λ k d less.
@@ -137,17 +159,6 @@ module _ (n : ℕ) (long : IsLength n) where
       get_or-between bytes 0 24 k d (omega arith) ∙ get_or_default bytes (0 + k) d 0 (omega arith)
       ∙ ap (slice_index bytes) zero_k ∙ new.at_head k (omega arith) ∙ ap (slice_index head) (sym zero_k)
       ∙ get_or_default head (0 + k) 0 d (omega arith) ∙ sym (get_or-between head 0 24 k d (omega arith)))
-
-  number : n % 256 + 256 * (n / 256 % 256 + 256 * 0) ≡ n
-  number = let h = long.longest in omega arith
-
-  new-told : head_by whole (slice_range head 0 read_len) ≡ Some new_told
-  unfolding layout_by little_endian_bytes number_at
-  new-told =
-      let least = le-leb 3 n long.shortest in
-      let most = le-leb n LONGEST long.longest in
-      let fits = le-leb whole whole (omega arith) in
-      rw (number, least, most, fits) refl
 
   new-views : (bytes : List ℕ) → IsNew bytes → views_in new_layout bytes ≡ replicate (896 * n) Blank
   new-views bytes new =
@@ -164,7 +175,8 @@ module _ (n : ℕ) (long : IsLength n) where
 
   head-new : (bytes : List ℕ) → IsNew bytes → head_of bytes ≡ Some new_told
   unfolding head_of
-  head-new bytes new = ap (λ len. head_by len (slice_range bytes 0 read_len)) new.size ∙ ap (head_by whole) (new-head bytes new) ∙ new-told
+  head-new bytes new = ap (λ len. head_by len (slice_range bytes 0 read_len)) new.size ∙ ap (head_by whole) (new-head bytes new)
+      ∙ made-told false n long
 
   reads-new : (bytes : List ℕ) → IsNew bytes → cartridge_of bytes ≡ Some (new_cartridge n)
   reads-new bytes new =
@@ -192,11 +204,8 @@ module _ (n : ℕ) (long : IsLength n) where
     length6 : length b6 ≡ whole
     length6 = length-resized whole b5
 
-    part-length : length (drop 1 head) ≡ 63
-    part-length = let l = length-drop 1 head in let h = head-length in omega arith
-
     length7 : length b7 ≡ whole
-    length7 = let l = length6 in let p = part-length in length-overwritten b6 (drop 1 head) 1 (omega arith) ∙ length6
+    length7 = let l = length6 in let p = length-made-rest false n in length-overwritten b6 (drop 1 head) 1 (omega arith) ∙ length6
 
     length8 : length b8 ≡ whole
     length8 = let l = length7 in length-overwritten b7 (first_letter ∷ []) 0 (omega arith) ∙ length7
@@ -223,7 +232,7 @@ module _ (n : ℕ) (long : IsLength n) where
       at_head = λ k less. at k less;
       behind = λ k more.
           let l = length6 in
-          let p = part-length in
+          let p = length-made-rest false n in
           let o = OnlyIn-written 1 b6 (drop 1 head) (omega arith) in
           let o8 = only8 in
           o8.above k (omega arith) ∙ o.above k (omega arith) ∙ zero6 k more;
@@ -233,7 +242,7 @@ module _ (n : ℕ) (long : IsLength n) where
         at zero less = byte-written b7 0 first_letter (omega arith)
         at (suc k) less =
             let l = length6 in
-            let p = part-length in
+            let p = length-made-rest false n in
             let o8 = only8 in
             let there : suc k ≡ 1 + k = omega arith in
             o8.above (suc k) (omega arith) ∙ ap (slice_index b7) there ∙ get_or-overwritten b6 (drop 1 head) 1 k 0 (omega arith)

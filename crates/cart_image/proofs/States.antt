@@ -11,6 +11,7 @@ use Rattle.cart_image.specs.declared.layout.Kind.{Kind}
 use Rattle.cart_image.specs.declared.layout.Kind.TheVariants.{Planes, Cells, CellsBehind}
 use Rattle.cart_image.specs.declared.layout.Layout.{Layout}
 use Rattle.cart_image.specs.declared.layout.Part.TheVariants.{GateByte, FormedByte, DefectByte, Data}
+use Rattle.cart_image.specs.Layout.{cell_len}
 use Rattle.cart_image.specs.Layout.{place, place_in, sectors, touches, end_of, wear_steps, spoil_steps}
 use Rattle.cart_image.specs.Layout.{mark_steps, put, closed_gate, defect_byte, mark_byte}
 use Rattle.cart_image.proofs.Bytes.{view_in-is}
@@ -56,7 +57,7 @@ in-cell l q cells = by_kind l.kind cells
 
 -- what the first bytes of a cell say
 pub cell-state : (told : Option (List ℕ)) (l : Layout) (q p w : ℕ) (part : List ℕ) (s : SectorState) → touches l.kind ≡ false →
-    q < sectors l.segments_per_track → p ≡ place l GateByte q → 3 ≤ w → w ≤ 1027
+    q < sectors l.segments_per_track → p ≡ place l GateByte q → 3 ≤ w → w ≤ cell_len
     → IfSome told (λ b. p + w ≤ length b → part ≡ slice_range b p (p + w)) →
     ((bytes : List ℕ) → s ≡ state_of (view_by (slice_index part 2) (slice_index part 1) (slice_index part 0) bytes))
     → IfSome told (λ b. end_of l ≤ length b → s ≡ state_of (view_in l b q))

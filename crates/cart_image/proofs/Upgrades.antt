@@ -16,6 +16,7 @@ use Rattle.cart_image.specs.declared.layout.Kind.{Kind}
 use Rattle.cart_image.specs.declared.layout.Kind.TheVariants.{Planes, Cells, CellsBehind}
 use Rattle.cart_image.specs.declared.layout.Layout.{Layout}
 use Rattle.cart_image.specs.declared.layout.Part.TheVariants.{Data}
+use Rattle.cart_image.specs.Layout.{cell_len}
 use Rattle.cart_image.specs.Layout.{sectors, image_len, upgraded_len, protected_place, referenced_place, layout_place, base_place}
 use Rattle.cart_image.specs.Layout.{mark_byte, end_of, plane_place, put, resize, cell, copy_steps, upgrade_steps}
 use Rattle.cart_image.specs.Image.{read_len, is_signed, is_length, base_kind, kind_by, head_of, view_in, views_in, sector_bytes, read_as}
@@ -227,9 +228,9 @@ module _ (n : ℕ) (short : 3 ≤ n) (most : n ≤ LONGEST) (bytes : List ℕ)
       (subst (λ (len : ℕ). Spares (Stays n) len (copy (28 * n))) (sym length1) (copy-spare n bytes long (28 * n) (omega arith)))
       (SameAt-all _ b1)
 
-  cell2 : (q i : ℕ) → q < sectors n → i < 1027 → get_or b2 (image_len n + 1027 * q + i) 0 ≡ get_or (cell n bytes q) i 0
+  cell2 : (q i : ℕ) → q < sectors n → i < cell_len → get_or b2 (image_len n + cell_len * q + i) 0 ≡ get_or (cell n bytes q) i 0
   cell2 q i on less =
-      has-value (copied n bytes long) (image_len n + 1027 * q + i) (copy (28 * n)) b1
+      has-value (copied n bytes long) (image_len n + cell_len * q + i) (copy (28 * n)) b1
       (subst (λ (len : ℕ). Even (copied n bytes long) len (copy (28 * n))) (sym length1)
       (copy-even n bytes long (28 * n) (omega arith))) (inr (copy-reach n bytes long (28 * n) q i (omega arith) (omega arith) less))
       ∙ copied-at n bytes long q i less
@@ -268,27 +269,29 @@ module _ (n : ℕ) (short : 3 ≤ n) (most : n ≤ LONGEST) (bytes : List ℕ)
     length-left : length left ≡ upgraded_len n
     length-left = only.size ∙ length3
 
-    cell-left : (q i : ℕ) → q < sectors n → i < 1027 → get_or left (image_len n + 1027 * q + i) 0 ≡ get_or (cell n bytes q) i 0
+    cell-left : (q i : ℕ) → q < sectors n → i < cell_len → get_or left (image_len n + cell_len * q + i) 0 ≡ get_or (cell n bytes q) i 0
     cell-left q i on less =
         let o = only3 in
         let b = base-length in
-        only.above (image_len n + 1027 * q + i) (omega arith) ∙ o.above (image_len n + 1027 * q + i) (omega arith) ∙ cell2 q i on less
+        only.above (image_len n + cell_len * q + i) (omega arith) ∙ o.above (image_len n + cell_len * q + i) (omega arith)
+        ∙ cell2 q i on less
 
     view-left : (q : ℕ) → q < sectors n → view_in new left q ≡ view_in old bytes q
     unfolding cell
     view-left q on =
         let l = length-left in
-        let zero_at : image_len n + 1027 * q ≡ image_len n + 1027 * q + 0 = omega arith in
+        let zero_at : image_len n + cell_len * q ≡ image_len n + cell_len * q + 0 = omega arith in
         view_in-is new left q
         ∙ cell-is _ _ _ _ _ _ _ _ (cell-left q 2 on (omega arith)) (cell-left q 1 on (omega arith))
         (ap (λ k. get_or left k 0) zero_at ∙ cell-left q 0 on (omega arith))
-        (let a = length-between left (image_len n + 1027 * q + 3) (image_len n + 1027 * q + 3 + 1024) (omega arith) in
+        (let a = length-between left (image_len n + cell_len * q + 3) (image_len n + cell_len * q + 3 + 1024) (omega arith) in
         let b = length-between bytes (plane_place n Data q) (plane_place n Data q + 1024) (omega arith) in
-        same_lists _ _ (let e : image_len n + 1027 * q + 3 + 1024 - (image_len n + 1027 * q + 3) ≡ plane_place n Data q + 1024 - plane_place
+        same_lists _ _
+        (let e : image_len n + cell_len * q + 3 + 1024 - (image_len n + cell_len * q + 3) ≡ plane_place n Data q + 1024 - plane_place
         n Data q = omega arith in a ∙ e ∙ sym b) (λ i d less.
-        let at : image_len n + 1027 * q + 3 + i ≡ image_len n + 1027 * q + (suc (suc (suc i))) = omega arith in
-        get_or-between left (image_len n + 1027 * q + 3) (image_len n + 1027 * q + 3 + 1024) i d (omega arith)
-        ∙ get_or_default left (image_len n + 1027 * q + 3 + i) d 0 (omega arith)
+        let at : image_len n + cell_len * q + 3 + i ≡ image_len n + cell_len * q + (suc (suc (suc i))) = omega arith in
+        get_or-between left (image_len n + cell_len * q + 3) (image_len n + cell_len * q + 3 + 1024) i d (omega arith)
+        ∙ get_or_default left (image_len n + cell_len * q + 3 + i) d 0 (omega arith)
         ∙ ap (λ k. get_or left k 0) at ∙ cell-left q (suc (suc (suc i))) on (omega arith)
         ∙ get_or_default (sector_bytes old bytes q) i 0 d (omega arith)))
         ∙ sym (view_in-is old bytes q)

@@ -68,9 +68,16 @@ closed_gate = 0xC1
 abbrev pub sectors : ℕ → ℕ
 sectors n = 896 * n
 
+-- the bytes of a cell, which has the four parts of a sector, and of the cells of a segment
+abbrev pub cell_len : ℕ
+cell_len = 1027
+
+abbrev pub cells_len : ℕ
+cells_len = 32864
+
 -- the length of an image of version 1, and of a new one
 abbrev pub image_len : ℕ → ℕ
-image_len n = 64 + 1027 * sectors n
+image_len n = head_len + cell_len * sectors n
 
 -- .. and of one that was upgraded: the cells stand behind the planes
 abbrev pub upgraded_len : ℕ → ℕ
@@ -89,7 +96,7 @@ base_of Cells n = head_len
 base_of CellsBehind n = image_len n
 
 abbrev pub end_of : Layout → ℕ
-end_of l = base_of l.kind l.segments_per_track + 1027 * sectors l.segments_per_track
+end_of l = base_of l.kind l.segments_per_track + cell_len * sectors l.segments_per_track
 
 -- bytes of a part of a sector
 abbrev pub width : Part → ℕ
@@ -107,10 +114,10 @@ plane_place n Data sector = 64 + 3 * sectors n + 1024 * sector
 
 -- version 2: a sector's state bytes beside its bytes
 abbrev pub cell_place : (base : ℕ) → Part → (sector : ℕ) → ℕ
-cell_place base GateByte sector = base + 1027 * sector
-cell_place base FormedByte sector = base + 1027 * sector + 1
-cell_place base DefectByte sector = base + 1027 * sector + 2
-cell_place base Data sector = base + 1027 * sector + 3
+cell_place base GateByte sector = base + cell_len * sector
+cell_place base FormedByte sector = base + cell_len * sector + 1
+cell_place base DefectByte sector = base + cell_len * sector + 2
+cell_place base Data sector = base + cell_len * sector + 3
 
 abbrev pub place_in : Kind → (n : ℕ) → Part → (sector : ℕ) → ℕ
 place_in Planes n part sector = plane_place n part sector
@@ -127,11 +134,19 @@ touches Planes = true
 touches Cells = false
 touches CellsBehind = false
 
--- the head of a new image
-abbrev pub new_head : ℕ → List ℕ
-new_head n =
+-- the head of an image that is made, in version 2: a new one has no referenced mark, and an imported one has it
+abbrev pub made_head : (referenced : Bool) (n : ℕ) → List ℕ
+made_head referenced n =
     signature ++ (little_endian_bytes 2 2 ++ (little_endian_bytes 2 n
-    ++ (0 ∷ 0 ∷ mark_byte ∷ 0 ∷ [] ++ (little_endian_bytes 8 head_len ++ replicate 40 0))))
+    ++ (0 ∷ (if referenced then mark_byte else 0) ∷ mark_byte ∷ 0 ∷ [] ++ (little_endian_bytes 8 head_len ++ replicate 40 0))))
+
+-- a cell: the state bytes of a sector, and behind them its bytes
+abbrev pub cell_of : (gate formed defect : ℕ) (bytes : List ℕ) → List ℕ
+cell_of gate formed defect bytes = gate ∷ formed ∷ defect ∷ bytes
+
+-- .. of a formatted sector with these bytes, which holds them or is lost
+unfoldable pub formed_cell : (held : Bool) (bytes : List ℕ) → List ℕ
+formed_cell held bytes = cell_of (if held then open_gate else 0) formed_byte 0 bytes
 
 -- bytes written, and then a sync
 abbrev pub put : ℕ → List ℕ → List DiskStep
@@ -140,6 +155,15 @@ put at bytes = WriteAt at bytes ∷ Sync ∷ []
 -- a length set, and then a sync
 abbrev pub resize : ℕ → List DiskStep
 resize length = SetLen length ∷ Sync ∷ []
+
+-- An image that is made from front to back: the file gets longer by the cells of a segment.
+abbrev pub append_steps : (segment : ℕ) (cells : List ℕ) → List DiskStep
+append_steps segment cells =
+    SetLen (head_len + cells_len * segment + cells_len) ∷ WriteAt (head_len + cells_len * segment) cells ∷ []
+
+-- The head is written but for its first byte, and then that.
+abbrev pub sign_steps : (referenced : Bool) (n : ℕ) → List DiskStep
+sign_steps referenced n = put 1 (drop 1 (made_head referenced n)) ++ put 0 (first_letter ∷ [])
 
 -- The values are those of a part of the sectors from a first one on. A run of these sectors gets its own, as one write;
 -- `at` is how many sectors are before it.
@@ -249,21 +273,20 @@ clear_steps first = if first == first_letter then put 0 (0 ∷ []) else []
 -- by the first byte of the file, which is taken for 0 where there is none
 unfoldable pub renew_steps : (n first : ℕ) → List DiskStep
 renew_steps n first =
-    clear_steps first ++ (resize head_len ++ (resize (image_len n)
-    ++ (put 1 (drop 1 (new_head n)) ++ put 0 (first_letter ∷ []))))
+    clear_steps first ++ (resize head_len ++ (resize (image_len n) ++ sign_steps false n))
 
 -- The four parts of a sector of a version 1 image, as they stand beside each other in version 2.
 unfoldable pub cell : (n : ℕ) (bytes : List ℕ) (sector : ℕ) → List ℕ
 cell n bytes sector =
-    slice_index bytes (plane_place n GateByte sector) ∷ slice_index bytes (plane_place n FormedByte sector)
-    ∷ slice_index bytes (plane_place n DefectByte sector)
-    ∷ slice_range bytes (plane_place n Data sector) (plane_place n Data sector + 1024)
+    cell_of (slice_index bytes (plane_place n GateByte sector)) (slice_index bytes (plane_place n FormedByte sector))
+    (slice_index bytes (plane_place n DefectByte sector))
+    (slice_range bytes (plane_place n Data sector) (plane_place n Data sector + 1024))
 
 -- .. by the state bytes of a segment and its 32,768 bytes
 unfoldable pub cell_with : (gates formed defects block : List ℕ) (i : ℕ) → List ℕ
 cell_with gates formed defects block i =
-    slice_index gates i ∷ slice_index formed i ∷ slice_index defects i
-    ∷ slice_range block (1024 * i) (1024 * i + 1024)
+    cell_of (slice_index gates i) (slice_index formed i) (slice_index defects i)
+    (slice_range block (1024 * i) (1024 * i + 1024))
 
 -- the first ones of sectors from one on are written as cells behind the planes
 abbrev pub cells_by : (n sector : ℕ) (parts : ℕ → List ℕ) (count : ℕ) → List DiskStep

@@ -19,7 +19,7 @@ use Rattle.cart_image.specs.declared.layout.Kind.TheVariants.{Planes, Cells, Cel
 use Rattle.cart_image.specs.declared.layout.Layout.{Layout}
 use Rattle.cart_image.specs.declared.layout.Part.TheVariants.{GateByte, FormedByte, DefectByte, Data}
 use Rattle.cart_image.specs.Layout.{length_place, defect_byte, formed_byte, open_gate, sectors, version_of, end_of, place, place_in}
-use Rattle.cart_image.specs.Layout.{base_of}
+use Rattle.cart_image.specs.Layout.{base_of, cell_len}
 use Rattle.cart_image.specs.Image.{read_len, is_signed, is_length, kind_by, layout_in, layout_by, marks, head_by, head_of, info_by, view_in}
 use Rattle.cart_image.specs.Image.{views_in, sector_bytes, read_as, cartridge_of, layout_of}
 
@@ -154,7 +154,8 @@ unfolding views_in
 length-views l bytes = length-map-range_with_len (view_in l bytes) 0 (sectors l.segments_per_track)
 
 -- a sector's bytes lie before the end
-pub data-end : (kind : Kind) (n sector : ℕ) → sector < sectors n → place_in kind n Data sector + 1024 ≤ base_of kind n + 1027 * sectors n
+pub data-end : (kind : Kind) (n sector : ℕ) → sector < sectors n →
+    place_in kind n Data sector + 1024 ≤ base_of kind n + cell_len * sectors n
 data-end Planes n sector on = omega arith
 data-end Cells n sector on = omega arith
 data-end CellsBehind n sector on = omega arith

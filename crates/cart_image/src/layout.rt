@@ -22,6 +22,12 @@ pub const LAYOUT_PLACE: u64 = 14;
 /// Where the eight bytes of the base stand.
 pub const BASE_PLACE: u64 = 16;
 
+/// The bytes of a cell: the four parts of a sector beside each other.
+pub const CELL_LEN: usize = 1_027;
+
+/// The bytes of the cells of a segment.
+pub const CELLS_LEN: usize = 32_864;
+
 /// The byte of a mark that stands, and of an open gate; any other is none.
 pub const MARK: u8 = 0x5A;
 
@@ -148,7 +154,7 @@ pub fn cell_place(base: u64, part: Part, sector: u64) -> u64
     requires sector { sector < sectors 65536 }
     ensures { result ≡ cell_at base part sector }
 {
-    let cell = base + 1027 * sector;
+    let cell = base + CELL_LEN as u64 * sector;
     match part {
         Part::GateByte => cell,
         Part::FormedByte => cell + 1,
@@ -161,7 +167,7 @@ pub fn cell_place(base: u64, part: Part, sector: u64) -> u64
 pub fn image_len(segments_per_track: u16) -> u64
     ensures { result ≡ length_of segments_per_track }
 {
-    64 + 1027 * 896 * segments_per_track as u64
+    HEAD_LEN + CELL_LEN as u64 * 896 * segments_per_track as u64
 }
 
 /// The length of an image that was upgraded, in bytes.

@@ -2,9 +2,11 @@
 //! its calls promise.
 #![tactic(auto)]
 
+pub mod cells;
 mod filling;
 mod formatting;
 mod layout;
+pub mod making;
 mod reading;
 mod renewing;
 mod segment;
@@ -15,5 +17,5 @@ mod upgrading;
 mod wanted;
 mod writing;
 
-pub use layout::{HEAD_LEN, MARK, SIGNATURE};
+pub use layout::{CELL_LEN, CELLS_LEN, HEAD_LEN};
 pub use tape::ImageTape;

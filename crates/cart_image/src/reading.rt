@@ -3,13 +3,15 @@ ghost use Rattle.std.specs.Prelude.{◌≡◌, ℕ, ◌+◌, ◌*◌, ◌<◌, �
 ghost use Rattle.qic_base.specs.Cause.{HasCause};
 ghost use Rattle.qic_base.specs.Disk.{IsSettled};
 ghost use Rattle.cart_image.specs.Image.{base_kind, kind_by, layout_by, head_by as head_told, head_of, view_by, view_in, sector_bytes};
-ghost use Rattle.cart_image.specs.Layout.{sectors, end_of, touches};
+ghost use Rattle.cart_image.specs.Layout.{cell_len, cells_len, sectors, end_of, touches};
 ghost use Rattle.cart_image.specs.Run.{Looked};
 ghost use Rattle.cart_image.specs.State.{state_of, AreMarks};
 ghost use Rattle.cart_image.specs.Whole.{IsHeadIn};
 
+use crate::cells::Cells;
 use crate::layout::{
-    DEFECT, FORMED, HEAD_LEN, Head, Kind, Layout, MARK, OPEN, Part, SIGNATURE, image_len,
+    CELL_LEN, CELLS_LEN, DEFECT, FORMED, HEAD_LEN, Head, Kind, Layout, MARK, OPEN, Part, SIGNATURE,
+    image_len,
 };
 use crate::segment::SegmentMarks;
 use qic_base::{Disk, DiskFailed, LONGEST, SECTOR, Sector, read_u16, read_u64};
@@ -205,33 +207,33 @@ pub fn read_planes<D: Disk>(
 }
 
 /// The 32 cells of a segment, which stand beside each other.
-fn read_cells<D: Disk>(disk: &mut D, place: u64) -> Result<[u8; 32864], DiskFailed>
+fn read_cells<D: Disk>(disk: &mut D, place: u64) -> Result<Cells, DiskFailed>
     ensures looked { Looked D.means disk.old disk.new result }
     ensures bytes { IfOk result (λ part. IfSome (D.means.told disk.old) (λ bytes.
-        place + 32864 ≤ length bytes → part ≡ slice_range bytes place (place + 32864))) }
+        place + cells_len ≤ length bytes → part ≡ slice_range bytes place (place + cells_len))) }
     ensures seen { D.means.seen_len disk.new ≡ D.means.seen_len disk.old }
 {
-    let mut part = [0; 32864];
+    let mut part = [0; CELLS_LEN];
     disk.read_at(place, &mut part)?;
     Ok(part)
 }
 
 /// The state bytes among those of the 32 cells of a segment.
-pub fn marks_in(cells: &[u8; 32864]) -> SegmentMarks
+pub fn marks_in(cells: &Cells) -> SegmentMarks
     ensures gates { (i : ℕ) → i < 32 →
-        slice_index result.gates i ≡ slice_index cells.now (1027 * i) }
+        slice_index result.gates i ≡ slice_index cells.now (cell_len * i) }
     ensures formed { (i : ℕ) → i < 32 →
-        slice_index result.formed i ≡ slice_index cells.now (1027 * i + 1) }
+        slice_index result.formed i ≡ slice_index cells.now (cell_len * i + 1) }
     ensures defects { (i : ℕ) → i < 32 →
-        slice_index result.defects i ≡ slice_index cells.now (1027 * i + 2) }
+        slice_index result.defects i ≡ slice_index cells.now (cell_len * i + 2) }
 {
     let mut gates = [0; 32];
     let mut formed = [0; 32];
     let mut defects = [0; 32];
     for i in 0..32 {
-        gates[i] = cells[1027 * i];
-        formed[i] = cells[1027 * i + 1];
-        defects[i] = cells[1027 * i + 2];
+        gates[i] = cells[CELL_LEN * i];
+        formed[i] = cells[CELL_LEN * i + 1];
+        defects[i] = cells[CELL_LEN * i + 2];
     }
     SegmentMarks {
         gates,

@@ -1,28 +1,14 @@
 //! A new image written over a file.
-ghost use Rattle.std.specs.Prelude.{◌≡◌, ◌≤◌, drop, slice_index, IfOk, IfSome, OnOk};
+ghost use Rattle.std.specs.Prelude.{◌≡◌, ◌≤◌, slice_index, IfOk, IfSome, OnOk};
 ghost use Rattle.qic_base.specs.Disk.{IsSettled};
-ghost use Rattle.cart_image.specs.Layout.{image_len as length_of, first_letter, clear_steps, new_head as head_of, renew_steps};
+ghost use Rattle.cart_image.specs.Layout.{image_len as length_of, first_letter, clear_steps, renew_steps};
 ghost use Rattle.cart_image.specs.Run.{Runs, Looked, Carried};
 
-use crate::layout::{HEAD_LEN, MARK, SIGNATURE, image_len};
+use crate::layout::{SIGNATURE, image_len};
+use crate::making::{begin, sign};
 use crate::reading::read_byte;
 use crate::synced::{put, put_len};
-use qic_base::{Disk, DiskFailed, write_u16, write_u64};
-
-/// The head of a new image, behind its first byte.
-#[tactic(auto, unfolding(qic_base::specs::Field::overwritten, qic_base::specs::Field::little_endian_bytes))]
-fn new_head_rest(segments_per_track: u16) -> [u8; 63]
-    ensures { result ≡ drop 1 (head_of segments_per_track) }
-{
-    let signature: &[u8] = SIGNATURE;
-    let mut rest = [0; 63];
-    rest[..7].copy_from_slice(&signature[1..]);
-    write_u16(&mut rest, 7, 2);
-    write_u16(&mut rest, 9, segments_per_track);
-    rest[13] = MARK;
-    write_u64(&mut rest, 15, HEAD_LEN);
-    rest
-}
+use qic_base::{Disk, DiskFailed};
 
 /// The first byte of the file; 0 where it is empty.
 fn read_first<D: Disk>(disk: &mut D) -> Result<u8, DiskFailed>
@@ -62,10 +48,9 @@ fn write_new<D: Disk>(disk: &mut D, segments_per_track: u16, first: u8) -> Resul
     ensures seen { OnOk result (D.means.seen_len disk.new ≡ length_of segments_per_track) }
 {
     clear_first(disk, first)?;
-    put_len(disk, HEAD_LEN)?;
+    begin(disk)?;
     put_len(disk, image_len(segments_per_track))?;
-    put(disk, 1, &new_head_rest(segments_per_track))?;
-    put(disk, 0, &[SIGNATURE[0]])
+    sign(disk, segments_per_track, false)
 }
 
 /// Writes a new image, whatever the file holds.

@@ -3,9 +3,10 @@ ghost use Rattle.std.specs.Prelude.{◌≡◌, ℕ, ◌+◌, ◌*◌, ◌<◌, �
 ghost use Rattle.qic_base.specs.Cause.{HasCause};
 ghost use Rattle.qic_base.specs.Disk.{IsSettled};
 ghost use Rattle.qic_base.specs.Field.{little_endian_bytes};
-ghost use Rattle.cart_image.specs.Layout.{image_len as length_of, upgraded_len as upgraded_to, cell, cell_with, cells_by, copy_segment as copy_segment_steps, copy_steps, upgrade_steps};
+ghost use Rattle.cart_image.specs.Layout.{image_len as length_of, upgraded_len as upgraded_to, cell as cell_in, cell_with, cells_by, copy_segment as copy_segment_steps, copy_steps, upgrade_steps};
 ghost use Rattle.cart_image.specs.Run.{Runs, Looked, Planned};
 
+use crate::cells::{Cell, cell};
 use crate::layout::{
     BASE_PLACE, Kind, LAYOUT_PLACE, Layout, MARK, Part, cell_place, image_len, plane_place,
     upgraded_len,
@@ -34,7 +35,7 @@ fn read_segment<D: Disk>(
     ensures cells { IfOk result (λ found. IfSome (D.means.told disk.old) (λ bytes.
         length_of segments_per_track ≤ length bytes → (i : ℕ) → i < 32 →
         cell_with found.marks.gates found.marks.formed found.marks.defects found.block i
-        ≡ cell segments_per_track bytes (32 * segment + i))) }
+        ≡ cell_in segments_per_track bytes (32 * segment + i))) }
     ensures seen { D.means.seen_len disk.new ≡ D.means.seen_len disk.old }
 {
     let layout = Layout {
@@ -49,17 +50,17 @@ fn read_segment<D: Disk>(
 
 /// The four parts of one of its sectors, beside each other.
 #[tactic(auto, unfolding(crate::specs::Layout::cell_with))]
-fn cell_of(segment: &Segment, i: usize) -> [u8; 1027]
+fn cell_of(segment: &Segment, i: usize) -> Cell
     requires { i < 32 }
     ensures { result ≡ cell_with segment.now.marks.gates segment.now.marks.formed
         segment.now.marks.defects segment.now.block i }
 {
-    let mut cell = [0; 1027];
-    cell[0] = segment.marks.gates[i];
-    cell[1] = segment.marks.formed[i];
-    cell[2] = segment.marks.defects[i];
-    cell[3..].copy_from_slice(&segment.block[SECTOR * i..SECTOR * i + SECTOR]);
-    cell
+    cell(
+        segment.marks.gates[i],
+        segment.marks.formed[i],
+        segment.marks.defects[i],
+        &segment.block[SECTOR * i..SECTOR * i + SECTOR],
+    )
 }
 
 /// Writes the sectors of a segment, whose first one is this, as cells behind the planes.

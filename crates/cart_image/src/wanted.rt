@@ -4,12 +4,13 @@ ghost use Rattle.qic_base.specs.declared.tape.SectorView.{SectorView};
 ghost use Rattle.qic_base.specs.CartridgeTerms.{is_lost, place_of};
 ghost use Rattle.qic_base.specs.Disk.{IsSettled};
 ghost use Rattle.cart_image.specs.Image.{view_in, sector_bytes};
-ghost use Rattle.cart_image.specs.Layout.{sectors, end_of, touches};
+ghost use Rattle.cart_image.specs.Layout.{cells_len, sectors, end_of, touches};
 ghost use Rattle.cart_image.specs.Run.{Looks, Looked};
 ghost use Rattle.qic_base.specs.TapeCalls.{is_readable, is_blank, ReadsSectors, KeepsOthers};
 ghost use Rattle.cart_image.specs.State.{state_of, AreStatesOf, GotBytes};
 
-use crate::layout::{Layout, Part};
+use crate::cells::Cells;
+use crate::layout::{CELL_LEN, CELLS_LEN, Layout, Part};
 use crate::reading::{
     SectorState, marks_in, read_bytes, read_marks_at_once, read_state, states_by,
 };
@@ -224,16 +225,16 @@ fn read_all_bytes<D: Disk>(
 }
 
 /// The 32 cells of a segment, which stand beside each other; None where the disk fails in them or has fewer bytes.
-fn read_cells_at_once<D: Disk>(disk: &mut D, place: u64) -> Option<[u8; 32864]>
+fn read_cells_at_once<D: Disk>(disk: &mut D, place: u64) -> Option<Cells>
     requires settled { IsSettled D.means disk.old }
     ensures looks { Looks D.means disk.old disk.new }
     ensures bytes { IfSome result (λ cells. IfSome (D.means.told disk.old) (λ bytes.
-        place + 32864 ≤ length bytes → cells ≡ slice_range bytes place (place + 32864))) }
+        place + cells_len ≤ length bytes → cells ≡ slice_range bytes place (place + cells_len))) }
     ensures seen { D.means.seen_len disk.new ≡ D.means.seen_len disk.old }
 {
-    let mut cells = [0; 32864];
+    let mut cells = [0; CELLS_LEN];
     match disk.read_at(place, &mut cells) {
-        Ok(32864) => Some(cells),
+        Ok(count) if count == CELLS_LEN => Some(cells),
         Ok(_) | Err(DiskFailed) => None,
     }
 }
@@ -306,7 +307,7 @@ pub fn read_in_cells<D: Disk>(
         Some(cells) => {
             let states = states_by(&marks_in(&cells));
             let read = words(&states, wanted);
-            copy_good(read.good, &cells, 3, 1027, into);
+            copy_good(read.good, &cells, 3, CELL_LEN, into);
             Ok(read)
         }
         None => read_apart(disk, layout, segment, wanted, into),

@@ -13,6 +13,7 @@ use Rattle.std.proofs.lemmas.List.{take_all, take-append-le, drop-append-le, dro
 use Rattle.std.proofs.lemmas.List.{length-take-le, append-nil}
 use Rattle.std.proofs.lemmas.List.FromFn.{get_or-map-range_with_len, length-map-range_with_len}
 use Rattle.std.proofs.lemmas.List.Sums.{sum_by-append}
+use Rattle.cart_image.specs.Layout.{cells_len}
 use Rattle.cartridge_spec.specs.Appending.{filled_up, in_sectors}
 use Rattle.qic_base.proofs.Giving.{Gave-Gave, Gave-end, Gave-nothing, Gave-read}
 use Rattle.qic_base.specs.SourceCalls.{Gave, Gives, HasEnded}
@@ -111,7 +112,7 @@ are_cells word len sectors sizes q within =
     subst C (sym (cell_of-at word len sectors q within)) (subst V (sym (view_of-at word len sectors q within)) is)
 
 pub length-segment : (word len : ℕ) (sectors : List (List ℕ)) → ((i : ℕ) → i < 32 → length (get_or sectors i []) ≡ 1024) →
-    length (joined (cells_of word len sectors)) ≡ 32864
+    length (joined (cells_of word len sectors)) ≡ cells_len
 length-segment word len sectors sizes =
     let count = length-cells_of word len sectors in
     let all = length-joined (cells_of word len sectors) (λ q within. let c = are_cells word len sectors sizes q (omega arith) in c.size) in
@@ -204,7 +205,7 @@ pub copied_more : {S D : Type 0} (s : sources.Meaning S) (m : disks.Meaning D) (
     (segment lost len more : ℕ) (sectors : List (List ℕ)) →
     CopiedSoFar s m first now old mid mask segment lost (32768 * segment) → AreFilled s now next 32 32768 sectors len →
     more ≡ lost_count (views_of (slice_index mask segment) len sectors) →
-    ((disk : D) (file : List ℕ) → length file ≡ 64 + 32864 * segment → Unfinished m disk mid file →
+    ((disk : D) (file : List ℕ) → length file ≡ 64 + cells_len * segment → Unfinished m disk mid file →
     Unfinished m disk new (file ++ joined (cells_of (slice_index mask segment) len sectors))) →
     CopiedSoFar s m first next old new mask (segment + 1) (lost + more) (32768 * segment + len)
 copied_more s m first now next old mid new mask segment lost len more sectors before filled counts goes =

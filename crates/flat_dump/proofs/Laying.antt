@@ -1,66 +1,67 @@
 -- What the bytes of a file with cells behind a head are read as.
-use Rattle.std.proofs.Common.{◌≡◌, ℕ, zero, suc, ◌+◌, ◌-◌, ◌*◌, ◌/◌, ◌%◌, ◌<◌, ⊎_elim, Bool, true, false, List, [], ◌∷◌, ◌++◌, length}
+use Rattle.std.proofs.Common.{◌≡◌, ℕ, zero, suc, ◌+◌, ◌-◌, ◌*◌, ◌<◌, ⊎_elim, Bool, true, false, List, [], ◌∷◌, ◌++◌, length}
 use Rattle.std.proofs.Common.{get_or, take, drop, replicate, Some, refl, sym, ◌∙◌, ap, ap₂, subst, arith}
 use Rattle.std.specs.Prelude.{slice_range}
 use Rattle.std.proofs.Math.ListN.{get_or-append}
 use Rattle.std.proofs.Math.Seq.{drop-append-add}
-use Rattle.std.proofs.lemmas.Bool.{cases_lt, le-leb}
+use Rattle.std.proofs.lemmas.Bool.{cases_lt}
 use Rattle.std.proofs.lemmas.List.{take_at, drop_at, same_lists, get_or_default, get_or-take, get_or-drop, get_or-append_right}
 use Rattle.std.proofs.lemmas.List.{get_or-replicate, length-replicate, length-append, replicate-append-replicate}
 use Rattle.std.proofs.lemmas.List.Concat.{flat_map-append}
 use Rattle.std.proofs.lemmas.List.Edits.{length-between, get_or-between}
 use Rattle.std.proofs.lemmas.List as lists
 use Rattle.qic_base.specs.Cartridge.{IsLength, zero_sector}
-use Rattle.qic_base.specs.Field.{little_endian_bytes, number_at}
-use Rattle.qic_base.specs.declared.TheConstants.{LONGEST}
+use Rattle.qic_base.specs.Field.{little_endian_bytes}
 use Rattle.qic_base.specs.declared.tape.SectorView.{SectorView}
 use Rattle.qic_base.specs.declared.tape.SectorView.TheVariants.{Blank, Lost}
 use Rattle.cart_image.specs.declared.layout.Head.{Head}
 use Rattle.cart_image.specs.declared.layout.Kind.TheVariants.{Cells}
 use Rattle.cart_image.specs.declared.layout.Layout.{Layout}
 use Rattle.cart_image.specs.declared.layout.Part.TheVariants.{GateByte, FormedByte, DefectByte, Data}
-use Rattle.cart_image.specs.Image.{view_by, read_len, layout_by, head_by, head_of, view_in, views_in, sector_bytes, cartridge_of}
-use Rattle.cart_image.specs.Layout.{image_len, place, sectors}
+use Rattle.cart_image.specs.Image.{view_by, read_len, head_by, head_of, view_in, views_in, sector_bytes, cartridge_of}
+use Rattle.cart_image.specs.Layout.{cell_len, cells_len, formed_cell, image_len, made_head, place, sectors}
 use Rattle.cart_image.specs.Whole.{cartridge_of-read, length-views}
-use Rattle.flat_dump.specs.Cells.{cell_bytes, joined, imported_head, lost_cell}
+use Rattle.flat_dump.specs.Cells.{joined, lost_cell}
 use Rattle.flat_dump.specs.Imported.{imported_info}
 use Rattle.flat_dump.specs.Importing.{IsCell, IsLaid, begun, image_with, lost_cells}
 use Rattle.flat_dump.proofs.Bytes.{length-zero_sector}
 use Rattle.flat_dump.proofs.Celling.{cell_shows}
 use Rattle.cart_image.proofs.Bytes.{view_in-is}
 use Rattle.cart_image.proofs.Changes.{get_or-views}
+use Rattle.cart_image.proofs.Renews.{length-made, made-told}
 
 -- ---- cells, one behind the other
 
-other_cells : (cell : List ℕ) (cells : List (List ℕ)) → ((q : ℕ) → q < length (cell ∷ cells) → length (get_or (cell ∷ cells) q []) ≡ 1027) →
-    (q : ℕ) → q < length cells → length (get_or cells q []) ≡ 1027
+other_cells : (cell : List ℕ) (cells : List (List ℕ)) →
+    ((q : ℕ) → q < length (cell ∷ cells) → length (get_or (cell ∷ cells) q []) ≡ cell_len) →
+    (q : ℕ) → q < length cells → length (get_or cells q []) ≡ cell_len
 other_cells cell cells each q within = each (suc q) (omega arith)
 
-pub length-joined : (cells : List (List ℕ)) → ((q : ℕ) → q < length cells → length (get_or cells q []) ≡ 1027) →
-    length (joined cells) ≡ 1027 * length cells
+pub length-joined : (cells : List (List ℕ)) → ((q : ℕ) → q < length cells → length (get_or cells q []) ≡ cell_len) →
+    length (joined cells) ≡ cell_len * length cells
 length-joined [] each = refl
 length-joined (cell ∷ cells) each =
     let one = each zero (omega arith) in
     let rest = length-joined cells (other_cells cell cells each) in
     length-append cell (joined cells) ∙ (omega arith)
 
-cell_at : (cells : List (List ℕ)) (q : ℕ) → ((k : ℕ) → k < length cells → length (get_or cells k []) ≡ 1027) → q < length cells →
-    take 1027 (drop (1027 * q) (joined cells)) ≡ get_or cells q []
+cell_at : (cells : List (List ℕ)) (q : ℕ) → ((k : ℕ) → k < length cells → length (get_or cells k []) ≡ cell_len) → q < length cells →
+    take cell_len (drop (cell_len * q) (joined cells)) ≡ get_or cells q []
 cell_at [] q each within = absurd (omega arith)
-cell_at (cell ∷ cells) zero each within = take_at cell (joined cells) 1027 (each zero (omega arith))
+cell_at (cell ∷ cells) zero each within = take_at cell (joined cells) cell_len (each zero (omega arith))
 cell_at (cell ∷ cells) (suc q) each within =
     let one = each zero (omega arith) in
-    let far : 1027 * suc q ≡ length cell + 1027 * q = omega arith in
-    ap (λ (n : ℕ). take 1027 (drop n (cell ++ joined cells))) far
-    ∙ ap (take 1027) (drop-append-add cell (joined cells) (1027 * q))
+    let far : cell_len * suc q ≡ length cell + cell_len * q = omega arith in
+    ap (λ (n : ℕ). take cell_len (drop n (cell ++ joined cells))) far
+    ∙ ap (take cell_len) (drop-append-add cell (joined cells) (cell_len * q))
     ∙ cell_at cells q (other_cells cell cells each) (omega arith)
 
 -- a byte of a cell
-byte_at : (cells : List (List ℕ)) (q j : ℕ) → ((k : ℕ) → k < length cells → length (get_or cells k []) ≡ 1027) → q < length cells →
-    j < 1027 → get_or (joined cells) (1027 * q + j) 0 ≡ get_or (get_or cells q []) j 0
+byte_at : (cells : List (List ℕ)) (q j : ℕ) → ((k : ℕ) → k < length cells → length (get_or cells k []) ≡ cell_len) → q < length cells →
+    j < cell_len → get_or (joined cells) (cell_len * q + j) 0 ≡ get_or (get_or cells q []) j 0
 byte_at cells q j each within small =
-    sym (get_or-drop (1027 * q) (joined cells) j 0)
-    ∙ sym (get_or-take 1027 (drop (1027 * q) (joined cells)) j 0 small)
+    sym (get_or-drop (cell_len * q) (joined cells) j 0)
+    ∙ sym (get_or-take cell_len (drop (cell_len * q) (joined cells)) j 0 small)
     ∙ ap (λ (c : List ℕ). get_or c j 0) (cell_at cells q each within)
 
 -- ---- more cells
@@ -92,7 +93,7 @@ laid_more file views cells more laid size each = record {
 view_by-is : (d d2 f f2 g g2 : ℕ) (b b2 : List ℕ) → d ≡ d2 → f ≡ f2 → g ≡ g2 → b ≡ b2 → view_by d f g b ≡ view_by d2 f2 g2 b2
 view_by-is d d2 f f2 g g2 b b2 p q r s = rw (p, q, r, s) refl
 
-pub length-laid : (file : List ℕ) (views : List SectorView) → IsLaid file views → length file ≡ 64 + 1027 * length views
+pub length-laid : (file : List ℕ) (views : List SectorView) → IsLaid file views → length file ≡ 64 + cell_len * length views
 length-laid file views laid =
     let size = laid.size in
     let all = length-joined laid.cells (λ q within. let c = laid.each q (omega arith) in c.size) in
@@ -108,64 +109,49 @@ module _ (n : ℕ) (long : IsLength n) where
   abbrev head_told : Head
   head_told = record { layout = layout; protected = false; referenced = true }
 
-  number : n % 256 + 256 * (n / 256 % 256 + 256 * 0) ≡ n
-  number = let h = long.longest in omega arith
-
-  front : (rest : List ℕ) → slice_range (imported_head n ++ rest) 0 read_len ≡ slice_range (imported_head n) 0 read_len
-  unfolding imported_head little_endian_bytes
+  front : (rest : List ℕ) → slice_range (made_head true n ++ rest) 0 read_len ≡ slice_range (made_head true n) 0 read_len
+  unfolding little_endian_bytes
   front rest = refl
-
-  told : head_by (image_len n) (slice_range (imported_head n) 0 read_len) ≡ Some head_told
-  unfolding imported_head layout_by little_endian_bytes number_at
-  told =
-      let least = le-leb 3 n long.shortest in
-      let most = le-leb n LONGEST long.longest in
-      let fits = le-leb (image_len n) (image_len n) (omega arith) in
-      rw (number, least, most, fits) refl
-
-  length-head : length (imported_head n) ≡ 64
-  unfolding imported_head little_endian_bytes
-  length-head = refl
 
   module _ (cells : List (List ℕ)) (views : List SectorView) (count : length cells ≡ 896 * n) (size : length views ≡ 896 * n)
       (each : (q : ℕ) → q < 896 * n → IsCell (get_or cells q []) (get_or views q Blank)) where
     abbrev bytes : List ℕ
-    bytes = imported_head n ++ joined cells
+    bytes = made_head true n ++ joined cells
 
-    are_long : (q : ℕ) → q < length cells → length (get_or cells q []) ≡ 1027
+    are_long : (q : ℕ) → q < length cells → length (get_or cells q []) ≡ cell_len
     are_long q within = let c = each q (omega arith) in c.size
 
     length-bytes : length bytes ≡ image_len n
-    length-bytes = let h = length-head in let j = length-joined cells are_long in length-append (imported_head n) (joined cells)
+    length-bytes = let h = length-made true n in let j = length-joined cells are_long in length-append (made_head true n) (joined cells)
         ∙ (omega arith)
 
     head_is : head_of bytes ≡ Some head_told
     unfolding head_of
     head_is = ap (λ (l : ℕ). head_by l (slice_range bytes 0 read_len)) length-bytes ∙ ap (head_by (image_len n)) (front (joined cells))
-        ∙ told
+        ∙ made-told true n long
 
-    byte_of : (q j p : ℕ) → q < 896 * n → j < 1027 → p ≡ 64 + 1027 * q + j → get_or bytes p 0 ≡ get_or (get_or cells q []) j 0
+    byte_of : (q j p : ℕ) → q < 896 * n → j < cell_len → p ≡ 64 + cell_len * q + j → get_or bytes p 0 ≡ get_or (get_or cells q []) j 0
     byte_of q j p within small at =
-        let h = length-head in
-        let there : p - 64 ≡ 1027 * q + j = omega arith in
-        get_or-append_right (imported_head n) (joined cells) 64 p 0 h (omega arith)
+        let h = length-made true n in
+        let there : p - 64 ≡ cell_len * q + j = omega arith in
+        get_or-append_right (made_head true n) (joined cells) 64 p 0 h (omega arith)
         ∙ ap (λ (k : ℕ). get_or (joined cells) k 0) there
         ∙ byte_at cells q j are_long (omega arith) small
 
-    data_of : (q : ℕ) → q < 896 * n → sector_bytes layout bytes q ≡ slice_range (get_or cells q []) 3 1027
+    data_of : (q : ℕ) → q < 896 * n → sector_bytes layout bytes q ≡ slice_range (get_or cells q []) 3 cell_len
     data_of q within =
         let l = length-bytes in
         let p : ℕ = place layout Data q in
-        let at : p ≡ 64 + 1027 * q + 3 = omega arith in
+        let at : p ≡ 64 + cell_len * q + 3 = omega arith in
         let c = are_long q (omega arith) in
         let a = length-between bytes p (p + 1024) (omega arith) in
-        let b = length-between (get_or cells q []) 3 1027 (omega arith) in
-        same_lists (slice_range bytes p (p + 1024)) (slice_range (get_or cells q []) 3 1027) (omega arith) (λ k d less.
+        let b = length-between (get_or cells q []) 3 cell_len (omega arith) in
+        same_lists (slice_range bytes p (p + 1024)) (slice_range (get_or cells q []) 3 cell_len) (omega arith) (λ k d less.
         get_or-between bytes p (p + 1024) k d (omega arith)
         ∙ get_or_default bytes (p + k) d 0 (omega arith)
         ∙ byte_of q (3 + k) (p + k) within (omega arith) (omega arith)
         ∙ get_or_default (get_or cells q []) (3 + k) 0 d (omega arith)
-        ∙ sym (get_or-between (get_or cells q []) 3 1027 k d (omega arith)))
+        ∙ sym (get_or-between (get_or cells q []) 3 cell_len k d (omega arith)))
 
     view_of : (q : ℕ) → q < 896 * n → view_in layout bytes q ≡ get_or views q Blank
     view_of q within =
@@ -191,13 +177,13 @@ image_shows n file views long size laid =
     let head : length begun ≡ 64 = length-replicate {A = ℕ} 64 0 in
     let cut : drop 64 file ≡ joined laid.cells = ap (drop 64) laid.bytes ∙ drop_at begun (joined laid.cells) 64 head in
     let count = laid.size in
-    ap (λ (rest : List ℕ). cartridge_of (imported_head n ++ rest)) cut
+    ap (λ (rest : List ℕ). cartridge_of (made_head true n ++ rest)) cut
     ∙ shows n long laid.cells views (omega arith) size (λ q within. laid.each q (omega arith))
 
 -- ---- lost cells
 
-pub length-cell : (held : Bool) (bytes : List ℕ) → length (cell_bytes held bytes) ≡ 3 + length bytes
-unfolding cell_bytes
+pub length-cell : (held : Bool) (bytes : List ℕ) → length (formed_cell held bytes) ≡ 3 + length bytes
+unfolding formed_cell
 length-cell true bytes = omega arith
 length-cell false bytes = omega arith
 
@@ -207,7 +193,7 @@ lost_is_cell = record {
   shows = cell_shows false zero_sector length-zero_sector;
 }
 
-pub length-lost : length (joined (replicate 32 lost_cell)) ≡ 32864
+pub length-lost : length (joined (replicate 32 lost_cell)) ≡ cells_len
 length-lost =
     let c = lost_is_cell in
     let l : length (replicate 32 lost_cell) ≡ 32 = length-replicate {A = List ℕ} 32 lost_cell in
@@ -221,7 +207,7 @@ lost_more k =
     ∙ ap joined (sym (replicate-append-replicate (32 * k) 32 lost_cell))
     ∙ flat_map-append (λ (c : List ℕ). c) (replicate (32 * k) lost_cell) (replicate 32 lost_cell)
 
-pub length-lost_cells : (k : ℕ) → length (lost_cells k) ≡ 32864 * k
+pub length-lost_cells : (k : ℕ) → length (lost_cells k) ≡ cells_len * k
 length-lost_cells k =
     let c = lost_is_cell in
     let l : length (replicate (32 * k) lost_cell) ≡ 32 * k = length-replicate {A = List ℕ} (32 * k) lost_cell in

@@ -13,12 +13,11 @@ use Rattle.qic_base.specs.Disk.{Failed, IsSettled, IsToldRight, IsLeftNow}
 use Rattle.qic_base.specs.Field.{overwritten, little_endian_bytes}
 use Rattle.cart_image.specs.declared.layout.Head.{Head}
 use Rattle.cart_image.specs.Image.{head_of, cartridge_of}
-use Rattle.cart_image.specs.Layout.{first_letter, head_len, resize}
+use Rattle.cart_image.specs.Layout.{append_steps, cells_len, first_letter, head_len, made_head, resize, sign_steps}
 use Rattle.cart_image.specs.Run.{Ran, Halted, Runs}
 use Rattle.cart_image.specs.Whole.{head_of-parts, cartridge_of-none}
 use Rattle.cart_image.proofs.Bytes.{OnlyIn, OnlyIn-torn, OnlyIn-written}
-use Rattle.cart_image.proofs.Renews.{length-resized, none-by-first}
-use Rattle.flat_dump.specs.Cells.{append_steps, imported_head, sign_steps}
+use Rattle.cart_image.proofs.Renews.{length-made-rest, length-resized, none-by-first}
 use Rattle.flat_dump.specs.Import.{IsEmpty, IsNoImage, Cleared, CrashesLeave}
 use Rattle.flat_dump.specs.Importing.{Stays, Unfinished, FailedSince, Goes, IsNoneOr, Finished, Ends, begun, image_with}
 use Rattle.flat_dump.specs.Stops.{IsUnsigned, KeepsFirst}
@@ -239,34 +238,38 @@ module _ {D : Type 0} (m : Meaning D) (left_now : (d : D) → IsLeftNow m d) (ri
       ap (λ (xs : List ℕ). xs ++ cells ++ drop (place + length cells) (resized (place + length cells) file)) front
       ∙ ap (λ (xs : List ℕ). file ++ cells ++ xs) rest ∙ append-nil (file ++ cells)
 
+  -- where the cells of a segment begin
+  abbrev begins : ℕ → ℕ
+  begins segment = head_len + cells_len * segment
+
   pub append_goes : {T E : Type 0} (first old new : D) (segment : ℕ) (file cells : List ℕ) (result : Result T E) →
-      length file ≡ head_len + 32864 * segment → length cells ≡ 32864 →
+      length file ≡ begins segment → length cells ≡ cells_len →
       Unfinished m first old file → Runs m old new (append_steps segment cells) result → Goes m first new (file ++ cells) result
   append_goes first old new segment file cells (Ok x) long size before (mid, longer, (last, wrote, same)) =
-      let one = writes_on first old mid (SetLen (head_len + 32864 * segment + 32864)) file (omega arith) longer.leaves longer before in
-      let two = writes_on first mid last (WriteAt (head_len + 32864 * segment) cells)
-      (stored (SetLen (head_len + 32864 * segment + 32864)) file) (omega arith) wrote.leaves wrote one in
-      let at : stored (WriteAt (head_len + 32864 * segment) cells)
-      (stored (SetLen (head_len + 32864 * segment + 32864)) file) ≡ file ++ cells =
-      ap (λ (n : ℕ). stored (WriteAt (head_len + 32864 * segment) cells) (stored (SetLen (head_len + 32864 * segment + n)) file)) (sym size)
-      ∙ written_behind file cells (head_len + 32864 * segment) long in
+      let one = writes_on first old mid (SetLen (begins segment + cells_len)) file (omega arith) longer.leaves longer before in
+      let two = writes_on first mid last (WriteAt (begins segment) cells)
+      (stored (SetLen (begins segment + cells_len)) file) (omega arith) wrote.leaves wrote one in
+      let at : stored (WriteAt (begins segment) cells)
+      (stored (SetLen (begins segment + cells_len)) file) ≡ file ++ cells =
+      ap (λ (n : ℕ). stored (WriteAt (begins segment) cells) (stored (SetLen (begins segment + n)) file)) (sym size)
+      ∙ written_behind file cells (begins segment) long in
       subst (λ (d : D). Unfinished m first d (file ++ cells)) (sym same) (subst (λ (f : List ℕ). Unfinished m first last f) at two)
   append_goes first old new segment file cells (Err e) long size before (inl failed) =
-      fails_on first old new (SetLen (head_len + 32864 * segment + 32864)) file (omega arith) failed before
+      fails_on first old new (SetLen (begins segment + cells_len)) file (omega arith) failed before
   append_goes first old new segment file cells (Err e) long size before (inr (mid, longer, inl failed)) =
-      let one = writes_on first old mid (SetLen (head_len + 32864 * segment + 32864)) file (omega arith) longer.leaves longer before in
-      fails_on first mid new (WriteAt (head_len + 32864 * segment) cells) (stored (SetLen (head_len + 32864 * segment + 32864)) file)
+      let one = writes_on first old mid (SetLen (begins segment + cells_len)) file (omega arith) longer.leaves longer before in
+      fails_on first mid new (WriteAt (begins segment) cells) (stored (SetLen (begins segment + cells_len)) file)
       (omega arith) failed one
   append_goes first old new segment file cells (Err e) long size before (inr (mid, longer, inr other)) = absurd other.2
 
-  pub append_fails : (first old new : D) (segment : ℕ) (file cells : List ℕ) → length file ≡ head_len + 32864 * segment →
-      length cells ≡ 32864 → Unfinished m first old file →
+  pub append_fails : (first old new : D) (segment : ℕ) (file cells : List ℕ) → length file ≡ begins segment →
+      length cells ≡ cells_len → Unfinished m first old file →
       Halted m old new (append_steps segment cells) → FailedSince m first new IsNoImage
   append_fails first old new segment file cells long size before halted =
       append_goes {T = Unit {0}} {E = Unit {0}} first old new segment file cells (Err tt) long size before halted
 
-  pub append_ran : (first old new : D) (segment : ℕ) (file cells : List ℕ) → length file ≡ head_len + 32864 * segment →
-      length cells ≡ 32864 → Unfinished m first old file →
+  pub append_ran : (first old new : D) (segment : ℕ) (file cells : List ℕ) → length file ≡ begins segment →
+      length cells ≡ cells_len → Unfinished m first old file →
       Ran m old new (append_steps segment cells) → Unfinished m first new (file ++ cells)
   append_ran first old new segment file cells long size before ran =
       append_goes {T = Unit {0}} {E = Unit {0}} first old new segment file cells (Ok tt) long size before ran
@@ -331,14 +334,10 @@ module _ {D : Type 0} (m : Meaning D) (left_now : (d : D) → IsLeftNow m d) (ri
 
   module _ (n : ℕ) where
     abbrev rest : List ℕ
-    rest = drop 1 (imported_head n)
+    rest = drop 1 (made_head true n)
 
-    length-rest : length rest ≡ 63
-    unfolding imported_head little_endian_bytes
-    length-rest = refl
-
-    head_is : first_letter ∷ rest ≡ imported_head n
-    unfolding imported_head little_endian_bytes
+    head_is : first_letter ∷ rest ≡ made_head true n
+    unfolding little_endian_bytes
     head_is = refl
 
     abbrev unsigned : List ℕ → List ℕ
@@ -351,7 +350,7 @@ module _ {D : Type 0} (m : Meaning D) (left_now : (d : D) → IsLeftNow m d) (ri
     unfolding overwritten
     signed_is file long =
         let one : length (take 1 file) ≡ 1 = length-take-le 1 file (omega arith) in
-        let r = length-rest in
+        let r = length-made-rest true n in
         let past : 1 + length rest ≡ 64 = omega arith in
         let behind : drop 1 (take 1 file ++ rest ++ drop (1 + length rest) file) ≡ rest ++ drop 64 file =
         ap (drop 1) (lists.append_assoc (take 1 file) rest (drop (1 + length rest) file))
@@ -368,7 +367,7 @@ module _ {D : Type 0} (m : Meaning D) (left_now : (d : D) → IsLeftNow m d) (ri
     torn_first file left long torn = by_first (slice_index left 0 == first_letter) refl
       where
         size : length (unsigned file) ≡ length file
-        size = let r = length-rest in let o = OnlyIn-written 1 file rest (omega arith) in o.size
+        size = let r = length-made-rest true n in let o = OnlyIn-written 1 file rest (omega arith) in o.size
 
         now : OnlyIn 0 1 (unsigned file) left
         now = OnlyIn-torn 0 1 (unsigned file) left torn
@@ -393,7 +392,7 @@ module _ {D : Type 0} (m : Meaning D) (left_now : (d : D) → IsLeftNow m d) (ri
         by_first true e = inr (is (eqb-true (slice_index left 0) first_letter e) ∙ signed_is file long)
 
     pub sign_ends : {T E : Type 0} (first old new : D) (file : List ℕ) (result : Result T E) → 64 ≤ length file →
-        Unfinished m first old file → Runs m old new (sign_steps n) result →
+        Unfinished m first old file → Runs m old new (sign_steps true n) result →
         Ends m first new (image_with n file) result
     sign_ends {T} {E} first old new file result long before runs = by_result result runs where
       none_or : (b : List ℕ) → IsNoImage b → IsNoneOr (image_with n file) b
@@ -426,7 +425,7 @@ module _ {D : Type 0} (m : Meaning D) (left_now : (d : D) → IsLeftNow m d) (ri
       same_left : (b left : List ℕ) → IsNoneOr (image_with n file) b → left ≡ b → IsNoneOr (image_with n file) left
       same_left b left p same = subst (IsNoneOr (image_with n file)) (sym same) p
 
-      by_result : (r : Result T E) → Runs m old new (sign_steps n) r → Ends m first new (image_with n file) r
+      by_result : (r : Result T E) → Runs m old new (sign_steps true n) r → Ends m first new (image_with n file) r
       by_result (Ok x) (mid, wrote, (next, synced, (third, signs, (last, ended, same)))) =
           let three = stays_on first next third (WriteAt 0 (first_letter ∷ [])) (λ b. b ≡ unsigned file) (IsNoneOr (image_with n file))
           (IsNoneOr (image_with n file)) closes (λ b p. p)

@@ -1,6 +1,6 @@
 -- How an import goes on (this project's own).
 use Rattle.std.specs.Prelude.{◌≡◌, ℕ, ◌+◌, ◌*◌, ◌<◌, ◌≤◌, ◌⊎◌, List, [], ◌++◌, drop, length, replicate, Option, Some, None, is_some, IsSome}
-use Rattle.std.specs.Prelude.{Result, Ok, Err, slice_index, slice_index_or, slice_range}
+use Rattle.std.specs.Prelude.{true, Result, Ok, Err, slice_index, slice_index_or, slice_range}
 use Rattle.std.specs.Option.{option_map}
 use Rattle.qic_base.specs.Cartridge.{IsLength}
 use Rattle.qic_base.specs.Tape.{Rose}
@@ -9,8 +9,8 @@ use Rattle.qic_base.specs.Source as sources
 use Rattle.qic_base.specs.declared.tape.SectorView.{SectorView}
 use Rattle.qic_base.specs.declared.tape.SectorView.TheVariants.{Blank}
 use Rattle.cart_image.specs.Image.{view_by}
-use Rattle.cart_image.specs.Layout.{head_len}
-use Rattle.flat_dump.specs.Cells.{joined, lost_cell, imported_head}
+use Rattle.cart_image.specs.Layout.{cell_len, head_len, made_head}
+use Rattle.flat_dump.specs.Cells.{joined, lost_cell}
 use Rattle.flat_dump.specs.Import.{CrashesLeave, IsDumpOf, IsNoDump, IsNoImage, IsNoneOrWhole, WasImported, counted, lost_count}
 use Rattle.flat_dump.specs.Imported.{imported_view}
 use Rattle.flat_dump.specs.Stops.{IsUnsigned}
@@ -77,8 +77,8 @@ begun = replicate head_len 0
 
 -- a cell that is read as this view
 pub record IsCell (cell : List ℕ) (view : SectorView) : Type 0 where
-  pub size : length cell ≡ 1027
-  pub shows : view_by (slice_index cell 2) (slice_index cell 1) (slice_index cell 0) (slice_range cell 3 1027) ≡ view
+  pub size : length cell ≡ cell_len
+  pub shows : view_by (slice_index cell 2) (slice_index cell 1) (slice_index cell 0) (slice_range cell 3 cell_len) ≡ view
 
 -- behind the room of a head stand the cells of these sectors
 pub record IsLaid (file : List ℕ) (views : List SectorView) : Type 0 where
@@ -91,9 +91,9 @@ pub record IsLaid (file : List ℕ) (views : List SectorView) : Type 0 where
 abbrev pub lost_cells : (segments : ℕ) → List ℕ
 lost_cells segments = joined (replicate (32 * segments) lost_cell)
 
--- .. with its head
+-- .. with its head, which has the referenced mark
 abbrev pub image_with : (n : ℕ) (file : List ℕ) → List ℕ
-image_with n file = imported_head n ++ drop head_len file
+image_with n file = made_head true n ++ drop head_len file
 
 -- ---- the dump
 

@@ -4,11 +4,12 @@ ghost use Rattle.std.specs.Prelude.{◌≡◌, ℕ, ◌+◌, ◌*◌, ◌≤◌,
 ghost use Rattle.qic_base.specs.Cartridge.{IsLength};
 ghost use Rattle.qic_base.specs.Cause.{HasCause};
 ghost use Rattle.rescue_map.specs.Laws.{most_words};
-ghost use Rattle.cart_image.specs.Layout.{head_len};
+ghost use Rattle.cart_image.specs.Layout.{head_len, cells_len};
 ghost use Rattle.flat_dump.specs.Import.{IsDumpOf, IsEmpty, CountsBy, Imports};
 ghost use Rattle.flat_dump.specs.Importing.{Unfinished, Ends, Counts, Copies, Fits, Fills, begun, lost_cells, image_with};
 
-use crate::cells::{append_lost, begin, clear, sign, write_segment};
+use crate::cells::{append_lost, write_segment};
+use cart_image::making::{begin, clear, sign};
 use qic_base::{Disk, DiskFailed, LONGEST, MOST_SEGMENTS, SECTOR, SECTORS, Source, SourceFailed};
 use sector_fill::fill_sectors;
 
@@ -153,13 +154,13 @@ fn finish<D: Disk>(disk: &mut D, copied: u32, segments_per_track: u16) -> Result
     requires length { IsLength segments_per_track }
     requires order { copied ≤ 28 * segments_per_track }
     requires seen { head_len ≤ D.means.seen_len disk.old }
-    ensures { (first : D) (file : List ℕ) (more : ℕ) → length file ≡ head_len + 32864 * copied →
+    ensures { (first : D) (file : List ℕ) (more : ℕ) → length file ≡ head_len + cells_len * copied →
         copied + more ≡ 28 * segments_per_track → Unfinished D.means first disk.old file →
         Ends D.means first disk.new
         (image_with segments_per_track (file ++ lost_cells more)) result }
 {
     append_lost(disk, copied, TRACKS * u32::from(segments_per_track))?;
-    sign(disk, segments_per_track)
+    sign(disk, segments_per_track, true)
 }
 
 /// What a dump was imported as, whose first segments were copied.

@@ -1,11 +1,7 @@
 -- Files that hold no image and may be taken for one to be made: what a making of one leaves that was stopped (this project's own).
 use Rattle.std.specs.Prelude.{ℕ, ◌-◌, ◌*◌, ◌/◌, ◌%◌, Bool, ◌&&◌, ◌||◌, ◌==◌, nat_le, List, length, take, slice_index}
 use Rattle.qic_base.specs.declared.TheConstants.{LONGEST}
-use Rattle.cart_image.specs.Layout.{head_len, signature}
-
--- the bytes of a segment: 32 sectors of 1,027
-abbrev pub segment_len : ℕ
-segment_len = 32864
+use Rattle.cart_image.specs.Layout.{cells_len, head_len, signature}
 
 -- Segments behind the head: none; some or all of a cartridge's, as an import has them that was stopped; or twice those of a
 -- cartridge, as an image has that was upgraded.
@@ -15,7 +11,7 @@ is_segments count = nat_le count (28 * LONGEST) || (count % 56 == 0 && nat_le co
 -- a length that a stop leaves
 unfoldable pub is_stopped_len : (len : ℕ) → Bool
 is_stopped_len len =
-    nat_le head_len len && ((len - head_len) % segment_len == 0 && is_segments ((len - head_len) / segment_len))
+    nat_le head_len len && ((len - head_len) % cells_len == 0 && is_segments ((len - head_len) / cells_len))
 
 -- a byte of the head that was not written, or was
 abbrev pub is_part : (byte letter : ℕ) → Bool

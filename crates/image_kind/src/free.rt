@@ -4,11 +4,8 @@ ghost use Rattle.std.specs.Prelude.{◌≡◌, IfOk, IfSome};
 ghost use Rattle.qic_base.specs.Disk.{Look, Stores};
 ghost use Rattle.image_kind.specs.Free.{is_segments as are_segments, is_stopped_len as length_stopped, is_part as part_of, is_unsigned as unsigned, free_by as by_length, is_free as free_bytes};
 
-use cart_image::HEAD_LEN;
+use cart_image::{CELLS_LEN, HEAD_LEN};
 use qic_base::{Disk, DiskFailed, LONGEST};
-
-/// The bytes of a segment: 32 sectors of 1,027.
-const SEGMENT_LEN: u64 = 32_864;
 
 /// A number of segments that a stop leaves in a file: none, some or all of a cartridge's; or twice those of one.
 fn is_segments(count: u64) -> bool
@@ -24,8 +21,8 @@ fn is_stopped_len(len: u64) -> bool
     ensures { result ≡ length_stopped len }
 {
     len >= HEAD_LEN
-        && (len - HEAD_LEN) % SEGMENT_LEN == 0
-        && is_segments((len - HEAD_LEN) / SEGMENT_LEN)
+        && (len - HEAD_LEN) % CELLS_LEN as u64 == 0
+        && is_segments((len - HEAD_LEN) / CELLS_LEN as u64)
 }
 
 /// A byte that is zero, or the signature's.

@@ -5,7 +5,8 @@ use Rattle.std.proofs.lemmas.List.{length-set, take_all, take_more_set}
 use Rattle.std.proofs.lemmas.List.FromFn.{map-range_with_len_more, sum_by-map-range_with_len_more}
 use Rattle.std.specs.Prelude.{slice_index_or}
 use Rattle.qic_base.specs.declared.tape.SectorView.TheVariants.{Lost, Holds}
-use Rattle.flat_dump.specs.Cells.{cell_bytes, cell_in, view_in}
+use Rattle.cart_image.specs.Layout.{formed_cell}
+use Rattle.flat_dump.specs.Cells.{cell_in, view_in}
 use Rattle.flat_dump.specs.Import.{lost_bit, lost_count}
 use Rattle.flat_dump.proofs.Copying.{cells_of-is, lost_next, views_of-is}
 use Rattle.flat_dump.proofs.cells.fill_cells.Goals as goal
@@ -25,10 +26,10 @@ loop-index-preserved c =
           w.lost-is ∙ sym (ap (λ (h : Bool). if h then c.loop-index.lost else c.loop-index.lost + 1) e))
     ] in
     record {
-      size = length-set c.loop-index.cells i c.cell_of.result ∙ before.size;
-      cells = take_more_set c.loop-index.cells i c.cell_of.result (omega arith)
+      size = length-set c.loop-index.cells i c.formed_cell.result ∙ before.size;
+      cells = take_more_set c.loop-index.cells i c.formed_cell.result (omega arith)
           ∙ ap₂ (λ (xs : List (List ℕ)) (x : List ℕ). xs ++ x ∷ []) before.cells
-          (c.cell_of.ensures ∙ ap (λ (h : Bool). cell_bytes h (slice_index_or c.args.sectors.now i [])) c.is_held-held.ensures)
+          (c.formed_cell.ensures ∙ ap (λ (h : Bool). formed_cell h (slice_index_or c.args.sectors.now i [])) c.is_held-held.ensures)
           ∙ sym (map-range_with_len_more (cell_in c.args.word c.args.len c.args.sectors.now) 0 i i (omega arith));
       lost = lost_next c.is_held-held.result (slice_index_or c.args.sectors.now i []) c.loop-index.lost c.if-not-held.lost next
           ∙ ap₂ (λ (a : ℕ) (h : Bool). a + lost_bit (if h then Holds (slice_index_or c.args.sectors.now i []) else Lost)) before.lost

@@ -1,6 +1,7 @@
 use Rattle.std.proofs.Common.{List, ℕ, length, ap, ◌∙◌}
 use Rattle.std.proofs.lemmas.Result.{err_from_is_err_and}
-use Rattle.flat_dump.specs.Cells.{append_steps, cells_of, joined}
+use Rattle.cart_image.specs.Layout.{append_steps}
+use Rattle.flat_dump.specs.Cells.{cells_of, joined}
 use Rattle.flat_dump.proofs.Copying.{length-segment}
 use Rattle.cart_image.proofs.Loops.{halted-is, ran-is}
 use Rattle.cart_image.proofs.Exits.{Runs-err}

@@ -4,6 +4,7 @@ use Rattle.std.proofs.lemmas.List.{length-replicate, take_all}
 use Rattle.qic_base.proofs.Giving.{Gave-nothing}
 use Rattle.qic_base.proofs.Steps.{Rose-after}
 use Rattle.sector_fill.specs.Filling.{AreFilled}
+use Rattle.cart_image.specs.Layout.{cells_len}
 use Rattle.flat_dump.specs.Cells.{cells_of, joined}
 use Rattle.flat_dump.specs.Import.{counted}
 use Rattle.flat_dump.proofs.Copying.{CopiedSoFar, copied_ended, copied_more, copied_to_end, copied_to_limit, filled_ended, filled_whole}
@@ -78,7 +79,7 @@ returns-in-Err-write_segment-clause-copies g c = λ first u.
     let filled : AreFilled s c.loop-segment.source c.fill_sectors.new.source 32 32768 c.fill_sectors.new.sectors c.in-Ok.len =
     subst (λ (xs : List (List ℕ)). AreFilled s c.loop-segment.source c.fill_sectors.new.source 32 32768 xs c.in-Ok.len)
     (take_all 32 c.fill_sectors.new.sectors (omega arith)) c.in-Ok.ensures.filled in
-    let long : length so_far.file ≡ 64 + 32864 * c.loop-segment.segment = let v = so_far.size in
+    let long : length so_far.file ≡ 64 + cells_len * c.loop-segment.segment = let v = so_far.size in
     length-laid so_far.file so_far.views so_far.laid ∙ (omega arith) in
     append_fails m g.met.D.Disk.left_now g.met.D.Disk.told_right first c.loop-segment.disk c.write_segment.new.disk c.loop-segment.segment
     so_far.file

@@ -1,4 +1,5 @@
 use Rattle.std.proofs.Common.{◌≡◌, ℕ, ◌+◌, ◌-◌, ◌*◌, length, ◌∙◌, subst, arith}
+use Rattle.cart_image.specs.Layout.{cells_len}
 use Rattle.flat_dump.specs.Import.{IsDumpOf}
 use Rattle.flat_dump.proofs.Imports.{copies_failed, failed_is, fits_counted, fits_within, imported_is, refused_is}
 use Rattle.flat_dump.proofs.Laying.{length-laid}
@@ -40,7 +41,7 @@ returns-in-Ok-finish-clause-fills g c = λ first begins.
     let within = fits_within c.args.segments_per_track (length was.dump) n fits in
     let more : ℕ = 28 * n - c.in-Ok.copied.segments in
     let order : c.in-Ok.copied.segments + more ≡ 28 * n = omega (arith, was.needed) in
-    let long : length was.file ≡ 64 + 32864 * c.in-Ok.copied.segments = length-laid was.file was.views was.laid
+    let long : length was.file ≡ 64 + cells_len * c.in-Ok.copied.segments = length-laid was.file was.views was.laid
     ∙ (omega (arith, was.size)) in
     imported_is g.S.Source.means g.D.Disk.means c.args.source.now c.args.disk.now c.copy_segments.new.disk c.args.mask.now
     c.most_segments-most.result c.in-Ok.copied was n more is.0 order
@@ -59,7 +60,7 @@ returns-in-Err-finish-clause-fills g c = λ first begins.
     let within = fits_within c.args.segments_per_track (length was.dump) n fits in
     let more : ℕ = 28 * n - c.in-Ok.copied.segments in
     let order : c.in-Ok.copied.segments + more ≡ 28 * n = omega (arith, was.needed) in
-    let long : length was.file ≡ 64 + 32864 * c.in-Ok.copied.segments = length-laid was.file was.views was.laid
+    let long : length was.file ≡ 64 + cells_len * c.in-Ok.copied.segments = length-laid was.file was.views was.laid
     ∙ (omega (arith, was.size)) in
     failed_is g.S.Source.means g.D.Disk.means c.args.source.now c.args.disk.now c.copy_segments.new.disk c.args.mask.now
     c.most_segments-most.result c.in-Ok.copied was n more is.0 order

@@ -18,4 +18,4 @@ returns g c = λ first file more long order u.
     let whole : 64 ≤ length (file ++ lost_cells more) = omega (arith, length-append file (lost_cells more), long) in
     sign_ends m g.met.D.Disk.left_now g.met.D.Disk.told_right c.args.segments_per_track first c.append_lost.new.disk c.sign.new.disk
     (file ++ lost_cells more) c.sign.result whole
-    (c.in_ok-append_lost.ensures.goes first file more long (omega arith) u) c.sign.ensures
+    (c.in_ok-append_lost.ensures.goes first file more long (omega arith) u) c.sign.ensures.ran
