@@ -1,3 +1,4 @@
+pub mod Counting
 pub mod Heading
 pub mod Headers
 pub mod Knowing

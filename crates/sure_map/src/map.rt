@@ -3,7 +3,8 @@
 use crate::run::{Run, mark_byte};
 use crate::tally::Tally;
 use dump_spec::{Mark, Status};
-use qic_base::{Sink, SinkFailed, write_text};
+use qic_base::{Sink, SinkFailed};
+use rescue_map::write_bytes;
 
 /// The comments and the status line of each map.
 const HEAD: &str = "# Mapfile. Created by tape_salvage
@@ -37,7 +38,7 @@ impl SureMap {
         ensures head { Writes K.means sink.old sink.new sure_head result }
         ensures none { IfOk result (λ map. IsMapOf map [] sure_head) }
     {
-        match write_text(HEAD.as_bytes(), sink) {
+        match write_bytes(HEAD.as_bytes(), sink) {
             Ok(()) => Ok(SureMap {
                 run: Run {
                     start: 0,
@@ -75,7 +76,7 @@ impl SureMap {
         if before.goes_on(byte) {
             Ok(())
         } else {
-            write_text(&before.line(), sink)
+            write_bytes(&before.line(), sink)
         }
     }
 
@@ -88,7 +89,7 @@ impl SureMap {
         if self.run.size == 0 {
             Ok(())
         } else {
-            write_text(&self.run.line(), sink)
+            write_bytes(&self.run.line(), sink)
         }
     }
 
