@@ -37,6 +37,12 @@ written_first {D} d a b text fresh empty wrote =
 
 module _ {D K : Type 0} (d : disks.Meaning D) (k : sinks.Meaning K) (inputs : Inputs) (asked : Asked) (old new : K)
     (begun written sure : FileSink D) (ending : Ending) where
+  -- it has the status of an answer
+  pub ended_soundly : Ends k (sink_means d) (Answers inputs asked) (record { output = old; sure = begun })
+      (record { output = new; sure = written }) (Ok ending) → is_answer ending.status ≡ true
+  ended_soundly ends =
+      subst (λ (how : Status). is_answer how ≡ true) (sym ends.status) (answer_sound inputs asked ends.answer ends.answers)
+
   pub answered : IsFresh begun → IfSome (bytes_of d begun) (λ bytes. bytes ≡ []) → Ends k (sink_means d) (Answers inputs asked)
       (record { output = old; sure = begun }) (record { output = new; sure = written }) (Ok ending) →
       bytes_of d sure ≡ bytes_of d written → (is_done ending.status ≡ true → IsOnDisk d sure) →
@@ -45,7 +51,7 @@ module _ {D K : Type 0} (d : disks.Meaning D) (k : sinks.Meaning K) (inputs : In
     answer = ends.answer;
     answers = ends.answers;
     status = ends.status;
-    sound = subst (λ (how : Status). is_answer how ≡ true) (sym ends.status) (answer_sound inputs asked ends.answer ends.answers);
+    sound = ended_soundly ends;
     warned = ends.warned;
     printed = ends.wrote.printed;
     mapped = subst (λ (told : Option (List ℕ)). IfSome told (λ bytes. bytes ≡ ends.answer.sure)) (sym kept)

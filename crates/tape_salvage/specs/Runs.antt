@@ -125,8 +125,12 @@ pub record WriteFailed {D S K : Type 0} (d : disks.Meaning D) (s : sources.Meani
   pub read : fault_counts d s new.read ≡ fault_counts d s old.read
   pub written : Rose (k.faults old.output) (k.faults new.output) ⊎ OfMap
 
--- which object of the outside failed, by the status
+-- one of these, by the status
+abbrev pub HasFailed : {D S K : Type 0} → disks.Meaning D → sources.Meaning S → sinks.Meaning K → (OfMap : Type 0) →
+    (old new : Outside D S K) → Status → Type 0
+HasFailed d s k OfMap old new how = ReadFailed d s k old new how ⊎ WriteFailed d s k OfMap old new how
+
+-- which object of the outside failed, by the status; or none
 abbrev pub Counts : {D S K : Type 0} → disks.Meaning D → sources.Meaning S → sinks.Meaning K → (OfMap : Type 0) →
     (old new : Outside D S K) → Status → Type 0
-Counts d s k OfMap old new how =
-    NoneFailed d s k old new ⊎ ReadFailed d s k old new how ⊎ WriteFailed d s k OfMap old new how
+Counts d s k OfMap old new how = NoneFailed d s k old new ⊎ HasFailed d s k OfMap old new how

@@ -1,12 +1,12 @@
 //! A run over opened files.
 
-ghost use Rattle.std.specs.Prelude.{◌≡◌, [], IfSome, None, true, OnErr, OnOk};
+ghost use Rattle.std.specs.Prelude.{◌≡◌, [], IfSome, None, true, false, OnErr, OnOk};
 ghost use Rattle.dump_opening.specs.Inputs.{TellInputs};
 ghost use Rattle.dump_output.specs.declared.fault.PutFault.TheVariants as faults;
 ghost use Rattle.dump_spec.specs.Answers.{Inputs, sure_refusal};
 ghost use Rattle.dump_spec.specs.declared.status.Status.TheVariants as ends;
 ghost use Rattle.file_streams.specs.FileSink.{IsFresh, IsOnDisk, SyncBroke, bytes_of};
-ghost use Rattle.tape_salvage.specs.Runs.{Counts, MapBroke, MapFailed, Salvages, TellAll, Writes, is_done};
+ghost use Rattle.tape_salvage.specs.Runs.{Counts, HasFailed, MapBroke, MapFailed, Salvages, TellAll, Writes, is_answer, is_done};
 
 use crate::ended::make_ending;
 use dump_answers::{Cut, Ending, SalvageRoom, answer_dump};
@@ -58,6 +58,11 @@ fn answer_files<D: Disk + Drop, S: Source, K: Sink>(
     ensures counts { Counts D.means S.means K.means (MapBroke D.means sure.old sure.new)
         record { read = read.old; output = output.old; sure = sure.old }
         record { read = read.new; output = output.new; sure = sure.new } result.status }
+    ensures cause { (inputs : Inputs) → TellInputs D.means S.means read.old inputs → sure_refusal inputs.sure ≡ None →
+        is_answer result.status ≡ false →
+        HasFailed D.means S.means K.means (MapBroke D.means sure.old sure.new)
+        record { read = read.old; output = output.old; sure = sure.old }
+        record { read = read.new; output = output.new; sure = sure.new } result.status }
 {
     match answer_dump(room, read, asked, output, sure) {
         Ok(ending) => match keep_map(&ending.status, sure) {
@@ -89,6 +94,12 @@ pub fn salvage_files<D: Disk + Drop, S: Source, K: Sink>(
         record { read = read.old; output = output.old; sure = sure.old }
         record { read = read.new; output = output.new; sure = sure.new } result }
     ensures counts { Counts D.means S.means K.means (MapFailed D.means sure.old sure.new)
+        record { read = read.old; output = output.old; sure = sure.old }
+        record { read = read.new; output = output.new; sure = sure.new } result.status }
+    ensures cause { (inputs : Inputs) →
+        TellAll D.means S.means record { read = read.old; output = output.old; sure = sure.old } inputs →
+        is_answer result.status ≡ false →
+        HasFailed D.means S.means K.means (MapFailed D.means sure.old sure.new)
         record { read = read.old; output = output.old; sure = sure.old }
         record { read = read.new; output = output.new; sure = sure.new } result.status }
 {

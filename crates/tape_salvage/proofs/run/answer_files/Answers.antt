@@ -1,5 +1,6 @@
-use Rattle.std.proofs.Common.{inl, inr, refl}
-use Rattle.tape_salvage.proofs.Running.{answered, cut_off, not_kept}
+use Rattle.std.proofs.Common.{◌≡◌, inl, inr, refl, true}
+use Rattle.tape_salvage.specs.Runs.{is_answer}
+use Rattle.tape_salvage.proofs.Running.{answered, cut_off, ended_soundly, not_kept}
 use Rattle.tape_salvage.proofs.run.answer_files.Goals as goal
 
 pub returns-in-Ok-keep_map-clause-writes : goal.returns-in-Ok-keep_map-clause-writes
@@ -19,3 +20,10 @@ returns-in-Err-clause-writes g c = λ inputs tells sure.
     inr (inl (cut_off g.D.Disk.means g.K.Sink.means inputs c.args.asked.now c.args.output.now c.answer_dump.new.output c.args.sure.now
     c.answer_dump.new.sure c.in-Err.field-0 (record { status = c.faulty.result; warned = c.in-Err.field-0.warned }) c.faulty.ensures.input
     c.faulty.ensures.output refl (c.in-Err.ensures.answers inputs tells sure)))
+
+pub returns-in-Ok-keep_map-clause-cause : goal.returns-in-Ok-keep_map-clause-cause
+returns-in-Ok-keep_map-clause-cause g c = λ inputs tells sure none.
+    let sound : is_answer c.in-Ok.ending.status ≡ true =
+    ended_soundly g.D.Disk.means g.K.Sink.means inputs c.args.asked.now c.args.output.now c.answer_dump.new.output c.args.sure.now
+    c.answer_dump.new.sure c.keep_map.new.sure c.in-Ok.ending (c.in-Ok.ensures.answers inputs tells sure) in
+    absurd (cc)
