@@ -3,7 +3,7 @@
 
     bench/doubles.py            of all crates
     bench/doubles.py CRATE ..   those of which one is in such a crate
-    bench/doubles.py --check    of all crates; ends with status 1 where there is one that isn't among those known below
+    bench/doubles.py --check    of all crates; ends with status 1 where there is one
 
 Two lemmas say the same where their types are one text once bound names are left out of account, and each name that the
 types cite is imported from one file. One could cite the other where its crate stands on the other's, or where both are of one
@@ -21,14 +21,6 @@ USE = re.compile(r"^(?:pub )?use Rattle\.(\S+?)\.\{([^}]*)\}$")
 ALIAS = re.compile(r"^use Rattle\.(\S+) as (\w+)$")
 HEAD = re.compile(r"^(?:pub )?([^\s:(){}]+) :")
 SHORTEST = 40
-# Pairs that are known and wait for the next change of the lower crate, which costs the proof of all above it: the front of a cut
-# run should be read off qic_base's joins, and the others should have one home.
-KNOWN = {
-    "cart_image.proofs.FailedLooks failed-told: image_kind.proofs.Looks failed-told",
-    "command_laws.proofs.CutFronts front_steps: qic_base.proofs.Joins steps_behind",
-    "command_laws.proofs.CutFronts front_effects: qic_base.proofs.Joins effects_behind",
-    "dump_output.proofs.Fronts range_part: segment_mending.proofs.Looked range_part",
-}
 
 
 def bare(name):
@@ -139,9 +131,8 @@ def main():
                     where = f", both above {lower}"
                 else:
                     continue
-                pair = f"{one.module} {name}: {other.module} {its_name}"
-                count += pair not in KNOWN
-                print(f"{pair}{where}{', known' if pair in KNOWN else ''}")
+                count += 1
+                print(f"{one.module} {name}: {other.module} {its_name}{where}")
     print(f"{count} pairs")
     sys.exit(1 if count and "--check" in sys.argv[1:] else 0)
 

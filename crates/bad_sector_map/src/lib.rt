@@ -2,9 +2,12 @@
 #![tactic(auto)]
 
 mod map;
+mod places;
 mod words;
 
 pub use map::BadMap;
+pub use places::index_at;
+pub use words::{MAPPED, word_at};
 
-/// The mask of a segment without a bad sector: a bit for each of its sectors, the lowest that of sector 0.
-pub const WHOLE: u32 = u32::MAX;
+/// The fewest usable sectors with which a segment carries data.
+pub const FEWEST: u8 = 4;

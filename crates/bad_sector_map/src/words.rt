@@ -10,6 +10,9 @@ use qic_base::{MOST_SEGMENTS, Sector, push_within, read_u32, write_u32};
 /// The most segments of a cartridge.
 pub const SEGMENTS: u32 = MOST_SEGMENTS as u32;
 
+/// The segments that have a word in the area: those behind them have none.
+pub const MAPPED: usize = 6912;
+
 /// The map's words begin in this sector of the area, 256 to a sector (Linux ftape headers).
 const FIRST_SECTOR: usize = 2;
 
@@ -27,14 +30,14 @@ pub fn clear_words(words: &mut Vec<u32>, segments: u32)
     }
 }
 
-fn word_at(area: &[Sector], segment: u32) -> u32
+/// The word of a segment in the data area.
+pub fn word_at(area: &[Sector], segment: usize) -> u32
     requires sectors { length area.now ≡ 29 }
-    requires within { segment < SEGMENTS }
+    requires within { segment < MAPPED }
     ensures { result ≡ word_in area.now segment }
 {
-    let place = segment as usize;
-    let sector = &area[FIRST_SECTOR + place / WORDS_IN_SECTOR];
-    read_u32(sector, 4 * (place % WORDS_IN_SECTOR))
+    let sector = &area[FIRST_SECTOR + segment / WORDS_IN_SECTOR];
+    read_u32(sector, 4 * (segment % WORDS_IN_SECTOR))
 }
 
 /// Makes the list that of the words in the area.
@@ -48,7 +51,7 @@ pub fn read_words(words: &mut Vec<u32>, area: &[Sector], segments: u32)
 {
     words.clear();
     for segment in 0..segments {
-        push_within(words, word_at(area, segment));
+        push_within(words, word_at(area, segment as usize));
     }
 }
 

@@ -1,10 +1,10 @@
 //! Numbers, dates and names written to a sink, each with a newline behind it.
 
 use crate::memory::sink;
-use qic_base::{Name, SinkFailed};
+use qic_base::{Name, SinkFailed, write_text};
 use qic_mem::MemSink;
 use std::test::Fail;
-use tape_script::{write_date, write_name, write_number, write_text};
+use tape_script::{write_date, write_name, write_number};
 
 fn number(value: u64, sink: &mut MemSink) -> Result<(), SinkFailed> {
     write_number(value, sink)?;

@@ -1,8 +1,8 @@
 //! The bytes of made volumes and their sums.
 
-use qic_base::Source;
+use qic_base::{Source, write_text};
 use std::test::Fail;
-use tape_script::{Made, Summed, skip, write_text};
+use tape_script::{Made, Summed, skip};
 
 /// How many bytes a made volume of seed 150 has, and their sum.
 fn made(volume: u32) -> Result<(u32, u32), Fail> {

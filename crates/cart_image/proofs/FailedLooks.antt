@@ -9,8 +9,8 @@ use Rattle.cart_image.proofs.Known.{told-same}
 use Rattle.cart_image.proofs.Runs.{Failed-Passes, Looks-Looks, Looks-settled}
 
 -- it tells what was told
-failed-told : {D : Type 0} {m : Meaning D} {a b : D} → IsSettled m a → Failed m a b Look → (was now : Option (List ℕ)) → m.told a ≡ was →
-    m.told b ≡ now → m.told b ≡ m.told a
+pub failed-told : {D : Type 0} {m : Meaning D} {a b : D} → IsSettled m a → Failed m a b Look → (was now : Option (List ℕ)) →
+    m.told a ≡ was → m.told b ≡ now → m.told b ≡ m.told a
 failed-told {m = m} {a = a} {b = b} settled failed None None before after = after ∙ sym before
 failed-told {m = m} {a = a} {b = b} settled failed None (Some bytes) before after =
     let same : is_some (m.told b) ≡ is_some (m.told a) = failed.tells in

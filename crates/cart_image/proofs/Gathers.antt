@@ -4,7 +4,6 @@ use Rattle.std.proofs.Common.{arith, Option, Some, None, IfSome, below_more, get
 use Rattle.std.specs.Prelude.{slice_index, slice_index_or, slice_range, slice_set, ◌==◌, ◌&&◌, if◌then◌else◌}
 use Rattle.std.proofs.lemmas.List.{same_lists, length-set}
 use Rattle.std.proofs.lemmas.List.Edits.{length-between, get_or-between}
-use Rattle.std.proofs.lemmas.Nat.Bits.{bit_at-zero}
 use Rattle.std.proofs.lemmas.Option.{IfSome_then}
 use Rattle.qic_base.specs.declared.tape.SectorView.{SectorView}
 use Rattle.qic_base.specs.declared.tape.SectorView.TheVariants.{Blank, Defect, Lost, Holds}
@@ -16,7 +15,7 @@ use Rattle.cart_image.specs.declared.reading.SectorState.TheVariants as state
 use Rattle.cart_image.specs.Image.{view_by, view_in, sector_bytes}
 use Rattle.cart_image.specs.Layout.{cell_len, cells_len}
 use Rattle.cart_image.specs.Layout.{place, end_of, touches, open_gate, formed_byte, defect_byte}
-use Rattle.qic_base.specs.TapeCalls.{is_readable, is_blank, bytes_read, ReadsSectors, KeepsOthers}
+use Rattle.qic_base.specs.TapeCalls.{is_readable, is_blank, bytes_read, ReadsSectors}
 use Rattle.cart_image.specs.State.{state_of, AreStatesOf, GotBytes}
 use Rattle.cart_image.proofs.Known.{cell-at, told-same}
 use Rattle.cart_image.proofs.Layouts.{in-row, laid_out}
@@ -183,10 +182,6 @@ reads-block (Some b) l segment wanted good blank p block states old new planes o
     copied i less
     ∙ ap (λ part. if is_lost good i then part else slice_index_or old i []) (block-bytes l segment i p b block planes on less at long is))
 
-pub copied-kept : (good : ℕ) (old new : List (List ℕ)) (part : ℕ → List ℕ)
-    → ((i : ℕ) → i < 32 → slice_index_or new i [] ≡ (if is_lost good i then part i else slice_index_or old i [])) → KeepsOthers good old new
-copied-kept good old new part copied i less out = copied i less ∙ ap (λ g. if g then part i else slice_index_or old i []) out
-
 -- ---- the loop that reads them one by one
 
 pub record GotSo (told : Option (List ℕ)) (l : Layout) (segment good got : ℕ) (old new : List (List ℕ)) (count : ℕ) : Type 0 where
@@ -204,20 +199,6 @@ got-all None l segment good got old new count all so = tt
 got-all (Some b) l segment good got old new count all so = λ long. record {
   same = λ i less. so.same i (omega arith) long;
   into = λ i less. so.into i (omega arith) long;
-}
-
-no-bit : (i : ℕ) → is_lost 0 i ≡ false
-no-bit i = ap (λ bit. bit == 1) (bit_at-zero i)
-
-pub got-none : (told : Option (List ℕ)) (l : Layout) (segment good : ℕ) (old : List (List ℕ)) → length old ≡ 32 →
-    GotSo told l segment good 0 old old 0
-got-none told l segment good old long = record {
-  long = long;
-  rest = λ i more. refl;
-  later = λ i more. no-bit i;
-  kept = λ i less. absurd (omega arith);
-  same = λ i less. absurd (omega arith);
-  into = λ i less. absurd (omega arith);
 }
 
 pub got-more : (told t1 : Option (List ℕ)) (l : Layout) (segment good got now count q : ℕ) (old new : List (List ℕ)) (row : List ℕ)

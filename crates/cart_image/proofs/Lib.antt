@@ -6,7 +6,7 @@ mod Choices
 mod Copies
 mod EachSector
 pub mod Exits
-mod FailedLooks
+pub mod FailedLooks
 mod Fills
 mod Formats
 mod Gathers

@@ -247,8 +247,5 @@ module _ (h : Head) (bytes : List ℕ) (segment : ℕ) (is : head_of bytes ≡ S
       ∙ ap (λ d. shown (d == defect_byte) (formed_in l s (first + i)) (open_in l s (first + i)) (sector_bytes l s (first + i)))
       (stage.defects (first + i) (omega arith))
 
-  pub all-stage : Stage l first bytes bytes
-  all-stage = Stage-all l first bytes
-
   pub end-at : (s : List ℕ) → Stage l first bytes s → end_of l ≤ length s
   end-at s stage = let size = stage.size in omega arith

@@ -111,7 +111,7 @@ fn copy_all<D: Disk>(disk: &mut D, segments_per_track: u16) -> Result<(), DiskFa
         (λ bytes. copy_steps segments_per_track bytes (28 * segments_per_track)) result }
     ensures seen { D.means.seen_len disk.new ≡ D.means.seen_len disk.old }
 {
-    let count = TRACKS as u32 * segments_per_track as u32;
+    let count = TRACKS * segments_per_track as u32;
     for segment in 0..count {
         copy_segment(disk, segments_per_track, segment)?;
     }

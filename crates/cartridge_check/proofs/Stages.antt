@@ -11,7 +11,7 @@ use Rattle.cartridge_laws.proofs.Sayings.{says_is_function}
 use Rattle.cartridge_laws.specs.HeaderTerms.{fault_as}
 use Rattle.command_laws.proofs.Checked.{checks_once}
 use Rattle.cartridge_spec.specs.Header.{header_fault, HeaderFault}
-use Rattle.cartridge_spec.specs.HeaderCopies.{copy_cells, last_segment, HasHeader}
+use Rattle.cartridge_spec.specs.HeaderCopies.{copy_cells, HasHeader}
 use Rattle.cartridge_spec.specs.Mounting.{Mounting, Mounted, Mounts, IsSoundlyFormatted, RefusesHeader, RefusesTable}
 use Rattle.cartridge_spec.specs.Says.{Data}
 use Rattle.cartridge_spec.specs.Table.{Entry, IsFirstFault, HasNoFault}

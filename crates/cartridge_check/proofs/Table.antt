@@ -14,8 +14,7 @@ use Rattle.cartridge_laws.specs.TableCells.{last_used}
 use Rattle.cartridge_spec.specs.Says.{AsRead, ByCode, Data, LostSectors, TableSays}
 use Rattle.cartridge_spec.specs.Says as says
 use Rattle.cartridge_spec.specs.TableSegment.{TableIs, table_cells}
-use Rattle.command_laws.proofs.Checked.{told_always}
-use Rattle.command_spec.specs.Check.{IsTold, TableOpens, is_last_used, is_named, read_but, undecided}
+use Rattle.command_spec.specs.Check.{IsTold, is_last_used, is_named, read_but, undecided}
 use Rattle.command_spec.specs.Scrub.{whole_segment}
 use Rattle.command_spec.specs.declared.verdict.Verdict.{Verdict}
 use Rattle.command_spec.specs.declared.verdict.Verdict.TheVariants.{Contradicts, Gone, Unsettled, Wrong}

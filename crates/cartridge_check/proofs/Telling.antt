@@ -1,13 +1,13 @@
 -- What is told of a segment, by what a search finds of it.
-use Rattle.std.proofs.Common.{◌≡◌, ◌≢◌, ℕ, zero, suc, ◌≤◌, ◌∙◌, sym, ap, subst, arith, refl, Bool, true, false, cond, List, Some, None}
+use Rattle.std.proofs.Common.{◌≡◌, ◌≢◌, ℕ, ◌∙◌, sym, ap, refl, Bool, true, false, cond, List, Some, None}
 use Rattle.std.specs.Prelude.{◌||◌, ◌&&◌, not, nat_lt}
 use Rattle.std.proofs.lemmas.Bool.{ne_eqb}
 use Rattle.cartridge_spec.specs.Says.{LostSectors, last_used_below, unreadable_count}
 use Rattle.cartridge_spec.specs.TableSegment.{table_cells}
-use Rattle.command_spec.specs.Check.{IsTold, MayBeTold, TableOpens, is_last_used, is_named, read_but, undecided, verdict_by}
+use Rattle.command_spec.specs.Check.{IsTold, TableOpens, is_last_used, is_named, read_but, undecided, verdict_by}
 use Rattle.command_spec.specs.Scrub.{Finding, HasFoundBy, Looked, cells_at, reads}
 use Rattle.command_spec.specs.declared.verdict.Verdict.{Verdict}
-use Rattle.command_spec.specs.declared.verdict.Verdict.TheVariants.{Sound, Weak, Wrong, Unsettled, Contradicts, Gone}
+use Rattle.command_spec.specs.declared.verdict.Verdict.TheVariants.{Wrong, Unsettled, Contradicts, Gone}
 use Rattle.qic_base.specs.Cartridge.{Cartridge}
 use Rattle.segment_mending.specs.Locating.{data_in}
 use Rattle.segment_mending.specs.Searching.{SearchFinds, SearchMayFind}
@@ -78,13 +78,3 @@ module _ (c : Cartridge) (l : Looked) (sectors : List (List ℕ)) (other : l.seg
   pub mismatch_elsewhere : SearchFinds c l (Fails Mismatch) sectors → IsTold c l Contradicts
   mismatch_elsewhere is =
       elsewhere (record { saying = saying.Mismatch; wrong = None }) Contradicts is (undecided_elsewhere l.segment true other)
-
--- ---- whatever the tape holds
-
-may_be_weak : (l : Looked) (n : ℕ) → suc n ≤ 3 → MayBeTold l (read_but (suc n))
-may_be_weak l n few =
-    subst (MayBeTold l) (sym (ap (λ (b : Bool). cond b Sound (Weak (suc n))) (ne_eqb (suc n) 0 (λ same. cc)))) (omega arith, few)
-
-pub read_may_be : (l : Looked) (n : ℕ) → n ≤ 3 → MayBeTold l (read_but n)
-read_may_be l zero few = tt
-read_may_be l (suc n) few = may_be_weak l n few

@@ -19,9 +19,8 @@ use bad_sector_map::BadMap;
 use cartridge_front::{StoreFault, enter_primary, read_header, read_volumes};
 use drive_states::Unit;
 use host_driver::Host;
-use qic_base::{Sink, SinkFailed, Tape};
+use qic_base::{Sink, SinkFailed, Tape, write_text};
 use segment_io::Workspace;
-use tape_script::write_text;
 use volume_store::{OpenFault, Room, start};
 use volume_table::Table;
 

@@ -13,6 +13,3 @@ mod volumes;
 pub use checking::check;
 pub use fault::CheckFault;
 pub use tally::Tally;
-
-/// The segment of the volume table.
-const TABLE_SEGMENT: u32 = volume_table::TABLE_SEGMENT as u32;

@@ -12,18 +12,16 @@ ghost use Rattle.segment_io.specs.Calls.{HasSegment};
 ghost use Rattle.command_spec.specs.Check.{verdict_line, header_copies};
 ghost use Rattle.cartridge_check.specs.Telling.{Counted, HasFew, TellsAll};
 
-use crate::TABLE_SEGMENT;
 use crate::fault::CheckFault;
 use crate::lines::verdict_text;
 use crate::tally::Tally;
 use crate::verdicts::{look_at_segment, look_at_table};
-use bad_sector_map::WHOLE;
 use command_spec::Verdict;
 use drive_states::Unit;
 use host_driver::Host;
-use qic_base::{Sink, SinkFailed, Tape};
+use qic_base::{Sink, SinkFailed, Tape, WHOLE, write_text};
 use segment_io::Workspace;
-use tape_script::write_text;
+use volume_table::TABLE_SEGMENT;
 
 /// Prints the line of a segment of which this is told, and counts it.
 fn tell_verdict<K: Sink>(

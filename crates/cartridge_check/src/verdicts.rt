@@ -13,18 +13,16 @@ ghost use Rattle.segment_io.specs.Calls.{HasSegment};
 ghost use Rattle.segment_mending.specs.Searching.{SearchFinds, SearchMayFind};
 ghost use Rattle.cartridge_check.specs.Verdicts.{IsJudged, IsUndecided};
 
-use crate::TABLE_SEGMENT;
 use crate::fault::CheckFault;
-use bad_sector_map::WHOLE;
 use cartridge_front::{data_sectors, read_table};
 use command_spec::Verdict;
 use drive_states::Unit;
 use gf256_qic::DATA_SECTORS;
 use host_driver::Host;
-use qic_base::Tape;
+use qic_base::{Tape, WHOLE};
 use segment_io::{SegFault, Workspace, collect};
 use segment_mending::{ScrubFault, Searched, Unread, search_segment};
-use volume_table::last_used;
+use volume_table::{TABLE_SEGMENT, last_used};
 
 /// What is told of a segment that reads but for so many sectors, at most three.
 fn read_but(lost: u8) -> Verdict

@@ -15,15 +15,12 @@ ghost use Rattle.cartridge_check.specs.Telling.{HasFew, TellsAll};
 use crate::fault::CheckFault;
 use crate::looking::tell_segment;
 use crate::tally::Tally;
-use bad_sector_map::BadMap;
+use bad_sector_map::{BadMap, FEWEST};
 use drive_states::Unit;
 use host_driver::Host;
 use qic_base::{LostSet, Sink, Tape};
 use segment_io::Workspace;
 use volume_table::{Entry, Table};
-
-/// The fewest usable sectors with which a segment carries data.
-const FEWEST: u8 = 4;
 
 /// Looks at a segment behind the table's if it carries data.
 fn tell_if_carrying<T: Tape, K: Sink>(

@@ -11,11 +11,11 @@ ghost use Rattle.cartridge_front.specs.Finding.{Leaves, RefusesMounting, FindsCo
 
 use crate::fault::StoreFault;
 use crate::table_reader::data_sectors;
-use bad_sector_map::{BadMap, WHOLE};
+use bad_sector_map::BadMap;
 use drive_states::Unit;
 use header_segments::{Header, HeaderFault, decode};
 use host_driver::Host;
-use qic_base::{Sector, Tape};
+use qic_base::{Sector, Tape, WHOLE};
 use segment_io::{SegFault, Workspace, read_segment};
 
 /// The first copy of the header, segment 0; the second stands in segment 1.

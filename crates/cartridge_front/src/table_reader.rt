@@ -16,16 +16,12 @@ ghost use Rattle.segment_io.specs.Reading.{OnlyReads};
 ghost use Rattle.cartridge_front.specs.Finding.{FindsTable};
 ghost use Rattle.cartridge_front.specs.Reading.{IsReadBut, SolvesFirst, SolvesTable};
 
-use bad_sector_map::WHOLE;
 use drive_states::Unit;
 use gf256_qic::DATA_SECTORS;
 use host_driver::Host;
-use qic_base::{LostSet, Sector, Tape};
+use qic_base::{LostSet, Sector, Tape, WHOLE};
 use segment_io::{SegFault, Workspace, collect, solve_collected};
-use volume_table::{Table, TableReading, Trials, last_used, trials};
-
-/// The segment of the volume table.
-pub(crate) const TABLE_SEGMENT: u32 = volume_table::TABLE_SEGMENT as u32;
+use volume_table::{TABLE_SEGMENT, Table, TableReading, Trials, last_used, trials};
 
 /// The sectors of the volume table's segment that a workspace may not have as the tape holds them.
 #[derive(Clone, Copy, Debug, PartialEq, Eq)]

@@ -13,15 +13,13 @@ ghost use Rattle.cartridge_spec.specs.Settling.{block_writes};
 ghost use Rattle.volume_table.specs.Entry.{entry_of};
 
 use crate::fault::StoreFault;
-use crate::table_reader::TABLE_SEGMENT;
-use bad_sector_map::WHOLE;
 use drive_states::Unit;
 use gf256_qic::DATA_SECTORS;
 use host_driver::Host;
-use qic_base::{LostSet, Sector, Tape};
+use qic_base::{LostSet, Sector, Tape, WHOLE};
 use segment_io::{SegFault, Workspace, write_sectors};
 use segment_parity::put_parity;
-use volume_table::{Entry, Table, TableFull};
+use volume_table::{Entry, TABLE_SEGMENT, Table, TableFull};
 
 /// The mask of the places of a whole segment's parity.
 const PARITY_MASK: u32 = 0xE000_0000;

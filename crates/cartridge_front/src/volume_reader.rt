@@ -12,11 +12,9 @@ use crate::fault::StoreFault;
 use crate::table_reader::{Unread, data_sectors, read_table};
 use drive_states::Unit;
 use host_driver::Host;
-use qic_base::{ForeignField, Sector, Tape};
+use qic_base::{ForeignField, Sector, TRACKS, Tape};
 use segment_io::{SegFault, Workspace};
 use volume_table::{Table, TableFault};
-
-const TRACKS: u32 = qic_base::TRACKS as u32;
 
 /// Why the table's segment has no data.
 pub(crate) fn table_fault(fault: SegFault) -> StoreFault

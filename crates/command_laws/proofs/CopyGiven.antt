@@ -13,9 +13,7 @@ use Rattle.command_spec.specs.Copying.{GivenBytes, Side, bytes_said, length_on}
 use Rattle.command_spec.specs.Restore.{Piece, Restored, Restores, piece_cells, pieces}
 use Rattle.qic_base.specs.Acts.{Act, text_of}
 use Rattle.qic_base.specs.Cartridge.{Cartridge, IsSector}
-
-abbrev Small : List ℕ → Type 0
-Small bytes = All (λ b. b < 256) bytes
+use Rattle.qic_base.specs.Disk.{AreBytes}
 
 -- ---- what is given
 
@@ -38,17 +36,17 @@ given_long from e = given_is_long from.cartridge from.words e (given_of from e) 
 -- ---- they are bytes
 
 said_small : (piece : Piece) (saying : Saying) (c : Cartridge) (words : List ℕ) → Says (piece_cells c words piece) saying →
-    Small (bytes_said piece saying)
+    AreBytes (bytes_said piece saying)
 said_small piece (Data sectors) c words (few, has) =
     All-take (λ b. b < 256) piece.count (bytes_in sectors)
     (sectors_bytes sectors (subst (All IsSector) (sym has.shown) (All-take IsSector (length has.block - 3) has.block has.code.sectors)))
 said_small piece (LostSectors lost) c words says = All-replicate (λ b. b < 256) piece.count 0 (omega arith)
 said_small piece Mismatch c words says = All-replicate (λ b. b < 256) piece.count 0 (omega arith)
 
-given_small : (c : Cartridge) (words : List ℕ) (needed : List Piece) (bytes : List ℕ) → GivenBytes c words needed bytes → Small bytes
-given_small c words [] bytes is = subst Small (sym is) (All-nil (λ b. b < 256))
+given_small : (c : Cartridge) (words : List ℕ) (needed : List Piece) (bytes : List ℕ) → GivenBytes c words needed bytes → AreBytes bytes
+given_small c words [] bytes is = subst AreBytes (sym is) (All-nil (λ b. b < 256))
 given_small c words (piece ∷ needed) bytes (saying, rest, says, given, is) =
-    subst Small (sym is) (All-append (λ b. b < 256) (bytes_said piece saying) rest (said_small piece saying c words says)
+    subst AreBytes (sym is) (All-append (λ b. b < 256) (bytes_said piece saying) rest (said_small piece saying c words says)
     (given_small c words needed rest given))
 
 pub given_may : (from : Side) (e : Entry) → HasValues e → IsAppendable e.name e.date (given_of from e)

@@ -405,9 +405,6 @@ module _ (c : Cartridge) (plain : Plain) (input : List ℕ) (outcome : CommandOu
   abbrev all_items : ℕ → Plain
   all_items = with_items plain does.items does.dids
 
-  whole_held : IsHeld c plain
-  whole_held = is_held c plain intact
-
   whole_has : HaveBytes does.items
   whole_has = items_have_bytes input does.items does.ending does.read content
 

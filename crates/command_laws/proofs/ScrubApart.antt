@@ -31,6 +31,10 @@ contains_more y x ys at = let h = at.1 in (suc at.0, omega arith, at.2)
 
 -- ---- segments that rise
 
+-- a segment, by the words of the map
+abbrev pub by_map : (words : List ℕ) → (segment : ℕ) → Looked
+by_map words segment = record { segment = segment; mask = mask_at words segment }
+
 rise_append : (mid : ℕ) (xs ys : List Looked) → Rise xs → Rise ys → All (λ l. l.segment ≤ mid) xs → All (λ m. mid < m.segment) ys →
     Rise (xs ++ ys)
 rise_append mid [] ys front rear below above = rear
@@ -45,7 +49,7 @@ rise_append mid (x ∷ xs) ys front rear below above =
 looked_all : (P : ℕ → Type 0) (words ss : List ℕ) → All P ss → All (λ l. P l.segment) (looked_segments words ss)
 looked_all P words [] are = All-nil (λ (l : Looked). P l.segment)
 looked_all P words (s ∷ ss) are =
-    All-cons (λ (l : Looked). P l.segment) (record { segment = s; mask = mask_at words s }) (looked_segments words ss)
+    All-cons (λ (l : Looked). P l.segment) (by_map words s) (looked_segments words ss)
     (All-head P s ss are) (looked_all P words ss (All-tail P s ss are))
 
 segments_rise : (words ss : List ℕ) → IsRising ss → Rise (looked_segments words ss)
@@ -127,7 +131,7 @@ segments_carry : (last : ℕ) (words ss : List ℕ) → All (λ s. Carries (mask
     All (CarriesTo last) (looked_segments words ss)
 segments_carry last words [] carry within = All-nil (CarriesTo last)
 segments_carry last words (s ∷ ss) carry within =
-    All-cons (CarriesTo last) (record { segment = s; mask = mask_at words s }) (looked_segments words ss)
+    All-cons (CarriesTo last) (by_map words s) (looked_segments words ss)
     (All-head (λ (t : ℕ). Carries (mask_at words t)) s ss carry, All-head (λ (t : ℕ). t ≤ last) s ss within)
     (segments_carry last words ss (All-tail (λ (t : ℕ). Carries (mask_at words t)) s ss carry) (All-tail (λ (t : ℕ). t ≤ last) s ss within))
 

@@ -24,7 +24,7 @@ use Rattle.cartridge_spec.specs.Says.{cells_of, Data, Says, Written, with_parity
 use Rattle.cartridge_spec.specs.Says.{HasNoBlock, TableSays, AsRead, ByCode}
 use Rattle.cartridge_spec.specs.Table.{Entry, slot_fault}
 use Rattle.cartridge_spec.specs.Volumes.{Part, parts_of, Volume, VolumeStands, carrying_segments, Plain, Stands, entries_of}
-use Rattle.command_laws.proofs.ScrubApart.{one_looked, contains_first, contains_more}
+use Rattle.command_laws.proofs.ScrubApart.{by_map, one_looked, contains_first, contains_more}
 use Rattle.command_laws.proofs.ScrubMending.{readable_stays}
 use Rattle.command_laws.proofs.ScrubTurns.{copy_is_looked_at}
 use Rattle.command_laws.specs.ScrubMended.{IsMended, IsBeingMended}
@@ -278,9 +278,6 @@ table_stands looked c d area front way is_area (inl written) =
 table_stands looked c d area front way is_area (inr all) = inr (reads_kept looked c d area way all)
 
 -- ---- the volumes
-
-abbrev by_map : (words : List ℕ) → (segment : ℕ) → Looked
-by_map words segment = record { segment = segment; mask = mask_at words segment }
 
 segments_among : (P : Looked → Type 0) (words ss : List ℕ) → ((l : Looked) → Contains (looked_segments words ss) l → P l) →
     All (λ s. P (by_map words s)) ss

@@ -21,7 +21,7 @@ use Rattle.cartridge_spec.specs.Shape.{IsLive, data_count, mask_at}
 use Rattle.cartridge_spec.specs.Table.{Entry}
 use Rattle.cartridge_spec.specs.Volumes.{Part, Volume, carrying_segments, entries_of, parts_of}
 use Rattle.command_laws.proofs.CommandPlainLaws.{behind_leaves, stays}
-use Rattle.command_laws.proofs.ScrubApart.{contains_cases, contains_first, contains_more}
+use Rattle.command_laws.proofs.ScrubApart.{by_map, contains_cases, contains_first, contains_more}
 use Rattle.command_laws.proofs.ScrubMounted.{mounted_order}
 use Rattle.command_laws.proofs.SilentWhole.{segments_are_made_whole, stopped_stay_mendable}
 use Rattle.command_laws.specs.Outcomes.{MendsDeep}
@@ -38,9 +38,6 @@ use Rattle.qic_base.specs.Step.{Torn}
 use Rattle.qic_base.specs.declared.tape.SectorView.{SectorView}
 
 -- ---- the segments of a volume
-
-abbrev by_map : (words : List ℕ) → (segment : ℕ) → Looked
-by_map words segment = record { segment = segment; mask = mask_at words segment }
 
 volume_among : (words : List ℕ) (volumes : List Volume) (volume : Volume) (l : Looked) → Contains volumes volume →
     Contains (looked_segments words (carrying_segments words volume.entry)) l →

@@ -294,9 +294,7 @@ impl<T: Tape> Unit<T> {
         let Some(info) = self.dialogue.drive.deck().cartridge else {
             return Err(HandFault::NoCartridge);
         };
-        if segment >= TRACKS as u32 * u32::from(info.segments_per_track)
-            || sector >= SECTORS as u32
-        {
+        if segment >= TRACKS * u32::from(info.segments_per_track) || sector >= SECTORS as u32 {
             return Err(HandFault::BadPlace);
         }
         Ok(sector as u8)

@@ -2,6 +2,7 @@
 use Rattle.std.proofs.Common.{◌≡◌, inl, ℕ, Bool, true, false, not, List, [], ◌∷◌, refl, sym, ap, subst, ◌∙◌}
 use Rattle.std.specs.Prelude.{Result, Ok, Err, Option, Some, None, IfOk}
 use Rattle.std.proofs.lemmas.Bool.{false≢true}
+use Rattle.qic_base.specs.Acts.{TookFront}
 use Rattle.qic_base.specs.Cause.{HasCause}
 use Rattle.qic_base.specs.Sink as sinks
 use Rattle.qic_base.specs.Sink.{Wrote}
@@ -17,7 +18,7 @@ use Rattle.dump_spec.specs.declared.status.Status.TheVariants as status_ends
 use Rattle.dump_tables.proofs.Tables.{one_is_table}
 use Rattle.dump_answers.specs.Checking.{Checks}
 use Rattle.dump_answers.specs.Commands.{ended_by, by_output, Prints}
-use Rattle.dump_answers.specs.Ends.{CountsByFault, StatusEnds, Ends, Sinks, TookFront, fault_of}
+use Rattle.dump_answers.specs.Ends.{CountsByFault, StatusEnds, Ends, Sinks, fault_of}
 use Rattle.dump_answers.specs.declared.ending.Cut.{Cut}
 use Rattle.dump_answers.specs.declared.ending.Ending.{Ending}
 use Rattle.dump_answers.proofs.Endings.{front_broke, front_none, wrote_none}

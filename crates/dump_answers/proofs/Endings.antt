@@ -4,9 +4,9 @@ use Rattle.std.proofs.Common.{◌∙◌, append-nil}
 use Rattle.std.proofs.Common.{arith}
 use Rattle.std.specs.Prelude.{Result, Ok, Err}
 use Rattle.std.specs.List.{range_with_len}
+use Rattle.qic_base.specs.Acts.{TookFront}
 use Rattle.qic_base.specs.Cause.{HasCause}
 use Rattle.qic_base.specs.Disk as disks
-use Rattle.qic_base.specs.Disk.{Look, Stored, Failed}
 use Rattle.qic_base.specs.Sink as sinks
 use Rattle.qic_base.specs.Sink.{Wrote}
 use Rattle.qic_base.specs.SinkCalls.{Writes, BrokeOff}
@@ -24,7 +24,7 @@ use Rattle.dump_spec.specs.Given.{Given}
 use Rattle.dump_spec.specs.Output.{Give, GiveInTurn, Output, output_of}
 use Rattle.dump_spec.specs.Pieces.{Layout}
 use Rattle.dump_spec.specs.declared.status.Status.{Status}
-use Rattle.dump_answers.specs.Ends.{TookFront, TookFronts, CountsByFault, StatusEnds, Sinks}
+use Rattle.dump_answers.specs.Ends.{TookFronts, CountsByFault, StatusEnds, Sinks}
 
 -- ---- fronts
 

@@ -4,6 +4,7 @@ use Rattle.std.proofs.Common.{◌∙◌}
 use Rattle.std.proofs.Common.{◌<◌, append_assoc, append-nil, arith, length-append}
 use Rattle.std.specs.Prelude.{count_by, filter, Ok, Err}
 use Rattle.std.specs.List.{range_with_len}
+use Rattle.qic_base.specs.Acts.{TookFront}
 use Rattle.qic_base.specs.Sink as sinks
 use Rattle.qic_base.specs.Sink.{Wrote}
 use Rattle.qic_base.specs.SinkCalls.{BrokeOff}
@@ -22,7 +23,6 @@ use Rattle.dump_spec.specs.declared.status.Status.{Status}
 use Rattle.dump_volumes.specs.Counts.{HasCounted}
 use Rattle.dump_volumes.specs.declared.checking.CheckCounts.{CheckCounts}
 use Rattle.dump_answers.specs.Checking.{is_looked_at, Stepped, Passed, LineBroke, HasFew, Checks, Steps}
-use Rattle.dump_answers.specs.Ends.{TookFront}
 use Rattle.dump_answers.proofs.Endings.{front_broke, wrote_none}
 use Rattle.dump_answers.specs.Pieces.{below}
 use Rattle.dump_answers.proofs.Ranging.{below_none, below_yes, below_no, below_all, below_front, both_filters}

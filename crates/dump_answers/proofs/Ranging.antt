@@ -6,7 +6,7 @@ use Rattle.std.specs.List.{range_with_len}
 use Rattle.std.proofs.lemmas.List.Elements.{filter-append}
 use Rattle.command_laws.proofs.ScrubNamed.{range_more}
 use Rattle.dump_answers.specs.Pieces.{below}
-use Rattle.dump_output.proofs.Fronts.{range_part}
+use Rattle.qic_base.proofs.Arrays.{range_part}
 
 -- ---- those below a number
 

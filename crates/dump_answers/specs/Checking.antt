@@ -2,6 +2,7 @@
 use Rattle.std.specs.Prelude.{ℕ, ◌≡◌, ◌⊎◌, ◌≤◌, ◌&&◌, nat_le, length, Bool, true, false, List, [], ◌∷◌, ◌++◌, Option, Some, None, Result}
 use Rattle.std.specs.Prelude.{Ok, Err}
 use Rattle.cartridge_spec.specs.Shape.{usable_count}
+use Rattle.qic_base.specs.Acts.{TookFront}
 use Rattle.qic_base.specs.Sink as sinks
 use Rattle.qic_base.specs.Sink.{Wrote}
 use Rattle.qic_base.specs.SinkCalls.{BrokeOff}
@@ -18,7 +19,6 @@ use Rattle.dump_volumes.specs.Counts.{HasCounted}
 use Rattle.dump_volumes.specs.declared.checking.CheckCounts.{CheckCounts}
 use Rattle.segment_salvage.specs.Finding.{told}
 use Rattle.segment_salvage.specs.declared.finding.Finding.{Finding}
-use Rattle.dump_answers.specs.Ends.{TookFront}
 
 -- the segment has a piece, and carries data
 abbrev pub is_looked_at : Known → (segment : ℕ) → Bool

@@ -1,5 +1,6 @@
 -- How the commands over a dump end (this project's own).
 use Rattle.std.specs.Prelude.{◌≡◌, Bool, true, false, [], Result, Ok, Err}
+use Rattle.qic_base.specs.Acts.{TookFront}
 use Rattle.qic_base.specs.Sink as sinks
 use Rattle.qic_base.specs.Sink.{Wrote}
 use Rattle.dump_opening.specs.declared.opened.OpenError.{OpenError}
@@ -8,7 +9,6 @@ use Rattle.dump_output.specs.declared.fault.PutFault.{PutFault}
 use Rattle.dump_output.specs.declared.fault.PutFault.TheVariants as faults
 use Rattle.dump_spec.specs.Answers.{Answer}
 use Rattle.dump_spec.specs.declared.status.Status.{Status}
-use Rattle.dump_answers.specs.Ends.{TookFront}
 use Rattle.dump_answers.specs.declared.ending.Cut.{Cut}
 use Rattle.dump_answers.specs.declared.ending.Ending.{Ending}
 

@@ -1,5 +1,6 @@
 -- How a command over a dump ends: what it wrote, and which objects of the outside failed (this project's own).
-use Rattle.std.specs.Prelude.{ℕ, ◌≡◌, ◌++◌, true, List, Result, Ok, Err}
+use Rattle.std.specs.Prelude.{ℕ, ◌≡◌, true, List, Result, Ok, Err}
+use Rattle.qic_base.specs.Acts.{TookFront}
 use Rattle.qic_base.specs.Sink as sinks
 use Rattle.qic_base.specs.Sink.{Wrote}
 use Rattle.dump_opening.specs.Counts.{OneRose}
@@ -9,15 +10,6 @@ use Rattle.dump_spec.specs.Answers.{Answer}
 use Rattle.dump_spec.specs.declared.status.Status.{Status}
 use Rattle.dump_answers.specs.declared.ending.Cut.{Cut}
 use Rattle.dump_answers.specs.declared.ending.Ending.{Ending}
-
--- ---- texts
-
--- a front of a text was taken
-pub record TookFront {K : Type 0} (m : sinks.Meaning K) (old new : K) (text : List ℕ) : Type 0 where
-  pub front : List ℕ
-  pub rest : List ℕ
-  pub parts : front ++ rest ≡ text
-  pub took : m.took old front new
 
 -- ---- counts of faults
 

@@ -9,7 +9,7 @@ ghost use Rattle.dump_reader.specs.Laid.{HasSegment, IsPlaced};
 ghost use Rattle.dump_spec.specs.Answers.{Known};
 ghost use Rattle.qic_base.specs.Disk.{Look, Stores};
 
-use crate::pieces::SEGMENTS;
+use dump_lists::SEGMENTS;
 use dump_opening::OpenDump;
 use dump_output::PutFault;
 use dump_reader::{Cursor, read_piece};

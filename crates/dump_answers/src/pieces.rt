@@ -7,11 +7,9 @@ ghost use Rattle.dump_spec.specs.Dump.{Dump};
 ghost use Rattle.dump_spec.specs.Pieces.{Layout};
 ghost use Rattle.dump_reader.specs.Laid.{HasSegment, IsLaidOut, IsPlaced};
 
+use dump_lists::SEGMENTS;
 use dump_reader::{Cursor, KnownDump};
 use qic_base::{LostSet, SECTORS};
-
-/// The segments that a dump has numbers for.
-pub(crate) const SEGMENTS: u32 = 65_536;
 
 /// How many pieces a dump has, and how many sectors the masks of their segments leave out.
 #[derive(Clone, Copy, Debug, Drop)]

@@ -3,12 +3,10 @@
 ghost use Rattle.std.specs.Prelude.{◌≡◌};
 ghost use Rattle.std.specs.Vec.{vec_len};
 
+use dump_lists::SEGMENTS;
 use qic_base::NoMemory;
 use segment_io::Workspace;
 use std::alloc::Global;
-
-/// The segments that a dump has numbers for.
-const SEGMENTS: usize = 65_536;
 
 /// The segments in a word.
 const BITS: usize = 32;
@@ -32,9 +30,9 @@ impl SalvageRoom {
     /// Takes the memory.
     pub fn new(alloc: Global) -> Result<SalvageRoom, NoMemory> {
         Ok(SalvageRoom {
-            rescued: vec![in alloc; 0; SEGMENTS]?,
-            missing: vec![in alloc; 0; SEGMENTS / BITS]?,
-            masks: vec![in alloc; 0; SEGMENTS]?,
+            rescued: vec![in alloc; 0; SEGMENTS as usize]?,
+            missing: vec![in alloc; 0; SEGMENTS as usize / BITS]?,
+            masks: vec![in alloc; 0; SEGMENTS as usize]?,
             work: Workspace::new(alloc)?,
         })
     }

@@ -15,9 +15,6 @@ marks_by case cells = map (λ g. mark_byte g.mark) (given_by case cells)
 abbrev pub block : List (List ℕ)
 block = (1 ∷ []) ∷ (2 ∷ []) ∷ (3 ∷ []) ∷ (4 ∷ []) ∷ (5 ∷ []) ∷ (6 ∷ []) ∷ (7 ∷ []) ∷ []
 
-abbrev pub bytes_by : Case → List SectorView → List (List ℕ)
-bytes_by case cells = map (λ g. g.bytes) (given_by case cells)
-
 -- two sectors are solved, and the third of parity checks them: the block's bytes, all `+`
 abbrev pub TwoSolved : Type 0
 TwoSolved = marks_by (OneBlock block) (Lost ∷ Holds (2 ∷ []) ∷ Lost ∷ Holds (4 ∷ []) ∷ Holds (5 ∷ []) ∷ Holds (6 ∷ []) ∷ Holds (7 ∷ []) ∷

@@ -7,4 +7,5 @@ mod names;
 mod numbers;
 mod reading;
 
+pub use names::SEGMENTS;
 pub use reading::{ListError, read_bad, read_missing};

@@ -21,7 +21,7 @@ pub enum Named {
 }
 
 /// The segments that a dump has numbers for.
-const SEGMENTS: u32 = 65_536;
+pub const SEGMENTS: u32 = 65_536;
 
 /// One segment, or those from one to another: a bit a segment.
 fn missing_named(numbers: Numbers) -> Named

@@ -1,17 +1,11 @@
 -- The header of a dump, by what was read of it.
-use Rattle.std.proofs.Common.{◌≡◌, ℕ, Bool, List, sym, ap, subst}
+use Rattle.std.proofs.Common.{◌≡◌, ℕ, Bool, List, ap, subst}
 use Rattle.std.specs.Prelude.{Result, Ok, Err, Option, Some, None, IfSome}
-use Rattle.std.specs.Option.{option_map}
 use Rattle.qic_base.specs.Disk as disks
 use Rattle.dump_header.specs.Marking.{AreMasks}
-use Rattle.dump_header.specs.Shown.{ShowsFields, told_of}
-use Rattle.dump_header.specs.declared.fields.ForeignValue.{ForeignValue}
 use Rattle.dump_reader.specs.declared.known.KnownDump.{KnownDump}
-use Rattle.dump_spec.specs.Answers.{foreign_status}
-use Rattle.dump_spec.specs.Header.{header_refusal}
 use Rattle.dump_spec.specs.HeaderPlace.{FoundHeader, filed_area}
 use Rattle.dump_spec.specs.Lists.{BadSectors}
-use Rattle.dump_spec.specs.declared.status.Status.TheVariants as ends
 use Rattle.dump_volumes.specs.declared.info.ToldHeader.{ToldHeader}
 use Rattle.dump_opening.specs.Headers.{area_of, HasTold, IsFiled, IsHeaderOf, OpensHeader, Takes, Tells}
 use Rattle.dump_opening.specs.Inputs.{TellsFile}
@@ -22,18 +16,6 @@ use Rattle.dump_opening.specs.declared.opened.OpenError.TheVariants as error
 
 abbrev pub header_at : (area : List (List ℕ)) → Option ℕ → FoundHeader
 header_at area segment = record { area = area; segment = segment }
-
-pub fields_taken : (area : List (List ℕ)) (segment : Option ℕ) (told : ToldHeader) → told.segment ≡ segment → header_refusal area ≡ None →
-    ShowsFields area told.fields → Tells (header_at area segment) (Ok told)
-fields_taken area segment told same taken shown = (ap (option_map foreign_status) taken, (shown, sym same))
-
-pub fields_refused : (area : List (List ℕ)) (segment : Option ℕ) (value : ForeignValue) → header_refusal area ≡ Some (told_of value) →
-    Tells (header_at area segment) (Err (error.Refused (ends.Foreign value.field value.value)))
-fields_refused area segment value refused = ap (option_map foreign_status) refused
-
-pub takes_error : (found : FoundHeader) (e : OpenError) → Tells found (Err e) → Takes (Some found) (Err e)
-takes_error found (error.Refused status) tells = tells
-takes_error found error.Input tells = absurd tells
 
 pub has_told : (found : FoundHeader) (told : ToldHeader) → Tells found (Ok told) → HasTold (Some told)
 has_told found told tells = (Some found, tells.1)
@@ -76,10 +58,3 @@ opens_filed m disk None known told zero_lost bad masks result tells opens = absu
 opens_filed m disk (Some file) known told zero_lost bad masks result tells opens =
     opens_as (IsFiled file) (IsHeaderOf (Some file) known told zero_lost) bad masks result (λ found is. λ dump layout by. is)
     (opens file tells)
-
-pub opens_found : {D : Type 0} (m : disks.Meaning D) (text : Option (List ℕ)) (known : KnownDump) (told : Option (List ℕ))
-    (zero_lost : Bool) (bad : List BadSectors) (masks : List ℕ) (result : Result (Option ToldHeader) OpenError) → TellsFile m None text →
-    OpensHeader (IsHeaderOf None known told zero_lost) bad masks result →
-    OpensHeader (IsHeaderOf text known told zero_lost) bad masks result
-opens_found m None known told zero_lost bad masks result tells opens = opens
-opens_found m (Some file) known told zero_lost bad masks result tells opens = absurd tells

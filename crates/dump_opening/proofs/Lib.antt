@@ -1,4 +1,3 @@
-pub mod Counting
 pub mod Heading
 pub mod Headers
 pub mod Knowing

@@ -10,7 +10,7 @@ ghost use Rattle.dump_opening.specs.Texts.{ReadsMap, ReadsMissing, ReadsBad};
 use crate::opened::OpenError;
 use dump_lists::{ListError, read_bad, read_missing};
 use dump_spec::{InputText, Status};
-use qic_base::Source;
+use qic_base::{Source, WHOLE};
 use rescue_map::{MapError, clear, read_map};
 
 /// The bytes of a text that are read at a time.
@@ -33,7 +33,7 @@ fn mark_all(set: &mut [u32])
     ensures { (q : ℕ) → q < 32 * length set.new → IsMarked set.new q }
 {
     for word in set.iter_mut() {
-        *word = u32::MAX;
+        *word = WHOLE;
     }
 }
 

@@ -1,5 +1,5 @@
 -- The first bytes of sectors, and those of sectors behind them.
-use Rattle.std.proofs.Common.{◌≡◌, ℕ, zero, suc, ◌+◌, ◌-◌, ◌*◌, ◌<◌, ◌≤◌, ◌⊎◌, inl, inr, List, [], ◌∷◌, ◌++◌, length, take, replicate, min}
+use Rattle.std.proofs.Common.{◌≡◌, ℕ, suc, ◌+◌, ◌-◌, ◌*◌, ◌<◌, ◌≤◌, ◌⊎◌, inl, inr, List, [], ◌∷◌, ◌++◌, length, take, replicate, min}
 use Rattle.std.proofs.Common.{refl, sym, ap, ◌∙◌, arith, append-nil}
 use Rattle.std.proofs.Math.Seq.{take-append-add}
 use Rattle.std.proofs.lemmas.Bool.{cases_lt}
@@ -47,17 +47,6 @@ take_copies size n x =
     ∙ first_copies (min size n) (omega arith) where
       first_copies : (k : ℕ) → k ≤ n → take k (replicate n x) ≡ replicate k x
       first_copies k few = take-replicate k n x few
-
-pub range_part : (a m n : ℕ) → range_with_len a (m + n) ≡ range_with_len a m ++ range_with_len (a + m) n
-range_part a zero n =
-    let none : zero + n ≡ n = omega arith in
-    let here : a ≡ a + zero = omega arith in
-    ap (range_with_len a) none ∙ ap (λ (b : ℕ). range_with_len b n) here
-range_part a (suc m) n =
-    let first : suc m + n ≡ suc (m + n) = omega arith in
-    let here : a + 1 + m ≡ a + suc m = omega arith in
-    ap (range_with_len a) first ∙ ap (λ (xs : List ℕ). a ∷ xs) (range_part (a + 1) m n)
-    ∙ ap (λ (b : ℕ). a ∷ (range_with_len (a + 1) m ++ range_with_len b n)) here
 
 -- ---- bytes and marks of sectors
 

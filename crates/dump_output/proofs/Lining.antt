@@ -8,7 +8,8 @@ use Rattle.dump_spec.specs.Output.{mark_blocks, sure_head, sure_text}
 use Rattle.dump_spec.specs.declared.mark.Mark.{Mark}
 use Rattle.dump_output.specs.Marks.{marks_in}
 use Rattle.dump_output.specs.SoFar.{MapSoFar}
-use Rattle.dump_output.proofs.Fronts.{range_part, take_both, take_copies}
+use Rattle.qic_base.proofs.Arrays.{range_part}
+use Rattle.dump_output.proofs.Fronts.{take_both, take_copies}
 use Rattle.qic_base.specs.Sink.{Meaning, Wrote}
 use Rattle.qic_base.specs.SinkCalls.{BrokeOff}
 use Rattle.qic_base.proofs.Writing.{TakesBoth, Wrote-Wrote, Wrote-BrokeOff, BrokeOff-longer}

@@ -3,28 +3,12 @@ use Rattle.std.proofs.Common.{◌≡◌, ℕ, ◌+◌, ◌-◌, ◌≤◌, Bool,
 use Rattle.std.specs.List.{range_with_len}
 use Rattle.dump_laws.proofs.Determined.{one_giving}
 use Rattle.dump_output.specs.Laws.{FrontsBegin}
-use Rattle.dump_output.proofs.Fronts.{range_part}
-use Rattle.dump_reader.specs.Laid.{Describes, AreCellsIn}
-use Rattle.dump_reader.specs.declared.known.KnownDump.{KnownDump}
+use Rattle.qic_base.proofs.Arrays.{range_part}
 use Rattle.dump_spec.specs.Cells.{cells_in}
 use Rattle.dump_spec.specs.Dump.{Dump}
 use Rattle.dump_spec.specs.Given.{Given, Gives}
 use Rattle.dump_spec.specs.Output.{GiveInTurn}
 use Rattle.dump_spec.specs.Pieces.{Layout}
-use Rattle.dump_spec.specs.declared.form.Form.{Form}
-use Rattle.qic_base.specs.declared.tape.SectorView.{SectorView}
-use Rattle.segment_salvage.specs.Buffer.{buffer_cells}
-use Rattle.std.specs.Prelude.{Option, slice_index}
-
--- what is given of the cells in memory is given of the segment
-pub gives_here : (known : KnownDump) (told : Option (List ℕ)) (dump : Dump) (layout : Layout) (zero_lost : Bool) (segment unread : ℕ)
-    (sectors : List (List ℕ)) (given : List Given) → Describes known told dump layout →
-    AreCellsIn known segment unread sectors dump layout →
-    Gives known.form zero_lost (buffer_cells known.form (slice_index known.masks.now segment) unread sectors) given →
-    Gives layout.form zero_lost (cells_in dump layout segment) given
-gives_here known told dump layout zero_lost segment unread sectors given by cells gives =
-    subst (λ (form : Form). Gives form zero_lost (cells_in dump layout segment) given) (sym by.laid.form)
-    (subst (λ (views : List SectorView). Gives known.form zero_lost views given) cells gives)
 
 -- one segment more
 pub turn_more : (dump : Dump) (layout : Layout) (zero_lost : Bool) (segments : List ℕ) (segment : ℕ) (given here : List Given) →

@@ -8,8 +8,7 @@ ghost use Rattle.dump_output.specs.SoFar.{MapSoFar, MapGoes};
 ghost use Rattle.segment_salvage.specs.Reading.{given_as};
 ghost use Rattle.sure_map.specs.Maps.{byte_count};
 
-use qic_base::{SECTOR, Sector, Sink, SinkFailed};
-use rescue_map::write_bytes;
+use qic_base::{SECTOR, Sector, Sink, SinkFailed, write_text};
 use segment_salvage::SegmentReading;
 use sure_map::SureMap;
 
@@ -78,7 +77,7 @@ impl Progress {
     {
         let bytes = sectors.as_flattened();
         let count = self.left.min(bytes.len() as u32);
-        if let Err(fault) = write_bytes(&bytes[..count as usize], output) {
+        if let Err(fault) = write_text(&bytes[..count as usize], output) {
             return Err(fault);
         }
         if let Err(fault) = push_marks(&mut self.map, reading, sectors.len() as u8, count, sure) {

@@ -1,5 +1,5 @@
 -- Bytes with zero bytes behind them, parted into sectors.
-use Rattle.std.proofs.Common.{◌≡◌, ℕ, ◌-◌, ◌*◌, min, List, ◌++◌, length, take, drop, replicate, Option, Some, None}
+use Rattle.std.proofs.Common.{◌≡◌, ℕ, ◌-◌, min, List, ◌++◌, length, take, drop, replicate, Option, Some, None}
 use Rattle.std.proofs.Common.{IfSome, sym, ap, ◌∙◌, arith}
 use Rattle.std.proofs.lemmas.List.{take_min, length-take}
 use Rattle.std.specs.Simd.{first_chunks}

@@ -102,11 +102,6 @@ header_is known told dump layout zero_lost area (Some segment) by looked first =
   },
 )
 
-pub header_not : (known : KnownDump) (told : Option (List ℕ)) (dump : Dump) (layout : Layout) (zero_lost : Bool) →
-    Describes known told dump layout → ((known.form ≡ forms.Data → known.first ≡ 0) → ⊥) → IsHeader None dump layout zero_lost None
-header_not known told dump layout zero_lost by not = λ sought.
-    absurd (not (λ form. sym by.laid.first ∙ sought (by.laid.form ∙ form)))
-
 pub header_by : (known whole : KnownDump) (told : Option (List ℕ)) (dump : Dump) (layout : Layout) (zero_lost : Bool)
     (area : List (List ℕ)) (found : Option ℕ) →
     (Describes whole told dump (all_usable layout) → TellsFirst dump layout zero_lost area found) → IsWhole known whole →

@@ -1,7 +1,6 @@
 -- Looks at a disk, one after the other.
 use Rattle.std.proofs.Common.{ℕ, inl, inr, List, is_some, refl, sym, ap, ◌∙◌, ◌+◌, ◌-◌, ◌^◌, min, arith}
-use Rattle.std.specs.Prelude.{Result, Ok, Err}
-use Rattle.qic_base.specs.Disk.{Meaning, Look, Inside, Crashes, Stored, Failed, Stores}
+use Rattle.qic_base.specs.Disk.{Meaning, Look, Inside, Crashes, Stored, Failed}
 use Rattle.qic_base.proofs.Disks.{stored-look, told-look}
 
 -- none at all
@@ -66,8 +65,3 @@ failed_behind first next = record {
   settled = next.settled;
   crashes = crashes_both first next.crashes;
 }
-
-pub looked_behind : {D T E : Type 0} (m : Meaning D) (a b c : D) (result : Result T E) → Stored m a b Look →
-    Stores m b c Look result → Stores m a c Look result
-looked_behind m a b c (Ok x) first next = looked_both first next
-looked_behind m a b c (Err e) first next = failed_behind first next

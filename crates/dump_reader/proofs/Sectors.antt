@@ -125,10 +125,3 @@ holds_sectors told dump rescued bytes sectors at start count n unread here is fe
     subst (λ (s : List (List ℕ)). HoldsSectors dump start count unread s) (sym put)
     (holds_told dump rescued bytes start count n unread is.covers is.set few
     (rw here at (rw is.bytes at amount)) (rw here at (rw is.bytes at same)) are)
-
--- the sectors behind those that were asked for
-pub unread_behind : (rescued : List ℕ) (start count n unread index : ℕ) → n ≤ 1024 * count → count ≤ index →
-    is_lost unread index ≡ is_unread rescued start (n / 1024) index → is_lost unread index ≡ true
-unread_behind rescued start count n unread index within behind is =
-    let past : nat_lt index (n / 1024) ≡ false = grind (arith, nat_tests) in
-    is ∙ rw past refl

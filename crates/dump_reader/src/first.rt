@@ -10,12 +10,10 @@ ghost use Rattle.dump_reader.specs.Missing.{there_from};
 ghost use Rattle.qic_base.specs.Disk.{Look, Stores};
 
 use crate::piece::is_marked;
+use dump_lists::SEGMENTS;
 use dump_spec::Form;
 use header_segments::SIGNATURE;
 use qic_base::{Disk, DiskFailed, read_u32};
-
-/// The segments that a dump has numbers for.
-const SEGMENTS: u32 = 65_536;
 
 /// Whether a dump begins with a header's signature.
 fn begins_with_signature<D: Disk>(disk: &mut D) -> Result<bool, DiskFailed>

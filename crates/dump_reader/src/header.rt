@@ -12,9 +12,8 @@ ghost use Rattle.qic_base.specs.Disk.{Look, Stores};
 use crate::cursor::Cursor;
 use crate::known::KnownDump;
 use crate::reading::read_piece;
-use bad_sector_map::WHOLE;
 use dump_spec::Form;
-use qic_base::{Disk, DiskFailed, Sector};
+use qic_base::{Disk, DiskFailed, Sector, WHOLE};
 use segment_salvage::read_header;
 
 /// A header is looked for in so many segments, from segment 0 on.

@@ -8,7 +8,6 @@ ghost use Rattle.qic_base.specs.Disk.{Look, Stores};
 ghost use Rattle.qic_base.specs.CartridgeTerms.{is_lost};
 
 use qic_base::{Disk, DiskFailed, LostSet, SECTOR, SECTORS, Sector};
-use silent_locate::with_place;
 
 /// The bytes of a segment's 32 sectors.
 pub(crate) const SEGMENT: usize = 32 * SECTOR;
@@ -37,7 +36,7 @@ fn unread_sectors(rescued: &[u32], start: u32, held: u8) -> LostSet
     let mut unread = LostSet::from_mask(0);
     for index in 0..SECTORS {
         if is_unread(rescued, start, held, index) {
-            unread = with_place(unread, index);
+            unread = unread.with_place(index);
         }
     }
     unread

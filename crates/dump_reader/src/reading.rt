@@ -9,7 +9,7 @@ ghost use Rattle.qic_base.specs.Disk.{Look, Stores};
 use crate::cursor::Cursor;
 use crate::known::{KnownDump, piece_sectors};
 use crate::piece::read_sectors;
-use qic_base::{Disk, DiskFailed, LostSet, Sector};
+use qic_base::{Disk, DiskFailed, LostSet, Sector, WHOLE};
 
 /// Reads the sectors of a segment by one read of the disk, and answers those of the 32 that can't be read: the dump doesn't have
 /// all their bytes, or they were not rescued. In the form of data the data sectors stand at the front. Where the segment has
@@ -33,7 +33,7 @@ pub fn read_piece<D: Disk>(
 {
     cursor.go_to(known, segment);
     if !cursor.has_piece(known) {
-        return Ok(LostSet::from_mask(u32::MAX));
+        return Ok(LostSet::from_mask(WHOLE));
     }
     let count = piece_sectors(known.form, known.masks[segment as usize]);
     read_sectors(disk, known.rescued, cursor.start, count, sectors)

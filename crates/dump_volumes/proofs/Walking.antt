@@ -5,19 +5,9 @@ use Rattle.std.proofs.lemmas.Bool.{ne_eqb}
 use Rattle.std.proofs.lemmas.List.{length-drop, length-map, drop_more}
 use Rattle.std.proofs.lemmas.Option.{slice_get-get_or, slice_get_past}
 use Rattle.dump_spec.specs.Answers.{numbered}
-use Rattle.dump_spec.specs.Volumes.{slots, volume_slots, volumes_of, volume_in, counted_volumes}
+use Rattle.dump_spec.specs.Volumes.{slots, volume_slots, volumes_of, volume_in}
 use Rattle.dump_spec.specs.Volumes as volumes
-use Rattle.dump_volumes.specs.Volume.{told_volume, first_behind, told_volumes}
-
--- the volume of the first of some slots, and those behind it
-pub told_more : (counts : Bool) (first : ℕ) (bytes : List ℕ) (more : List (List ℕ)) →
-    told_volumes counts first (bytes ∷ more) ≡ told_volume counts first bytes ∷ told_volumes counts (first_behind counts first bytes) more
-told_more false first bytes more = refl
-told_more true first bytes more = refl
-
-pub told_none : (counts : Bool) (first : ℕ) → told_volumes counts first [] ≡ []
-told_none false first = refl
-told_none true first = refl
+use Rattle.dump_volumes.specs.Volume.{first_behind, told_volumes}
 
 pub told_all : (counts : Bool) (segment : ℕ) (area : List (List ℕ)) →
     told_volumes counts (segment + 1) (volume_slots (slots area)) ≡ volumes_of counts segment area

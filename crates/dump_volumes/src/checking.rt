@@ -6,9 +6,9 @@ ghost use Rattle.dump_spec.specs.Check.{finding_line, check_line, is_weak, is_un
 ghost use Rattle.segment_salvage.specs.Finding.{told};
 
 use dump_spec::Status;
-use qic_base::{Sink, SinkFailed};
+use qic_base::{Sink, SinkFailed, write_text};
 use segment_salvage::Finding;
-use tape_script::{TextLine, number_text, place_text, write_text};
+use tape_script::{TextLine, number_text, place_text};
 
 /// What a check counted.
 #[derive(Clone, Copy, Debug, Drop)]

@@ -9,8 +9,8 @@ ghost use Rattle.dump_volumes.specs.Told.{IsTold};
 
 use dump_header::DumpHeader;
 use dump_spec::Form;
-use qic_base::{Sink, SinkFailed};
-use tape_script::{TextLine, write_text};
+use qic_base::{Sink, SinkFailed, write_text};
+use tape_script::TextLine;
 
 /// The header of a dump.
 #[derive(Clone, Copy, Debug, Drop)]

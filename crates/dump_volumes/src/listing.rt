@@ -11,8 +11,8 @@ ghost use Rattle.dump_volumes.specs.Volume.{volume_of};
 use crate::lengths::{has_bad_range, length_of};
 use crate::volume::Volume;
 use crate::walk::VolumeWalk;
-use qic_base::{Sector, Sink, SinkFailed};
-use tape_script::{TextLine, number_text, write_text};
+use qic_base::{Sector, Sink, SinkFailed, write_text};
+use tape_script::{TextLine, number_text};
 
 /// The line of a volume with its length in bytes.
 #[tactic(auto, unfolding(command_spec::specs::Lines::volume_line))]

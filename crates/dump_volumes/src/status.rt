@@ -6,8 +6,8 @@ ghost use Rattle.dump_spec.specs.Lines.{exit_status, field_name, file_name, said
 ghost use Rattle.dump_spec.specs.declared.status.Status.TheVariants as ends;
 
 use dump_spec::{InputText, OpenedFile, Status};
-use qic_base::{ForeignField, Sink, SinkFailed};
-use tape_script::{TextLine, write_text};
+use qic_base::{ForeignField, Sink, SinkFailed, write_text};
+use tape_script::TextLine;
 
 /// The exit status of the program.
 pub fn exit_status(status: &Status) -> u8

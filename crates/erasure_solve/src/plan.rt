@@ -10,8 +10,8 @@ ghost use Rattle.erasure_solve.specs.Plan.{planned_count, planned_lost, correcti
 
 use crate::SolveFault;
 use crate::coefficients::{Coefficients, NO_PLACE, correct};
-use crate::values::{Values, are_sectors};
-use qic_base::{LostSet, Sector};
+use crate::values::Values;
+use qic_base::{LostSet, Sector, are_sectors};
 
 /// The coefficients that give the lost sectors of a segment, and those of the equations left over
 /// with fewer than three lost, for each segment with as many sectors and the same places lost.

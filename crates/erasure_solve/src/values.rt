@@ -5,7 +5,7 @@ ghost use Rattle.qic_base.specs.Cartridge.{IsSector};
 ghost use Rattle.erasure_solve.specs.Rows.{IsZero, AreValues, AreZero, PutsStrip, IsStrip, AddsToStrip};
 
 use gf256_qic::{mul, pow, times_x};
-use qic_base::{SECTOR, Sector};
+use qic_base::{SECTOR, Sector, are_sectors};
 
 /// How many columns are taken at once: so few that what is gathered of them stays in registers.
 const STRIP: usize = 128;
@@ -109,19 +109,4 @@ impl Strip {
             self.at_generator[j] = times_x(self.at_generator[j]) ^ byte;
         }
     }
-}
-
-/// States that arrays of 1,024 bytes are sectors, and does nothing.
-pub fn are_sectors(sectors: &[Sector])
-    ensures { All IsSector sectors.now }
-{
-    for sector in sectors {
-        is_sector(sector);
-    }
-}
-
-fn is_sector(sector: &Sector)
-    ensures { IsSector sector.now }
-{
-    let _bytes = sector.iter();
 }

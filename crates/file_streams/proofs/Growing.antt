@@ -14,11 +14,3 @@ pub told-grown : (at end : ℕ) (part : List ℕ) (told : Option (List ℕ)) →
     option_map (stored (WriteAt at part)) (option_map (stored (SetLen end)) told) ≡ longer_by part told
 told-grown at end part None long is = refl
 told-grown at end part (Some bytes) long is = rw long (ap Some (grown at bytes part is))
-
--- the place is the end of them then
-pub end-grown : (at : ℕ) (part : List ℕ) (told : Option (List ℕ)) → IsEnd at told → IsEnd (at + length part) (longer_by part told)
-end-grown at part None is = tt
-end-grown at part (Some bytes) is = grind (arith, common_steps)
-
-pub longer-none : (part : List ℕ) → None ≡ longer_by part None
-longer-none part = refl

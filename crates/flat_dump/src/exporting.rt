@@ -7,10 +7,9 @@ ghost use Rattle.flat_dump.specs.Export.{Exports};
 ghost use Rattle.flat_dump.specs.Seen.{Dumps};
 
 use crate::segment::read_segment;
-use qic_base::{LONGEST, SECTOR, SECTORS, Sink, SinkFailed, Tape, TapeFailed, push_within};
-use rescue_map::write_bytes;
-
-const TRACKS: u32 = qic_base::TRACKS as u32;
+use qic_base::{
+    LONGEST, SECTOR, SECTORS, Sink, SinkFailed, TRACKS, Tape, TapeFailed, push_within, write_text,
+};
 
 /// Why a dump was not written to its end.
 #[derive(Clone, Copy, Debug, PartialEq, Eq)]
@@ -42,7 +41,7 @@ fn export_segments<T: Tape, K: Sink>(
             Ok(word) => push_within(mask, word),
             Err(TapeFailed) => return Err(ExportError::Tape),
         }
-        match write_bytes(sectors.as_flattened(), sink) {
+        match write_text(sectors.as_flattened(), sink) {
             Ok(()) => {}
             Err(SinkFailed) => return Err(ExportError::Sink),
         }

@@ -10,10 +10,10 @@ ghost use Rattle.flat_dump.specs.Importing.{Unfinished, Ends, Counts, Copies, Fi
 
 use crate::cells::{append_lost, write_segment};
 use cart_image::making::{begin, clear, sign};
-use qic_base::{Disk, DiskFailed, LONGEST, MOST_SEGMENTS, SECTOR, SECTORS, Source, SourceFailed};
+use qic_base::{
+    Disk, DiskFailed, LONGEST, MOST_SEGMENTS, SECTOR, SECTORS, Source, SourceFailed, TRACKS,
+};
 use sector_fill::fill_sectors;
-
-const TRACKS: u32 = qic_base::TRACKS as u32;
 
 /// The bytes of a segment in a dump.
 const SEGMENT_LEN: u32 = 32_768;

@@ -1,27 +1,11 @@
 //! The sectors of a segment, as a dump has them.
 
-ghost use Rattle.std.specs.Prelude.{◌≡◌, ◌<◌, ℕ, [], slice_index_or, replicate, IfOk};
-ghost use Rattle.qic_base.specs.Cartridge.{IsSector, zero_sector};
+ghost use Rattle.std.specs.Prelude.{◌≡◌, [], replicate, IfOk};
+ghost use Rattle.qic_base.specs.Cartridge.{zero_sector};
 ghost use Rattle.qic_base.specs.TapeCalls.{Does, IsPlaceOf};
 ghost use Rattle.flat_dump.specs.Seen.{AreSeen};
 
-use qic_base::{LostSet, SECTOR, SECTORS, Sector, Tape, TapeFailed};
-
-/// States that the array is a sector, and does nothing.
-fn is_sector(sector: &Sector)
-    ensures { IsSector sector.now }
-{
-    let _bytes = sector.iter();
-}
-
-/// States that each of the arrays is a sector, and does nothing.
-fn are_sectors(sectors: &[Sector; 32])
-    ensures { (k : ℕ) → k < 32 → IsSector (slice_index_or sectors.now k []) }
-{
-    for place in 0..32 {
-        is_sector(&sectors[place]);
-    }
-}
+use qic_base::{LostSet, SECTOR, SECTORS, Sector, Tape, TapeFailed, WHOLE, are_sectors};
 
 /// Puts zero bytes.
 #[tactic(auto, unfolding(qic_base::specs::Cartridge::zero_sector))]
@@ -44,7 +28,7 @@ pub fn read_segment<T: Tape>(
     ensures size { T.means.size tape.new ≡ T.means.size tape.old }
 {
     clear(sectors);
-    let read = tape.read_sectors(segment, LostSet::from_mask(u32::MAX), sectors)?;
+    let read = tape.read_sectors(segment, LostSet::from_mask(WHOLE), sectors)?;
     are_sectors(sectors);
     Ok(read.good.mask())
 }

@@ -11,12 +11,11 @@ ghost use Rattle.cartridge_laws.specs.FormatMarks.{segment_formats};
 ghost use Rattle.formatter.specs.Formats.{Clears};
 ghost use Rattle.formatter.specs.Steps.{track_formats};
 
-use crate::TRACKS;
 use crate::fault::FormatFault;
 use crate::track::go_to_track;
 use drive_states::Unit;
 use host_driver::{Host, HostFault};
-use qic_base::Tape;
+use qic_base::{TRACKS, Tape};
 use qic117_commands::Mode;
 
 /// Writes the reference bursts, and zero bytes into each sector of the cartridge.

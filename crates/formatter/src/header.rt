@@ -20,7 +20,7 @@ use drive_states::Unit;
 use gf256_qic::DATA_SECTORS;
 use header_segments::{Header, encode};
 use host_driver::Host;
-use qic_base::{LostSet, Name, Sector, Tape};
+use qic_base::{LostSet, Name, Sector, Tape, WHOLE};
 use qic117_commands::Mode;
 use segment_io::{SegFault, Workspace, write_sectors};
 use segment_parity::put_parity;
@@ -102,6 +102,6 @@ fn write_copy<T: Tape>(
 {
     let last = LostSet::from_mask(1);
     let others = LostSet::from_mask(!1);
-    write_sectors(host, unit, copy, u32::MAX, others, work)?;
-    write_sectors(host, unit, copy, u32::MAX, last, work)
+    write_sectors(host, unit, copy, WHOLE, others, work)?;
+    write_sectors(host, unit, copy, WHOLE, last, work)
 }

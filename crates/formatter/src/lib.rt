@@ -11,6 +11,3 @@ mod track;
 
 pub use fault::FormatFault;
 pub use formatting::{FormatReport, format};
-
-/// The tracks of a cartridge.
-const TRACKS: u32 = qic_base::TRACKS as u32;

@@ -10,12 +10,11 @@ ghost use Rattle.host_driver.specs.Calls.{IsReady, Keeps};
 ghost use Rattle.host_driver.specs.Fits.{AgreesWithTape};
 ghost use Rattle.formatter.specs.Marking.{AreReadable, MarksBelow, MarksUnreadable, IsFirstMarked, HasNoMarkInFront};
 
-use crate::TRACKS;
 use crate::track::go_to_track;
 use bad_sector_map::BadMap;
 use drive_states::Unit;
 use host_driver::{Host, HostFault};
-use qic_base::{LostSet, SECTORS, Sector, Tape};
+use qic_base::{LostSet, SECTORS, Sector, TRACKS, Tape, WHOLE};
 use qic117_commands::Mode;
 
 /// The segments of the header copies and of the volume table.
@@ -131,7 +130,7 @@ fn mark_segment<T: Tape>(
     let Some(entries) = sectors.as_mut_array() else {
         unreachable!("there are 32 sectors")
     };
-    let read = host.read_sectors(unit, segment, LostSet::from_mask(u32::MAX), entries)?;
+    let read = host.read_sectors(unit, segment, LostSet::from_mask(WHOLE), entries)?;
     mark_others(map, segment, read.good);
     Ok(())
 }
@@ -156,7 +155,7 @@ pub(crate) fn first_marked(map: &BadMap) -> Option<u32>
     ensures { MatchOption result (HasNoMarkInFront map.now) (IsFirstMarked map.now) }
 {
     for segment in 0..FRONT {
-        if map.usable(segment) != u32::MAX {
+        if map.usable(segment) != WHOLE {
             return Some(segment);
         }
     }

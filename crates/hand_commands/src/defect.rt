@@ -6,8 +6,8 @@ ghost use Rattle.command_laws.specs.RunTerms.{EndsBlind};
 use crate::lines::printed;
 use command_spec::Status;
 use drive_states::{HandFault, Unit};
-use qic_base::{Sink, Tape, TapeFailed};
-use tape_script::{place_text, write_text};
+use qic_base::{Sink, Tape, TapeFailed, write_text};
+use tape_script::place_text;
 
 /// Makes a defect of a sector that was never formatted.
 pub fn spoil<T: Tape, K: Sink>(

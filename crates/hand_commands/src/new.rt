@@ -7,8 +7,8 @@ ghost use Rattle.command_laws.specs.RunTerms.{EndsBlind};
 use crate::lines::printed;
 use command_spec::Status;
 use drive_states::{HandFault, Unit};
-use qic_base::{Sink, Tape};
-use tape_script::{number_text, write_text};
+use qic_base::{Sink, Tape, write_text};
+use tape_script::number_text;
 
 /// Puts in a new cartridge, never formatted.
 pub fn put_in_new<T: Tape, K: Sink>(unit: &mut Unit<T>, segments: u16, sink: &mut K) -> Status

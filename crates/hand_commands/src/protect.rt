@@ -6,8 +6,7 @@ ghost use Rattle.command_laws.specs.RunTerms.{EndsBlind};
 use crate::lines::{printed, protected_text};
 use command_spec::Status;
 use drive_states::{HandFault, Unit};
-use qic_base::{Sink, Tape, TapeFailed};
-use tape_script::write_text;
+use qic_base::{Sink, Tape, TapeFailed, write_text};
 
 /// Sets or clears the protect mark.
 pub fn protect<T: Tape, K: Sink>(unit: &mut Unit<T>, on: bool, sink: &mut K) -> Status

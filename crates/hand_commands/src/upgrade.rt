@@ -6,8 +6,8 @@ ghost use Rattle.command_laws.specs.RunTerms.{EndsBlind};
 use crate::lines::printed;
 use command_spec::Status;
 use drive_states::{HandFault, Unit};
-use qic_base::{Sink, Tape, TapeFailed};
-use tape_script::{number_text, write_text};
+use qic_base::{Sink, Tape, TapeFailed, write_text};
+use tape_script::number_text;
 
 /// Has the cartridge kept in the newest layout, and prints the version of the one before.
 pub fn upgrade<T: Tape, K: Sink>(unit: &mut Unit<T>, sink: &mut K) -> Status

@@ -14,7 +14,7 @@ use crate::fields::{
 };
 use crate::header::Header;
 use bad_sector_map::BadMap;
-use qic_base::{ForeignField, Name, Sector, TRACKS, read_u16, read_u32};
+use qic_base::{ForeignField, Name, Sector, TRACKS, WHOLE, read_u16, read_u32};
 
 /// The test of a field of one byte in the first sector: a fault where the byte is another.
 fn byte_fault(area: &[Sector], field: ForeignField, at: usize, value: u8) -> Option<HeaderFault>
@@ -65,7 +65,7 @@ fn profile_fault(area: &[Sector], segments_per_track: u16) -> Option<HeaderFault
         .or(number_fault(area, ForeignField::FirstData, 10, FIRST_DATA))
         .or(number_fault(area, ForeignField::LastData, 12, last))
         .or(number_fault(area, ForeignField::SegmentsPerTrack, 24, segments_per_track))
-        .or(byte_fault(area, ForeignField::Tracks, 26, TRACKS))
+        .or(byte_fault(area, ForeignField::Tracks, 26, TRACKS as u8))
         .or(byte_fault(area, ForeignField::TrackMaximum, 28, TRACK_MAXIMUM))
         .or(byte_fault(area, ForeignField::SectorMaximum, 29, SECTOR_MAXIMUM))
 }
@@ -78,7 +78,7 @@ fn marked_fault(map: &BadMap) -> Option<HeaderFault>
     ensures fits { IfSome result IsFitting }
 {
     for segment in 0..3 {
-        if map.usable(segment) != u32::MAX {
+        if map.usable(segment) != WHOLE {
             return Some(HeaderFault::Foreign {
                 field: ForeignField::Map,
                 value: segment,
@@ -129,7 +129,7 @@ pub fn decode(area: &[Sector], drive_segments: u16, map: &mut BadMap) -> Result<
     ensures fits { IfErr result IsFitting }
     ensures unmarked { OnErr result (map.new ≡ replicate (28 * drive_segments) 0) }
 {
-    let segments = TRACKS as u32 * u32::from(drive_segments);
+    let segments = TRACKS * u32::from(drive_segments);
     map.read(area, segments);
     match fault_in(area, drive_segments, map) {
         Some(fault) => {

@@ -38,7 +38,7 @@ fn write_profile(sector: &mut Sector, segments_per_track: u16)
     write_u16(sector, 10, FIRST_DATA);
     write_u16(sector, 12, last);
     write_u16(sector, 24, segments_per_track);
-    sector[26] = TRACKS;
+    sector[26] = TRACKS as u8;
     sector[27] = (last / HEAD_SEGMENTS) as u8;
     sector[28] = TRACK_MAXIMUM;
     sector[29] = SECTOR_MAXIMUM;

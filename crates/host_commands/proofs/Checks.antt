@@ -3,22 +3,20 @@ use Rattle.std.proofs.Common.{◌≡◌, ◌≢◌, ◌<◌, ◌≤◌, ◌∙�
 use Rattle.std.proofs.Common.{arith, if◌then◌else◌}
 use Rattle.std.proofs.lemmas.Bool.{cases_eq, eq-eqb, le-leb, lt-ltb, false≢true}
 use Rattle.std.specs.Prelude.{◌==◌, ◌&&◌, nat_lt}
-use Rattle.cartridge_check.specs.Checking.{CheckCut, CheckEnds, CheckFails, HasChecked, WasRefused, ended, fault_status, is_refusal}
+use Rattle.cartridge_check.specs.Checking.{CheckCut, CheckFails, HasChecked, WasRefused, ended, fault_status, is_refusal}
 use Rattle.cartridge_check.specs.Checking.{tally_status}
 use Rattle.cartridge_check.specs.declared.fault.CheckFault.{CheckFault}
 use Rattle.cartridge_check.specs.declared.tally.Tally.{Tally}
 use Rattle.command_laws.proofs.StoreTaking.{both_true}
 use Rattle.command_laws.proofs.CommandEndings.{appends_none}
 use Rattle.command_laws.specs.RunTerms.{EndsBlind}
-use Rattle.command_spec.specs.Check.{Checks, IsCheck, check_refused}
+use Rattle.command_spec.specs.Check.{IsCheck, check_refused}
 use Rattle.command_spec.specs.Machine.{fault_of, may_come_from}
 use Rattle.command_spec.specs.Numbers.{are_too_many, is_segment_count}
-use Rattle.command_spec.specs.Outcome.{CommandOutcome, HeldOutcome}
 use Rattle.command_spec.specs.declared.status.Status.{Status}
 use Rattle.hand_commands.proofs.Endings.{none_taken, told_map}
-use Rattle.qic_base.specs.Acts.{Act, Failing, TapeFails, SourceFails, SinkFails, Cut, text_of}
-use Rattle.qic_base.specs.Alone.{no_source, around}
-use Rattle.qic_base.specs.Cartridge.{Cartridge}
+use Rattle.qic_base.specs.Acts.{Failing, TapeFails, SourceFails, SinkFails, text_of}
+use Rattle.qic_base.specs.Alone.{around}
 use Rattle.qic_base.specs.declared.TheConstants.{LONGEST}
 use Rattle.cartridge_check.specs.declared.fault.CheckFault.TheVariants as fault
 use Rattle.command_spec.specs.declared.status.Status.TheVariants as status

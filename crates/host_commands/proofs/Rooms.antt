@@ -1,19 +1,19 @@
 -- How `room` ends: refused, cut off, or with its line.
-use Rattle.std.proofs.Common.{◌≡◌, ◌≢◌, ℕ, List, [], true, false, Option, Some, None, IfSome, IsSomeAnd, Result, Err, refl, ap, inl, inr}
+use Rattle.std.proofs.Common.{◌≡◌, ◌≢◌, ℕ, List, [], true, false, Option, Some, None, IsSomeAnd, Result, Err, refl, ap, inl, inr}
 use Rattle.cartridge_spec.specs.Appending.{room}
 use Rattle.cartridge_spec.specs.Mounting.{Mounted}
 use Rattle.cartridge_spec.specs.Table.{Entry}
 use Rattle.command_laws.specs.RunTerms.{EndsBlind}
 use Rattle.command_spec.specs.Lines.{room_line}
 use Rattle.command_spec.specs.Machine.{may_come_from}
-use Rattle.command_spec.specs.Outcome.{OpenOutcome, acted, refused}
+use Rattle.command_spec.specs.Outcome.{OpenOutcome, acted}
 use Rattle.command_spec.specs.Room.{TellsRoom}
 use Rattle.command_spec.specs.declared.status.Status.{Status}
 use Rattle.drive_states.specs.Unit.{UnitView}
 use Rattle.hand_commands.proofs.Endings.{IsBlind, printed, turned_down, cut_off_first, told_map}
 use Rattle.hand_commands.specs.Writing.{printed_status}
 use Rattle.host_commands.proofs.Mounted.{no_counts, no_outcome, open_failed, refused_is, table_lost}
-use Rattle.host_commands.specs.Opening.{OpeningEnds, OpeningRefused, is_opening}
+use Rattle.host_commands.specs.Opening.{OpeningEnds, is_opening}
 use Rattle.host_commands.specs.Statuses.{open_status}
 use Rattle.qic_base.specs.Cartridge.{Cartridge}
 use Rattle.qic_base.specs.declared.sink.SinkFailed.{SinkFailed}

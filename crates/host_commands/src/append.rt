@@ -9,8 +9,7 @@ use crate::opening::{open_writable, store_status};
 use command_spec::Status;
 use drive_states::Unit;
 use hand_commands::printed;
-use qic_base::{Name, Sink, Source, Tape};
-use tape_script::write_text;
+use qic_base::{Name, Sink, Source, Tape, write_text};
 use volume_store::{Room, appended_text};
 
 /// Opens the cartridge, where it isn't protected, and appends the whole input as a volume. Prints its number, its

@@ -10,8 +10,8 @@ use command_spec::Status;
 use drive_states::Unit;
 use formatter::{FormatFault, format};
 use hand_commands::printed;
-use qic_base::{Name, Sink, Tape};
-use tape_script::{place_text, write_text};
+use qic_base::{Name, Sink, Tape, write_text};
+use tape_script::place_text;
 use volume_store::Room;
 
 /// Formats the cartridge, and prints how many segments and how many bad sectors it has.

@@ -12,11 +12,9 @@ use command_spec::Status;
 use drive_states::Unit;
 use hand_commands::printed;
 use header_segments::Header;
-use qic_base::{Sink, SinkFailed, Tape};
-use tape_script::{TextLine, write_text};
+use qic_base::{Sink, SinkFailed, TRACKS, Tape, write_text};
+use tape_script::TextLine;
 use volume_store::Room;
-
-const TRACKS: u32 = qic_base::TRACKS as u32;
 
 /// Opens the cartridge and prints what its header tells.
 pub fn info<T: Tape, K: Sink>(unit: &mut Unit<T>, room: Room, sink: &mut K) -> Status

@@ -7,8 +7,8 @@ use crate::opening::open_status;
 use command_spec::Status;
 use drive_states::Unit;
 use hand_commands::printed;
-use qic_base::{Sink, Tape};
-use tape_script::{number_text, write_text};
+use qic_base::{Sink, Tape, write_text};
+use tape_script::number_text;
 use volume_store::{Room, find_room};
 
 /// Looks at the cartridge, and prints how many bytes an append may have now. Nothing of it is written or settled.

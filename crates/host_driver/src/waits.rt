@@ -1,6 +1,6 @@
 //! Reports, and the wait for a seek.
 
-ghost use Rattle.std.specs.Prelude.{◌≡◌, ◌≤◌, Ok, None, true, false, IfOk};
+ghost use Rattle.std.specs.Prelude.{◌≡◌, ◌≤◌, Ok, None, true, false};
 ghost use Rattle.drive_spec.specs.Terms.{refusal_of};
 ghost use Rattle.drive_spec.specs.Deck.{is_streaming, is_stopped};
 ghost use Rattle.drive_spec.specs.Effects.{ticked};
@@ -39,20 +39,6 @@ impl Host {
     }
 
     /// Waits until the drive is ready: the number of reports of the status until one shows that, 1 to 17.
-    pub fn wait_ready<T: Tape>(&mut self, unit: &mut Unit<T>) -> Result<u8, HostFault>
-        requires fits { Fits T.means self.old unit.old }
-        requires idle { unit.old.drive.under_way ≡ Nothing }
-        requires still { is_streaming unit.old.drive.deck.motion ≡ false }
-        ensures reports { result ≡ Ok (reports_until_ready unit.old.drive.deck.motion) }
-        ensures most { IfOk result (λ reports. reports ≤ 17) }
-        ensures deck { unit.new.drive.deck ≡ ready_deck unit.old.drive.deck }
-        ensures tape { unit.new.tape ≡ unit.old.tape }
-        ensures ready { IsReady T.means self.new unit.new }
-    {
-        Ok(self.wait(unit))
-    }
-
-    /// Waits until the drive is ready, and counts the reports, of which none fails.
     pub(crate) fn wait<T: Tape>(&mut self, unit: &mut Unit<T>) -> u8
         requires fits { Fits T.means self.old unit.old }
         requires idle { unit.old.drive.under_way ≡ Nothing }

@@ -1,28 +1,12 @@
 -- A file that was looked at tells what it told.
-use Rattle.std.proofs.Common.{◌≡◌, ℕ, true, false, List, Option, Some, None, Result, Ok, Err, refl, sym}
-use Rattle.std.proofs.Common.{◌∙◌, ap, is_some}
-use Rattle.qic_base.specs.Disk.{Meaning, IsSettled, Failed, Look, Stores}
+use Rattle.std.proofs.Common.{◌≡◌, Result, Ok, Err, refl, sym, ◌∙◌}
+use Rattle.qic_base.specs.Disk.{Meaning, IsSettled, Look, Stores}
 use Rattle.qic_base.proofs.Disks.{told-look}
 use Rattle.cart_image.specs.Run.{Looked}
+use Rattle.cart_image.proofs.FailedLooks.{failed-told}
 use Rattle.cart_image.proofs.Runs.{Looks-settled}
 
 -- ---- the file is as it was
-
--- a look that failed tells what was told, where nothing was pending
-failed-told : {D : Type 0} {m : Meaning D} {a b : D} → IsSettled m a → Failed m a b Look → (was now : Option (List ℕ)) → m.told a ≡ was →
-    m.told b ≡ now → m.told b ≡ m.told a
-failed-told {m = m} {a = a} {b = b} settled failed None None before after = after ∙ sym before
-failed-told {m = m} {a = a} {b = b} settled failed None (Some bytes) before after =
-    let same : is_some (m.told b) ≡ is_some (m.told a) = failed.tells in
-    let none : is_some (m.told a) ≡ false = ap is_some before in
-    let some : is_some (m.told b) ≡ true = ap is_some after in cc
-failed-told {m = m} {a = a} {b = b} settled failed (Some bytes) None before after =
-    let same : is_some (m.told b) ≡ is_some (m.told a) = failed.tells in
-    let some : is_some (m.told a) ≡ true = ap is_some before in
-    let none : is_some (m.told b) ≡ false = ap is_some after in cc
-failed-told {m = m} {a = a} {b = b} settled failed (Some bytes) (Some left) before after =
-    let torn = failed.torn left after in
-    after ∙ ap Some (torn.2 ∙ settled.only bytes torn.0 before torn.1) ∙ sym before
 
 looked-told : {D T E : Type 0} (m : Meaning D) (a b : D) (r : Result T E) → IsSettled m a → Looked m a b r → m.told b ≡ m.told a
 looked-told m a b (Ok x) settled looked = looked.told

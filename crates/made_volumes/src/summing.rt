@@ -9,8 +9,8 @@ ghost use Rattle.made_volumes.specs.declared.fault.MakeFault.TheVariants.{Tape a
 
 use crate::fault::{MakeFault, step_fault};
 use drive_states::Unit;
-use qic_base::{Sink, SinkFailed, Tape};
-use tape_script::{Summed, TextLine, write_text};
+use qic_base::{Sink, SinkFailed, Tape, write_text};
+use tape_script::{Summed, TextLine};
 use volume_store::{Form, Store};
 
 #[tactic(auto, unfolding(command_spec::specs::Make::sum_line))]

@@ -10,12 +10,10 @@ ghost use Rattle.made_volumes.specs.Runs.{RunEnds, NeverFull};
 ghost use Rattle.made_volumes.specs.declared.fault.MakeFault.TheVariants.{Tape as tape_fault};
 
 use crate::fault::MakeFault;
+use bad_sector_map::FEWEST;
 use drive_states::{HandFault, Unit};
 use qic_base::{LostSet, Tape};
 use volume_store::Store;
-
-/// The fewest usable sectors with which a segment carries data.
-const FEWEST: u8 = 4;
 
 /// Sectors are worn in each segment whose number is a multiple of this.
 const EACH: u32 = 100;

@@ -8,9 +8,9 @@ ghost use Rattle.pulse_dialogue.specs.Telling.{HasRoom, continues, ended_text, e
 
 use crate::context::Context;
 use crate::line::Line;
-use qic_base::{Sink, SinkFailed};
+use qic_base::{Sink, SinkFailed, write_text};
 use std::mem::replace;
-use tape_script::{TextLine, write_text};
+use tape_script::TextLine;
 
 /// A train that the next pulse may continue: the times of its first pulse and of its last, and the number of its
 /// pulses.

@@ -1,6 +1,7 @@
 -- Laws of lists and of rows of bytes that several crates cite.
 use Rattle.std.proofs.Common.{◌≡◌, ℕ, zero, suc, refl, List, [], ◌∷◌, set, slice_get, ◌≢◌, ap, get_or, replicate, ◌<◌, length, ◌++◌, take}
 use Rattle.std.proofs.Common.{drop, ◌+◌, arith, ◌-◌, ◌≤◌, ◌∙◌}
+use Rattle.std.specs.List.{range_with_len}
 use Rattle.std.proofs.lemmas.List.Elements.{All-from_get_or, All-replicate}
 use Rattle.qic_base.specs.Cartridge.{IsSector, zero_sector}
 use Rattle.std.proofs.lemmas.List.{take_at, take-take, drop-take, take-append-drop, length-take, length-drop, length-replicate, append-nil}
@@ -12,6 +13,18 @@ slice_get-set_other (x ∷ xs) zero zero y apart = absurd (apart refl)
 slice_get-set_other (x ∷ xs) zero (suc j) y apart = refl
 slice_get-set_other (x ∷ xs) (suc i) zero y apart = refl
 slice_get-set_other (x ∷ xs) (suc i) (suc j) y apart = slice_get-set_other xs i j y (λ e. apart (ap suc e))
+
+-- a range in two parts
+pub range_part : (a m n : ℕ) → range_with_len a (m + n) ≡ range_with_len a m ++ range_with_len (a + m) n
+range_part a zero n =
+    let none : zero + n ≡ n = omega arith in
+    let here : a ≡ a + zero = omega arith in
+    ap (range_with_len a) none ∙ ap (λ (b : ℕ). range_with_len b n) here
+range_part a (suc m) n =
+    let first : suc m + n ≡ suc (m + n) = omega arith in
+    let here : a + 1 + m ≡ a + suc m = omega arith in
+    ap (range_with_len a) first ∙ ap (λ (xs : List ℕ). a ∷ xs) (range_part (a + 1) m n)
+    ∙ ap (λ (b : ℕ). a ∷ (range_with_len (a + 1) m ++ range_with_len b n)) here
 
 -- a row of zeros is 0 at each index, and past its end
 pub zeros_are_zero : (n j : ℕ) → get_or {A = ℕ} (replicate n 0) j 0 ≡ 0

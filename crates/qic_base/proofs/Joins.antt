@@ -1,5 +1,5 @@
 -- How runs over acts join.
-use Rattle.std.proofs.Common.{◌≡◌, List, [], ◌∷◌, ◌++◌, refl, sym, ap, ◌∙◌, append_assoc, ℕ, Option, subst, arith, append-nil, Some, ◌≤◌}
+use Rattle.std.proofs.Common.{◌≡◌, List, [], ◌∷◌, ◌++◌, refl, sym, ap, ◌∙◌, append_assoc, ℕ, Option, subst, arith, append-nil, Some}
 use Rattle.std.specs.Option.{option_map}
 use Rattle.qic_base.proofs.Steps.{effects-append, Rose-after, Torn-nothing, Done-nothing, Done-Done, Done-Broke, Broke-front}
 use Rattle.qic_base.proofs.Writing.{TakesBoth, Wrote-Wrote}
@@ -28,19 +28,19 @@ text_of-append (x ∷ xs) ys =
     ∙ sym (append_assoc x.text (text_of xs) (text_of ys))
 
 -- the steps of a front and some steps, behind others
-steps_behind : (xs front : List Act) (next : List Step) → steps_of xs ++ (steps_of front ++ next) ≡ steps_of (xs ++ front) ++ next
+pub steps_behind : (xs front : List Act) (next : List Step) → steps_of xs ++ (steps_of front ++ next) ≡ steps_of (xs ++ front) ++ next
 steps_behind xs front next =
     sym (append_assoc (steps_of xs) (steps_of front) next)
     ∙ ap (λ (steps : List Step). steps ++ next) (sym (steps_of-append xs front))
 
 -- what acts and others behind them make of a cartridge
-effects_behind : (xs front : List Act) (held : Option Cartridge) →
+pub effects_behind : (xs front : List Act) (held : Option Cartridge) →
     effects (steps_of front) (effects (steps_of xs) held) ≡ effects (steps_of (xs ++ front)) held
 effects_behind xs front held =
     sym (effects-append (steps_of xs) (steps_of front) held)
     ∙ ap (λ (steps : List Step). effects steps held) (sym (steps_of-append xs front))
 
-abbrev parted_behind : (xs ys : List Act) → Parted ys → Parted (xs ++ ys)
+abbrev pub parted_behind : (xs ys : List Act) → Parted ys → Parted (xs ++ ys)
 parted_behind xs ys at = record {
   front = xs ++ at.front;
   act = at.act;
@@ -48,7 +48,7 @@ parted_behind xs ys at = record {
   parts = append_assoc xs at.front (at.act ∷ at.rest) ∙ ap (λ (zs : List Act). xs ++ zs) at.parts;
 }
 
-abbrev parted_before : (xs ys : List Act) → Parted xs → Parted (xs ++ ys)
+abbrev pub parted_before : (xs ys : List Act) → Parted xs → Parted (xs ++ ys)
 parted_before xs ys at = record {
   front = at.front;
   act = at.act;
@@ -78,6 +78,34 @@ pub broke_behind : {K : Type 0} {k : sinks.Meaning K} {a b : K} {next : List ℕ
 broke_behind {k = k} {a = a} {b = b} {next = next} text none broke =
     subst (λ (written : List ℕ). WroteAndBroke k a b written next) (sym none) (broke_first broke)
 
+-- a text behind others broke off
+pub then_broke : {K : Type 0} (k : sinks.Meaning K) → TakesBoth k → (a b c : K) (xs ys next : List ℕ) → sinks.Wrote k a b xs →
+    WroteAndBroke k b c ys next →
+    WroteAndBroke k a c (xs ++ ys) next
+then_broke k both a b c xs ys next first broke = record {
+  part = broke.part;
+  rest = broke.rest;
+  parts = broke.parts;
+  some = broke.some;
+  took = subst (λ (text : List ℕ). k.took a text c) (sym (append_assoc xs ys broke.part))
+      (both a b c xs (ys ++ broke.part) first.took broke.took);
+  cause = Rose-after (k.faults a) (k.faults b) (k.faults c) first.later broke.cause;
+  later = let e = first.later in let f = broke.later in omega arith;
+}
+
+-- ---- acts behind those that were left
+
+pub broke_longer : {T : Type 0} (t : tapes.Meaning T) (x y : T) (steps : List Step) (rest ys : List Act) →
+    tapes.Broke t x y (steps ++ next_steps rest) → tapes.Broke t x y (steps ++ next_steps (rest ++ ys))
+broke_longer t x y steps [] ys broke =
+    subst (tapes.Broke t x y) (ap (λ (ss : List Step). ss ++ next_steps ys) (append-nil steps)) (Broke-front (next_steps ys) broke)
+broke_longer t x y steps (act ∷ rest) ys broke = broke
+
+pub torn_longer : (rest ys : List Act) (held left : Option Cartridge) → Torn (next_steps rest) held left →
+    Torn (next_steps (rest ++ ys)) held left
+torn_longer [] ys held left is = subst (Torn (next_steps ys) held) (sym is) (Torn-nothing (next_steps ys) held)
+torn_longer (act ∷ rest) ys held left torn = torn
+
 -- ---- runs
 
 module _ {T S K : Type 0} (t : tapes.Meaning T) (s : sources.Meaning S) (k : sinks.Meaning K) where
@@ -95,21 +123,8 @@ module _ {T S K : Type 0} (t : tapes.Meaning T) (s : sources.Meaning S) (k : sin
     source_later = let e = first.source_later in let f = next.source_later in omega arith;
   }
 
-  then_broke : TakesBoth k → (a b c : K) (xs ys next : List ℕ) → sinks.Wrote k a b xs → WroteAndBroke k b c ys next →
-      WroteAndBroke k a c (xs ++ ys) next
-  then_broke both a b c xs ys next first broke = record {
-    part = broke.part;
-    rest = broke.rest;
-    parts = broke.parts;
-    some = broke.some;
-    took = subst (λ (text : List ℕ). k.took a text c) (sym (append_assoc xs ys broke.part))
-        (both a b c xs (ys ++ broke.part) first.took broke.took);
-    cause = Rose-after (k.faults a) (k.faults b) (k.faults c) first.later broke.cause;
-    later = let e = first.later in let f = broke.later in omega arith;
-  }
-
   -- what stands behind the front of later acts, told from the start
-  here_behind : (a b c : Outside T S K) (xs ys : List Act) → Went t s k a b xs → (cut : TapeCut t s k b c ys) →
+  pub here_behind : (a b c : Outside T S K) (xs ys : List Act) → Went t s k a b xs → (cut : TapeCut t s k b c ys) →
       (held left : Option Cartridge) →
       t.told a.tape ≡ Some held → t.told c.tape ≡ Some left → Torn (next_steps cut.rest) (effects (steps_of (xs ++ cut.front)) held) left
   here_behind a b c xs ys first cut held left told now =
@@ -118,7 +133,7 @@ module _ {T S K : Type 0} (t : tapes.Meaning T) (s : sources.Meaning S) (k : sin
       subst (λ (h : Option Cartridge). Torn (next_steps cut.rest) h left) (effects_behind xs cut.front held)
       (cut.here (effects (steps_of xs) held) left between now)
 
-  tape_cut : TakesBoth k → (a b c : Outside T S K) (xs ys : List Act) → Went t s k a b xs → TapeCut t s k b c ys →
+  abbrev pub tape_cut : TakesBoth k → (a b c : Outside T S K) (xs ys : List Act) → Went t s k a b xs → TapeCut t s k b c ys →
       TapeCut t s k a c (xs ++ ys)
   tape_cut both a b c xs ys first cut = record {
     front = xs ++ cut.front;
@@ -130,29 +145,17 @@ module _ {T S K : Type 0} (t : tapes.Meaning T) (s : sources.Meaning S) (k : sin
     source_later = let e = first.source_later in let f = cut.source_later in omega arith;
   }
 
-  -- acts behind those that were left
-  broke_longer : (x y : T) (steps : List Step) (rest ys : List Act) → tapes.Broke t x y (steps ++ next_steps rest) →
-      tapes.Broke t x y (steps ++ next_steps (rest ++ ys))
-  broke_longer x y steps [] ys broke =
-      subst (tapes.Broke t x y) (ap (λ (ss : List Step). ss ++ next_steps ys) (append-nil steps)) (Broke-front (next_steps ys) broke)
-  broke_longer x y steps (act ∷ rest) ys broke = broke
-
-  torn_longer : (rest ys : List Act) (held left : Option Cartridge) → Torn (next_steps rest) held left →
-      Torn (next_steps (rest ++ ys)) held left
-  torn_longer [] ys held left is = subst (Torn (next_steps ys) held) (sym is) (Torn-nothing (next_steps ys) held)
-  torn_longer (act ∷ rest) ys held left torn = torn
-
-  sink_cut : TakesBoth k → (a b c : Outside T S K) (xs ys : List Act) → Went t s k a b xs → SinkCut t s k b c ys →
+  abbrev pub sink_cut : TakesBoth k → (a b c : Outside T S K) (xs ys : List Act) → Went t s k a b xs → SinkCut t s k b c ys →
       SinkCut t s k a c (xs ++ ys)
   sink_cut both a b c xs ys first cut = record {
     at = parted_behind xs ys cut.at;
     did = subst (tapes.Done t a.tape c.tape) (steps_behind xs cut.at.front cut.at.act.steps) (Done-Done first.did cut.did);
     broke = subst (λ (text : List ℕ). WroteAndBroke k a.sink c.sink text cut.at.act.text) (sym (text_of-append xs cut.at.front))
-        (then_broke both a.sink b.sink c.sink (text_of xs) (text_of cut.at.front) cut.at.act.text first.wrote cut.broke);
+        (then_broke k both a.sink b.sink c.sink (text_of xs) (text_of cut.at.front) cut.at.act.text first.wrote cut.broke);
     source_later = let e = first.source_later in let f = cut.source_later in omega arith;
   }
 
-  source_cut : TakesBoth k → (a b c : Outside T S K) (xs ys : List Act) → Went t s k a b xs → SourceCut t s k b c ys →
+  abbrev pub source_cut : TakesBoth k → (a b c : Outside T S K) (xs ys : List Act) → Went t s k a b xs → SourceCut t s k b c ys →
       SourceCut t s k a c (xs ++ ys)
   source_cut both a b c xs ys first cut = record {
     front = xs ++ cut.front;
@@ -180,17 +183,19 @@ module _ {T S K : Type 0} (t : tapes.Meaning T) (s : sources.Meaning S) (k : sin
   went_then_cut both a b c xs ys SourceFails first cut = source_cut both a b c xs ys first cut
   went_then_cut both a b c xs ys SinkFails first cut = sink_cut both a b c xs ys first cut
 
-  pub cut_is_longer : CutIsLonger t s k
-  cut_is_longer a b xs ys TapeFails cut = record {
+  abbrev pub tape_cut_longer : (a b : Outside T S K) (xs ys : List Act) → TapeCut t s k a b xs → TapeCut t s k a b (xs ++ ys)
+  tape_cut_longer a b xs ys cut = record {
     front = cut.front;
     rest = cut.rest ++ ys;
     parts = sym (append_assoc cut.front cut.rest ys) ∙ ap (λ (zs : List Act). zs ++ ys) cut.parts;
-    broke = broke_longer a.tape b.tape (steps_of cut.front) cut.rest ys cut.broke;
+    broke = broke_longer t a.tape b.tape (steps_of cut.front) cut.rest ys cut.broke;
     here = λ held left told now. torn_longer cut.rest ys (effects (steps_of cut.front) held) left (cut.here held left told now);
     wrote = cut.wrote;
     source_later = cut.source_later;
   }
-  cut_is_longer a b xs ys SourceFails cut = record {
+
+  abbrev pub source_cut_longer : (a b : Outside T S K) (xs ys : List Act) → SourceCut t s k a b xs → SourceCut t s k a b (xs ++ ys)
+  source_cut_longer a b xs ys cut = record {
     front = cut.front;
     rest = cut.rest ++ ys;
     parts = sym (append_assoc cut.front cut.rest ys) ∙ ap (λ (zs : List Act). zs ++ ys) cut.parts;
@@ -199,9 +204,16 @@ module _ {T S K : Type 0} (t : tapes.Meaning T) (s : sources.Meaning S) (k : sin
     cause = cut.cause;
     source_later = cut.source_later;
   }
-  cut_is_longer a b xs ys SinkFails cut = record {
+
+  abbrev pub sink_cut_longer : (a b : Outside T S K) (xs ys : List Act) → SinkCut t s k a b xs → SinkCut t s k a b (xs ++ ys)
+  sink_cut_longer a b xs ys cut = record {
     at = parted_before xs ys cut.at;
     did = cut.did;
     broke = cut.broke;
     source_later = cut.source_later;
   }
+
+  pub cut_is_longer : CutIsLonger t s k
+  cut_is_longer a b xs ys TapeFails cut = tape_cut_longer a b xs ys cut
+  cut_is_longer a b xs ys SourceFails cut = source_cut_longer a b xs ys cut
+  cut_is_longer a b xs ys SinkFails cut = sink_cut_longer a b xs ys cut

@@ -9,7 +9,6 @@ use Rattle.qic_base.proofs.LostSetLaws.{lost_places-lost, lost_places-kept, lost
 use Rattle.qic_base.proofs.Steps.{Tells-map}
 use Rattle.qic_base.specs.Cartridge.{lost_places, IsPlace, view_at}
 use Rattle.qic_base.specs.CartridgeTerms.{IsLost, is_lost}
-use Rattle.qic_base.specs.Step.{NewSector}
 use Rattle.qic_base.specs.Tape.{Meaning}
 use Rattle.qic_base.specs.TapeCalls.{IsPlaceOf, Tells, chosen, AreBlank, Reads, ReadsSectors, is_blank, is_readable, write_answer}
 use Rattle.qic_base.specs.declared.tape.SectorRead.TheVariants as read

@@ -1,5 +1,5 @@
 -- What follows of acts that were cut off: for the tape, for its stops, for the text and for the counts.
-use Rattle.std.proofs.Common.{◌≡◌, ◌≤◌, arith, List, ◌∷◌, ◌++◌, sym, ap, ◌∙◌, append_assoc, [], refl, ℕ, Option, Some, None, IsSomeAnd}
+use Rattle.std.proofs.Common.{◌≡◌, arith, List, ◌∷◌, ◌++◌, sym, ap, ◌∙◌, append_assoc, [], refl, ℕ, Option, Some, None, IsSomeAnd}
 use Rattle.std.proofs.Common.{subst}
 use Rattle.std.specs.Option.{option_map}
 use Rattle.std.specs.Prelude.{is_some}

@@ -1,5 +1,5 @@
 -- What a stop inside a write of sectors leaves: that of one sector, and what holds of each cartridge that one of several leaves.
-use Rattle.std.proofs.Common.{◌≡◌, ℕ, ◌⊎◌, inl, inr, List, [], ◌∷◌, ◌++◌, refl, sym, ap, Option, Some, None, IsSomeAnd, subst}
+use Rattle.std.proofs.Common.{◌≡◌, ℕ, ◌⊎◌, inl, inr, List, [], ◌∷◌, sym, ap, Option, Some, None, IsSomeAnd, subst}
 use Rattle.qic_base.specs.Cartridge.{Cartridge}
 use Rattle.qic_base.specs.Step.{Step, NewSector, WriteSectors, Wear, write_sector, with_sector, with_sectors, with_worn}
 use Rattle.qic_base.specs.Step.{AreClosing, AreOpening, Halfway, Torn, effect}
@@ -30,11 +30,6 @@ torn_write segment sector bytes rest held left (inr (inl half)) =
           (Torn-nothing rest (effect (write_sector segment sector bytes) held))))
     ]
 torn_write segment sector bytes rest held left (inr (inr behind)) = inr (inr behind)
-
--- where a sector that is worn stands, the write was stopped
-pub worn_is_half : (segment sector : ℕ) (bytes : List ℕ) (c : Cartridge) →
-    Halfway (write_sector segment sector bytes) (Some c) (Some (with_worn segment sector c))
-worn_is_half segment sector bytes c = inl (inr refl)
 
 -- ---- several
 

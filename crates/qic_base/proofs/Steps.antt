@@ -1,5 +1,5 @@
 -- How what several calls did to a tape joins: calls one after the other are one list of steps.
-use Rattle.std.proofs.Common.{◌≡◌, ℕ, ◌≤◌, ◌⊎◌, inl, inr, true, List, [], ◌∷◌, ◌++◌, refl, sym, ◌∙◌, ap, arith, Option, Some, None, is_some}
+use Rattle.std.proofs.Common.{◌≡◌, ℕ, ◌⊎◌, inl, inr, true, List, [], ◌∷◌, ◌++◌, refl, sym, ◌∙◌, ap, arith, Option, Some, None, is_some}
 use Rattle.std.proofs.Common.{IfSome, subst, Result, Ok, Err}
 use Rattle.std.proofs.lemmas.Bool.{lt-ltb}
 use Rattle.std.proofs.lemmas.List.{append-nil}
@@ -13,9 +13,6 @@ use Rattle.qic_base.specs.TapeCalls.{Tells, IsLeftNow, Does}
 -- a rise in a part of a call, of which the rest left the count as it was, is a rise in the call
 pub Rose-after : (a b c : ℕ) → b ≡ a → Rose b c → Rose a c
 Rose-after a b c stood rose = omega arith
-
-pub Rose-before : (a b c : ℕ) → Rose a b → c ≡ b → Rose a c
-Rose-before a b c rose stood = omega arith
 
 -- a count that rose is not 0
 pub Rose-some : (before after : ℕ) → Rose before after → nat_lt 0 after ≡ true

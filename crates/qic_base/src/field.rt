@@ -1,6 +1,6 @@
-//! Numbers in a format's bytes: all of its fields are little-endian.
+//! Bytes in a buffer, and numbers in a format's bytes: all of its fields are little-endian.
 
-ghost use Rattle.std.specs.Prelude.{◌≡◌, ◌≤◌, ◌+◌, length};
+ghost use Rattle.std.specs.Prelude.{◌≡◌, ◌≤◌, ◌+◌, ◌++◌, length, take};
 ghost use Rattle.qic_base.specs.Field.{number_at, overwritten, little_endian_bytes};
 
 use byteorder::{ByteOrder, LittleEndian};
@@ -54,4 +54,12 @@ pub fn write_u64(bytes: &mut [u8], at: usize, value: u64)
     ensures whole { bytes.new ≡ overwritten bytes.old at (little_endian_bytes 8 value) }
 {
     LittleEndian::write_u64(&mut bytes[at..at + 8], value);
+}
+
+/// Puts bytes over those from a place on.
+pub fn put_bytes(buffer: &mut [u8], at: usize, from: &[u8])
+    requires { at + length from.now ≤ length buffer.old }
+    ensures { take (at + length from.now) buffer.new ≡ take at buffer.old ++ from.now }
+{
+    buffer[at..at + from.len()].copy_from_slice(from);
 }

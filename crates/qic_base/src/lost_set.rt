@@ -1,7 +1,7 @@
 //! The sectors of a segment that cannot be read, as a set of places.
 
-ghost use Rattle.std.specs.Prelude.{◌≡◌, ◌<◌, ◌↔◌, IsTrue, length};
-ghost use Rattle.qic_base.specs.CartridgeTerms.{IsLost};
+ghost use Rattle.std.specs.Prelude.{◌≡◌, ◌≢◌, ◌<◌, ◌↔◌, ◌^◌, ℕ, IsTrue, length};
+ghost use Rattle.qic_base.specs.CartridgeTerms.{IsLost, with_place};
 ghost use Rattle.qic_base.specs.Cartridge.{lost_places};
 
 use std::marker::Model;
@@ -45,6 +45,17 @@ impl LostSet {
     {
         let bits = self.bits;
         place < 32 && bits >> place & 1 == 1
+    }
+
+    /// The set with one place more.
+    pub fn with_place(self, place: u8) -> LostSet
+        requires { place < 32 }
+        ensures set { result ≡ with_place self place }
+        ensures more { IsLost result place }
+        ensures others { (other : ℕ) → other ≢ place → IsLost result other ↔ IsLost self other }
+        ensures below { (count : ℕ) → place < count → self < 2 ^ count → result < 2 ^ count }
+    {
+        LostSet::from_mask(self.mask() | 1 << place)
     }
 
     /// How many places are in the set, 0 to 32.

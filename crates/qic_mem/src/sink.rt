@@ -7,7 +7,7 @@ ghost use Rattle.qic_mem.specs.Plan.{new_plan, IsChosen, plan_after};
 ghost use Rattle.qic_mem.specs.Sink.{sink_means};
 
 use crate::plan::CallPlan;
-use qic_base::{NoMemory, Sink, SinkFailed};
+use qic_base::{NoMemory, Sink, SinkFailed, put_bytes};
 use std::alloc::Global;
 use std::marker::Model;
 
@@ -56,14 +56,6 @@ impl MemSink {
     }
 }
 
-/// Puts bytes over those from a place on.
-fn put(buffer: &mut [u8], at: usize, from: &[u8])
-    requires { at + length from.now ≤ length buffer.old }
-    ensures { take (at + length from.now) buffer.new ≡ take at buffer.old ++ from.now }
-{
-    buffer[at..at + from.len()].copy_from_slice(from);
-}
-
 impl Sink for MemSink {
     ghost means = { sink_means };
 
@@ -97,7 +89,7 @@ impl Sink for MemSink {
             return Err(SinkFailed);
         }
         let count = from.len().min(self.buffer.len() - self.len);
-        put(&mut self.buffer, self.len, &from[..count]);
+        put_bytes(&mut self.buffer, self.len, &from[..count]);
         self.len += count;
         Ok(count)
     }

@@ -17,4 +17,4 @@ pub use ahead::{Ahead, next_byte};
 pub use form::Block;
 pub use mask::{clear, mark};
 pub use reading::{MapError, read_map};
-pub use text::{block_line, write_bytes, write_map};
+pub use text::{block_line, write_map};

@@ -6,7 +6,7 @@ ghost use Rattle.rescue_map.specs.Laws.{most_words};
 ghost use Rattle.rescue_map.specs.Text.{is_marked, run_block, runs_from, runs_of, hex_digit, hex_digits, block_text, blocks_text, map_text};
 
 use crate::form::Block;
-use qic_base::{SECTOR, Sink, SinkFailed};
+use qic_base::{SECTOR, Sink, SinkFailed, write_text};
 
 /// The comments and the status line of every map that is written.
 const HEAD: &str = "# Mapfile. Created by tape_export
@@ -14,20 +14,6 @@ const HEAD: &str = "# Mapfile. Created by tape_export
 0x00000000     +               1
 #      pos        size  status
 ";
-
-/// Writes the bytes as they are, all of them. A failure leaves a front of them written.
-pub fn write_bytes<K: Sink>(bytes: &[u8], sink: &mut K) -> Result<(), SinkFailed>
-    ensures { Writes K.means sink.old sink.new bytes.now result }
-{
-    let mut at = 0;
-    while at < bytes.len() {
-        match sink.write(&bytes[at..]) {
-            Ok(written) => at += written,
-            Err(fault) => return Err(fault),
-        }
-    }
-    Ok(())
-}
 
 /// A hexadecimal digit, in capitals.
 fn hex_digit(digit: u32) -> u8
@@ -118,7 +104,7 @@ fn write_runs<K: Sink>(mask: &[u32], sink: &mut K) -> Result<(), SinkFailed>
     while first < sectors {
         let end = run_end(mask, first);
         let block = run_block(first, end, is_marked(mask, first));
-        match write_bytes(&block_line(block), sink) {
+        match write_text(&block_line(block), sink) {
             Ok(()) => first = end,
             Err(fault) => return Err(fault),
         }
@@ -132,7 +118,7 @@ pub fn write_map<K: Sink>(mask: &[u32], sink: &mut K) -> Result<(), SinkFailed>
     requires { length mask.now ≤ most_words }
     ensures { Writes K.means sink.old sink.new (map_text mask.now) result }
 {
-    match write_bytes(HEAD.as_bytes(), sink) {
+    match write_text(HEAD.as_bytes(), sink) {
         Ok(()) => write_runs(mask, sink),
         Err(fault) => Err(fault),
     }

@@ -17,7 +17,7 @@ use Rattle.cartridge_spec.specs.Volumes.{capacity_between, entries_of, volume_le
 use Rattle.command_spec.specs.Lines.{count_line, list_text, volume_line, volume_lines}
 use Rattle.qic_base.specs.Cartridge.{Cartridge}
 use Rattle.dump_spec.specs.Answers.{Answer, IsKnown, Known, list_answer}
-use Rattle.dump_spec.specs.Lines.{listed_line, listed_lines}
+use Rattle.dump_spec.specs.Lines.{listed_lines}
 use Rattle.dump_spec.specs.Lines as dump_lines
 use Rattle.dump_spec.specs.Volumes.{Volume, carried, carried_between, has_bad_range, length_of}
 use Rattle.dump_spec.specs.declared.asked.Command.{Command}

@@ -6,7 +6,7 @@ use Rattle.qic_base.specs.Cartridge.{Cartridge}
 use Rattle.qic_base.specs.Tape.{Meaning, Done}
 use Rattle.qic_base.specs.TapeCalls.{Tells}
 use Rattle.qic_base.specs.declared.tape.TapeInfo.{TapeInfo}
-use Rattle.qic_base.proofs.Steps.{Done-nothing, Done-told}
+use Rattle.qic_base.proofs.Steps.{Done-nothing}
 use Rattle.cartridge_spec.specs.Shape.{usable_count}
 use Rattle.cartridge_laws.proofs.Segments.{count_of_whole}
 use Rattle.drive_spec.specs.declared.deck.Deck.{Deck}
@@ -66,12 +66,6 @@ tells_then m s P Q follows told = by_cases (m.told s) follows told
     by_cases None f fact = tt
     by_cases (Some None) f fact = tt
     by_cases (Some (Some c)) f fact = f fact
-
--- and it stands after calls that only read
-pub tells_later : {S : Type 0} {m : Meaning S} {a b : S} (P : Cartridge → Type 0) → Done m a b [] → Tells m a P → Tells m b P
-tells_later {m = m} P read told =
-    let telling : Option (Option Cartridge) → Type 0 = λ held. IfSome held (λ h. IfSome h P) in
-    subst telling (sym (Done-told read)) told
 
 -- ---- an answer
 

@@ -7,7 +7,7 @@ ghost use Rattle.qic_base.specs.declared.tape.SectorView.{SectorView};
 ghost use Rattle.segment_io.specs.Gathered.{Gathered};
 ghost use Rattle.segment_io.specs.Writes.{first_sectors};
 
-use qic_base::{LostSet, SECTOR, SECTORS, Sector};
+use qic_base::{LostSet, SECTOR, SECTORS, Sector, WHOLE};
 
 /// Copies a sector to a place, where it stands elsewhere.
 fn move_to(sectors: &mut [Sector], place: u8, index: u8)
@@ -48,7 +48,7 @@ pub(crate) fn at_indexes(sectors: &[Sector], usable: u32) -> Option<&[Sector; 32
     requires room { length sectors.now ≡ 32 }
     ensures { IfSome result (λ entries. chosen usable entries.now ≡ first_sectors usable sectors.now) }
 {
-    if usable != u32::MAX {
+    if usable != WHOLE {
         return None;
     }
     sectors.as_array()

@@ -27,7 +27,7 @@ use Rattle.qic_base.specs.TapeCalls.{Tells}
 use Rattle.qic_base.specs.declared.tape.SectorView.{SectorView}
 use Rattle.qic_base.specs.declared.tape.SectorView.TheVariants.{Holds}
 use Rattle.segment_io.specs.Gathered.{IsUnreadableAt, NamesUnreadable}
-use Rattle.segment_mending.specs.Locating.{IsFoundBy, MayBeBy, DeepFinds, DeepMayFind}
+use Rattle.segment_mending.specs.Locating.{IsFoundBy, DeepFinds}
 use Rattle.segment_mending.specs.declared.fault.ScrubFault.{ScrubFault}
 use Rattle.segment_mending.specs.declared.locating.Found.{Found}
 use Rattle.segment_mending.specs.declared.locating.Found.TheVariants.{Reads, Fails}
@@ -203,14 +203,6 @@ for_searched searched c l (Reads places (Some sector)) sectors is found =
     record { finds = (is, found.finds.1, found.finds.2, found.finds.3); places = found.places }
 for_searched searched c l (Fails why) sectors is found =
     record { finds = (found.finds.0, λ again. found.finds.1 tt); places = tt }
-
-pub may_be_searched : (searched : Type 0) (l : Looked) (found : Found) (sectors : List (List ℕ)) → searched →
-    DeepMayFind l found sectors → MayBeBy searched l found sectors
-may_be_searched searched l (Reads places None) sectors is may =
-    record { within = may.within; code = may.code; can_be_read = may.can_be_read; may = tt }
-may_be_searched searched l (Reads places (Some sector)) sectors is may =
-    record { within = may.within; code = may.code; can_be_read = may.can_be_read; may = (is, may.may.1) }
-may_be_searched searched l (Fails why) sectors is may = may
 
 -- or that isn't
 pub for_unsearched : (searched : Type 0) (c : Cartridge) (l : Looked) (found : Found) (sectors : List (List ℕ)) → (searched → ⊥) →

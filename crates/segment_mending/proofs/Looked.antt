@@ -2,6 +2,7 @@
 use Rattle.std.proofs.Common.{◌≡◌, ℕ, zero, suc, ◌+◌, ◌-◌, ◌<◌, ◌≤◌, Bool, true, false, cond, List, [], ◌∷◌, ◌++◌, length, take, drop}
 use Rattle.std.proofs.Common.{filter, slice_get, Some, refl, sym, ap, ◌∙◌, subst, arith, append_assoc, append-nil}
 use Rattle.std.specs.List.{range_with_len}
+use Rattle.qic_base.proofs.Arrays.{range_part}
 use Rattle.std.proofs.lemmas.Bool.{le-leb, lt-leb}
 use Rattle.std.proofs.lemmas.List.{take_more, take-append-drop}
 use Rattle.std.proofs.lemmas.List.Elements.{filter-append}
@@ -16,17 +17,6 @@ use Rattle.command_laws.specs.ScrubTerms.{looked_segments}
 use Rattle.cartridge_laws.proofs.AppendSegments.{carries}
 
 -- ---- the segments of a volume
-
-range_part : (a m n : ℕ) → range_with_len a (m + n) ≡ range_with_len a m ++ range_with_len (a + m) n
-range_part a zero n =
-    let none : zero + n ≡ n = omega arith in
-    let here : a ≡ a + zero = omega arith in
-    ap (range_with_len a) none ∙ ap (λ (b : ℕ). range_with_len b n) here
-range_part a (suc m) n =
-    let first : suc m + n ≡ suc (m + n) = omega arith in
-    let here : a + 1 + m ≡ a + suc m = omega arith in
-    ap (range_with_len a) first ∙ ap (λ (xs : List ℕ). a ∷ xs) (range_part (a + 1) m n)
-    ∙ ap (λ (b : ℕ). a ∷ (range_with_len (a + 1) m ++ range_with_len b n)) here
 
 -- the carrying segments from one on, below another
 abbrev pub carrying_below : List ℕ → (start segment : ℕ) → List ℕ

@@ -21,5 +21,3 @@ pub use searching::{Searched, search_segment};
 
 /// Segments with a copy of the header, the first of a cartridge.
 const HEADER_COPIES: u32 = 2;
-/// The segment of the volume table.
-const TABLE_SEGMENT: u32 = volume_table::TABLE_SEGMENT as u32;

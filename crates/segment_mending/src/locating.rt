@@ -1,6 +1,6 @@
 //! One segment read, and what is found of it.
 
-ghost use Rattle.std.specs.Prelude.{◌≡◌, ◌<◌, ◌≤◌, ◌^◌, ℕ, [], true, length, take, slice_index, Some, None, IfOk, IsOkUnless};
+ghost use Rattle.std.specs.Prelude.{◌≡◌, ◌<◌, ◌≤◌, ◌^◌, ℕ, [], true, length, take, Some, None, IfOk, IsOkUnless};
 ghost use Rattle.qic_base.specs.Cartridge.{Cartridge};
 ghost use Rattle.qic_base.specs.TapeCalls.{Does, Tells};
 ghost use Rattle.cartridge_laws.specs.Shape.{Carries};
@@ -9,7 +9,7 @@ ghost use Rattle.cartridge_spec.specs.Header.{has_signature};
 ghost use Rattle.cartridge_spec.specs.Says.{cells_of, whole_mask};
 ghost use Rattle.cartridge_laws.specs.Segment.{data_of};
 ghost use Rattle.erasure_solve.specs.Lost.{lost_count};
-ghost use Rattle.cartridge_spec.specs.Shape.{usable_count, usable_places};
+ghost use Rattle.cartridge_spec.specs.Shape.{usable_count};
 ghost use Rattle.command_spec.specs.Scrub.{IsSearched, reads};
 ghost use Rattle.command_spec.specs.declared.depth.Depth.{Depth};
 ghost use Rattle.drive_states.specs.Reach.{reads_in};
@@ -20,15 +20,17 @@ ghost use Rattle.segment_mending.specs.Locating.{Locates, data_in, IsFound, Deep
 ghost use Rattle.command_spec.specs.declared.depth.Depth.TheVariants as depths;
 ghost use Rattle.silent_locate.specs.Deep as deep;
 
+use crate::HEADER_COPIES;
 use crate::fault::ScrubFault;
-use crate::{HEADER_COPIES, TABLE_SEGMENT};
+use bad_sector_map::index_at;
 use command_spec::Depth;
 use drive_states::Unit;
 use header_segments::SIGNATURE;
 use host_driver::Host;
-use qic_base::{LostSet, SECTORS, Sector, Tape, read_u32};
+use qic_base::{LostSet, Sector, Tape, read_u32};
 use segment_io::{SegFault, Workspace, collect, read_segment};
-use silent_locate::{LocateFault, Located, locate, with_place};
+use silent_locate::{LocateFault, Located, locate};
+use volume_table::TABLE_SEGMENT;
 
 /// What is found of a segment. A place counts from 0 among its usable sectors, an index among its 32.
 #[derive(Clone, Copy)]
@@ -246,7 +248,7 @@ fn found_wrong(segment: u32, usable: u32, lost: LostSet, place: u8, work: &Works
         return Found::Fails(Unread::Mismatch);
     }
     Found::Reads {
-        places: with_place(lost, place),
+        places: lost.with_place(place),
         wrong: Some(index_at(usable, place)),
     }
 }
@@ -268,21 +270,4 @@ fn is_header(work: &Workspace) -> bool
     ensures { result ≡ has_signature (data_of (take 32 work.now)) }
 {
     read_u32(&work.sectors()[0], 0) == SIGNATURE
-}
-
-/// The index in its segment of the usable sector at a place.
-fn index_at(usable: u32, place: u8) -> u8
-    requires { place < usable_count usable }
-    ensures { result ≡ slice_index (usable_places usable) place }
-{
-    let mut before = 0;
-    for index in 0..SECTORS {
-        if LostSet::from_mask(usable).contains(index) {
-            if before == place {
-                return index;
-            }
-            before += 1;
-        }
-    }
-    unreachable!("the segment has that many usable sectors")
 }

@@ -15,10 +15,9 @@ use crate::lines::unread_text;
 use crate::locating::{Found, find_in_segment};
 use crate::mending::{mend, pass_over};
 use crate::progress::Progress;
-use bad_sector_map::WHOLE;
 use drive_states::Unit;
 use host_driver::Host;
-use qic_base::{Sink, Tape};
+use qic_base::{Sink, Tape, WHOLE};
 use segment_io::Workspace;
 
 /// Looks at a header copy, 0 or 1.

@@ -18,9 +18,9 @@ use crate::lines::wrong_text;
 use crate::report::ScrubReport;
 use drive_states::Unit;
 use host_driver::Host;
-use qic_base::{LostSet, Sink, SinkFailed, Tape};
+use qic_base::{LostSet, Sink, SinkFailed, Tape, write_text};
 use segment_io::{SegFault, Workspace, write_sectors};
-use tape_script::{TextLine, write_text};
+use tape_script::TextLine;
 
 /// Writes the sectors at the lost places again. Where there are none, the tape stays where it is.
 fn write_lost<T: Tape>(

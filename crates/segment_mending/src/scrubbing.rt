@@ -10,21 +10,19 @@ ghost use Rattle.command_spec.specs.Scrub.{whole_segment};
 ghost use Rattle.segment_mending.specs.Looking.{HasFew, Looks};
 ghost use Rattle.segment_mending.specs.Mending.{ScrubEnds, reported};
 
-use crate::TABLE_SEGMENT;
 use crate::fault::ScrubFault;
 use crate::lines::counts_text;
 use crate::looking::{look_at_copy, look_at_segment};
 use crate::progress::Progress;
 use crate::report::ScrubReport;
 use crate::volumes::look_at_volumes;
-use bad_sector_map::{BadMap, WHOLE};
+use bad_sector_map::BadMap;
 use command_spec::Depth;
 use drive_states::Unit;
 use host_driver::Host;
-use qic_base::{Sink, SinkFailed, Tape};
+use qic_base::{Sink, SinkFailed, Tape, WHOLE, write_text};
 use segment_io::Workspace;
-use tape_script::write_text;
-use volume_table::Table;
+use volume_table::{TABLE_SEGMENT, Table};
 
 /// Looks at both header copies and the table's segment.
 fn look_at_front<T: Tape, K: Sink>(

@@ -15,15 +15,12 @@ ghost use Rattle.segment_mending.specs.Mending.{reported};
 use crate::fault::ScrubFault;
 use crate::looking::look_at_segment;
 use crate::progress::Progress;
-use bad_sector_map::BadMap;
+use bad_sector_map::{BadMap, FEWEST};
 use drive_states::Unit;
 use host_driver::Host;
 use qic_base::{LostSet, Sink, Tape};
 use segment_io::Workspace;
 use volume_table::{Entry, Table};
-
-/// The fewest usable sectors with which a segment carries data.
-const FEWEST: u8 = 4;
 
 /// Looks at a segment behind the table's if it carries data.
 fn look_if_carrying<T: Tape, K: Sink>(

@@ -13,7 +13,7 @@ use Rattle.cartridge_spec.specs.Says.{ReadsAll, AsRead, whole_mask, unreadable_c
 use Rattle.cartridge_spec.specs.Shape.{usable_count, data_count, usable_places}
 use Rattle.dump_laws.proofs.Determined.{one_counting}
 use Rattle.dump_spec.specs.Check.{Well, unless_none, LostSectors, finding_by}
-use Rattle.dump_spec.specs.Given.{CountAs, IsCase, Given, given_by, given_from, read_cell, given_area}
+use Rattle.dump_spec.specs.Given.{CountAs, IsCase, given_by, given_from, read_cell, given_area}
 use Rattle.dump_spec.specs.Given as given
 use Rattle.dump_spec.specs.HeaderPlace.{ReadsByCode, ReadsAs}
 use Rattle.dump_spec.specs.declared.form.Form.{Form}

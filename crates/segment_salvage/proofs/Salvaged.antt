@@ -9,7 +9,7 @@ use Rattle.cartridge_laws.proofs.Places.{count_below, all_places}
 use Rattle.cartridge_spec.specs.Code.{IsCodeBlock, IsCodeword, column}
 use Rattle.cartridge_spec.specs.Says.{unreadable_count}
 use Rattle.cartridge_spec.specs.Shape.{usable_count, usable_places, data_count, is_unreadable}
-use Rattle.dump_spec.specs.Given.{Case, CountAs, IsCase, given_by, given_from, given_cell, without_zeros}
+use Rattle.dump_spec.specs.Given.{Case, IsCase, given_by, given_from, given_cell, without_zeros}
 use Rattle.dump_spec.specs.Given as given
 use Rattle.dump_spec.specs.declared.form.Form.TheVariants as forms
 use Rattle.erasure_solve.specs.Lost.{lost_count}

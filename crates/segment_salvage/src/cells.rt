@@ -7,7 +7,6 @@ ghost use Rattle.qic_base.specs.CartridgeTerms.{is_lost};
 ghost use Rattle.segment_salvage.specs.Filled.{filled_from};
 
 use qic_base::{LostSet, SECTOR, Sector};
-use silent_locate::with_place;
 
 fn is_zero(sector: &Sector) -> bool
     ensures { result ≡ list_all (λ b. b == 0) sector.now }
@@ -25,7 +24,7 @@ pub(crate) fn zero_places(sectors: &[Sector]) -> LostSet
     let mut zero = LostSet::from_mask(0);
     for place in 0..sectors.len() as u8 {
         if is_zero(&sectors[place as usize]) {
-            zero = with_place(zero, place);
+            zero = zero.with_place(place);
         }
     }
     zero

@@ -1,7 +1,6 @@
 //! What a check says of a segment.
 
-ghost use Rattle.std.specs.Prelude.{◌≡◌, ◌<◌, length, slice_index};
-ghost use Rattle.cartridge_spec.specs.Shape.{usable_count, usable_places};
+ghost use Rattle.std.specs.Prelude.{◌≡◌, length};
 ghost use Rattle.dump_spec.specs.Check.{Finds};
 ghost use Rattle.segment_salvage.specs.Buffer.{buffer_cells};
 ghost use Rattle.segment_salvage.specs.Finding.{IsPlaced, finding_of, told};
@@ -9,8 +8,9 @@ ghost use Rattle.segment_salvage.specs.Finding.{IsPlaced, finding_of, told};
 use crate::case::SegmentCase;
 use crate::gathering::salvage;
 use crate::reading::SegmentReading;
+use bad_sector_map::index_at;
 use dump_spec::Form;
-use qic_base::{LostSet, SECTORS, Sector};
+use qic_base::{LostSet, Sector};
 
 /// What a check finds of a segment; sectors are counted with the parity, but in the form of data.
 #[derive(Clone, Copy, Debug, Drop, PartialEq, Eq)]
@@ -44,23 +44,6 @@ impl SegmentReading {
             SegmentCase::AsRead => Finding::Lost { lost },
         }
     }
-}
-
-/// The index in its segment of the usable sector at a place.
-fn index_at(usable: u32, place: u8) -> u8
-    requires { place < usable_count usable }
-    ensures { result ≡ slice_index (usable_places usable) place }
-{
-    let mut before = 0;
-    for index in 0..SECTORS {
-        if LostSet::from_mask(usable).contains(index) {
-            if before == place {
-                return index;
-            }
-            before += 1;
-        }
-    }
-    unreachable!("the segment has that many usable sectors")
 }
 
 /// What a check finds of a segment, of whose 32 sectors those in `unread` can't be read: bit `i` of `usable` stands for

@@ -13,7 +13,6 @@ use crate::reading::SegmentReading;
 use crate::solving::find_counted;
 use dump_spec::Form;
 use qic_base::{LostSet, SECTORS, Sector};
-use silent_locate::with_place;
 
 /// The parity sectors of a segment, which stand behind its data (QIC-80-MC).
 const PARITY_SECTORS: u8 = 3;
@@ -48,7 +47,7 @@ fn gather(sectors: &mut [Sector], usable: u32, unread: LostSet) -> LostSet
         if LostSet::from_mask(usable).contains(index) {
             sectors[place as usize] = sectors[index as usize];
             if unread.contains(index) {
-                lost = with_place(lost, place);
+                lost = lost.with_place(place);
             }
             place += 1;
         }

@@ -9,10 +9,9 @@ ghost use Rattle.segment_salvage.specs.Buffer.{buffer_cells};
 ghost use Rattle.segment_salvage.specs.HeaderData.{IsHeaderData};
 
 use crate::gathering::salvage;
-use bad_sector_map::WHOLE;
 use dump_spec::Form;
 use header_segments::SIGNATURE;
-use qic_base::{LostSet, Sector, read_u32};
+use qic_base::{LostSet, Sector, WHOLE, read_u32};
 
 /// Makes the first 29 of a segment's 32 sectors its data, where it reads: the sectors, all taken as usable, are one code block
 /// but for at most one that is wrong; in the form of data, none is lost.

@@ -11,7 +11,6 @@ mod tries;
 
 use erasure_solve::{SolveFault, solve};
 use places::lost_among;
-pub use places::with_place;
 use qic_base::{LostSet, Sector};
 use thiserror::Error;
 use tries::mend_one;

@@ -7,7 +7,6 @@ ghost use Rattle.gf256_qic.specs.Code.{AgreesOutside, IsSolvable};
 ghost use Rattle.erasure_solve.specs.Lost.{lost_count};
 ghost use Rattle.silent_locate.specs.Tries.{lost_or};
 
-use crate::places::with_place;
 use erasure_solve::Plan;
 use qic_base::{LostSet, Sector};
 
@@ -47,7 +46,7 @@ fn mend_at(sectors: &mut [Sector], lost: LostSet, place: u8) -> bool
     ensures others { OnTrue result (AgreesOutside (lost_or lost place) sectors.old sectors.new) }
     ensures unchanged { OnFalse result (sectors.new ≡ sectors.old) }
 {
-    let Ok(plan) = Plan::new(sectors.len() as u8, with_place(lost, place)) else {
+    let Ok(plan) = Plan::new(sectors.len() as u8, lost.with_place(place)) else {
         return false;
     };
     if !plan.agrees(sectors) {

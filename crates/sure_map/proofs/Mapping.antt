@@ -5,22 +5,16 @@ use Rattle.std.proofs.lemmas.Bool.{cases_eq, eq-eqb, ne_eqb}
 use Rattle.std.proofs.lemmas.List.{length-append, length-replicate}
 use Rattle.rescue_map.specs.Text.{block_text, blocks_text}
 use Rattle.dump_spec.specs.Answers.{output_status}
-use Rattle.dump_spec.specs.Output.{all_are_sure, mark_byte, marked_bytes, sure_head, sure_text}
+use Rattle.dump_spec.specs.Output.{all_are_sure, mark_byte, marked_bytes, sure_text}
 use Rattle.dump_spec.specs.declared.mark.Mark.{Mark}
 use Rattle.dump_spec.specs.declared.mark.Mark.TheVariants.{Sure, Unchecked, Filled}
 use Rattle.dump_spec.specs.declared.status.Status.TheVariants as status
-use Rattle.sure_map.specs.Counts.{counted, total, IsMore}
+use Rattle.sure_map.specs.Counts.{IsMore}
 use Rattle.sure_map.specs.Maps.{IsMapOf, ended_line, last_line}
 use Rattle.sure_map.specs.Runs.{block_of, end_of, line_before, with_bytes, blocks_from}
 use Rattle.sure_map.specs.declared.map.SureMap.{SureMap}
-use Rattle.sure_map.specs.declared.tally.Tally.{Tally}
 use Rattle.sure_map.proofs.Counting.{all_sure_by, and_false, marked_more}
 use Rattle.sure_map.proofs.Running.{more_lines, end_more}
-
--- bytes of no mark
-pub none_pushed : (map : SureMap) (mark : Mark) (count : ℕ) (marks : List Mark) (front : List ℕ) → count ≡ 0 → IsMapOf map marks front →
-    IsMapOf map (marks ++ replicate count mark) (front ++ ended_line map mark count)
-none_pushed map mark count marks front none is = rw (none, append-nil marks, append-nil front) is
 
 -- bytes of one more mark
 pub pushed : (map new : SureMap) (mark : Mark) (count : ℕ) (marks : List Mark) (front : List ℕ) → count ≢ 0 →
@@ -43,18 +37,6 @@ pushed map new mark count marks front some run more is =
       counts = λ m. more m ∙ ap (λ (n : ℕ). n + (if mark_byte mark == mark_byte m then count else 0)) (is.counts m)
           ∙ sym (marked_more m mark count marks);
     }
-
-none_counted : (tally : Tally) → total tally ≡ 0 → (m : Mark) → counted tally m ≡ 0
-none_counted tally none Sure = omega arith
-none_counted tally none Unchecked = omega arith
-none_counted tally none Filled = omega arith
-
-pub no_bytes : (map : SureMap) → map.run.start ≡ 0 → map.run.size ≡ 0 → total map.tally ≡ 0 → IsMapOf map [] sure_head
-no_bytes map start size none = record {
-  text = λ more. rw (start, size) refl;
-  bytes = omega arith;
-  counts = λ m. none_counted map.tally none m;
-}
 
 -- with the line of the last run it is whole
 pub map_ends : (map : SureMap) (marks : List Mark) (front : List ℕ) → IsMapOf map marks front → front ++ last_line map ≡ sure_text marks

@@ -3,8 +3,7 @@
 use crate::run::{Run, mark_byte};
 use crate::tally::Tally;
 use dump_spec::{Mark, Status};
-use qic_base::{Sink, SinkFailed};
-use rescue_map::write_bytes;
+use qic_base::{Sink, SinkFailed, write_text};
 
 /// The comments and the status line of each map.
 const HEAD: &str = "# Mapfile. Created by tape_salvage
@@ -38,7 +37,7 @@ impl SureMap {
         ensures head { Writes K.means sink.old sink.new sure_head result }
         ensures none { IfOk result (λ map. IsMapOf map [] sure_head) }
     {
-        match write_bytes(HEAD.as_bytes(), sink) {
+        match write_text(HEAD.as_bytes(), sink) {
             Ok(()) => Ok(SureMap {
                 run: Run {
                     start: 0,
@@ -76,7 +75,7 @@ impl SureMap {
         if before.goes_on(byte) {
             Ok(())
         } else {
-            write_bytes(&before.line(), sink)
+            write_text(&before.line(), sink)
         }
     }
 
@@ -89,7 +88,7 @@ impl SureMap {
         if self.run.size == 0 {
             Ok(())
         } else {
-            write_bytes(&self.run.line(), sink)
+            write_text(&self.run.line(), sink)
         }
     }
 

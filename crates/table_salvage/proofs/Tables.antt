@@ -1,24 +1,22 @@
 -- The table's data by its cells, of which the sectors were gathered.
-use Rattle.std.proofs.Common.{◌≡◌, ◌↔◌, ℕ, ◌*◌, ◌/◌, ◌%◌, ◌^◌, ◌<◌, false, List, ◌++◌, length, take, drop, Option, Some, None, IfSome, refl}
-use Rattle.std.proofs.Common.{sym, subst, ◌∙◌, inl, inr, arith}
-use Rattle.std.proofs.lemmas.Bool.{cases_eq, ne_eqb}
+use Rattle.std.proofs.Common.{◌≡◌, ◌↔◌, ℕ, ◌*◌, ◌/◌, ◌%◌, ◌^◌, ◌<◌, List, ◌++◌, length, take, drop, Option, Some, None, IfSome, refl}
+use Rattle.std.proofs.Common.{sym, subst, inl, inr, arith}
+use Rattle.std.proofs.lemmas.Bool.{cases_eq}
 use Rattle.std.proofs.lemmas.List.{length-take-le, take_at}
 use Rattle.std.proofs.lemmas.Nat.Bits.{bit_at-zero}
 use Rattle.cartridge_front.proofs.Collected.{left_some}
 use Rattle.cartridge_front.proofs.TableSegment.{collected_loses}
-use Rattle.cartridge_front.proofs.Tried.{same_lost}
 use Rattle.cartridge_front.proofs.Trials.{IsCollected, has_data}
 use Rattle.cartridge_front.specs.Reading.{IsSolvedAt}
 use Rattle.cartridge_front.specs.declared.table_reader.Unread.{Unread}
-use Rattle.cartridge_laws.proofs.Cells.{IsReadable, readable_at}
 use Rattle.cartridge_laws.proofs.TableSayings.{table_says_is_function}
 use Rattle.cartridge_laws.specs.Says.{LosesData}
-use Rattle.cartridge_spec.specs.Says.{ReadsAll, TableSays, AsRead, ByCode, Data, LostSectors, Mismatch}
+use Rattle.cartridge_spec.specs.Says.{TableSays, AsRead, ByCode, Data, LostSectors, Mismatch}
 use Rattle.dump_spec.specs.Table.{IsTapeTable}
 use Rattle.qic_base.specs.Cartridge.{lost_places}
-use Rattle.qic_base.specs.CartridgeTerms.{IsLost, is_lost}
+use Rattle.qic_base.specs.CartridgeTerms.{IsLost}
 use Rattle.qic_base.specs.declared.tape.SectorView.{SectorView}
-use Rattle.segment_io.proofs.SolvedCells.{slice_get-take, says_lost}
+use Rattle.segment_io.proofs.SolvedCells.{says_lost}
 use Rattle.segment_io.specs.Gathered.{Gathered}
 use Rattle.volume_table.specs.Trials.{tried}
 

@@ -10,11 +10,10 @@ ghost use Rattle.segment_salvage.specs.Buffer.{buffer_cells};
 ghost use Rattle.segment_salvage.specs.Reading.{given_as};
 
 use crate::solving::solve_table;
-use bad_sector_map::WHOLE;
 use cartridge_front::data_sectors;
 use dump_spec::Form;
 use gf256_qic::DATA_SECTORS;
-use qic_base::{LostSet, Sector};
+use qic_base::{LostSet, Sector, WHOLE};
 use segment_io::Workspace;
 use segment_salvage::{SegmentReading, read_segment};
 

@@ -7,6 +7,7 @@ ghost use Rattle.tape_cmd.specs.Lines.{status_code};
 mod refusal;
 
 use image_units::{Arguments, ImageUnit, NO_IMAGE, close_unit, open_unit, read_arguments};
+use qic_base::write_text;
 use refusal::{write_failure, write_refusal};
 use std::io::ErrorKind;
 use std::process::ExitCode;
@@ -14,7 +15,7 @@ use tape_cmd::{Status, exit_status, run, write_status};
 use tape_files::{
     Failure, NoImage, NullStreams, StderrSink, StdinSource, StdoutSink, is_standard_error,
 };
-use tape_script::{read_words, write_text};
+use tape_script::read_words;
 use word_hints::{Asks, hint_of, what_is_asked, write_help, write_hint, write_version};
 
 /// The program has one image.

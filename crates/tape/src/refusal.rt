@@ -5,9 +5,8 @@ ghost use Rattle.qic_base.specs.SinkCalls.{Writes};
 ghost use Rattle.file_hints.specs.Lines.{failure_text, refusal_text};
 
 use file_hints::{failure_line, refusal_line};
-use qic_base::{Sink, SinkFailed};
+use qic_base::{Sink, SinkFailed, write_text};
 use tape_files::{Failure, NoImage};
-use tape_script::write_text;
 
 /// Writes the line that tells why the image can't be opened.
 pub fn write_refusal<K: Sink>(cause: NoImage, path: &str, sink: &mut K) -> Result<(), SinkFailed>

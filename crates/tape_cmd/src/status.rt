@@ -6,8 +6,8 @@ ghost use Rattle.tape_cmd.specs.Lines.{status_code, status_text, plain_text, fie
 ghost use Rattle.command_spec.specs.declared.status.Status.TheVariants.{Foreign, ScriptFault, Unsound};
 
 use command_spec::Status;
-use qic_base::{ForeignField, Sink, SinkFailed};
-use tape_script::{TextLine, write_text};
+use qic_base::{ForeignField, Sink, SinkFailed, write_text};
+use tape_script::TextLine;
 
 fn field_name(field: ForeignField) -> &'static [u8]
     ensures { result.now ≡ field_text field }

@@ -6,10 +6,10 @@ ghost use Rattle.volume_copy.specs.Lines.{status_code};
 
 use file_hints::refusal_line;
 use image_units::{Arguments, NO_IMAGE, close_unit, open_unit, read_arguments};
+use qic_base::write_text;
 use std::io::ErrorKind;
 use std::process::ExitCode;
 use tape_files::{NoImage, NullStreams, StderrSink, StdoutSink};
-use tape_script::write_text;
 use volume_copy::{CopyStatus, exit_status, run_copy, write_status};
 
 /// The program has two images.

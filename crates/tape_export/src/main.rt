@@ -13,8 +13,7 @@ use cart_image::ImageTape;
 use file_hints::{HintLine, failure_line, refusal_line};
 use file_streams::FileSink;
 use program_words::{ExportWords, read_command_line, read_export_words};
-use qic_base::{MOST_SEGMENTS, NoMemory};
-use rescue_map::write_bytes;
+use qic_base::{MOST_SEGMENTS, NoMemory, write_text};
 use run::{export_files, unread};
 use status::ExportStatus;
 use std::alloc::Global;
@@ -123,9 +122,9 @@ fn finish_with(rt: &HostRuntime, status: ExportStatus, hint: &HintLine) -> u8
     ensures { result ≡ status_code status }
 {
     let mut errors = StderrSink::new(rt.stderr());
-    if write_bytes(status.line().as_bytes(), &mut errors).is_ok() {
+    if write_text(status.line().as_bytes(), &mut errors).is_ok() {
         // The exit status tells it, too, where standard error can't.
-        let _printed = write_bytes(hint.bytes(), &mut errors);
+        let _printed = write_text(hint.bytes(), &mut errors);
     }
     status.code()
 }
@@ -135,6 +134,6 @@ fn finish(rt: &HostRuntime, status: ExportStatus) -> u8
     ensures { result ≡ status_code status }
 {
     // The exit status tells it, too, where standard error can't.
-    let _printed = write_bytes(status.line().as_bytes(), &mut StderrSink::new(rt.stderr()));
+    let _printed = write_text(status.line().as_bytes(), &mut StderrSink::new(rt.stderr()));
     status.code()
 }

@@ -2,11 +2,8 @@
 
 ghost use Rattle.std.specs.Prelude.{◌≡◌, ◌<◌, ◌≤◌, ◌*◌, ◌↔◌, IsOk, IfOk, IfNone, IfSome};
 
-use qic_base::{LONGEST, SECTORS};
+use qic_base::{LONGEST, SECTORS, TRACKS};
 use std::marker::Model;
-
-/// The tracks of a cartridge.
-const TRACKS: u32 = qic_base::TRACKS as u32;
 
 /// The segments under one floppy head: four a cylinder, with floppy track maximum 149.
 const SEGMENTS_PER_HEAD: u32 = 600;

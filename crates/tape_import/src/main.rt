@@ -11,7 +11,7 @@ mod status;
 use file_hints::{HintLine, failure_line, refusal_line};
 use file_streams::FileSource;
 use program_words::{ImportWords, read_command_line, read_import_words};
-use rescue_map::write_bytes;
+use qic_base::write_text;
 use run::{run_import, unread};
 use status::{ImportStatus, write_status};
 use std::process::ExitCode;
@@ -125,7 +125,7 @@ fn finish_with(rt: &HostRuntime, status: ImportStatus, hint: &HintLine) -> u8
     let mut errors = StderrSink::new(rt.stderr());
     if write_status(status, &mut errors).is_ok() {
         // The exit status tells it, too, where standard error can't.
-        let _printed = write_bytes(hint.bytes(), &mut errors);
+        let _printed = write_text(hint.bytes(), &mut errors);
     }
     status.code()
 }

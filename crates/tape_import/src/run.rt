@@ -3,14 +3,13 @@
 ghost use Rattle.std.specs.Prelude.{◌≡◌, ◌≢◌, true, IfSome};
 ghost use Rattle.qic_base.specs.Cartridge.{IsLength};
 ghost use Rattle.qic_base.specs.Disk.{IsSettled};
-ghost use Rattle.cart_image.specs.Layout.{resize};
-ghost use Rattle.cart_image.specs.Run.{Runs as Ran};
 ghost use Rattle.flat_dump.specs.Import.{IsEmpty};
 ghost use Rattle.tape_import.specs.Runs.{Filled, Found, Masks, Runs};
 
 use crate::status::{ImportStatus, write_imported};
+use cart_image::making::clear;
 use flat_dump::{ImportError, import};
-use qic_base::{Disk, DiskFailed, MOST_SEGMENTS, Sink, SinkFailed, Source};
+use qic_base::{Disk, DiskFailed, MOST_SEGMENTS, Sink, SinkFailed, Source, WHOLE};
 use rescue_map::{MapError, read_map};
 use std::io::ErrorKind;
 
@@ -41,14 +40,6 @@ fn require_empty<D: Disk>(disk: &mut D) -> Result<(), ImportStatus>
     }
 }
 
-/// Empties the file.
-fn clear<D: Disk>(disk: &mut D) -> Result<(), DiskFailed>
-    ensures { Ran D.means disk.old disk.new (resize 0) result }
-{
-    disk.set_len(0)?;
-    disk.sync()
-}
-
 /// Makes the mask of the sectors that were rescued: as the map says, or of all where there is none.
 fn fill_mask<M: Source>(
     chart: &mut Option<M>,
@@ -63,7 +54,7 @@ fn fill_mask<M: Source>(
             Err(MapError::Source) => Err(ImportStatus::SourceFault),
         },
         None => {
-            *mask = [u32::MAX; MOST_SEGMENTS];
+            *mask = [WHOLE; MOST_SEGMENTS];
             Ok(())
         }
     }

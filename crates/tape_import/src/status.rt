@@ -6,8 +6,7 @@ ghost use Rattle.tape_import.specs.Texts.{status_code, plain_text, status_text, 
 
 use flat_dump::Imported;
 use itoa::Buffer;
-use qic_base::{Sink, SinkFailed};
-use rescue_map::write_bytes;
+use qic_base::{Sink, SinkFailed, write_text};
 
 /// How a run ended.
 #[derive(Clone, Copy, Debug, PartialEq, Eq)]
@@ -78,8 +77,8 @@ fn write_number<K: Sink>(value: u64, behind: &str, sink: &mut K) -> Result<(), S
     ensures { Writes K.means sink.old sink.new (decimal value ++ behind.now) result }
 {
     let mut buffer = Buffer::new();
-    match write_bytes(buffer.format(value).as_bytes(), sink) {
-        Ok(()) => write_bytes(behind.as_bytes(), sink),
+    match write_text(buffer.format(value).as_bytes(), sink) {
+        Ok(()) => write_text(behind.as_bytes(), sink),
         Err(fault) => Err(fault),
     }
 }
@@ -94,7 +93,7 @@ fn write_between<K: Sink>(
     ensures { Writes K.means sink.old sink.new
         (before.now ++ (decimal value ++ behind.now)) result }
 {
-    match write_bytes(before.as_bytes(), sink) {
+    match write_text(before.as_bytes(), sink) {
         Ok(()) => write_number(value, behind, sink),
         Err(fault) => Err(fault),
     }
@@ -114,7 +113,7 @@ pub fn write_status<K: Sink>(status: ImportStatus, sink: &mut K) -> Result<(), S
         ImportStatus::Length { bytes } => {
             write_between("tape_import: ", bytes, " bytes are no cartridge\n", sink)
         }
-        other => write_bytes(other.plain_line().as_bytes(), sink),
+        other => write_text(other.plain_line().as_bytes(), sink),
     }
 }
 

@@ -2,7 +2,6 @@
 use Rattle.std.proofs.Common.{◌≡◌, ◌∙◌, ◌++◌, ◌==◌, ℕ, Bool, true, false, List, [], Option, Some, None, Ok, IfSome, refl, sym, ap}
 use Rattle.std.proofs.Common.{subst, inl, inr, length, Err, ◌⊎◌}
 use Rattle.std.specs.Prelude.{if◌then◌else◌}
-use Rattle.std.specs.Option.{option_or}
 use Rattle.qic_base.specs.Disk as disks
 use Rattle.qic_base.specs.Sink as sinks
 use Rattle.dump_answers.specs.Ends.{Ends}
@@ -11,7 +10,7 @@ use Rattle.dump_answers.specs.declared.ending.Ending.{Ending}
 use Rattle.dump_output.specs.declared.fault.PutFault.{PutFault}
 use Rattle.dump_output.specs.declared.fault.PutFault.TheVariants as faults
 use Rattle.dump_opening.specs.Inputs.{TellsFile}
-use Rattle.dump_spec.specs.Answers.{Answers, AnswersUnless, Inputs, bad_refusal, length_refusal, map_refusal, missing_refusal, refused}
+use Rattle.dump_spec.specs.Answers.{Answers, Inputs}
 use Rattle.dump_spec.specs.Answers.{sure_refusal}
 use Rattle.dump_spec.specs.declared.asked.Asked.{Asked}
 use Rattle.dump_spec.specs.declared.status.Status.{Status}
@@ -112,11 +111,3 @@ refused_by d (Some disk) (Some bytes) empty tells none =
     sym (ap refusal_by holds)
 refused_by d None (Some bytes) empty tells none = absurd tells
 refused_by d (Some disk) None empty tells none = absurd tells
-
--- a file that holds a byte is refused first
-pub first_refusal : (inputs : Inputs) (asked : Asked) → sure_refusal inputs.sure ≡ Some status.SureNotEmpty →
-    Answers inputs asked (refused false status.SureNotEmpty)
-first_refusal inputs asked is =
-    let later : Option Status = option_or (map_refusal inputs.map)
-    (option_or (missing_refusal inputs.missing) (option_or (bad_refusal inputs.bad) (length_refusal inputs asked))) in
-    subst (λ (why : Option Status). AnswersUnless inputs asked (option_or why later) (refused false status.SureNotEmpty)) (sym is) refl

@@ -1,10 +1,10 @@
 -- How a run over opened files ends (this project's own).
 use Rattle.std.specs.Prelude.{◌≡◌, ◌⊎◌, Bool, true, false, IfSome}
+use Rattle.qic_base.specs.Acts.{TookFront}
 use Rattle.qic_base.specs.Disk as disks
 use Rattle.qic_base.specs.Sink as sinks
 use Rattle.qic_base.specs.Source as sources
 use Rattle.qic_base.specs.Tape.{Rose}
-use Rattle.dump_answers.specs.Ends.{TookFront}
 use Rattle.dump_answers.specs.declared.ending.Ending.{Ending}
 use Rattle.dump_opening.specs.Counts.{OneRose}
 use Rattle.dump_opening.specs.Inputs.{TellInputs, TellsFile, fault_counts}

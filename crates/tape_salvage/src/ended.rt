@@ -8,8 +8,7 @@ ghost use Rattle.tape_salvage.specs.Endings.{ending_text, line_of};
 use dump_answers::Ending;
 use dump_spec::Status;
 use dump_volumes::{write_status, write_warning};
-use qic_base::{Sink, SinkFailed};
-use rescue_map::write_bytes;
+use qic_base::{Sink, SinkFailed, write_text};
 use std::io::ErrorKind;
 
 /// What is told of words that are no command.
@@ -44,7 +43,7 @@ fn write_line<K: Sink>(status: &Status, sink: &mut K) -> Result<(), SinkFailed>
     ensures { Writes K.means sink.old sink.new (line_of status.now) result }
 {
     match status {
-        Status::Usage => write_bytes(USAGE.as_bytes(), sink),
+        Status::Usage => write_text(USAGE.as_bytes(), sink),
         status => write_status(status, sink),
     }
 }

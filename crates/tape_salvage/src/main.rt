@@ -18,7 +18,7 @@ use file_hints::{HintLine, failure_line, refusal_line};
 use file_streams::FileSource;
 use files::{OpenFiles, Unopened, open_files, refusal};
 use program_words::read_command_line;
-use rescue_map::write_bytes;
+use qic_base::write_text;
 use run::salvage_files;
 use salvage_words::{Refusal, SalvageWords, read_salvage_words};
 use std::process::ExitCode;
@@ -123,7 +123,7 @@ fn finish_with(rt: &HostRuntime, ending: Ending, hint: Option<&HintLine>) -> u8
     if write_ending(&ending, &mut errors).is_ok() {
         if let Some(hint) = hint {
             // The exit status tells it, too, where standard error can't.
-            let _printed = write_bytes(hint.bytes(), &mut errors);
+            let _printed = write_text(hint.bytes(), &mut errors);
         }
     }
     exit_status(&ending.status)

@@ -25,4 +25,4 @@ pub use taking::{Taken, skip, take_line};
 pub use text_line::TextLine;
 pub use train::{Train, TrainRead};
 pub use words::{BadWords, read_words};
-pub use write::{write_date, write_name, write_number, write_text};
+pub use write::{write_date, write_name, write_number};

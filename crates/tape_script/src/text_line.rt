@@ -6,7 +6,7 @@ ghost use Rattle.command_spec.specs.Lines.{date_form, date_text, trimmed, name_t
 ghost use Rattle.command_laws.specs.TextTerms.{digit, is_filler, printable};
 
 use itoa::Buffer;
-use qic_base::Name;
+use qic_base::{Name, put_bytes};
 use std::marker::Model;
 
 /// The greatest low part of a date word that is a date (Linux ftape headers).
@@ -107,13 +107,6 @@ fn make_printable(bytes: &mut [u8])
     }
 }
 
-fn put(buffer: &mut [u8], at: usize, from: &[u8])
-    requires { at + length from.now ≤ length buffer.old }
-    ensures { take (at + length from.now) buffer.new ≡ take at buffer.old ++ from.now }
-{
-    buffer[at..at + from.len()].copy_from_slice(from);
-}
-
 impl TextLine {
     /// The empty line.
     pub fn new() -> TextLine
@@ -137,7 +130,7 @@ impl TextLine {
         requires { length self.old + length text.now ≤ 160 }
         ensures { self.new ≡ self.old ++ text.now }
     {
-        put(&mut self.bytes, self.len, text);
+        put_bytes(&mut self.bytes, self.len, text);
         self.len += text.len();
     }
 

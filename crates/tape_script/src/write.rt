@@ -6,21 +6,7 @@ ghost use Rattle.command_spec.specs.Lines.{date_text, name_text};
 
 use crate::text_line::TextLine;
 use itoa::Buffer;
-use qic_base::{Name, Sink, SinkFailed};
-
-/// Writes the bytes as they are, all of them. A failure leaves a front of them written.
-pub fn write_text<K: Sink>(text: &[u8], sink: &mut K) -> Result<(), SinkFailed>
-    ensures { Writes K.means sink.old sink.new text.now result }
-{
-    let mut at = 0;
-    while at < text.len() {
-        match sink.write(&text[at..]) {
-            Ok(written) => at += written,
-            Err(fault) => return Err(fault),
-        }
-    }
-    Ok(())
-}
+use qic_base::{Name, Sink, SinkFailed, write_text};
 
 /// Writes a number in decimal digits, without leading zeros.
 pub fn write_number<K: Sink>(value: u64, sink: &mut K) -> Result<(), SinkFailed>

@@ -24,11 +24,10 @@ use Rattle.volume_copy.proofs.Goes.{goes_done, goes_read, goes_same, lines_more,
 use Rattle.volume_copy.specs.Faults.{from_status, to_status}
 use Rattle.volume_copy.specs.Runs.{BothRefused, CopiesOne, CopyView, HasRun, IsCounted, IsRefused, IsUnlike, IsUnprinted}
 use Rattle.volume_copy.specs.Runs.{MissingEnds, PrintsCount, RunEnds, SideView, Units, append_answer, append_status, next_number}
-use Rattle.volume_copy.specs.Source.{IsOfPart, new_source, source_means}
+use Rattle.volume_copy.specs.Source.{new_source, source_means}
 use Rattle.volume_store.specs.Appending.{AppendEnds}
 use Rattle.volume_store.specs.declared.appended.Appended.{Appended}
 use Rattle.cartridge_front.specs.declared.fault.StoreFault.{StoreFault}
-use Rattle.command_spec.specs.declared.copy_fault.CopyFault.TheVariants as copy
 use Rattle.command_spec.specs.declared.copy_status.CopyStatus.TheVariants as status
 use Rattle.qic_base.specs.Sink as sinks
 use Rattle.qic_base.specs.Tape as tapes

@@ -17,7 +17,6 @@ use Rattle.qic_base.proofs.Steps.{Broke-after_reads, Done-Done, Done-nothing, Ro
 use Rattle.qic_base.proofs.Steps.{option_map-effects-none}
 use Rattle.qic_base.proofs.Writing.{TakesBoth}
 use Rattle.qic_base.specs.Alone.{reading}
-use Rattle.qic_base.specs.Cartridge.{Cartridge}
 use Rattle.qic_base.specs.Step.{Step as TapeStep, effects}
 use Rattle.volume_copy.proofs.Filling.{OnlyRead, by_broke, by_done}
 use Rattle.volume_copy.specs.Faults.{copy_fault}

@@ -9,8 +9,8 @@ use crate::fault::copy_fault;
 use crate::source::VolumeSource;
 use command_spec::CopyStatus;
 use drive_states::Unit;
-use qic_base::{Name, Sink, SinkFailed, Tape};
-use tape_script::{number_text, place_text, write_text};
+use qic_base::{Name, Sink, SinkFailed, Tape, write_text};
+use tape_script::{number_text, place_text};
 use volume_store::{Store, StoreFault};
 
 /// The source of a copy: a mounted cartridge with the unit that drives it.

@@ -5,8 +5,7 @@ ghost use Rattle.qic_base.specs.SinkCalls.{Writes};
 ghost use Rattle.volume_copy.specs.Lines.{status_code, status_text};
 
 use command_spec::CopyStatus;
-use qic_base::{Sink, SinkFailed};
-use tape_script::write_text;
+use qic_base::{Sink, SinkFailed, write_text};
 
 /// The exit status of the program.
 pub fn exit_status(status: &CopyStatus) -> u8

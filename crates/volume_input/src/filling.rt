@@ -1,11 +1,10 @@
 //! The bytes of a source in a workspace.
 
-ghost use Rattle.std.specs.Prelude.{◌≤◌, All, take};
-ghost use Rattle.qic_base.specs.Cartridge.{IsSector};
+ghost use Rattle.std.specs.Prelude.{◌≤◌, take};
 ghost use Rattle.qic_base.specs.Cause.{HasCause};
 ghost use Rattle.sector_fill.specs.Filling.{FillsSectors};
 
-use qic_base::{Sector, Source, SourceFailed};
+use qic_base::{Source, SourceFailed};
 use sector_fill::fill_sectors;
 use segment_io::Workspace;
 
@@ -24,19 +23,4 @@ pub fn fill_work<S: Source>(
     ensures cause { HasCause (S.means.faults source.old) (S.means.faults source.new) result }
 {
     fill_sectors(source, work.sectors_mut(), count, most)
-}
-
-/// States that the sectors hold bytes, and does nothing.
-pub fn are_sectors(sectors: &[Sector])
-    ensures { All IsSector sectors.now }
-{
-    for sector in sectors {
-        is_sector(sector);
-    }
-}
-
-fn is_sector(sector: &Sector)
-    ensures { IsSector sector.now }
-{
-    let _bytes = sector.iter();
 }

@@ -9,12 +9,12 @@ ghost use Rattle.volume_input.specs.Length.{is_exact};
 ghost use Rattle.volume_input.specs.Next.{NextEnds};
 
 use crate::fault::InputFault;
-use crate::filling::{are_sectors, fill_work};
+use crate::filling::fill_work;
 use crate::length::{Length, Wanted};
 use bad_sector_map::BadMap;
 use drive_states::Unit;
 use host_driver::Host;
-use qic_base::{Source, SourceFailed, Tape};
+use qic_base::{Source, SourceFailed, Tape, are_sectors};
 use segment_io::{SegFault, Workspace, write_segment};
 
 /// Writes a carrying segment with the next bytes of the source, as many as it carries, and no more than are wanted with

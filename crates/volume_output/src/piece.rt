@@ -17,9 +17,9 @@ use crate::part::Place;
 use crate::sectors::write_bytes;
 use drive_states::Unit;
 use host_driver::Host;
-use qic_base::{Sector, Sink, SinkFailed, Tape};
+use qic_base::{Sector, Sink, SinkFailed, Tape, write_text};
 use segment_io::{SegFault, Workspace, read_segment};
-use tape_script::{TextLine, write_text};
+use tape_script::TextLine;
 
 /// Reads the segment of a piece, with these usable sectors, and hands the piece's bytes to the sink once it agrees.
 pub(crate) fn write_piece<T: Tape, K: Sink>(

@@ -4,8 +4,7 @@ ghost use Rattle.std.specs.Prelude.{◌≡◌, ◌*◌, ◌≤◌, length, take}
 ghost use Rattle.qic_base.specs.SinkCalls.{Writes};
 ghost use Rattle.cartridge_spec.specs.Volumes.{bytes_in};
 
-use qic_base::{Sector, Sink, SinkFailed};
-use tape_script::write_text;
+use qic_base::{Sector, Sink, SinkFailed, write_text};
 
 /// Writes the first `bytes` bytes of the sectors, one behind the other. A failure leaves a front of them written. For
 /// no byte the sink isn't asked.

@@ -13,8 +13,8 @@ use crate::limited::Limited;
 use crate::replies::{replied, write_refusal};
 use command_spec::Refusal;
 use drive_states::Unit;
-use qic_base::{Name, Sink, Source, SourceFailed, Tape};
-use tape_script::{skip, write_text};
+use qic_base::{Name, Sink, Source, SourceFailed, Tape, write_text};
+use tape_script::skip;
 use volume_store::{Appended, Store, StoreFault, appended_text};
 
 /// What an append answered, and how many of the promised bytes it left in the source.

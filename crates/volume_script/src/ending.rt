@@ -5,8 +5,8 @@ ghost use Rattle.command_spec.specs.declared.line.Line.TheVariants.{End as end_l
 ghost use Rattle.volume_script.specs.Ending.{HearsEnd, RepliesEnd};
 
 use crate::fault::ScriptFault;
-use qic_base::{Sink, SinkFailed, Source, SourceFailed};
-use tape_script::{Line, LineRead, read_line, write_text};
+use qic_base::{Sink, SinkFailed, Source, SourceFailed, write_text};
+use tape_script::{Line, LineRead, read_line};
 
 /// States that a line isn't the last one, and does nothing.
 fn is_no_end(_line: &Line)

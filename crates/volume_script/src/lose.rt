@@ -9,8 +9,8 @@ use crate::fault::ItemFault;
 use crate::replies::{replied, write_refusal};
 use command_spec::Refusal;
 use drive_states::{HandFault, Unit};
-use qic_base::{Sink, Source, Tape};
-use tape_script::{place_text, write_text};
+use qic_base::{Sink, Source, Tape, write_text};
+use tape_script::place_text;
 use volume_store::Store;
 
 /// Makes a readable sector unreadable, until it is written again.

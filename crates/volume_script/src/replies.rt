@@ -8,8 +8,8 @@ ghost use Rattle.volume_script.specs.Promised.{replied_so};
 
 use crate::fault::ItemFault;
 use command_spec::Refusal;
-use qic_base::{Sink, SinkFailed};
-use tape_script::{TextLine, number_text, place_text, write_text};
+use qic_base::{Sink, SinkFailed, write_text};
+use tape_script::{TextLine, number_text, place_text};
 
 #[tactic(auto, unfolding(command_spec::specs::Script::no_volume_line))]
 fn no_volume_text(number: u32, count: u32) -> TextLine

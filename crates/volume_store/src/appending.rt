@@ -27,7 +27,7 @@ fn last_taken(table: &Table) -> u16
     ensures { result ≡ last_end table.now }
 {
     match table.len() {
-        0 => TABLE_SEGMENT,
+        0 => TABLE_SEGMENT as u16,
         count => table.entry(count - 1).end,
     }
 }

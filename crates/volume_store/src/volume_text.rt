@@ -6,8 +6,8 @@ ghost use Rattle.volume_table.specs.Entry.{entry_of};
 ghost use Rattle.command_spec.specs.Lines.{appended_line, volume_line, count_line};
 
 use crate::appended::Appended;
-use qic_base::{Sink, SinkFailed};
-use tape_script::{TextLine, number_text, write_text};
+use qic_base::{Sink, SinkFailed, write_text};
+use tape_script::{TextLine, number_text};
 use volume_table::Entry;
 
 /// The line of a volume that was appended: its number, its bytes, and its first and its last segment.

@@ -3,7 +3,6 @@
 
 ghost use Rattle.std.specs.Prelude.{◌≡◌, ◌<◌, ◌≤◌, ◌↔◌, ◌+◌, ◌++◌, ℕ, List, length, map, slice_get, unwrap_or, IfSome};
 ghost use Rattle.qic_base.specs.Cartridge.{lost_places};
-ghost use Rattle.qic_base.specs.CartridgeTerms.{with_place};
 ghost use Rattle.qic_base.specs.declared.tape.SectorView.TheVariants.{Holds, Lost};
 ghost use Rattle.cartridge_laws.specs.TableCells.{last_used};
 ghost use Rattle.cartridge_laws.specs.Slots.{has_used_slot};
@@ -62,17 +61,6 @@ pub fn last_used(area: &[Sector], lost: LostSet) -> Option<u8>
     last
 }
 
-/// The set with one place more.
-fn with_place(set: LostSet, place: u8) -> LostSet
-    ensures { place < 32 → result ≡ with_place set place }
-{
-    if place < 32 {
-        LostSet::from_mask(set.mask() | 1 << place)
-    } else {
-        set
-    }
-}
-
 /// The lost places with the last sector that has a used slot, where there is one.
 fn add_used(trials: &mut Trials, lost: LostSet, last_used: Option<u8>)
     requires { trials.old.count < 5 }
@@ -80,8 +68,9 @@ fn add_used(trials: &mut Trials, lost: LostSet, last_used: Option<u8>)
         AreTrials trials.new (sets ++ with_last_used lost last_used) }
     ensures count { trials.new.count ≤ trials.old.count + 1 }
 {
-    if let Some(used) = last_used {
-        trials.add(with_place(lost, used));
+    match last_used {
+        Some(used) if used < 32 => trials.add(lost.with_place(used)),
+        _ => {}
     }
 }
 
@@ -96,13 +85,13 @@ pub fn trials(lost: LostSet, last_used: Option<u8>) -> Trials
     let mut trials = Trials::of(lost);
     match lost.count() {
         1 => {
-            trials.add(with_place(lost, 31));
-            trials.add(with_place(lost, 29));
+            trials.add(lost.with_place(31));
+            trials.add(lost.with_place(29));
             add_used(&mut trials, lost, last_used);
-            trials.add(with_place(with_place(lost, 30), 31));
+            trials.add(lost.with_place(30).with_place(31));
         }
         2 if lost.contains(29) => add_used(&mut trials, lost, last_used),
-        2 if lost.contains(30) => trials.add(with_place(lost, 31)),
+        2 if lost.contains(30) => trials.add(lost.with_place(31)),
         _ => {}
     }
     trials

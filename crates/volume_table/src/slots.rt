@@ -16,7 +16,7 @@ use qic_base::{Name, Sector, push_within, read_u16, read_u32, read_u64};
 pub const SLOTS: u8 = 232;
 
 /// The segment of the table itself, behind which the volumes lie (this project's profile).
-pub const TABLE_SEGMENT: u16 = 2;
+pub const TABLE_SEGMENT: u32 = 2;
 
 /// `VTBL`, the signature of a used slot, as a little-endian number.
 pub const SIGNATURE: u32 = 0x4C42_5456;
@@ -101,7 +101,7 @@ pub fn read_slots(entries: &mut Vec<Entry>, area: &[Sector], last: u32) -> Resul
     ensures room { 232 ≤ vec_capacity entries.new }
     ensures few { vec_len entries.new ≤ 232 }
 {
-    let mut taken = TABLE_SEGMENT;
+    let mut taken = TABLE_SEGMENT as u16;
     let mut seen_free = false;
     for index in 0..SLOTS {
         match read_slot(area, last, index, taken, seen_free)? {

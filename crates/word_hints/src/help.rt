@@ -4,8 +4,7 @@ ghost use Rattle.std.specs.Prelude.{◌≡◌, ◌↔◌, Some, codes, map, stri
 ghost use Rattle.qic_base.specs.SinkCalls.{Writes};
 ghost use Rattle.word_hints.specs.Asked.{IsAlone, IsHelpWord, IsVersionWord};
 
-use qic_base::{Sink, SinkFailed};
-use tape_script::write_text;
+use qic_base::{Sink, SinkFailed, write_text};
 
 /// What a single word in the place of an image asks for.
 #[derive(Clone, Copy, Debug, PartialEq, Eq)]

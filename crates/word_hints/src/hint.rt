@@ -9,8 +9,8 @@ ghost use Rattle.word_hints.specs.Texts.{fault_text, hint_text, word_text};
 use crate::fault::WordFault;
 use crate::forms::{Form, Part, form_of};
 use file_hints::is_shown;
-use qic_base::{Sink, SinkFailed};
-use tape_script::{TextLine, write_text};
+use qic_base::{Sink, SinkFailed, write_text};
+use tape_script::TextLine;
 
 /// The most bytes of a word that is printed.
 const LONGEST_SHOWN: usize = 60;

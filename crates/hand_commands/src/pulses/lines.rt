@@ -6,8 +6,8 @@ ghost use Rattle.hand_commands.specs.PulseLines.{Hears};
 use crate::pulses::fault::PulseFault;
 use crate::pulses::sending::{level_text, send_train};
 use drive_states::Unit;
-use qic_base::{Sink, SinkFailed, Source, SourceFailed, Tape, TapeFailed};
-use tape_script::{Train, TrainRead, write_text};
+use qic_base::{Sink, SinkFailed, Source, SourceFailed, Tape, TapeFailed, write_text};
+use tape_script::{Train, TrainRead};
 
 /// Reads a line and carries it out: the number of its bytes, or none where the input is over. `line` is the line's
 /// number and `place` the number of bytes before it.

@@ -22,8 +22,8 @@ returns-in-Err g c =
       wrote = subst (Wrote g.K.Sink.means c.args.sink.now c.loop-segment.sink) seen.shown before.so_far.wrote;
     }
 
-pub returns-in-Err-write_bytes : goal.returns-in-Err-write_bytes
-returns-in-Err-write_bytes g c =
+pub returns-in-Err-write_text : goal.returns-in-Err-write_text
+returns-in-Err-write_text g c =
     let t = g.T.Tape.means in
     let k = g.K.Sink.means in
     let before = c.loop-segment.invariant in
@@ -33,15 +33,15 @@ returns-in-Err-write_bytes g c =
     segment_more t c.args.tape.now c.loop-segment.tape c.loop-segment.segment before.so_far.text c.loop-segment.mask.items
     c.read_segment.new.sectors c.in-Ok.word before.did
     before.so_far.seen c.in-Ok.ensures.seen in
-    let broke : BrokeOff k c.loop-segment.sink c.write_bytes.new.sink text =
-    subst (BrokeOff k c.loop-segment.sink c.write_bytes.new.sink) c.as_flattened.ensures.value c.in-Err-write_bytes.ensures in
+    let broke : BrokeOff k c.loop-segment.sink c.write_text.new.sink text =
+    subst (BrokeOff k c.loop-segment.sink c.write_text.new.sink) c.as_flattened.ensures.value c.in-Err-write_text.ensures in
     record {
       did = Done-after_reads before.did c.in-Ok.ensures.did;
       views = more.views;
       first = are_first t c.args.tape.now c.args.segments_per_track (c.loop-segment.segment + 1) (before.so_far.text ++ text)
           (c.loop-segment.mask.items ++ c.in-Ok.word ∷ [])
           (g.met.T.Tape.told_right c.args.tape.now) c.requires.size (let e = c.from-segment-end.ensures in omega arith) more;
-      broke = subst (BrokeOff k c.args.sink.now c.write_bytes.new.sink) more.shown
+      broke = subst (BrokeOff k c.args.sink.now c.write_text.new.sink) more.shown
           (Wrote-BrokeOff g.met.K.Sink.took_both before.so_far.wrote broke);
     }
 
@@ -56,8 +56,8 @@ loop-segment-preserved g c =
     segment_more t c.args.tape.now c.loop-segment.tape c.loop-segment.segment before.so_far.text c.loop-segment.mask.items
     c.read_segment.new.sectors c.in-Ok.word before.did
     before.so_far.seen c.in-Ok.ensures.seen in
-    let wrote : Wrote k c.loop-segment.sink c.write_bytes.new.sink text =
-    subst (Wrote k c.loop-segment.sink c.write_bytes.new.sink) c.as_flattened.ensures.value c.in-Ok-write_bytes.ensures in
+    let wrote : Wrote k c.loop-segment.sink c.write_text.new.sink text =
+    subst (Wrote k c.loop-segment.sink c.write_text.new.sink) c.as_flattened.ensures.value c.in-Ok-write_text.ensures in
     record {
       did = Done-after_reads before.did c.in-Ok.ensures.did;
       size = c.in-Ok.ensures.size ∙ before.size;

@@ -12,5 +12,5 @@ returns-in-None-clause-shown c =
     (omega arith) in
     record {
       header = c.fields_of.ensures;
-      map = c.read.ensures ∙ ap (λ (n : ℕ). words_in c.args.area.now (28 * n)) (c.from.ensures ∙ sym drive ∙ read);
+      map = c.read.ensures ∙ ap (λ (n : ℕ). words_in c.args.area.now (28 * n)) (c.from-segments.ensures ∙ sym drive ∙ read);
     }

@@ -14,7 +14,7 @@ returns c = by_cases c.as_array.result c.as_array.ensures.cases
     sectors = c.args.sectors.now
 
     at : chosen c.args.usable sectors ≡ first_sectors c.args.usable sectors
-    at = subst (λ (mask : ℕ). chosen mask sectors ≡ first_sectors mask sectors) (sym c.if-usable-ne4294967295.false)
+    at = subst (λ (mask : ℕ). chosen mask sectors ≡ first_sectors mask sectors) (sym c.if-usable-ne-WHOLE.false)
         (chosen_of_whole sectors c.requires.room)
 
     by_cases : (o : Option (Bor (List (List ℕ)))) → MatchOption o (length sectors ≢ 32) (λ y. IsWholeChunk sectors y.now 32) →

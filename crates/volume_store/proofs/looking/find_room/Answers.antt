@@ -1,4 +1,4 @@
-use Rattle.std.proofs.Common.{◌≡◌, ◌∙◌, ℕ, ◌-◌, ◌*◌, ap, length, take, subst, sym}
+use Rattle.std.proofs.Common.{◌∙◌, ℕ, ◌-◌, ◌*◌, ap, take, subst, sym}
 use Rattle.cartridge_laws.specs.Table.{IsSoundList}
 use Rattle.host_driver.specs.Fits.{segments_of}
 use Rattle.volume_store.proofs.FoundRoom.{look_unstarted, look_found, look_refused}

@@ -17,10 +17,10 @@ returns-in-1 c = λ within.
     let fourth = c.add-in-1-2.ensures.more _ third in
     subst (AreTrials c.add-in-1-2.new.self)
     (rw (
-      c.with_place.ensures (omega arith),
-      c.with_place-in-1.ensures (omega arith),
-      c.with_place-in-1-3.ensures (omega arith),
-      c.with_place-in-1-2.ensures (omega arith),
+      c.with_place.ensures.set,
+      c.with_place-in-1.ensures.set,
+      c.with_place-in-1-3.ensures.set,
+      c.with_place-in-1-2.ensures.set,
     ) (sym (tried_one lost c.args.last_used few c.requires.loses_data one))) fourth
 
 pub returns-in-2 : goal.returns-in-2
@@ -40,7 +40,7 @@ returns-in-2-2 c = λ within.
     let sets : tried lost c.args.last_used ≡ lost ∷ with_place lost 31 ∷ [] =
     tried_with_30 lost c.args.last_used few c.requires.loses_data two (λ is. false≢true (c.if-contains.ensures.lost.1 is))
     (c.if-contains-2.ensures.lost.0 refl) in
-    subst (AreTrials c.add-in-2-2.new.self) (ap (λ (set : ℕ). lost ∷ set ∷ []) (c.with_place-in-2-2.ensures (omega arith)) ∙ sym sets)
+    subst (AreTrials c.add-in-2-2.new.self) (ap (λ (set : ℕ). lost ∷ set ∷ []) (c.with_place-in-2-2.ensures.set) ∙ sym sets)
     (c.add-in-2-2.ensures.more (lost ∷ []) c.of-trials.ensures)
 
 pub returns-else-contains-2 : goal.returns-else-contains-2

@@ -12,7 +12,7 @@ returns-in-Err-clause-goes g c = λ size first begun given before.
     is_taken c.args.self.now c.args.sectors.now c.as_flattened-bytes.result.now c.min-count.result value c.as_flattened-bytes.ensures.len
     c.min-count.ensures in
     bytes_broke g.met.K.Sink.took_both c.args.self.now size c.min-count.result given c.args.reading.now c.args.sectors.now before taken
-    (subst (λ (xs : List ℕ). BrokeOff g.K.Sink.means c.args.output.now c.write_bytes.new.sink (take c.min-count.result xs)) value
+    (subst (λ (xs : List ℕ). BrokeOff g.K.Sink.means c.args.output.now c.write_text.new.sink (take c.min-count.result xs)) value
     c.in-Err.ensures)
 
 pub returns-in-Err-push_marks-clause-goes : goal.returns-in-Err-push_marks-clause-goes
@@ -22,7 +22,7 @@ returns-in-Err-push_marks-clause-goes g c = λ size first begun given before.
     is_taken c.args.self.now c.args.sectors.now c.as_flattened-bytes.result.now c.min-count.result value c.as_flattened-bytes.ensures.len
     c.min-count.ensures in
     map_broke g.met.K.Sink.took_both c.args.self.now size c.min-count.result given c.args.reading.now c.args.sectors.now before taken
-    (subst (λ (xs : List ℕ). Wrote g.K.Sink.means c.args.output.now c.write_bytes.new.sink (take c.min-count.result xs)) value
+    (subst (λ (xs : List ℕ). Wrote g.K.Sink.means c.args.output.now c.write_text.new.sink (take c.min-count.result xs)) value
     c.in_default.ensures)
     (c.in-Err-push_marks.ensures.goes begun (output_of size given).marks before.map)
 
@@ -33,6 +33,6 @@ returns-clause-goes g c = λ size first begun given before.
     is_taken c.args.self.now c.args.sectors.now c.as_flattened-bytes.result.now c.min-count.result value c.as_flattened-bytes.ensures.len
     c.min-count.ensures in
     put_more g.met.K.Sink.took_both c.args.self.now _ size c.min-count.result given c.args.reading.now c.args.sectors.now before taken
-    (subst (λ (xs : List ℕ). Wrote g.K.Sink.means c.args.output.now c.write_bytes.new.sink (take c.min-count.result xs)) value
+    (subst (λ (xs : List ℕ). Wrote g.K.Sink.means c.args.output.now c.write_text.new.sink (take c.min-count.result xs)) value
     c.in_default.ensures)
     (c.in_default-push_marks.ensures.goes begun (output_of size given).marks before.map) refl

@@ -4,7 +4,7 @@ use Rattle.qic_base.specs.Sink.{Wrote}
 use Rattle.qic_base.specs.SinkCalls.{BrokeOff}
 use Rattle.qic_base.proofs.Writing.{Wrote-Wrote, Wrote-BrokeOff}
 use Rattle.qic_base.proofs.Arrays.{front_more, front_within, some_left}
-use Rattle.tape_script.proofs.write.write_text.Goals as goal
+use Rattle.qic_base.proofs.write.write_text.Goals as goal
 
 pub loop-at-preserved : goal.loop-at-preserved
 loop-at-preserved g c =

@@ -1,7 +1,7 @@
 use Rattle.std.proofs.Common.{ℕ, ◌≤◌, subst, arith, List, [], length, All, take_all}
 use Rattle.std.proofs.lemmas.List.Elements.{All-more}
 use Rattle.qic_base.specs.Cartridge.{IsSector}
-use Rattle.volume_input.proofs.filling.are_sectors.Goals as goal
+use Rattle.qic_base.proofs.sectors.are_sectors.Goals as goal
 
 pub loop-sector-preserved : goal.loop-sector-preserved
 loop-sector-preserved c =

@@ -3,8 +3,8 @@ use Rattle.std.proofs.lemmas.Bool.{false≢true}
 use Rattle.qic_base.specs.Cartridge.{lost_places}
 use Rattle.qic_base.specs.CartridgeTerms.{IsLost}
 use Rattle.cartridge_laws.proofs.Places.{none_below, place_of_sector}
-use Rattle.segment_mending.proofs.locating.index_at.Goals as goal
-use Rattle.segment_mending.proofs.locating.index_at.Goals.{then-contains+else-before-place, else-contains}
+use Rattle.bad_sector_map.proofs.places.index_at.Goals as goal
+use Rattle.bad_sector_map.proofs.places.index_at.Goals.{then-contains+else-before-place, else-contains}
 use Rattle.qic_base.proofs.LostSetLaws.{count_more, count_same}
 
 pub loop-index-init : goal.loop-index-init

@@ -1,5 +1,5 @@
 use Rattle.qic_base.proofs.Arrays.{sector_from}
-use Rattle.erasure_solve.proofs.values.is_sector.Goals as goal
+use Rattle.qic_base.proofs.sectors.is_sector.Goals as goal
 
 pub returns : goal.returns
 returns c = sector_from c.args.sector.now c.told-sector c.fits-sector

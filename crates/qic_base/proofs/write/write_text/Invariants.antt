@@ -1,6 +1,6 @@
 use Rattle.std.proofs.Common.{◌≤◌, ◌-◌, length, take}
 use Rattle.qic_base.specs.Sink.{Wrote}
-use Rattle.tape_script.proofs.write.write_text.Given as goal
+use Rattle.qic_base.proofs.write.write_text.Given as goal
 
 abbrev pub invariant-loop-at : goal.invariant-loop-at
 invariant-loop-at g l = record {

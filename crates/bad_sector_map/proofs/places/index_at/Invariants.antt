@@ -1,7 +1,7 @@
 -- The usable sectors below the index are counted, and are no more than the place.
 use Rattle.std.proofs.Common.{◌≡◌, ◌≤◌, length}
 use Rattle.qic_base.specs.Cartridge.{lost_places}
-use Rattle.segment_mending.proofs.locating.index_at.Given as goal
+use Rattle.bad_sector_map.proofs.places.index_at.Given as goal
 
 abbrev pub invariant-loop-index : goal.invariant-loop-index
 invariant-loop-index l = record {

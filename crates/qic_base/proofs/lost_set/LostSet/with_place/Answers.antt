@@ -4,7 +4,7 @@ use Rattle.std.specs.Int.RustNames.{bit_or}
 use Rattle.std.proofs.lemmas.Nat.{or_lt}
 use Rattle.std.proofs.Math.Pow.{pow-lt}
 use Rattle.std.proofs.lemmas.Nat.Bits.{bit_at_set_same, bit_at_set_other}
-use Rattle.silent_locate.proofs.places.with_place.Goals as goal
+use Rattle.qic_base.proofs.lost_set.LostSet.with_place.Goals as goal
 
 pub returns-clause-more : goal.returns-clause-more
 returns-clause-more c =
@@ -14,7 +14,7 @@ returns-clause-more c =
 pub returns-clause-others : goal.returns-clause-others
 returns-clause-others c =
     λ other apart.
-    let same : c.from_mask.result / 2 ^ other % 2 ≡ c.args.lost / 2 ^ other % 2 =
+    let same : c.from_mask.result / 2 ^ other % 2 ≡ c.args.self / 2 ^ other % 2 =
     ap (λ (m : ℕ). m / 2 ^ other % 2) c.from_mask.ensures
     ∙ bit_at_set_other w32 c.mask.result c.args.place c.requires other apart
     ∙ ap (λ (m : ℕ). m / 2 ^ other % 2) c.mask.ensures in
