@@ -6,7 +6,7 @@ use Rattle.qic_base.specs.Disk.{Meaning, Look, IsSettled, Stores, Failed}
 use Rattle.qic_base.proofs.Disks.{told-look}
 use Rattle.cart_image.specs.Run.{Looks}
 use Rattle.cart_image.proofs.Known.{told-same}
-use Rattle.cart_image.proofs.Runs.{Failed-Passes, Looks-Looks, Looks-settled}
+use Rattle.cart_image.proofs.Runs.{Failed-Passes}
 
 -- it tells what was told
 pub failed-told : {D : Type 0} {m : Meaning D} {a b : D} → IsSettled m a → Failed m a b Look → (was now : Option (List ℕ)) →
@@ -60,10 +60,6 @@ Looks-tried m a b (Ok x) settled stored = record {
     | inr was ↦ inr (subst (m.may_leave a) (sym was.2) was.1)
   ];
 }
-
--- looks of which the last one failed
-pub Looks-broken : {D : Type 0} {m : Meaning D} {a b : D} → IsSettled m a → ((mid : D) × Looks m a mid × Failed m mid b Look) → Looks m a b
-Looks-broken settled looked = Looks-Looks looked.1 (Looks-failed (Looks-settled looked.1 settled) looked.2)
 
 -- what a result says of the bytes that were told behind it, it says of those that were told before
 pub ok-behind : {T E : Type 0} (r : Result T E) (told t1 : Option (List ℕ)) (P : T → List ℕ → Type 0) → t1 ≡ told →

@@ -1,10 +1,10 @@
 //! What an image file tells: its head, and what it holds of its sectors.
-ghost use Rattle.std.specs.Prelude.{◌≡◌, ℕ, ◌+◌, ◌*◌, ◌<◌, ◌≤◌, List, length, slice_index, slice_index_or, slice_range, IfOk, IfSome, OnErr, false};
+ghost use Rattle.std.specs.Prelude.{◌≡◌, ℕ, ◌+◌, ◌*◌, ◌<◌, ◌≤◌, List, length, slice_index, slice_index_or, slice_range, IfOk, IfSome, OnErr, true, false};
 ghost use Rattle.qic_base.specs.Cause.{HasCause};
 ghost use Rattle.qic_base.specs.Disk.{IsSettled};
 ghost use Rattle.cart_image.specs.Image.{base_kind, kind_by, layout_by, head_by as head_told, head_of, view_by, view_in, sector_bytes};
-ghost use Rattle.cart_image.specs.Layout.{cell_len, cells_len, sectors, end_of, touches};
-ghost use Rattle.cart_image.specs.Run.{Looked};
+ghost use Rattle.cart_image.specs.Layout.{cell_len, sectors, end_of, touches};
+ghost use Rattle.cart_image.specs.Run.{Looks, Looked};
 ghost use Rattle.cart_image.specs.State.{state_of, AreMarks};
 ghost use Rattle.cart_image.specs.Whole.{IsHeadIn};
 
@@ -206,16 +206,19 @@ pub fn read_planes<D: Disk>(
     })
 }
 
-/// The 32 cells of a segment, which stand beside each other.
-fn read_cells<D: Disk>(disk: &mut D, place: u64) -> Result<Cells, DiskFailed>
-    ensures looked { Looked D.means disk.old disk.new result }
-    ensures bytes { IfOk result (λ part. IfSome (D.means.told disk.old) (λ bytes.
-        place + cells_len ≤ length bytes → part ≡ slice_range bytes place (place + cells_len))) }
+/// Reads as many bytes from a place on as fit. False where the disk fails in that, or has fewer.
+pub fn read_whole<D: Disk>(disk: &mut D, place: u64, into: &mut [u8]) -> bool
+    requires settled { IsSettled D.means disk.old }
+    ensures looks { Looks D.means disk.old disk.new }
+    ensures bytes { result ≡ true → IfSome (D.means.told disk.old) (λ bytes.
+        place + length into.old ≤ length bytes →
+        into.new ≡ slice_range bytes place (place + length into.old)) }
     ensures seen { D.means.seen_len disk.new ≡ D.means.seen_len disk.old }
 {
-    let mut part = [0; CELLS_LEN];
-    disk.read_at(place, &mut part)?;
-    Ok(part)
+    match disk.read_at(place, into) {
+        Ok(count) => count == into.len(),
+        Err(DiskFailed) => false,
+    }
 }
 
 /// The state bytes among those of the 32 cells of a segment.
@@ -242,22 +245,26 @@ pub fn marks_in(cells: &Cells) -> SegmentMarks
     }
 }
 
-/// The state bytes of a segment in cells, read with all its bytes at once.
+/// The state bytes of a segment in cells, read with all its bytes at once; None where the disk fails in these or has fewer.
 pub fn read_marks_at_once<D: Disk>(
     disk: &mut D,
     layout: Layout,
     segment: u32,
-) -> Result<SegmentMarks, DiskFailed>
+) -> Option<SegmentMarks>
     requires place { segment < 28 * layout.segments_per_track }
     requires cells { touches layout.kind ≡ false }
-    ensures looked { Looked D.means disk.old disk.new result }
-    ensures marks { IfOk result (λ marks. IfSome (D.means.told disk.old) (λ bytes.
+    requires settled { IsSettled D.means disk.old }
+    ensures looks { Looks D.means disk.old disk.new }
+    ensures marks { IfSome result (λ marks. IfSome (D.means.told disk.old) (λ bytes.
         end_of layout ≤ length bytes → AreMarks layout segment bytes marks)) }
     ensures seen { D.means.seen_len disk.new ≡ D.means.seen_len disk.old }
 {
     let place = layout.place(Part::GateByte, 32 * segment as u64);
-    let cells = read_cells(disk, place)?;
-    Ok(marks_in(&cells))
+    let mut cells = [0; CELLS_LEN];
+    if !read_whole(disk, place, &mut cells) {
+        return None;
+    }
+    Some(marks_in(&cells))
 }
 
 /// The state bytes of a segment in cells, read sector by sector.
@@ -306,8 +313,8 @@ fn read_cell_marks<D: Disk>(
     ensures seen { D.means.seen_len disk.new ≡ D.means.seen_len disk.old }
 {
     match read_marks_at_once(disk, layout, segment) {
-        Ok(marks) => Ok(marks),
-        Err(DiskFailed) => read_all_flags(disk, layout, segment),
+        Some(marks) => Ok(marks),
+        None => read_all_flags(disk, layout, segment),
     }
 }
 

@@ -4,15 +4,14 @@ ghost use Rattle.qic_base.specs.declared.tape.SectorView.{SectorView};
 ghost use Rattle.qic_base.specs.CartridgeTerms.{is_lost, place_of};
 ghost use Rattle.qic_base.specs.Disk.{IsSettled};
 ghost use Rattle.cart_image.specs.Image.{view_in, sector_bytes};
-ghost use Rattle.cart_image.specs.Layout.{cells_len, sectors, end_of, touches};
+ghost use Rattle.cart_image.specs.Layout.{sectors, end_of, touches};
 ghost use Rattle.cart_image.specs.Run.{Looks, Looked};
 ghost use Rattle.qic_base.specs.TapeCalls.{is_readable, is_blank, ReadsSectors, KeepsOthers};
 ghost use Rattle.cart_image.specs.State.{state_of, AreStatesOf, GotBytes};
 
-use crate::cells::Cells;
 use crate::layout::{CELL_LEN, CELLS_LEN, Layout, Part};
 use crate::reading::{
-    SectorState, marks_in, read_bytes, read_marks_at_once, read_state, states_by,
+    SectorState, marks_in, read_bytes, read_marks_at_once, read_state, read_whole, states_by,
 };
 use crate::segment::is_in;
 use crate::several::{closes, refuses, with_sector};
@@ -61,21 +60,21 @@ fn read_each_state<D: Disk>(
     Ok(states)
 }
 
-/// What the state bytes say of all sectors of a segment in cells, read with all its bytes at once.
-fn read_all_states<D: Disk>(
-    disk: &mut D,
-    layout: Layout,
-    segment: u32,
-) -> Result<[SectorState; 32], DiskFailed>
+/// What the state bytes say of all sectors of a segment in cells, read with all its bytes at once; None where the disk fails
+/// in these or has fewer.
+fn read_all_states<D: Disk>(disk: &mut D, layout: Layout, segment: u32) -> Option<[SectorState; 32]>
     requires place { segment < 28 * layout.segments_per_track }
     requires cells { touches layout.kind ≡ false }
-    ensures looked { Looked D.means disk.old disk.new result }
-    ensures states { (wanted : ℕ) → IfOk result (λ states. IfSome (D.means.told disk.old) (λ bytes.
+    requires settled { IsSettled D.means disk.old }
+    ensures looks { Looks D.means disk.old disk.new }
+    ensures states { (wanted : ℕ) → IfSome result (λ states. IfSome (D.means.told disk.old) (λ bytes.
         end_of layout ≤ length bytes → AreStatesOf layout segment wanted bytes states)) }
     ensures seen { D.means.seen_len disk.new ≡ D.means.seen_len disk.old }
 {
-    let marks = read_marks_at_once(disk, layout, segment)?;
-    Ok(states_by(&marks))
+    match read_marks_at_once(disk, layout, segment) {
+        Some(marks) => Some(states_by(&marks)),
+        None => None,
+    }
 }
 
 /// What the state bytes say of the wanted sectors of a segment in cells: all its bytes are read at once, and just those
@@ -95,8 +94,8 @@ pub fn read_states<D: Disk>(
     ensures seen { D.means.seen_len disk.new ≡ D.means.seen_len disk.old }
 {
     match read_all_states(disk, layout, segment) {
-        Ok(states) => Ok(states),
-        Err(DiskFailed) => read_each_state(disk, layout, segment, wanted),
+        Some(states) => Ok(states),
+        None => read_each_state(disk, layout, segment, wanted),
     }
 }
 
@@ -224,37 +223,6 @@ fn read_all_bytes<D: Disk>(
     Ok(got)
 }
 
-/// The 32 cells of a segment, which stand beside each other; None where the disk fails in them or has fewer bytes.
-fn read_cells_at_once<D: Disk>(disk: &mut D, place: u64) -> Option<Cells>
-    requires settled { IsSettled D.means disk.old }
-    ensures looks { Looks D.means disk.old disk.new }
-    ensures bytes { IfSome result (λ cells. IfSome (D.means.told disk.old) (λ bytes.
-        place + cells_len ≤ length bytes → cells ≡ slice_range bytes place (place + cells_len))) }
-    ensures seen { D.means.seen_len disk.new ≡ D.means.seen_len disk.old }
-{
-    let mut cells = [0; CELLS_LEN];
-    match disk.read_at(place, &mut cells) {
-        Ok(count) if count == CELLS_LEN => Some(cells),
-        Ok(_) | Err(DiskFailed) => None,
-    }
-}
-
-/// The bytes of the sectors of a segment, where they stand beside each other; None where the disk fails in them or has
-/// fewer.
-fn read_block_at_once<D: Disk>(disk: &mut D, place: u64) -> Option<[u8; 32768]>
-    requires settled { IsSettled D.means disk.old }
-    ensures looks { Looks D.means disk.old disk.new }
-    ensures bytes { IfSome result (λ block. IfSome (D.means.told disk.old) (λ bytes.
-        place + 32768 ≤ length bytes → block ≡ slice_range bytes place (place + 32768))) }
-    ensures seen { D.means.seen_len disk.new ≡ D.means.seen_len disk.old }
-{
-    let mut block = [0; 32768];
-    match disk.read_at(place, &mut block) {
-        Ok(32768) => Some(block),
-        Ok(_) | Err(DiskFailed) => None,
-    }
-}
-
 /// Reads the wanted sectors of a segment in cells: their state bytes, and the bytes of those that these say can be read.
 fn read_apart<D: Disk>(
     disk: &mut D,
@@ -303,15 +271,14 @@ pub fn read_in_cells<D: Disk>(
     ensures seen { D.means.seen_len disk.new ≡ D.means.seen_len disk.old }
 {
     let place = layout.place(Part::GateByte, 32 * segment as u64);
-    match read_cells_at_once(disk, place) {
-        Some(cells) => {
-            let states = states_by(&marks_in(&cells));
-            let read = words(&states, wanted);
-            copy_good(read.good, &cells, 3, CELL_LEN, into);
-            Ok(read)
-        }
-        None => read_apart(disk, layout, segment, wanted, into),
+    let mut cells = [0; CELLS_LEN];
+    if !read_whole(disk, place, &mut cells) {
+        return read_apart(disk, layout, segment, wanted, into);
     }
+    let states = states_by(&marks_in(&cells));
+    let read = words(&states, wanted);
+    copy_good(read.good, &cells, 3, CELL_LEN, into);
+    Ok(read)
 }
 
 /// Reads the wanted sectors of a segment in planes, of which the state bytes say this: the bytes of all its sectors at
@@ -339,17 +306,14 @@ pub fn read_in_planes<D: Disk>(
 {
     let read = words(states, wanted);
     let place = layout.place(Part::Data, 32 * segment as u64);
-    match read_block_at_once(disk, place) {
-        Some(block) => {
-            copy_good(read.good, &block, 0, 1024, into);
-            Ok(read)
-        }
-        None => {
-            let good = read_all_bytes(disk, layout, segment, read.good, into)?;
-            Ok(SectorsRead {
-                good,
-                blank: read.blank,
-            })
-        }
+    let mut block = [0; 32768];
+    if read_whole(disk, place, &mut block) {
+        copy_good(read.good, &block, 0, 1024, into);
+        return Ok(read);
     }
+    let good = read_all_bytes(disk, layout, segment, read.good, into)?;
+    Ok(SectorsRead {
+        good,
+        blank: read.blank,
+    })
 }
