@@ -73,7 +73,7 @@ writes_by_segment words s segments bytes carry =
     ∙ ap (into (length (drop cap bytes))) (sym (carried_all words s carry)))
 
 pub volume_steps_by_bytes : VolumeStepsByBytes
-volume_steps_by_bytes plain name date bytes = refl
+volume_steps_by_bytes plain content = refl
 
 -- ---- each sector has its own bytes
 

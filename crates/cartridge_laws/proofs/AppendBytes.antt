@@ -11,9 +11,10 @@ use Rattle.cartridge_laws.proofs.AppendDone.{segments_are}
 use Rattle.cartridge_laws.proofs.AppendSegments.{carries, carried, carrying_are, AreTaken, HasRoom, carrying_carry}
 use Rattle.cartridge_laws.proofs.AppendVolume.{ready_taken, plain_room}
 use Rattle.cartridge_laws.proofs.MountWriting.{places_that, places_none, places_passes, places_fails}
+use Rattle.cartridge_laws.specs.AppendLaws.{new_volume}
 use Rattle.cartridge_laws.specs.AppendSettled.{DoneBytes}
 use Rattle.cartridge_laws.specs.Shape.{Carries}
-use Rattle.cartridge_spec.specs.Appending.{taken_by, filled_up, in_sectors, appended_volume, free_segments}
+use Rattle.cartridge_spec.specs.Appending.{taken_by, filled_up, in_sectors, free_segments}
 use Rattle.cartridge_spec.specs.Volumes.{bytes_in, carrying, capacity_between, Volume, entries_of, volume_length}
 use Rattle.cartridge_laws.specs.VolumeParts.{new_segments, sectors_in}
 use Rattle.cartridge_laws.specs.Table.{last_end}
@@ -127,29 +128,29 @@ by_fit true size all is = refl
 by_fit false size all is = absurd (cc)
 
 pub done_bytes : DoneBytes
-done_bytes c plain name date bytes ready =
+done_bytes c plain content ready =
     let words : List ℕ = plain.words in
     let last : ℕ = length words - 1 in
     let from : ℕ = last_end (entries_of plain) in
-    let segments : List ℕ = new_segments plain bytes in
-    let volume : Volume = appended_volume plain name date bytes in
+    let segments : List ℕ = new_segments plain content.bytes in
+    let volume : Volume = new_volume plain content in
     let entry : Entry = volume.entry in
-    let taken : AreTaken words from (last_segment c) segments = ready_taken c plain name date bytes ready in
-    let room : HasRoom words (entries_of plain) (length bytes) = plain_room plain (length bytes) ready.room in
-    let enough : length bytes ≤ capacity_between words (from + 1) last = room.enough in
+    let taken : AreTaken words from (last_segment c) segments = ready_taken c plain content ready in
+    let room : HasRoom words (entries_of plain) (length content.bytes) = plain_room plain (length content.bytes) ready.room in
+    let enough : length content.bytes ≤ capacity_between words (from + 1) last = room.enough in
     let free : capacity_between words (from + 1) last ≡ capacity_of words (free_segments words (entries_of plain)) =
     between_carries words (from + 1) last in
-    let carry : length bytes ≤ capacity_of words segments =
-    taken_enough words (length bytes) (free_segments words (entries_of plain)) (omega arith) in
+    let carry : length content.bytes ≤ capacity_of words segments =
+    taken_enough words (length content.bytes) (free_segments words (entries_of plain)) (omega arith) in
     let all : capacity_between words entry.start entry.end ≡ capacity_of words segments =
     between_carries words entry.start entry.end ∙ ap (capacity_of words) (segments_are words from (last_segment c) segments taken) in
     let sectors : capacity_of words segments ≡ 1024 * sectors_in words segments =
     sectors_carry words segments
     (subst (λ (ss : List ℕ). All (λ s. Carries (mask_at words s)) ss) (sym taken.are) (carrying_carry words taken.start taken.end)) in
-    let long : volume_length words entry ≡ length bytes =
-    by_fit (nat_le (length bytes) (capacity_between words entry.start entry.end)) (length bytes)
+    let long : volume_length words entry ≡ length content.bytes =
+    by_fit (nat_le (length content.bytes) (capacity_between words entry.start entry.end)) (length content.bytes)
     (capacity_between words entry.start entry.end)
-    (le-leb (length bytes) (capacity_between words entry.start entry.end) (omega arith)) in (
+    (le-leb (length content.bytes) (capacity_between words entry.start entry.end) (omega arith)) in (
       long,
-      ap (λ (n : ℕ). take n (bytes_in volume.area)) long ∙ bytes_of_sectors (sectors_in words segments) bytes (omega arith),
+      ap (λ (n : ℕ). take n (bytes_in volume.area)) long ∙ bytes_of_sectors (sectors_in words segments) content.bytes (omega arith),
     )

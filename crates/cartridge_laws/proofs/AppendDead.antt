@@ -17,7 +17,7 @@ use Rattle.cartridge_laws.proofs.Segments.{length-whole_cells}
 use Rattle.cartridge_laws.specs.AppendBetween.{IsWhole}
 use Rattle.cartridge_laws.specs.AppendLaws.{IsReadyFor}
 use Rattle.cartridge_laws.specs.AppendSettled.{IsSettledFor, SettledIsSettledFor}
-use Rattle.cartridge_spec.specs.Appending.{table_writes}
+use Rattle.cartridge_spec.specs.Appending.{table_writes, Content}
 use Rattle.cartridge_spec.specs.Shape.{IsArea, IsLive, sector_at, usable_places, is_unreadable}
 use Rattle.cartridge_spec.specs.TableSegment.{table_cells, CanBeRead}
 use Rattle.cartridge_spec.specs.Mounting.{settled}
@@ -37,9 +37,8 @@ whole_settled c area is whole = record {
   live = λ i h live. whole i h;
 }
 
-pub ready_settled : {c : Cartridge} {plain : Plain} {name : List ℕ} {date : ℕ} {bytes : List ℕ} → IsReadyFor c plain name date bytes →
-    IsSettledFor c plain.table_area
-ready_settled {c = c} {plain = plain} ready = whole_settled c plain.table_area ready.stands.whole.table_area ready.whole
+pub ready_settled : {c : Cartridge} {plain : Plain} {content : Content} → IsReadyFor c plain content → IsSettledFor c plain.table_area
+ready_settled {c = c} {plain = plain} ready = whole_settled c plain.table_area ready.may.stands.whole.table_area ready.whole
 
 pub settled_kept : (c d : Cartridge) (area : List (List ℕ)) → AreKeptTo 2 c d → IsSettledFor c area → IsSettledFor d area
 settled_kept c d area kept known =

@@ -10,43 +10,18 @@ use Rattle.cartridge_laws.proofs.FormatWriting.{some_weaker}
 use Rattle.cartridge_laws.proofs.HeaderRefusals.{plain_last}
 use Rattle.cartridge_laws.proofs.TableOrders.{faultless_is_sound}
 use Rattle.cartridge_laws.specs.AppendBetween.{IsWhole}
-use Rattle.cartridge_laws.specs.AppendLaws.{IsReadyFor, FreeWritesStand, StoppedVolume}
-use Rattle.cartridge_laws.specs.AppendSettled.{MayAppendTo}
-use Rattle.cartridge_laws.specs.AppendSteps.{volume_writes}
+use Rattle.cartridge_laws.specs.AppendLaws.{FreeWritesStand, StoppedVolume, new_volume, volume_steps, MayAppendTo}
 use Rattle.cartridge_laws.specs.Table.{LieBehind, last_end}
 use Rattle.cartridge_laws.specs.VolumeParts.{new_segments}
-use Rattle.cartridge_spec.specs.Appending.{appended_volume, has_room}
+use Rattle.cartridge_spec.specs.Appending.{Content, has_room}
 use Rattle.cartridge_spec.specs.HeaderCopies.{last_segment}
 use Rattle.cartridge_spec.specs.TableSegment.{table_cells}
 use Rattle.cartridge_spec.specs.Says.{whole_mask, Written, ReadsAll}
-use Rattle.cartridge_spec.specs.Volumes.{Plain, Stands, entries_of, carrying, Volume, VolumeStands}
+use Rattle.cartridge_spec.specs.Volumes.{Plain, Stands, entries_of, carrying, VolumeStands}
 use Rattle.qic_base.specs.Cartridge.{Cartridge}
 use Rattle.qic_base.specs.declared.tape.SectorView.{SectorView}
 
 -- ---- what is known of a cartridge that is ready
-
-pub may_append : {c : Cartridge} {plain : Plain} {name : List ℕ} {date : ℕ} {bytes : List ℕ} → IsReadyFor c plain name date bytes →
-    MayAppendTo c plain name date bytes
-may_append ready = record {
-  cartridge = ready.cartridge;
-  stands = ready.stands;
-  room = ready.room;
-  label = ready.label;
-  word = ready.word;
-  content = ready.content;
-}
-
-pub is_ready : {c : Cartridge} {plain : Plain} {name : List ℕ} {date : ℕ} {bytes : List ℕ} → MayAppendTo c plain name date bytes →
-    IsWhole c plain.table_area → IsReadyFor c plain name date bytes
-is_ready may whole = record {
-  cartridge = may.cartridge;
-  stands = may.stands;
-  whole = whole;
-  room = may.room;
-  label = may.label;
-  word = may.word;
-  content = may.content;
-}
 
 pub old_order : (c : Cartridge) (plain : Plain) → Stands c plain → LieBehind 2 (last_segment c) (entries_of plain)
 old_order c plain stood = faultless_is_sound plain.table_area (last_segment c) (entries_of plain) stood.sound_table stood.shown
@@ -60,12 +35,12 @@ last_end_least c plain stood = end_least 2 (last_segment c) (entries_of plain) (
 pub plain_room : (plain : Plain) (bytes : ℕ) → has_room plain bytes ≡ true → HasRoom plain.words (entries_of plain) bytes
 plain_room plain bytes room = room_is plain.words (entries_of plain) bytes room
 
-pub ready_taken : (c : Cartridge) (plain : Plain) (name : List ℕ) (date : ℕ) (bytes : List ℕ) → MayAppendTo c plain name date bytes →
-    AreTaken plain.words (last_end (entries_of plain)) (last_segment c) (new_segments plain bytes)
-ready_taken c plain name date bytes ready =
-    subst (λ (last : ℕ). AreTaken plain.words (last_end (entries_of plain)) last (new_segments plain bytes))
+pub ready_taken : (c : Cartridge) (plain : Plain) (content : Content) → MayAppendTo c plain content →
+    AreTaken plain.words (last_end (entries_of plain)) (last_segment c) (new_segments plain content.bytes)
+ready_taken c plain content ready =
+    subst (λ (last : ℕ). AreTaken plain.words (last_end (entries_of plain)) last (new_segments plain content.bytes))
     (plain_last c plain ready.stands)
-    (segments_taken plain.words (entries_of plain) (length bytes) (plain_room plain (length bytes) ready.room))
+    (segments_taken plain.words (entries_of plain) (length content.bytes) (plain_room plain (length content.bytes) ready.room))
 
 pub taken_behind : (words : List ℕ) (from last : ℕ) (segments : List ℕ) → AreTaken words from last segments → All (λ s. from < s) segments
 taken_behind words from last segments taken =
@@ -78,12 +53,12 @@ taken_behind words from last segments taken =
 abbrev pub Behind : Plain → (segment sector : ℕ) → Type 0
 Behind plain segment sector = last_end (entries_of plain) < segment
 
-pub volume_writes_behind : (c : Cartridge) (plain : Plain) (name : List ℕ) (date : ℕ) (bytes : List ℕ) (volume : Volume) →
-    MayAppendTo c plain name date bytes → AreIn (Behind plain) (volume_writes plain bytes volume)
-volume_writes_behind c plain name date bytes volume ready =
-    let segments : List ℕ = new_segments plain bytes in
-    parts_of_segments (λ s. last_end (entries_of plain) < s) plain.words segments volume.area
-    (taken_behind plain.words (last_end (entries_of plain)) (last_segment c) segments (ready_taken c plain name date bytes ready))
+pub volume_writes_behind : (c : Cartridge) (plain : Plain) (content : Content) → MayAppendTo c plain content →
+    AreIn (Behind plain) (volume_steps plain content)
+volume_writes_behind c plain content ready =
+    let segments : List ℕ = new_segments plain content.bytes in
+    parts_of_segments (λ s. last_end (entries_of plain) < s) plain.words segments (new_volume plain content).area
+    (taken_behind plain.words (last_end (entries_of plain)) (last_segment c) segments (ready_taken c plain content ready))
 
 -- ---- what they leave
 
@@ -123,8 +98,7 @@ free_writes_stand c plain steps left stood free torn =
     (steps_stopped (Behind plain) steps c left free torn)
 
 pub stopped_volume : StoppedVolume
-stopped_volume c plain name date bytes left ready torn =
-    let volume : Volume = appended_volume plain name date bytes in
-    some_weaker left (λ d known. (known.0, λ i h. known.1.sectors 2 i (last_end_least c plain ready.stands) h ∙ ready.whole i h))
-    (free_writes_stand c plain (volume_writes plain bytes volume) left ready.stands
-    (volume_writes_behind c plain name date bytes volume (may_append ready)) torn)
+stopped_volume c plain content left ready torn =
+    some_weaker left (λ d known. (known.0, λ i h. known.1.sectors 2 i (last_end_least c plain ready.may.stands) h ∙ ready.whole i h))
+    (free_writes_stand c plain (volume_steps plain content) left ready.may.stands
+    (volume_writes_behind c plain content ready.may) torn)

@@ -4,17 +4,17 @@ use Rattle.std.proofs.lemmas.List.Elements.{All-append, All-head, All-tail, All-
 use Rattle.std.proofs.lemmas.Option.{unwrap_or-slice_get}
 use Rattle.cartridge_laws.proofs.AppendParts.{are_sectors}
 use Rattle.cartridge_laws.proofs.AppendTable.{done_table_shows, ready_count}
-use Rattle.cartridge_laws.proofs.AppendVolume.{may_append}
 use Rattle.cartridge_laws.proofs.MountParts.{length-block}
 use Rattle.cartridge_laws.proofs.Segments.{view_of_cartridge}
 use Rattle.cartridge_laws.proofs.Whole.{with_view_whole, written_is_view, worn_is_view}
 use Rattle.cartridge_laws.proofs.WritesKeep.{KeepsEach, writes_keep, torn_writes_keep}
 use Rattle.cartridge_laws.proofs.Writing.{each_together}
-use Rattle.cartridge_laws.specs.AppendLaws.{SectorWritesAreCartridge, StoppedAppendIsCartridge, new_table}
-use Rattle.cartridge_laws.specs.AppendSettled.{MayAppendTo, DoneIsCartridge}
-use Rattle.cartridge_laws.specs.AppendSteps.{parts_writes, volume_writes, list_writes, append_steps}
+use Rattle.cartridge_laws.specs.AppendLaws.{append_steps_of, list_steps, MayAppendTo}
+use Rattle.cartridge_laws.specs.AppendLaws.{SectorWritesAreCartridge, StoppedAppendIsCartridge, new_table, new_volume, volume_steps}
+use Rattle.cartridge_laws.specs.AppendSettled.{DoneIsCartridge}
+use Rattle.cartridge_laws.specs.AppendSteps.{parts_writes}
 use Rattle.cartridge_laws.specs.AppendWrites.{AreWrites, EachIs, IsOfSector}
-use Rattle.cartridge_spec.specs.Appending.{part_writes, appended_volume, new_sectors}
+use Rattle.cartridge_spec.specs.Appending.{part_writes, new_sectors, Content}
 use Rattle.cartridge_laws.specs.VolumeParts.{new_segments, sectors_in}
 use Rattle.cartridge_laws.specs.Slots.{slot_sector}
 use Rattle.cartridge_spec.specs.Code.{parity_sectors}
@@ -22,7 +22,7 @@ use Rattle.cartridge_spec.specs.Shape.{IsArea, mask_at, usable_places, data_coun
 use Rattle.cartridge_spec.specs.HeaderCopies.{last_segment}
 use Rattle.cartridge_spec.specs.Says.{with_parity}
 use Rattle.cartridge_spec.specs.Settling.{writes_of}
-use Rattle.cartridge_spec.specs.Volumes.{Part, parts_of, Plain, Volume}
+use Rattle.cartridge_spec.specs.Volumes.{Part, parts_of, Plain}
 use Rattle.gf256_qic.proofs.Parities.{parity_sectors-are_sectors}
 use Rattle.qic_base.specs.Cartridge.{Cartridge, view_at, IsSector}
 use Rattle.qic_base.specs.CartridgeTerms.{IsCartridge}
@@ -88,17 +88,17 @@ block_sector area i is h =
     subst IsSector (sym (unwrap_or-slice_get (with_parity area) i []))
     (All-get_or IsSector (with_parity area) i [] (omega (arith, length-block area is)) (block_sectors area is.sectors))
 
-append_whole : (c : Cartridge) (plain : Plain) (name : List ℕ) (date : ℕ) (bytes : List ℕ) → MayAppendTo c plain name date bytes →
-    AreWrites IsOfSector (append_steps plain bytes (appended_volume plain name date bytes))
-append_whole c plain name date bytes ready =
+append_whole : (c : Cartridge) (plain : Plain) (content : Content) → MayAppendTo c plain content →
+    AreWrites IsOfSector (append_steps_of plain content)
+append_whole c plain content ready =
     let last : ℕ = last_segment c in
-    let volume : Volume = appended_volume plain name date bytes in
-    let segments : List ℕ = new_segments plain bytes in
-    let table : List (List ℕ) = new_table plain name date bytes in
-    let area : IsArea table = (done_table_shows c plain name date bytes ready).0 in
-    let few = ready_count c plain name date bytes ready in
-    writes_more (volume_writes plain bytes volume) (list_writes plain volume)
-    (parts_whole plain.words segments volume.area (are_sectors (sectors_in plain.words segments) bytes ready.content)) (
+    let segments : List ℕ = new_segments plain content.bytes in
+    let table : List (List ℕ) = new_table plain content in
+    let area : IsArea table = (done_table_shows c plain content ready).0 in
+    let few = ready_count c plain content ready in
+    writes_more (volume_steps plain content) (list_steps plain content)
+    (parts_whole plain.words segments (new_volume plain content).area
+    (are_sectors (sectors_in plain.words segments) content.bytes ready.appendable.bytes)) (
       (block_sector table (slot_sector (length plain.volumes)) area (omega arith), tt),
       (
         (block_sector table 29 area (omega arith), tt),
@@ -107,11 +107,11 @@ append_whole c plain name date bytes ready =
     )
 
 pub stopped_append_is_cartridge : StoppedAppendIsCartridge
-stopped_append_is_cartridge c plain name date bytes left ready torn =
-    sector_writes_are_cartridge c (append_steps plain bytes (appended_volume plain name date bytes)) left ready.cartridge
-    (append_whole c plain name date bytes (may_append ready)) torn
+stopped_append_is_cartridge c plain content left ready torn =
+    sector_writes_are_cartridge c (append_steps_of plain content) left ready.may.cartridge
+    (append_whole c plain content ready.may) torn
 
 pub done_is_cartridge : DoneIsCartridge
-done_is_cartridge c plain name date bytes may =
-    writes_keep IsOfSector IsCartridge (append_steps plain bytes (appended_volume plain name date bytes)) c whole_by_each
-    (append_whole c plain name date bytes may) may.cartridge
+done_is_cartridge c plain content may =
+    writes_keep IsOfSector IsCartridge (append_steps_of plain content) c whole_by_each
+    (append_whole c plain content may) may.cartridge

@@ -5,14 +5,12 @@ use Rattle.std.proofs.lemmas.Bool.{cases_eq, cases_Bool}
 use Rattle.std.proofs.lemmas.List.{length-map, length_push}
 use Rattle.cartridge_laws.proofs.AppendDone.{stopped_list}
 use Rattle.cartridge_laws.proofs.AppendTable.{ready_count, done_table_shows}
-use Rattle.cartridge_laws.proofs.AppendVolume.{may_append}
 use Rattle.cartridge_laws.proofs.FormatWriting.{some_weaker}
 use Rattle.cartridge_laws.proofs.OneLossRead.{one_loss_reads_either}
 use Rattle.cartridge_laws.proofs.TableSlotLaws.{used_not_free}
-use Rattle.cartridge_laws.specs.AppendLaws.{new_table}
+use Rattle.cartridge_laws.specs.AppendLaws.{new_table, new_volume, with_content}
 use Rattle.cartridge_laws.specs.OneLossLaws.{AppendChangesOneSector, StoppedAppendReadsEither}
 use Rattle.cartridge_laws.specs.OneLossTables.{IsLastInUse}
-use Rattle.cartridge_spec.specs.Appending.{with_bytes, appended_volume}
 use Rattle.cartridge_spec.specs.Shape.{sector_at}
 use Rattle.cartridge_spec.specs.Table.{slot, is_used, is_free, Entry, Shows, slot_bytes}
 use Rattle.cartridge_laws.specs.Slots.{slot_sector}
@@ -85,17 +83,17 @@ last_used_shown area entries n shows count within =
 -- ---- an append
 
 pub append_changes_one_sector : AppendChangesOneSector
-append_changes_one_sector c plain name date bytes ready =
-    let volume : Volume = appended_volume plain name date bytes in
+append_changes_one_sector c plain content ready =
+    let volume : Volume = new_volume plain content in
     let old : List (List ℕ) = plain.table_area in
-    let new : List (List ℕ) = new_table plain name date bytes in
+    let new : List (List ℕ) = new_table plain content in
     let n : ℕ = length plain.volumes in
     let k : ℕ = slot_sector n in
-    let within : n < 232 = ready_count c plain name date bytes ready in
-    let done = done_table_shows c plain name date bytes ready in
-    let shows : Shows new (entries_of (with_bytes plain name date bytes)) = done.1 in
+    let within : n < 232 = ready_count c plain content ready in
+    let done = done_table_shows c plain content ready in
+    let shows : Shows new (entries_of (with_content plain content)) = done.1 in
     let count : length (entries_of plain) ≡ n = length-map plain.volumes (λ (v : Volume). v.entry) in
-    let more : length (entries_of (with_bytes plain name date bytes)) ≡ n + 1 =
+    let more : length (entries_of (with_content plain content)) ≡ n + 1 =
     length-map (plain.volumes ++ volume ∷ []) (λ (v : Volume). v.entry) ∙ omega (arith, length_push plain.volumes volume) in
     let used : is_used (slot new n) ≡ true = shows.used n (omega arith) in
     let free : is_free (slot old n) ≡ true = ready.stands.shown.free n (omega arith) within in (
@@ -110,13 +108,13 @@ append_changes_one_sector c plain name date bytes ready =
             let kept : is_used (slot old n) ≡ false = free_not_used (slot old n) free in
             absurd (cc);
       },
-      last_used_shown new (entries_of (with_bytes plain name date bytes)) n shows more within,
+      last_used_shown new (entries_of (with_content plain content)) n shows more within,
     )
 
 pub stopped_append_reads_either : StoppedAppendReadsEither
-stopped_append_reads_either c d plain name date bytes left ready is torn =
-    let changes = append_changes_one_sector c plain name date bytes (may_append ready) in
+stopped_append_reads_either c d plain content left ready is torn =
+    let changes = append_changes_one_sector c plain content ready.may in
     some_weaker left (λ e between f lost loses.
-    one_loss_reads_either e f plain.table_area (new_table plain name date bytes) (slot_sector (length plain.volumes)) lost
+    one_loss_reads_either e f plain.table_area (new_table plain content) (slot_sector (length plain.volumes)) lost
     changes.0 changes.1 between loses)
-    (stopped_list c d plain name date bytes left ready is torn)
+    (stopped_list c d plain content left ready is torn)

@@ -7,7 +7,7 @@ use Rattle.cartridge_laws.proofs.AppendDone.{done_stands, appended_is_whole, OfT
 use Rattle.cartridge_laws.proofs.MountStops.{some_both}
 use Rattle.cartridge_laws.proofs.AppendKeeping.{IsKeptBut, AreIn, steps_kept, steps_stopped}
 use Rattle.cartridge_laws.proofs.AppendTable.{ready_count}
-use Rattle.cartridge_laws.proofs.AppendVolume.{stopped_volume, may_append}
+use Rattle.cartridge_laws.proofs.AppendVolume.{stopped_volume}
 use Rattle.cartridge_laws.proofs.FormatStanding.{same_cells, entry_starts, volumes_behind, volumes_kept}
 use Rattle.cartridge_laws.proofs.FormatWriting.{effects-some, some_weaker, changed_by-append}
 use Rattle.cartridge_laws.proofs.MountKeeping.{in_force, copies_are, stopped_mounts, clean_copy}
@@ -16,10 +16,10 @@ use Rattle.cartridge_laws.proofs.MountWhole.{table_is_area}
 use Rattle.cartridge_laws.proofs.OneLossAppend.{stopped_append_reads_either, append_changes_one_sector}
 use Rattle.cartridge_laws.proofs.OneLossRead.{before_reads_old_still}
 use Rattle.cartridge_laws.specs.AppendBetween.{IsWhole}
-use Rattle.cartridge_laws.specs.AppendLaws.{volume_steps, IsReadyFor, list_steps, new_table}
+use Rattle.cartridge_laws.specs.AppendLaws.{volume_steps, IsReadyFor, list_steps, new_table, with_content}
 use Rattle.cartridge_laws.specs.OneLossLaws.{TableAloneComesBack, TableAloneIsClean, StoppedAppendComesBack, DoneAppendReadsNew}
 use Rattle.cartridge_laws.specs.OneLossLaws.{DoneAppendComesBack, SettledComesBack}
-use Rattle.cartridge_spec.specs.Appending.{with_bytes, appended_volume}
+use Rattle.cartridge_spec.specs.Appending.{Content}
 use Rattle.cartridge_spec.specs.Header.{header_fault}
 use Rattle.cartridge_spec.specs.TableSegment.{TableIs, table_cells, ChangesTableAlone, LosesOne, LosesOneAlone}
 use Rattle.cartridge_spec.specs.HeaderCopies.{copy_cells, HasHeader, last_segment}
@@ -143,71 +143,67 @@ alone_back : (c d : Cartridge) → ChangesTableAlone c d → ChangesTableAlone d
 alone_back c d alone = record { info = sym alone.info; others = λ s i h apart. sym (alone.others s i h apart) }
 
 -- what the volume's writes left, and what the table's writes leave behind them
-old_stands : (c : Cartridge) (plain : Plain) (name : List ℕ) (date : ℕ) (bytes : List ℕ) → IsReadyFor c plain name date bytes →
-    Stands (changed_by (volume_steps plain name date bytes) c) plain
-old_stands c plain name date bytes ready =
-    let steps : List Step = volume_steps plain name date bytes in
+old_stands : (c : Cartridge) (plain : Plain) (content : Content) → IsReadyFor c plain content →
+    Stands (changed_by (volume_steps plain content) c) plain
+old_stands c plain content ready =
+    let steps : List Step = volume_steps plain content in
     let all : IsSomeAnd (effects steps (Some c)) (λ d. Stands d plain) =
     some_weaker (effects steps (Some c)) (λ d known. known.0)
-    (stopped_volume c plain name date bytes (effects steps (Some c)) ready (Torn-all steps (Some c))) in
+    (stopped_volume c plain content (effects steps (Some c)) ready (Torn-all steps (Some c))) in
     subst (λ (o : Option Cartridge). IsSomeAnd o (λ d. Stands d plain)) (effects-some steps c) all
 
-new_stands : (c : Cartridge) (plain : Plain) (name : List ℕ) (date : ℕ) (bytes : List ℕ) → IsReadyFor c plain name date bytes →
-    Stands (changed_by (list_steps plain name date bytes) (changed_by (volume_steps plain name date bytes) c))
-    (with_bytes plain name date bytes)
-new_stands c plain name date bytes ready =
-    subst (λ (e : Cartridge). Stands e (with_bytes plain name date bytes))
-    (changed_by-append (volume_steps plain name date bytes) (list_steps plain name date bytes) c)
-    (done_stands c plain name date bytes (may_append ready) (ready_settled ready))
+new_stands : (c : Cartridge) (plain : Plain) (content : Content) → IsReadyFor c plain content →
+    Stands (changed_by (list_steps plain content) (changed_by (volume_steps plain content) c)) (with_content plain content)
+new_stands c plain content ready =
+    subst (λ (e : Cartridge). Stands e (with_content plain content))
+    (changed_by-append (volume_steps plain content) (list_steps plain content) c)
+    (done_stands c plain content ready.may (ready_settled ready))
 
 pub stopped_append_comes_back : StoppedAppendComesBack
-stopped_append_comes_back c d plain name date bytes left ready is torn =
+stopped_append_comes_back c d plain content left ready is torn =
     some_weaker left (λ e known f lost loses. back e known.0 f lost loses (known.1 f lost loses.loses))
     (some_both (IsKeptBut OfTable d) (λ e. (f : Cartridge) (lost : ℕ) → LosesOne e f lost →
-    TableIs f plain.table_area ⊎ TableIs f (new_table plain name date bytes)) left
-    (steps_stopped OfTable steps d left small torn)
-    (stopped_append_reads_either c d plain name date bytes left ready is torn))
+    TableIs f plain.table_area ⊎ TableIs f (new_table plain content)) left
+    (steps_stopped OfTable steps d left small torn) (stopped_append_reads_either c d plain content left ready is torn))
   where
     steps : List Step
-    steps = list_steps plain name date bytes
+    steps = list_steps plain content
 
     small : AreIn OfTable steps
-    small = list_in plain (appended_volume plain name date bytes) (ready_count c plain name date bytes (may_append ready))
+    small = list_in plain content (ready_count c plain content ready.may)
 
     back : (e : Cartridge) → IsKeptBut OfTable d e → (f : Cartridge) (lost : ℕ) → LosesOneAlone e f lost →
-        TableIs f plain.table_area ⊎ TableIs f (new_table plain name date bytes) →
-        ComesBackAs f plain ⊎ ComesBackAs f (with_bytes plain name date bytes)
+        TableIs f plain.table_area ⊎ TableIs f (new_table plain content) →
+        ComesBackAs f plain ⊎ ComesBackAs f (with_content plain content)
     back e kept f lost loses (inl reads) =
         inl (table_alone_comes_back d f plain
-        (subst (λ (g : Cartridge). Stands g plain) (sym is) (old_stands c plain name date bytes ready))
+        (subst (λ (g : Cartridge). Stands g plain) (sym is) (old_stands c plain content ready))
         (alone_then d e f (kept_alone d e kept) loses.alone) reads)
     back e kept f lost loses (inr reads) =
         let all : Cartridge = changed_by steps d in
         let alone : ChangesTableAlone all d = alone_back d all (kept_alone d all (steps_kept OfTable steps d small)) in
-        inr (table_alone_comes_back all f (with_bytes plain name date bytes)
-        (subst (λ (g : Cartridge). Stands (changed_by steps g) (with_bytes plain name date bytes)) (sym is)
-        (new_stands c plain name date bytes ready))
+        inr (table_alone_comes_back all f (with_content plain content)
+        (subst (λ (g : Cartridge). Stands (changed_by steps g) (with_content plain content)) (sym is)
+        (new_stands c plain content ready))
         (alone_then all d f alone (alone_then d e f (kept_alone d e kept) loses.alone)) reads)
 
 -- ---- a done append
 
-new_whole : (c : Cartridge) (plain : Plain) (name : List ℕ) (date : ℕ) (bytes : List ℕ) → IsReadyFor c plain name date bytes →
-    IsWhole (changed_by (list_steps plain name date bytes) (changed_by (volume_steps plain name date bytes) c))
-    (new_table plain name date bytes)
-new_whole c plain name date bytes ready =
-    subst (λ (e : Cartridge). IsWhole e (new_table plain name date bytes))
-    (changed_by-append (volume_steps plain name date bytes) (list_steps plain name date bytes) c)
-    (appended_is_whole c plain name date bytes ready)
+new_whole : (c : Cartridge) (plain : Plain) (content : Content) → IsReadyFor c plain content →
+    IsWhole (changed_by (list_steps plain content) (changed_by (volume_steps plain content) c)) (new_table plain content)
+new_whole c plain content ready =
+    subst (λ (e : Cartridge). IsWhole e (new_table plain content))
+    (changed_by-append (volume_steps plain content) (list_steps plain content) c) (appended_is_whole c plain content ready)
 
 pub done_append_reads_new : DoneAppendReadsNew
-done_append_reads_new c e plain name date bytes ready is f lost loses =
-    let new : List (List ℕ) = new_table plain name date bytes in
-    let changes = append_changes_one_sector c plain name date bytes (may_append ready) in
-    let whole : IsWhole e new = subst (λ (g : Cartridge). IsWhole g new) (sym is) (new_whole c plain name date bytes ready) in
+done_append_reads_new c e plain content ready is f lost loses =
+    let new : List (List ℕ) = new_table plain content in
+    let changes = append_changes_one_sector c plain content ready.may in
+    let whole : IsWhole e new = subst (λ (g : Cartridge). IsWhole g new) (sym is) (new_whole c plain content ready) in
     before_reads_old_still e f new (slot_sector (length plain.volumes)) lost changes.0.new_area changes.0.data_sector (inl whole) loses
 
 pub done_append_comes_back : DoneAppendComesBack
-done_append_comes_back c e plain name date bytes ready is f lost loses =
-    table_alone_comes_back e f (with_bytes plain name date bytes)
-    (subst (λ (g : Cartridge). Stands g (with_bytes plain name date bytes)) (sym is) (new_stands c plain name date bytes ready))
-    loses.alone (done_append_reads_new c e plain name date bytes ready is f lost loses.loses)
+done_append_comes_back c e plain content ready is f lost loses =
+    table_alone_comes_back e f (with_content plain content)
+    (subst (λ (g : Cartridge). Stands g (with_content plain content)) (sym is) (new_stands c plain content ready))
+    loses.alone (done_append_reads_new c e plain content ready is f lost loses.loses)

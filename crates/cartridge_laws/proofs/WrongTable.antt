@@ -5,7 +5,7 @@ use Rattle.std.specs.Prelude.{unwrap_or}
 use Rattle.std.proofs.lemmas.Bool.{cases_eq}
 use Rattle.cartridge_laws.proofs.AppendBetween.{begun_written}
 use Rattle.cartridge_laws.proofs.AppendDone.{stopped_list}
-use Rattle.cartridge_laws.proofs.AppendVolume.{may_append, stopped_volume}
+use Rattle.cartridge_laws.proofs.AppendVolume.{stopped_volume}
 use Rattle.cartridge_laws.proofs.ChangeViews.{view_elsewhere}
 use Rattle.cartridge_laws.proofs.FormatCopies.{held_view, view_held}
 use Rattle.cartridge_laws.proofs.FormatWriting.{effects-some, some_weaker}
@@ -185,28 +185,28 @@ between_has_wrong c old new k wrong area differ last (inr (inr turned)) is = tur
 -- ---- an append
 
 pub stopped_append_has_wrong : StoppedAppendHasWrong
-stopped_append_has_wrong c plain name date bytes left ready torn =
-    let first : List Step = volume_steps plain name date bytes in
-    let next : List Step = list_steps plain name date bytes in
+stopped_append_has_wrong c plain content left ready torn =
+    let first : List Step = volume_steps plain content in
+    let next : List Step = list_steps plain content in
     let d : Cartridge = changed_by first c in
-    let changes = append_changes_one_sector c plain name date bytes (may_append ready) in
+    let changes = append_changes_one_sector c plain content ready.may in
     elim (Torn-append first next (Some c) left torn) [
       | inl front ↦
           some_weaker left
           (λ e stood wrong area is. absurd (whole_has_none e plain.table_area wrong area changes.0.old_area stood.1 is))
-          (stopped_volume c plain name date bytes left ready front)
+          (stopped_volume c plain content left ready front)
       | inr behind ↦
           let rear : Torn next (Some d) left = subst (λ (held : Option Cartridge). Torn next held left) (effects-some first c) behind in
           some_weaker left
           (λ e between wrong area is.
-          between_has_wrong e plain.table_area (new_table plain name date bytes) (slot_sector (length plain.volumes)) wrong area
+          between_has_wrong e plain.table_area (new_table plain content) (slot_sector (length plain.volumes)) wrong area
           changes.0 changes.1 between is)
-          (stopped_list c d plain name date bytes left ready refl rear)
+          (stopped_list c d plain content left ready refl rear)
     ]
 
 pub no_stop_leaves_wrong : NoStopLeavesWrong
-no_stop_leaves_wrong c d plain name date bytes wrong area ready is small other torn =
-    elim (stopped_append_has_wrong c plain name date bytes (Some d) ready torn wrong area is) [
+no_stop_leaves_wrong c d plain content wrong area ready is small other torn =
+    elim (stopped_append_has_wrong c plain content (Some d) ready torn wrong area is) [
       | inl last ↦ absurd (omega arith)
       | inr used ↦ other used
     ]

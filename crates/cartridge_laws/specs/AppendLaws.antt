@@ -5,8 +5,8 @@ use Rattle.cartridge_laws.specs.AppendBetween.{IsWhole, IsBegun, IsTurned, Betwe
 use Rattle.cartridge_laws.specs.AppendSteps.{volume_writes, list_writes, append_steps, writes_into, IsNamed}
 use Rattle.cartridge_laws.specs.AppendWrites.{AreWrites, IsFree, KeepsTo, IsOfSector}
 use Rattle.cartridge_laws.specs.Shape.{Carries}
-use Rattle.cartridge_spec.specs.Appending.{has_room, free_segments, part_writes, in_sectors, with_bytes, appended_volume}
-use Rattle.cartridge_spec.specs.Volumes.{Plain, Stands, entries_of}
+use Rattle.cartridge_spec.specs.Appending.{has_room, free_segments, part_writes, in_sectors, Content, with_bytes, appended_volume}
+use Rattle.cartridge_spec.specs.Volumes.{Plain, Volume, Stands, entries_of}
 use Rattle.cartridge_laws.specs.Table.{last_end}
 use Rattle.cartridge_laws.specs.Slots.{slot_sector}
 use Rattle.cartridge_spec.specs.Formatting.{IsLabel, StandsCleanly}
@@ -18,49 +18,58 @@ use Rattle.qic_base.specs.Cartridge.{Cartridge, view_at}
 use Rattle.qic_base.specs.CartridgeTerms.{IsCartridge}
 use Rattle.qic_base.specs.Step.{Step, Torn}
 
-abbrev pub new_table : Plain → (name : List ℕ) → (date : ℕ) → (bytes : List ℕ) → List (List ℕ)
-new_table plain name date bytes = (with_bytes plain name date bytes).table_area
+-- the new volume, the plain cartridge with it, and its data of the table
+abbrev pub new_volume : Plain → Content → Volume
+new_volume plain content = appended_volume plain content.name content.date content.bytes
+
+abbrev pub with_content : Plain → Content → Plain
+with_content plain content = with_bytes plain content.name content.date content.bytes
+
+abbrev pub new_table : Plain → Content → List (List ℕ)
+new_table plain content = (with_content plain content).table_area
 
 -- the writes of the volume's segments, those of the table, and all of them
-abbrev pub volume_steps : Plain → (name : List ℕ) → (date : ℕ) → (bytes : List ℕ) → List Step
-volume_steps plain name date bytes = volume_writes plain bytes (appended_volume plain name date bytes)
+abbrev pub volume_steps : Plain → Content → List Step
+volume_steps plain content = volume_writes plain content.bytes (new_volume plain content)
 
-abbrev pub list_steps : Plain → (name : List ℕ) → (date : ℕ) → (bytes : List ℕ) → List Step
-list_steps plain name date bytes = list_writes plain (appended_volume plain name date bytes)
+abbrev pub list_steps : Plain → Content → List Step
+list_steps plain content = list_writes plain (new_volume plain content)
 
-abbrev pub append_steps_of : Plain → (name : List ℕ) → (date : ℕ) → (bytes : List ℕ) → List Step
-append_steps_of plain name date bytes = append_steps plain bytes (appended_volume plain name date bytes)
+abbrev pub append_steps_of : Plain → Content → List Step
+append_steps_of plain content = append_steps plain content.bytes (new_volume plain content)
 
 -- ---- before an append
 
--- The cartridge stands for a plain one, its table is settled with all sectors readable, and a volume with this name of 44
--- bytes, this date word and these bytes has room.
-pub record IsReadyFor (c : Cartridge) (plain : Plain) (name : List ℕ) (date : ℕ) (bytes : List ℕ) : Type 0 where
-  pub cartridge : IsCartridge c
-  pub stands : Stands c plain
-  pub whole : IsWhole c plain.table_area
-  pub room : has_room plain (length bytes) ≡ true
-  pub label : IsLabel name
-  pub word : date < 2 ^ 32
-  pub content : All (λ b. b < 256) bytes
+-- a name of 44 bytes, a date word, and bytes
+pub record IsAppendable (content : Content) : Type 0 where
+  pub label : IsLabel content.name
+  pub word : content.date < 2 ^ 32
+  pub bytes : All (λ b. b < 256) content.bytes
 
--- The cartridge is so once its table is settled: it stands for a plain one, the table can be read, each sector of the
--- table's segment takes what is written to it, and the volume has room.
-pub record MayAppend (c : Cartridge) (plain : Plain) (name : List ℕ) (date : ℕ) (bytes : List ℕ) : Type 0 where
+-- The cartridge stands for a plain one, and a volume of this name, this date word and these bytes has room.
+pub record MayAppendTo (c : Cartridge) (plain : Plain) (content : Content) : Type 0 where
   pub cartridge : IsCartridge c
   pub stands : Stands c plain
+  pub room : has_room plain (length content.bytes) ≡ true
+  pub appendable : IsAppendable content
+
+-- .. and its table is settled with all sectors readable
+pub record IsReadyFor (c : Cartridge) (plain : Plain) (content : Content) : Type 0 where
+  pub may : MayAppendTo c plain content
+  pub whole : IsWhole c plain.table_area
+
+-- The cartridge is so once its table is settled: it stands for a plain one, the volume has room, the table can be read, and each
+-- sector of the table's segment takes what is written to it.
+pub record MayAppend (c : Cartridge) (plain : Plain) (content : Content) : Type 0 where
+  pub may : MayAppendTo c plain content
   pub table : TableIs c plain.table_area
   pub live : IsTableLive c
   pub unprotected : c.info.protected ≡ false
-  pub room : has_room plain (length bytes) ≡ true
-  pub label : IsLabel name
-  pub word : date < 2 ^ 32
-  pub content : All (λ b. b < 256) bytes
 
 abbrev pub SettledIsReady : Type 0
 SettledIsReady =
-    (c : Cartridge) (plain : Plain) (name : List ℕ) (date : ℕ) (bytes : List ℕ) → MayAppend c plain name date bytes →
-    IsReadyFor (settled plain.table_area c) plain name date bytes
+    (c : Cartridge) (plain : Plain) (content : Content) → MayAppend c plain content →
+    IsReadyFor (settled plain.table_area c) plain content
 
 -- ---- a state between two tables
 
@@ -78,9 +87,8 @@ TurnedReadsNew = (c : Cartridge) (old new : List (List ℕ)) → IsArea new → 
 -- they are those of its bytes into the free segments, ..
 abbrev pub VolumeStepsByBytes : Type 0
 VolumeStepsByBytes =
-    (plain : Plain) (name : List ℕ) (date : ℕ) (bytes : List ℕ) →
-    volume_steps plain name date bytes
-    ≡ writes_into plain.words (free_segments plain.words (entries_of plain)) bytes
+    (plain : Plain) (content : Content) → volume_steps plain content
+    ≡ writes_into plain.words (free_segments plain.words (entries_of plain)) content.bytes
 
 -- .. which are those of the first segment, and then those of the bytes behind it into the others, where there are any
 abbrev pub WritesBySegment : Type 0
@@ -100,17 +108,15 @@ SectorsTakeTheirs = (count : ℕ) (bytes : List ℕ) → in_sectors count (take 
 -- the table's segment is whole
 abbrev pub AppendedIsWhole : Type 0
 AppendedIsWhole =
-    (c : Cartridge) (plain : Plain) (name : List ℕ) (date : ℕ) (bytes : List ℕ) → IsReadyFor c plain name date bytes →
-    IsWhole (changed_by (append_steps_of plain name date bytes) c) (new_table plain name date bytes)
+    (c : Cartridge) (plain : Plain) (content : Content) → IsReadyFor c plain content →
+    IsWhole (changed_by (append_steps_of plain content) c) (new_table plain content)
 
 -- it is ready for an append that has room behind it
 abbrev pub AppendedIsReady : Type 0
 AppendedIsReady =
-    (c : Cartridge) (plain : Plain) (name : List ℕ) (date : ℕ) (bytes : List ℕ) (other : List ℕ) (day : ℕ) (more : List ℕ) →
-    IsReadyFor c plain name date bytes →
-    has_room (with_bytes plain name date bytes) (length more) ≡ true →
-    IsLabel other → day < 2 ^ 32 → All (λ b. b < 256) more →
-    IsReadyFor (changed_by (append_steps_of plain name date bytes) c) (with_bytes plain name date bytes) other day more
+    (c : Cartridge) (plain : Plain) (content more : Content) → IsReadyFor c plain content →
+    has_room (with_content plain content) (length more.bytes) ≡ true → IsAppendable more →
+    IsReadyFor (changed_by (append_steps_of plain content) c) (with_content plain content) more
 
 -- ---- writes behind the volumes
 
@@ -124,9 +130,9 @@ FreeWritesStand =
 -- so may one append after it
 abbrev pub FreeWritesLeaveReady : Type 0
 FreeWritesLeaveReady =
-    (c : Cartridge) (plain : Plain) (name : List ℕ) (date : ℕ) (bytes : List ℕ) (steps : List Step) (left : Option Cartridge) →
-    IsReadyFor c plain name date bytes → AreWrites (IsFree (last_end (entries_of plain))) steps → AreWrites IsOfSector steps →
-    Torn steps (Some c) left → IsSomeAnd left (λ d. IsReadyFor d plain name date bytes)
+    (c : Cartridge) (plain : Plain) (content : Content) (steps : List Step) (left : Option Cartridge) →
+    IsReadyFor c plain content → AreWrites (IsFree (last_end (entries_of plain))) steps → AreWrites IsOfSector steps →
+    Torn steps (Some c) left → IsSomeAnd left (λ d. IsReadyFor d plain content)
 
 -- and header copies that formatting may begin over stay so
 abbrev pub FreeWritesAreClean : Type 0
@@ -146,59 +152,55 @@ SectorWritesAreCartridge =
 -- a stop among the writes of the volume's segments leaves what stood, with its table whole
 abbrev pub StoppedVolume : Type 0
 StoppedVolume =
-    (c : Cartridge) (plain : Plain) (name : List ℕ) (date : ℕ) (bytes : List ℕ) (left : Option Cartridge) →
-    IsReadyFor c plain name date bytes → Torn (volume_steps plain name date bytes) (Some c) left →
+    (c : Cartridge) (plain : Plain) (content : Content) (left : Option Cartridge) →
+    IsReadyFor c plain content → Torn (volume_steps plain content) (Some c) left →
     IsSomeAnd left (λ d. Stands d plain × IsWhole d plain.table_area)
 
 -- a stop among the writes of the table leaves its segment between its two data
 abbrev pub StoppedList : Type 0
 StoppedList =
-    (c d : Cartridge) (plain : Plain) (name : List ℕ) (date : ℕ) (bytes : List ℕ) (left : Option Cartridge) →
-    IsReadyFor c plain name date bytes → d ≡ changed_by (volume_steps plain name date bytes) c →
-    Torn (list_steps plain name date bytes) (Some d) left →
-    IsSomeAnd left (λ e. Between e plain.table_area
-    (new_table plain name date bytes) (slot_sector (length plain.volumes)))
+    (c d : Cartridge) (plain : Plain) (content : Content) (left : Option Cartridge) →
+    IsReadyFor c plain content → d ≡ changed_by (volume_steps plain content) c → Torn (list_steps plain content) (Some d) left →
+    IsSomeAnd left (λ e. Between e plain.table_area (new_table plain content) (slot_sector (length plain.volumes)))
 
 -- a stop among all of them leaves what stood, or the plain cartridge with the volume
 abbrev pub StoppedAppend : Type 0
 StoppedAppend =
-    (c : Cartridge) (plain : Plain) (name : List ℕ) (date : ℕ) (bytes : List ℕ) (left : Option Cartridge) →
-    IsReadyFor c plain name date bytes → Torn (append_steps_of plain name date bytes) (Some c) left →
-    IsSomeAnd left (λ d. Stands d plain ⊎ Stands d (with_bytes plain name date bytes))
+    (c : Cartridge) (plain : Plain) (content : Content) (left : Option Cartridge) →
+    IsReadyFor c plain content → Torn (append_steps_of plain content) (Some c) left →
+    IsSomeAnd left (λ d. Stands d plain ⊎ Stands d (with_content plain content))
 
 -- so does a stop among the steps that settle the table and those that append behind them
 abbrev pub StoppedFromTheStart : Type 0
 StoppedFromTheStart =
-    (c : Cartridge) (plain : Plain) (name : List ℕ) (date : ℕ) (bytes : List ℕ) (left : Option Cartridge) →
-    MayAppend c plain name date bytes →
-    Torn (settling_steps plain.table_area c ++ append_steps_of plain name date bytes) (Some c) left →
-    IsSomeAnd left (λ d. Stands d plain ⊎ Stands d (with_bytes plain name date bytes))
+    (c : Cartridge) (plain : Plain) (content : Content) (left : Option Cartridge) → MayAppend c plain content →
+    Torn (settling_steps plain.table_area c ++ append_steps_of plain content) (Some c) left →
+    IsSomeAnd left (λ d. Stands d plain ⊎ Stands d (with_content plain content))
 
 -- no sector changes but those that the steps name; a stop may come behind the last of them
 abbrev pub AppendTouchesOnly : Type 0
 AppendTouchesOnly =
-    (c : Cartridge) (plain : Plain) (name : List ℕ) (date : ℕ) (bytes : List ℕ) (left : Option Cartridge) →
-    IsReadyFor c plain name date bytes → Torn (append_steps_of plain name date bytes) (Some c) left →
+    (c : Cartridge) (plain : Plain) (content : Content) (left : Option Cartridge) →
+    IsReadyFor c plain content → Torn (append_steps_of plain content) (Some c) left →
     IsSomeAnd left (λ d. (d.info ≡ c.info) × ((segment sector : ℕ) → sector < 32 →
-    (IsNamed plain bytes segment sector → ⊥) → view_at d segment sector ≡ view_at c segment sector))
+    (IsNamed plain content.bytes segment sector → ⊥) → view_at d segment sector ≡ view_at c segment sector))
 
 -- it is mounted as one of them
 abbrev pub StoppedAppendMounts : Type 0
 StoppedAppendMounts =
-    (c : Cartridge) (plain : Plain) (name : List ℕ) (date : ℕ) (bytes : List ℕ) (left : Option Cartridge) →
-    IsReadyFor c plain name date bytes → Torn (append_steps_of plain name date bytes) (Some c) left →
-    IsSomeAnd left (λ d. Mounts d (mounted_as plain) ⊎ Mounts d (mounted_as (with_bytes plain name date bytes)))
+    (c : Cartridge) (plain : Plain) (content : Content) (left : Option Cartridge) →
+    IsReadyFor c plain content → Torn (append_steps_of plain content) (Some c) left →
+    IsSomeAnd left (λ d. Mounts d (mounted_as plain) ⊎ Mounts d (mounted_as (with_content plain content)))
 
 -- header copies that formatting may begin over stay so
 abbrev pub StoppedAppendIsClean : Type 0
 StoppedAppendIsClean =
-    (c : Cartridge) (plain : Plain) (name : List ℕ) (date : ℕ) (bytes : List ℕ) (left : Option Cartridge) →
-    IsReadyFor c plain name date bytes → StandsCleanly c plain → Torn (append_steps_of plain name date bytes) (Some c) left →
-    IsSomeAnd left (λ d. StandsCleanly d plain ⊎ StandsCleanly d (with_bytes plain name date bytes))
+    (c : Cartridge) (plain : Plain) (content : Content) (left : Option Cartridge) →
+    IsReadyFor c plain content → StandsCleanly c plain → Torn (append_steps_of plain content) (Some c) left →
+    IsSomeAnd left (λ d. StandsCleanly d plain ⊎ StandsCleanly d (with_content plain content))
 
 -- and it is a cartridge
 abbrev pub StoppedAppendIsCartridge : Type 0
 StoppedAppendIsCartridge =
-    (c : Cartridge) (plain : Plain) (name : List ℕ) (date : ℕ) (bytes : List ℕ) (left : Option Cartridge) →
-    IsReadyFor c plain name date bytes → Torn (append_steps_of plain name date bytes) (Some c) left →
-    IsSomeAnd left IsCartridge
+    (c : Cartridge) (plain : Plain) (content : Content) (left : Option Cartridge) →
+    IsReadyFor c plain content → Torn (append_steps_of plain content) (Some c) left → IsSomeAnd left IsCartridge

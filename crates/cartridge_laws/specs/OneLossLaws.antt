@@ -1,11 +1,10 @@
 -- What is read of the table's segment where an append wrote it and one sector more is lost, as facts.
 use Rattle.std.specs.Prelude.{◌≢◌, ℕ, ◌<◌, ◌≤◌, List, slice_index, ◌≡◌, length, ◌⊎◌, Option, Some, IsSomeAnd, false}
 use Rattle.cartridge_laws.specs.AppendBetween.{IsWhole, IsBegun, IsTurned, Between}
-use Rattle.cartridge_laws.specs.AppendLaws.{new_table, volume_steps, list_steps, IsReadyFor}
-use Rattle.cartridge_laws.specs.AppendSettled.{MayAppendTo}
+use Rattle.cartridge_laws.specs.AppendLaws.{new_table, volume_steps, list_steps, with_content, IsReadyFor, MayAppendTo}
 use Rattle.cartridge_laws.specs.MountBlocks.{HoldsPart}
 use Rattle.cartridge_laws.specs.OneLossTables.{DifferInOne, IsLastInUse}
-use Rattle.cartridge_spec.specs.Appending.{with_bytes}
+use Rattle.cartridge_spec.specs.Appending.{Content}
 use Rattle.cartridge_spec.specs.Code.{IsCodeBlock}
 use Rattle.cartridge_spec.specs.Formatting.{StandsCleanly}
 use Rattle.cartridge_spec.specs.Shape.{IsArea, sector_at}
@@ -84,25 +83,24 @@ OneLossReadsEither =
 -- the table before it and the one behind it differ in the sector of the new slot alone, and that is the last one with a used slot
 abbrev pub AppendChangesOneSector : Type 0
 AppendChangesOneSector =
-    (c : Cartridge) (plain : Plain) (name : List ℕ) (date : ℕ) (bytes : List ℕ) → MayAppendTo c plain name date bytes →
-    DifferInOne plain.table_area (new_table plain name date bytes) (slot_sector (length plain.volumes))
-    × IsLastInUse (new_table plain name date bytes) (slot_sector (length plain.volumes))
+    (c : Cartridge) (plain : Plain) (content : Content) → MayAppendTo c plain content →
+    DifferInOne plain.table_area (new_table plain content) (slot_sector (length plain.volumes))
+    × IsLastInUse (new_table plain content) (slot_sector (length plain.volumes))
 
 -- where it was stopped among the writes of the table, and one sector more of the table's segment is lost, one of the two is read
 abbrev pub StoppedAppendReadsEither : Type 0
 StoppedAppendReadsEither =
-    (c d : Cartridge) (plain : Plain) (name : List ℕ) (date : ℕ) (bytes : List ℕ) (left : Option Cartridge) →
-    IsReadyFor c plain name date bytes → d ≡ changed_by (volume_steps plain name date bytes) c →
-    Torn (list_steps plain name date bytes) (Some d) left →
+    (c d : Cartridge) (plain : Plain) (content : Content) (left : Option Cartridge) →
+    IsReadyFor c plain content → d ≡ changed_by (volume_steps plain content) c → Torn (list_steps plain content) (Some d) left →
     IsSomeAnd left (λ e. (f : Cartridge) (lost : ℕ) → LosesOne e f lost →
-    TableIs f plain.table_area ⊎ TableIs f (new_table plain name date bytes))
+    TableIs f plain.table_area ⊎ TableIs f (new_table plain content))
 
 -- and where all its writes were done, and one sector of the table's segment is lost, the table with the volume is read
 abbrev pub DoneAppendReadsNew : Type 0
 DoneAppendReadsNew =
-    (c e : Cartridge) (plain : Plain) (name : List ℕ) (date : ℕ) (bytes : List ℕ) → IsReadyFor c plain name date bytes →
-    e ≡ changed_by (list_steps plain name date bytes) (changed_by (volume_steps plain name date bytes) c) →
-    (f : Cartridge) (lost : ℕ) → LosesOne e f lost → TableIs f (new_table plain name date bytes)
+    (c e : Cartridge) (plain : Plain) (content : Content) → IsReadyFor c plain content →
+    e ≡ changed_by (list_steps plain content) (changed_by (volume_steps plain content) c) →
+    (f : Cartridge) (lost : ℕ) → LosesOne e f lost → TableIs f (new_table plain content)
 
 -- a cartridge that differs from one that stands in the table's segment alone, and says that one's data of the table, comes back
 -- as that one, ..
@@ -127,15 +125,14 @@ TableAloneIsClean =
 -- else, it comes back as the plain one without the volume, or as that with it
 abbrev pub StoppedAppendComesBack : Type 0
 StoppedAppendComesBack =
-    (c d : Cartridge) (plain : Plain) (name : List ℕ) (date : ℕ) (bytes : List ℕ) (left : Option Cartridge) →
-    IsReadyFor c plain name date bytes → d ≡ changed_by (volume_steps plain name date bytes) c →
-    Torn (list_steps plain name date bytes) (Some d) left →
+    (c d : Cartridge) (plain : Plain) (content : Content) (left : Option Cartridge) →
+    IsReadyFor c plain content → d ≡ changed_by (volume_steps plain content) c → Torn (list_steps plain content) (Some d) left →
     IsSomeAnd left (λ e. (f : Cartridge) (lost : ℕ) → LosesOneAlone e f lost →
-    ComesBackAs f plain ⊎ ComesBackAs f (with_bytes plain name date bytes))
+    ComesBackAs f plain ⊎ ComesBackAs f (with_content plain content))
 
 -- and where all its writes were done, as the one with it
 abbrev pub DoneAppendComesBack : Type 0
 DoneAppendComesBack =
-    (c e : Cartridge) (plain : Plain) (name : List ℕ) (date : ℕ) (bytes : List ℕ) → IsReadyFor c plain name date bytes →
-    e ≡ changed_by (list_steps plain name date bytes) (changed_by (volume_steps plain name date bytes) c) →
-    (f : Cartridge) (lost : ℕ) → LosesOneAlone e f lost → ComesBackAs f (with_bytes plain name date bytes)
+    (c e : Cartridge) (plain : Plain) (content : Content) → IsReadyFor c plain content →
+    e ≡ changed_by (list_steps plain content) (changed_by (volume_steps plain content) c) →
+    (f : Cartridge) (lost : ℕ) → LosesOneAlone e f lost → ComesBackAs f (with_content plain content)

@@ -5,6 +5,7 @@ use Rattle.cartridge_laws.specs.AppendLaws.{IsReadyFor, append_steps_of}
 use Rattle.cartridge_laws.specs.OneLossTables.{DifferInOne, IsLastInUse}
 use Rattle.cartridge_laws.specs.TableCells.{last_used}
 use Rattle.cartridge_laws.specs.WrongTableSector.{IsWrongInTable, RotsInTable}
+use Rattle.cartridge_spec.specs.Appending.{Content}
 use Rattle.cartridge_spec.specs.Header.{Header}
 use Rattle.cartridge_spec.specs.HeaderCopies.{IsFormatted, last_segment}
 use Rattle.cartridge_spec.specs.Mounting.{ComesBackAs, Mounted, Mounts}
@@ -27,17 +28,17 @@ BetweenHasWrong =
 -- so where an append was stopped
 abbrev pub StoppedAppendHasWrong : Type 0
 StoppedAppendHasWrong =
-    (c : Cartridge) (plain : Plain) (name : List ℕ) (date : ℕ) (bytes : List ℕ) (left : Option Cartridge) →
-    IsReadyFor c plain name date bytes → Torn (append_steps_of plain name date bytes) (Some c) left →
+    (c : Cartridge) (plain : Plain) (content : Content) (left : Option Cartridge) →
+    IsReadyFor c plain content → Torn (append_steps_of plain content) (Some c) left →
     IsSomeAnd left (λ d. (wrong : ℕ) (area : List (List ℕ)) → IsWrongInTable d wrong area →
     (wrong ≡ 31) ⊎ (last_used (table_cells d) ≡ Some wrong))
 
 -- a wrong sector of data that is not the last one in use no stop in an append left
 abbrev pub NoStopLeavesWrong : Type 0
 NoStopLeavesWrong =
-    (c d : Cartridge) (plain : Plain) (name : List ℕ) (date : ℕ) (bytes : List ℕ) (wrong : ℕ) (area : List (List ℕ)) →
-    IsReadyFor c plain name date bytes → IsWrongInTable d wrong area → wrong < 29 → last_used (table_cells d) ≢ Some wrong →
-    ¬ (Torn (append_steps_of plain name date bytes) (Some c) (Some d))
+    (c d : Cartridge) (plain : Plain) (content : Content) (wrong : ℕ) (area : List (List ℕ)) →
+    IsReadyFor c plain content → IsWrongInTable d wrong area → wrong < 29 → last_used (table_cells d) ≢ Some wrong →
+    ¬ (Torn (append_steps_of plain content) (Some c) (Some d))
 
 -- ---- once it is lost
 

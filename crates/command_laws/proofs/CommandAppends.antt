@@ -14,12 +14,11 @@ use Rattle.cartridge_laws.proofs.MountKeeping.{stopped_stands}
 use Rattle.cartridge_laws.proofs.MountSettled.{settled_keeps_table, settled_twice, settled_stands}
 use Rattle.cartridge_laws.proofs.MountStanding.{standing_mounts_only_so}
 use Rattle.cartridge_laws.proofs.MountWhole.{settling_effects}
-use Rattle.cartridge_laws.specs.AppendLaws.{IsReadyFor}
-use Rattle.cartridge_laws.specs.AppendSettled.{MayAppendTo}
+use Rattle.cartridge_laws.specs.AppendLaws.{IsReadyFor, with_content, IsAppendable, MayAppendTo}
 use Rattle.cartridge_laws.specs.AppendSteps.{writes_into}
 use Rattle.cartridge_laws.specs.AppendWrites.{AreWrites, IsFree}
 use Rattle.cartridge_laws.specs.Shape.{Carries}
-use Rattle.cartridge_spec.specs.Appending.{has_room, table_writes, with_bytes}
+use Rattle.cartridge_spec.specs.Appending.{has_room, table_writes, Content}
 use Rattle.cartridge_laws.specs.Table.{last_end}
 use Rattle.cartridge_laws.specs.Slots.{slot_sector, with_slot}
 use Rattle.cartridge_spec.specs.Formatting.{IsLabel}
@@ -30,9 +29,11 @@ use Rattle.cartridge_spec.specs.Shape.{mask_at}
 use Rattle.cartridge_spec.specs.Table.{slot_bytes, Entry}
 use Rattle.cartridge_spec.specs.Volumes.{Plain, entries_of, Stands, Volume}
 use Rattle.command_laws.proofs.InputActLaws.{volume_is_free, volume_is_writes}
+use Rattle.command_laws.proofs.MountedKeeping.{kept_may}
 use Rattle.command_spec.specs.Append.{appended, AppendOutcome, Kept, input_writes, entry_acts, room_in, taking, volume_acts, Fits, TooLong}
 use Rattle.command_spec.specs.Append.{kept_over}
-use Rattle.command_laws.specs.AppendTerms.{entry_for, free_in}
+use Rattle.command_laws.specs.AppendTerms.{entry_for, free_in, content_with}
+use Rattle.command_laws.specs.MountedKept.{IsKept}
 use Rattle.command_laws.specs.Outcomes.{Appends}
 use Rattle.command_spec.specs.Lines.{reply_behind, appended_line}
 use Rattle.command_spec.specs.Outcome.{CommandOutcome, refused, Opened, settling_act}
@@ -56,29 +57,40 @@ pub record WasRefused (outcome : CommandOutcome) : Type 0 where
   pub none : steps_of acts ≡ []
   pub not_done : why ≢ status.Done
 
+-- a label, a date word and bytes may be appended
+pub can_append : {name : List ℕ} {date : ℕ} {bytes : List ℕ} → IsLabel name × (date < 2 ^ 32) → All (λ b. b < 256) bytes →
+    IsAppendable (content_with name date bytes)
+can_append values bytes = record { label = values.0; word = values.1; bytes = bytes }
+
 -- the table is settled, and the input appended
-pub record WasRun (name : List ℕ) (date : ℕ) (input : List ℕ) (c : Cartridge) (plain : Plain) (outcome : CommandOutcome) : Type 0 where
+pub record WasRun (content : Content) (c : Cartridge) (plain : Plain) (outcome : CommandOutcome) : Type 0 where
   pub unprotected : c.info.protected ≡ false
   pub table : TableIs c plain.table_area
-  pub is : outcome ≡ appended name date input c plain.words plain.table_area (entries_of plain)
+  pub is : outcome ≡ appended content.name content.date content.bytes c plain.words plain.table_area (entries_of plain)
+
+-- it takes volumes then
+pub kept_by : {content : Content} {c : Cartridge} {plain : Plain} {outcome : CommandOutcome} → IsCartridge c → Stands c plain →
+    IsTableLive c → WasRun content c plain outcome → IsKept c plain
+kept_by whole stood live run =
+    record { cartridge = whole; stands = stood; table = run.table; live = live; unprotected = run.unprotected }
 
 refusal : (why : Status) (outcome : CommandOutcome) → why ≢ status.Done → outcome ≡ refused why → WasRefused outcome
 refusal why outcome other is = record { why = why; acts = []; is = is; none = refl; not_done = other }
 
-pub course : (name : List ℕ) (date : ℕ) (input : List ℕ) (c : Cartridge) (plain : Plain) (outcome : CommandOutcome) → Stands c plain →
-    AppendOutcome name date (Some c) input outcome → WasRefused outcome ⊎ WasRun name date input c plain outcome
-course name date input c plain outcome stood (inl (locked, is)) = inl (refusal status.Protected outcome (λ same. cc) is)
-course name date input c plain outcome stood (inr (free, (m, mounts, opened))) =
+pub course : (content : Content) (c : Cartridge) (plain : Plain) (outcome : CommandOutcome) → Stands c plain →
+    AppendOutcome content.name content.date (Some c) content.bytes outcome → WasRefused outcome ⊎ WasRun content c plain outcome
+course content c plain outcome stood (inl (locked, is)) = inl (refusal status.Protected outcome (λ same. cc) is)
+course content c plain outcome stood (inr (free, (m, mounts, opened))) =
     elim (standing_mounts_only_so c plain m stood mounts) [
       | inl same ↦
           inr (record {
             unprotected = free;
             table = (subst (Mounts c) same mounts).reads;
-            is = subst (λ (a : Mounting). Opened (Appends name date input) c a outcome) same opened;
+            is = subst (λ (a : Mounting). Opened (Appends content.name content.date content.bytes) c a outcome) same opened;
           })
       | inr (n, same) ↦
           inl (refusal (status.Lost 2 n) outcome (λ is. cc)
-          (subst (λ (a : Mounting). Opened (Appends name date input) c a outcome) same opened))
+          (subst (λ (a : Mounting). Opened (Appends content.name content.date content.bytes) c a outcome) same opened))
     ]
 
 -- ---- behind the settling
@@ -134,9 +146,10 @@ abbrev pub segments_acts : Cartridge → Plain → (input : List ℕ) → List A
 segments_acts c plain input = input_writes plain.words (entries_of plain) None input
 
 -- and the table's, where there is room
-abbrev pub table_acts : Cartridge → Plain → (name : List ℕ) → (date : ℕ) → (input : List ℕ) → List Act
-table_acts c plain name date input =
-    entry_acts (kept_of c plain) name date (reply_behind (length (entries_of plain))) (taking (room_in (kept_of c plain)) None input)
+abbrev pub table_acts : Cartridge → Plain → Content → List Act
+table_acts c plain content =
+    entry_acts (kept_of c plain) content.name content.date (reply_behind (length (entries_of plain)))
+    (taking (room_in (kept_of c plain)) None content.bytes)
 
 -- there is room for all of the input
 abbrev pub fits : Plain → (input : List ℕ) → Bool
@@ -179,14 +192,14 @@ segments_stand c plain input left stood table torn =
 
 -- ---- where there is no room for all of the input
 
-pub no_table : (c : Cartridge) (plain : Plain) (name : List ℕ) (date : ℕ) (input : List ℕ) → fits plain input ≡ false →
-    segments_acts c plain input ++ table_acts c plain name date input ≡ segments_acts c plain input
-no_table c plain name date input small =
+pub no_table : (c : Cartridge) (plain : Plain) (content : Content) → fits plain content.bytes ≡ false →
+    segments_acts c plain content.bytes ++ table_acts c plain content ≡ segments_acts c plain content.bytes
+no_table c plain content small =
     let have : ℕ = room_in (kept_of c plain) in
-    ap (λ (b : Bool). segments_acts c plain input
-    ++ entry_acts (kept_of c plain) name date (reply_behind (length (entries_of plain)))
-    (cond b (Fits input) (TooLong (min (length input) (have + 1)) have))) small
-    ∙ append-nil (segments_acts c plain input)
+    ap (λ (b : Bool). segments_acts c plain content.bytes
+    ++ entry_acts (kept_of c plain) content.name content.date (reply_behind (length (entries_of plain)))
+    (cond b (Fits content.bytes) (TooLong (min (length content.bytes) (have + 1)) have))) small
+    ∙ append-nil (segments_acts c plain content.bytes)
 
 -- ---- where there is
 
@@ -200,73 +213,59 @@ segments_write c plain input enough =
     ∙ ap (λ (bytes : List ℕ). steps_of (volume_acts plain.words free bytes)) (take_all have input (leb-true (length input) have both.1))
     ∙ volume_is_writes plain.words free input (free_carry c plain)
 
-table_writes_are : (c : Cartridge) (plain : Plain) (name : List ℕ) (date : ℕ) (input : List ℕ) → fits plain input ≡ true →
-    steps_of (table_acts c plain name date input) ≡ appends.list_steps plain name date input
-table_writes_are c plain name date input enough =
+table_writes_are : (c : Cartridge) (plain : Plain) (content : Content) → fits plain content.bytes ≡ true →
+    steps_of (table_acts c plain content) ≡ appends.list_steps plain content
+table_writes_are c plain content enough =
     let kept : Kept = kept_of c plain in
     let have : ℕ = room_in kept in
-    let bytes : List ℕ = slot_bytes (entry_for kept name date input) in
-    ap (λ (b : Bool). steps_of (entry_acts kept name date (reply_behind (length (entries_of plain)))
-    (cond b (Fits input) (TooLong (min (length input) (have + 1)) have)))) enough
+    let bytes : List ℕ = slot_bytes (entry_for kept content.name content.date content.bytes) in
+    ap (λ (b : Bool). steps_of (entry_acts kept content.name content.date (reply_behind (length (entries_of plain)))
+    (cond b (Fits content.bytes) (TooLong (min (length content.bytes) (have + 1)) have)))) enough
     ∙ append-nil (table_writes (slot_sector (length (entries_of plain))) (with_slot plain.table_area (length (entries_of plain)) bytes))
     ∙ ap (λ (n : ℕ). table_writes (slot_sector n) (with_slot plain.table_area n bytes)) (length-map plain.volumes (λ (v : Volume). v.entry))
 
 -- they are all the writes of an append to the settled cartridge
-pub steps_are : (name : List ℕ) (date : ℕ) (input : List ℕ) (c : Cartridge) (plain : Plain) → fits plain input ≡ true →
-    steps_of (segments_acts c plain input ++ table_acts c plain name date input)
-    ≡ appends.append_steps_of plain name date input
-steps_are name date input c plain enough =
-    steps_of-append (segments_acts c plain input) (table_acts c plain name date input)
-    ∙ ap (λ (front : List Step). front ++ steps_of (table_acts c plain name date input)) (segments_write c plain input enough)
-    ∙ ap (λ (rear : List Step). appends.volume_steps plain name date input ++ rear) (table_writes_are c plain name date input enough)
+pub steps_are : (content : Content) (c : Cartridge) (plain : Plain) → fits plain content.bytes ≡ true →
+    steps_of (segments_acts c plain content.bytes ++ table_acts c plain content) ≡ appends.append_steps_of plain content
+steps_are content c plain enough =
+    steps_of-append (segments_acts c plain content.bytes) (table_acts c plain content)
+    ∙ ap (λ (front : List Step). front ++ steps_of (table_acts c plain content)) (segments_write c plain content.bytes enough)
+    ∙ ap (λ (rear : List Step). appends.volume_steps plain content ++ rear) (table_writes_are c plain content enough)
 
 -- ---- a stop
 
-run_stopped : (name : List ℕ) (date : ℕ) (input : List ℕ) (c : Cartridge) (plain : Plain) (left : Option Cartridge) → IsLabel name →
-    date < 2 ^ 32 → All (λ b. b < 256) input →
-    IsCartridge c → Stands c plain → IsTableLive c → c.info.protected ≡ false → TableIs c plain.table_area →
-    Torn (behind_settling c plain (steps_of (segments_acts c plain input ++ table_acts c plain name date input))) (Some c) left →
-    IsSomeAnd left (λ d. Stands d plain ⊎ Stands d (with_bytes plain name date input))
-run_stopped name date input c plain left label word content whole stood live unprotected table torn =
+run_stopped : (content : Content) (c : Cartridge) (plain : Plain) (left : Option Cartridge) → IsAppendable content → IsKept c plain →
+    Torn (behind_settling c plain (steps_of (segments_acts c plain content.bytes ++ table_acts c plain content))) (Some c) left →
+    IsSomeAnd left (λ d. Stands d plain ⊎ Stands d (with_content plain content))
+run_stopped content c plain left may kept torn =
     let s : Cartridge = settled plain.table_area c in
-    elim (cases_Bool (fits plain input)) [
-      | inl enough ↦ elim (stopped_behind c plain (appends.append_steps_of plain name date input) left stood table
+    elim (cases_Bool (fits plain content.bytes)) [
+      | inl enough ↦ elim (stopped_behind c plain (appends.append_steps_of plain content) left kept.stands kept.table
           (subst (λ (steps : List Step). Torn (behind_settling c plain steps) (Some c) left)
-          (steps_are name date input c plain enough) torn)) [
+          (steps_are content c plain enough) torn)) [
             | inl stands ↦ some_weaker left (λ d stands. inl stands) stands
             | inr behind ↦
-                let ready : IsReadyFor s plain name date input = settled_is_ready c plain name date input (record {
-                  cartridge = whole;
-                  stands = stood;
-                  table = table;
-                  live = live;
-                  unprotected = unprotected;
-                  room = enough;
-                  label = label;
-                  word = word;
-                  content = content;
-                }) in
-                stopped_append s plain name date input left ready behind
+                let ready : IsReadyFor s plain content = settled_is_ready c plain content (kept_may kept enough may) in
+                stopped_append s plain content left ready behind
           ]
       | inr small ↦ some_weaker left (λ d stands. inl stands)
-          (segments_stand c plain input left stood table
+          (segments_stand c plain content.bytes left kept.stands kept.table
           (subst (λ (acts : List Act). Torn (behind_settling c plain (steps_of acts)) (Some c) left)
-          (no_table c plain name date input small) torn))
+          (no_table c plain content small) torn))
     ]
 
 -- a stop leaves what stood, or that with the volume of the input
-pub append_stopped : (name : List ℕ) (date : ℕ) (input : List ℕ) (c : Cartridge) (plain : Plain) (outcome : CommandOutcome)
-    (left : Option Cartridge) →
-    IsLabel name → date < 2 ^ 32 → All (λ b. b < 256) input → IsCartridge c → Stands c plain → IsTableLive c →
-    AppendOutcome name date (Some c) input outcome → Torn (steps_of outcome.acts) (Some c) left →
-    IsSomeAnd left (λ d. Stands d plain ⊎ Stands d (with_bytes plain name date input))
-append_stopped name date input c plain outcome left label word content whole stood live machine torn =
-    elim (course name date input c plain outcome stood machine) [
+pub append_stopped : (content : Content) (c : Cartridge) (plain : Plain) (outcome : CommandOutcome)
+    (left : Option Cartridge) → IsAppendable content → IsCartridge c → Stands c plain → IsTableLive c →
+    AppendOutcome content.name content.date (Some c) content.bytes outcome → Torn (steps_of outcome.acts) (Some c) left →
+    IsSomeAnd left (λ d. Stands d plain ⊎ Stands d (with_content plain content))
+append_stopped content c plain outcome left may whole stood live machine torn =
+    elim (course content c plain outcome stood machine) [
       | inl none ↦
-          some_and (λ d. Stands d plain ⊎ Stands d (with_bytes plain name date input)) c left (inl stood)
+          some_and (λ d. Stands d plain ⊎ Stands d (with_content plain content)) c left (inl stood)
           (subst (λ (ss : List Step). Torn ss (Some c) left) (ap (λ (o : CommandOutcome). steps_of o.acts) none.is ∙ none.none) torn)
       | inr run ↦
-          run_stopped name date input c plain left label word content whole stood live run.unprotected run.table
+          run_stopped content c plain left may (kept_by whole stood live run)
           (subst (λ (o : CommandOutcome). Torn (steps_of o.acts) (Some c) left) run.is torn)
     ]
 
@@ -277,32 +276,31 @@ done_fits true need have is = refl
 done_fits false need have is = absurd (cc)
 
 -- where it was done, it stands for that with the volume
-pub append_done : (name : List ℕ) (date : ℕ) (input : List ℕ) (c : Cartridge) (plain : Plain) (outcome : CommandOutcome) →
-    IsLabel name → date < 2 ^ 32 → All (λ b. b < 256) input → IsCartridge c → Stands c plain →
-    AppendOutcome name date (Some c) input outcome → outcome.status ≡ status.Done →
-    IsSomeAnd (effects (steps_of outcome.acts) (Some c)) (λ d. Stands d (with_bytes plain name date input))
-append_done name date input c plain outcome label word content whole stood machine is_done =
-    elim (course name date input c plain outcome stood machine) [
+pub append_done : (content : Content) (c : Cartridge) (plain : Plain) (outcome : CommandOutcome) → IsAppendable content →
+    IsCartridge c → Stands c plain → AppendOutcome content.name content.date (Some c) content.bytes outcome →
+    outcome.status ≡ status.Done → IsSomeAnd (effects (steps_of outcome.acts) (Some c)) (λ d. Stands d (with_content plain content))
+append_done content c plain outcome may whole stood machine is_done =
+    elim (course content c plain outcome stood machine) [
       | inl none ↦ absurd (none.not_done (sym (ap (λ (o : CommandOutcome). o.status) none.is) ∙ is_done))
       | inr run ↦
           let have : ℕ = room_in (kept_of c plain) in
-          let enough : fits plain input ≡ true =
-          done_fits (fits plain input) (min (length input) (have + 1)) have (sym (ap (λ (o : CommandOutcome). o.status) run.is) ∙ is_done)
+          let enough : fits plain content.bytes ≡ true =
+          done_fits (fits plain content.bytes) (min (length content.bytes) (have + 1)) have
+          (sym (ap (λ (o : CommandOutcome). o.status) run.is) ∙ is_done)
           in
-          some_and (λ d. Stands d (with_bytes plain name date input)) _ (effects (steps_of outcome.acts) (Some c))
+          some_and (λ d. Stands d (with_content plain content)) _ (effects (steps_of outcome.acts) (Some c))
           (stands run.unprotected run.table enough)
           (ap (λ (o : CommandOutcome). effects (steps_of o.acts) (Some c)) run.is
-          ∙ ap (λ (steps : List Step). effects (behind_settling c plain steps) (Some c)) (steps_are name date input c plain enough)
-          ∙ done_behind c plain (appends.append_steps_of plain name date input) run.table)
+          ∙ ap (λ (steps : List Step). effects (behind_settling c plain steps) (Some c)) (steps_are content c plain enough)
+          ∙ done_behind c plain (appends.append_steps_of plain content) run.table)
     ]
   where
-    stands : c.info.protected ≡ false → TableIs c plain.table_area → fits plain input ≡ true →
-        Stands (changed_by (appends.append_steps_of plain name date input) (settled plain.table_area c)) (with_bytes plain name date input)
+    stands : c.info.protected ≡ false → TableIs c plain.table_area → fits plain content.bytes ≡ true →
+        Stands (changed_by (appends.append_steps_of plain content) (settled plain.table_area c)) (with_content plain content)
     stands unprotected table enough =
         let s : Cartridge = settled plain.table_area c in
-        let before : MayAppendTo c plain name date input =
-        record { cartridge = whole; stands = stood; room = enough; label = label; word = word; content = content } in
-        done_stands s plain name date input (settled_may_append_to c plain name date input before table)
+        let before : MayAppendTo c plain content = record { cartridge = whole; stands = stood; room = enough; appendable = may } in
+        done_stands s plain content (settled_may_append_to c plain content before table)
         (settled_is_settled_for c plain.table_area table unprotected)
 
 -- ---- refused
@@ -312,25 +310,25 @@ not_done_small true need have other = absurd (other refl)
 not_done_small false need have other = refl
 
 -- where it was refused, it stands for what it stood for
-pub append_refused : (name : List ℕ) (date : ℕ) (input : List ℕ) (c : Cartridge) (plain : Plain) (outcome : CommandOutcome) →
-    IsCartridge c → Stands c plain → AppendOutcome name date (Some c) input outcome → outcome.status ≢ status.Done →
+pub append_refused : (content : Content) (c : Cartridge) (plain : Plain) (outcome : CommandOutcome) →
+    IsCartridge c → Stands c plain → AppendOutcome content.name content.date (Some c) content.bytes outcome → outcome.status ≢ status.Done →
     IsSomeAnd (effects (steps_of outcome.acts) (Some c)) (λ d. Stands d plain)
-append_refused name date input c plain outcome whole stood machine other =
-    elim (course name date input c plain outcome stood machine) [
+append_refused content c plain outcome whole stood machine other =
+    elim (course content c plain outcome stood machine) [
       | inl none ↦
           subst (λ (ss : List Step). IsSomeAnd (effects ss (Some c)) (λ d. Stands d plain))
           (sym (ap (λ (o : CommandOutcome). steps_of o.acts) none.is ∙ none.none)) stood
       | inr run ↦
           let have : ℕ = room_in (kept_of c plain) in
-          let small : fits plain input ≡ false =
-          not_done_small (fits plain input) (min (length input) (have + 1)) have
+          let small : fits plain content.bytes ≡ false =
+          not_done_small (fits plain content.bytes) (min (length content.bytes) (have + 1)) have
           (λ is. other (ap (λ (o : CommandOutcome). o.status) run.is ∙ is)) in
-          let steps : List Step = behind_settling c plain (steps_of (segments_acts c plain input)) in
+          let steps : List Step = behind_settling c plain (steps_of (segments_acts c plain content.bytes)) in
           let same : steps_of outcome.acts ≡ steps =
           ap (λ (o : CommandOutcome). steps_of o.acts) run.is
-          ∙ ap (λ (acts : List Act). behind_settling c plain (steps_of acts)) (no_table c plain name date input small) in
+          ∙ ap (λ (acts : List Act). behind_settling c plain (steps_of acts)) (no_table c plain content small) in
           subst (λ (ss : List Step). IsSomeAnd (effects ss (Some c)) (λ d. Stands d plain)) (sym same)
-          (segments_stand c plain input (effects steps (Some c)) stood run.table (Torn-all steps (Some c)))
+          (segments_stand c plain content.bytes (effects steps (Some c)) stood run.table (Torn-all steps (Some c)))
     ]
 
 -- ---- before the reply
@@ -390,36 +388,35 @@ empty_front c plain front rest acts stood parts none =
     no_step (x ∷ xs) ys is = absurd (cc)
 
 -- a front of the acts in which nothing is printed leaves what stood: the table is not yet written
-pub append_unanswered : (name : List ℕ) (date : ℕ) (input : List ℕ) (c : Cartridge) (plain : Plain) (outcome : CommandOutcome)
-    (front rest : List Act) →
-    IsCartridge c → Stands c plain → AppendOutcome name date (Some c) input outcome → front ++ rest ≡ outcome.acts → text_of front ≡ [] →
-    IsSomeAnd (effects (steps_of front) (Some c)) (λ d. Stands d plain)
-append_unanswered name date input c plain outcome front rest whole stood machine parts quiet =
-    elim (course name date input c plain outcome stood machine) [
+pub append_unanswered : (content : Content) (c : Cartridge) (plain : Plain) (outcome : CommandOutcome)
+    (front rest : List Act) → IsCartridge c → Stands c plain → AppendOutcome content.name content.date (Some c) content.bytes outcome →
+    front ++ rest ≡ outcome.acts → text_of front ≡ [] → IsSomeAnd (effects (steps_of front) (Some c)) (λ d. Stands d plain)
+append_unanswered content c plain outcome front rest whole stood machine parts quiet =
+    elim (course content c plain outcome stood machine) [
       | inl none ↦ empty_front c plain front rest none.acts stood (parts ∙ ap (λ (o : CommandOutcome). o.acts) none.is) none.none
       | inr run ↦
           let kept : Kept = kept_of c plain in
           let have : ℕ = room_in kept in
-          let e : Entry = entry_for kept name date input in
+          let e : Entry = entry_for kept content.name content.date content.bytes in
           let first : Act = settling_act plain.table_area c in
           let again : Act = record { steps = kept.settling; text = [] } in
-          let acts : front ++ rest ≡ first ∷ again ∷ (segments_acts c plain input ++ table_acts c plain name date input) =
+          let acts : front ++ rest ≡ first ∷ again ∷ (segments_acts c plain content.bytes ++ table_acts c plain content) =
           parts ∙ ap (λ (o : CommandOutcome). o.acts) run.is in
-          elim (cases_Bool (fits plain input)) [
+          elim (cases_Bool (fits plain content.bytes)) [
             | inl enough ↦
                 let last : Act = record {
                   steps = table_writes (slot_sector (length (entries_of plain)))
                       (with_slot plain.table_area (length (entries_of plain)) (slot_bytes e));
                   text = reply_behind (length (entries_of plain)) e;
                 } in
-                let found = quiet_front front rest (first ∷ again ∷ segments_acts c plain input) last
+                let found = quiet_front front rest (first ∷ again ∷ segments_acts c plain content.bytes) last
                 (appended_line_is_some (length (entries_of plain) + 1) e.size e.start e.end)
-                (acts ∙ ap (λ (b : Bool). first ∷ again ∷ (segments_acts c plain input ++ entry_acts kept name date
+                (acts ∙ ap (λ (b : Bool). first ∷ again ∷ (segments_acts c plain content.bytes ++ entry_acts kept content.name content.date
                 (reply_behind (length (entries_of plain)))
-                (cond b (Fits input) (TooLong (min (length input) (have + 1)) have)))) enough) quiet in
-                front_stands c plain input front found.0 first again stood run.table refl refl found.1
+                (cond b (Fits content.bytes) (TooLong (min (length content.bytes) (have + 1)) have)))) enough) quiet in
+                front_stands c plain content.bytes front found.0 first again stood run.table refl refl found.1
             | inr small ↦
-                front_stands c plain input front rest first again stood run.table refl refl
-                (acts ∙ ap (λ (others : List Act). first ∷ again ∷ others) (no_table c plain name date input small))
+                front_stands c plain content.bytes front rest first again stood run.table refl refl
+                (acts ∙ ap (λ (others : List Act). first ∷ again ∷ others) (no_table c plain content small))
           ]
     ]

@@ -7,6 +7,7 @@ use Rattle.cartridge_spec.specs.TableSegment.{IsTableLive, LosesOneAlone}
 use Rattle.cartridge_spec.specs.Mounting.{settled, ComesBackAs}
 use Rattle.cartridge_spec.specs.Settling.{settling_steps}
 use Rattle.cartridge_spec.specs.Volumes.{Plain, Stands}
+use Rattle.command_laws.proofs.CommandAppends.{can_append}
 use Rattle.command_laws.proofs.CommandComesBack.{lines_come_answered, lines_come_back, lines_come_heard, make_comes_back, make_comes_done}
 use Rattle.command_laws.proofs.CommandComesBack.{make_comes_printed, none_answered}
 use Rattle.command_laws.proofs.CommandEnds.{Laws, told_whole}
@@ -19,6 +20,7 @@ use Rattle.command_laws.proofs.IntactKeeping.{one_comes}
 use Rattle.command_laws.proofs.TextWords.{one_command}
 use Rattle.command_spec.specs.Headline.{StopLeaves, WordsLeave, EachLeft, ToldNow}
 use Rattle.command_spec.specs.Several.{IsHeard, FirstLinesSpare, OverInput, Scripted}
+use Rattle.command_laws.specs.AppendTerms.{content_with}
 use Rattle.command_laws.specs.CommandFields.{Yields}
 use Rattle.command_spec.specs.Machine.{HasValues, Spells, CommandEnds, is_fault, IsOfBytes}
 use Rattle.command_spec.specs.OneLoss.{SurvivesOneLoss, AppendingLeaves, AppendingLeft, SomeComeBack, with_one}
@@ -75,8 +77,8 @@ left_by told words command c plain left values whole spelled leaves stood live =
       let l : StopLeaves told other (Some c) left = as_other other spells in (
         l.input,
         l.is_told,
-        elim (append_comes_back name date l.input c plain l.outcome left known.0 known.1
-            (of_bytes told l.input bytes l.is_told (l.bytes refl)) whole stood live l.plain l.torn) [
+        elim (append_comes_back (content_with name date l.input) c plain l.outcome left
+            (can_append known (of_bytes told l.input bytes l.is_told (l.bytes refl))) whole stood live l.plain l.torn) [
               | inl settling ↦ inl (refl, settling)
               | inr back ↦ inr (record {
                 one = 0;
@@ -173,9 +175,8 @@ module _ {T S K : Type 0} (t : tapes.Meaning T) (s : sources.Meaning S) (k : sin
             (subst (λ (w : Words). CommandEnds t s k w old new answer) (one_command words command other spelled spells) ends) in
             let back : IsSomeAnd (effects (steps_of d.outcome.acts) (Some c))
             (λ e. (f : Cartridge) (lost : ℕ) → LosesOneAlone e f lost → ComesBackAs f (with_bytes plain name date d.input)) =
-            done_comes_back name date d.input c plain d.outcome known.0 known.1
-            (of_bytes (s.left old.source) d.input bytes d.is_told (d.bytes refl))
-            whole stood live d.plain d.sound in (
+            done_comes_back (content_with name date d.input) c plain d.outcome
+            (can_append known (of_bytes (s.left old.source) d.input bytes d.is_told (d.bytes refl))) whole stood live d.plain d.sound in (
               d.input,
               d.is_told,
               now_weaker t old.tape new.tape

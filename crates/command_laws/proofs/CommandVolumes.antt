@@ -18,12 +18,13 @@ use Rattle.cartridge_spec.specs.TableSegment.{IsTableLive}
 use Rattle.cartridge_spec.specs.Settling.{changed_by}
 use Rattle.cartridge_spec.specs.Table.{Entry}
 use Rattle.cartridge_spec.specs.Volumes.{Plain, Stands}
-use Rattle.command_laws.proofs.CommandAppends.{append_stopped, append_refused, append_unanswered, append_done}
+use Rattle.command_laws.proofs.CommandAppends.{append_stopped, append_refused, append_unanswered, append_done, can_append}
 use Rattle.command_laws.proofs.CommandEnds.{after_steps, told_weaker, over_at, told_whole, Laws, ends_finished}
 use Rattle.command_laws.proofs.CommandKeeping.{same_stands}
 use Rattle.command_laws.proofs.CommandPlainLaws.{FormatLeaves, format_leaves}
 use Rattle.command_laws.proofs.CommandTable.{laws_of, plain_answers}
 use Rattle.command_laws.proofs.TextWords.{one_command}
+use Rattle.command_laws.specs.AppendTerms.{content_with}
 use Rattle.command_laws.specs.RunTerms.{WasNotDone}
 use Rattle.command_spec.specs.Command.{Command}
 use Rattle.command_spec.specs.Commands.{traits_of, command_of}
@@ -217,8 +218,8 @@ appended_or_not told words held left values whole (inr (command, spelled, leaves
     in
     some_weaker left
     (λ d stands. elim stands [ inl old ↦ inl old | inr new ↦ inr (record { input = l.input; is_told = l.is_told; stands = new }) ])
-    (append_stopped name date l.input c plain l.outcome left known.0 known.1 (of_bytes told l.input bytes l.is_told (l.bytes refl))
-    (whole_of held c whole is) stood live l.plain l.torn)
+    (append_stopped (content_with name date l.input) c plain l.outcome left
+    (can_append known (of_bytes told l.input bytes l.is_told (l.bytes refl))) (whole_of held c whole is) stood live l.plain l.torn)
 
 pub stops_append : {T : Type 0} (t : tapes.Meaning T) (told : Option (List ℕ)) (words : List (List ℕ)) (a b : T) →
     tape_calls.IsToldRight (t.told a) (t.size a) →
@@ -357,7 +358,7 @@ append_unchanged t s k name date old new answer c plain laws values whole stood 
     finished_did t s k (commands.Append name date) old new answer (Some c) answer told finished refl in
     now_weaker t old.tape new.tape
     (λ left is. subst (λ (o : Option Cartridge). IsSomeAnd o (λ e. Stands e plain)) (sym is)
-    (append_refused name date d.input c plain d.outcome whole stood d.plain (λ same. not.0 (sym d.sound ∙ same))))
+    (append_refused (content_with name date d.input) c plain d.outcome whole stood d.plain (λ same. not.0 (sym d.sound ∙ same))))
     (done_now t old.tape new.tape (steps_of d.outcome.acts) (Some c) d.did told)
 append_unchanged t s k name date old new answer c plain laws values whole stood told not (inr (TapeFails, is, stopped)) = absurd (not.2 is)
 append_unchanged t s k name date old new answer c plain laws values whole stood told not (inr (SinkFails, is, stopped)) = absurd (not.1 is)
@@ -369,7 +370,7 @@ append_unchanged t s k name date old new answer c plain laws values whole stood 
     let cut = off.cut in
     now_weaker t old.tape new.tape
     (λ left same. subst (λ (o : Option Cartridge). IsSomeAnd o (λ e. Stands e plain)) (sym same)
-    (append_unanswered name date over.0 c plain some.0 cut.front cut.rest whole stood some.1 cut.parts (off.silent refl)))
+    (append_unanswered (content_with name date over.0) c plain some.0 cut.front cut.rest whole stood some.1 cut.parts (off.silent refl)))
     (done_now t old.tape new.tape (steps_of cut.front) (Some c) cut.did told)
 
 pub is_changed : {T S K : Type 0} (t : tapes.Meaning T) (s : sources.Meaning S) (k : sinks.Meaning K) (words : List (List ℕ))
@@ -421,8 +422,8 @@ is_changed t s k words command old new answer laws spelled values ends = record 
       carried_out_did t s k other old new answer (Some c) whole known refl told which
       (subst (λ (w : Words). CommandEnds t s k w old new answer) same ends) in
       let left : IsSomeAnd (effects (steps_of d.outcome.acts) (Some c)) (λ e. Stands e (with_bytes plain name date d.input)) =
-      append_done name date d.input c plain d.outcome known.0 known.1 (of_bytes (s.left old.source) d.input bytes d.is_told (d.bytes refl))
-      whole stood d.plain d.sound in
+      append_done (content_with name date d.input) c plain d.outcome
+      (can_append known (of_bytes (s.left old.source) d.input bytes d.is_told (d.bytes refl))) whole stood d.plain d.sound in
       now_weaker t old.tape new.tape
       (λ l is. subst (λ (o : Option Cartridge). IsSomeAnd o (StandsAppended (s.left old.source) name date c plain)) (sym is)
       (some_weaker (effects (steps_of d.outcome.acts) (Some c))

@@ -1,19 +1,21 @@
 -- Each command leaves a whole cartridge where it began with one, done or stopped.
-use Rattle.std.proofs.Common.{◌≡◌, ℕ, ◌<◌, ◌≤◌, ◌^◌, List, [], ◌∷◌, ◌++◌, All, false, Option, Some, None, IsSomeAnd, IfSome, inl, inr, refl}
+use Rattle.std.proofs.Common.{◌≡◌, ℕ, ◌<◌, ◌≤◌, List, [], ◌∷◌, ◌++◌, All, false, Option, Some, None, IsSomeAnd, IfSome, inl, inr, refl}
 use Rattle.std.proofs.Common.{sym, ap, ◌∙◌, subst, arith, append_assoc, append-nil, drop, length}
 use Rattle.std.proofs.lemmas.List.Elements.{All-drop}
 use Rattle.cartridge_laws.proofs.FormatWriting.{some_and}
 use Rattle.cartridge_laws.proofs.MountSettled.{settled_keeps_table}
-use Rattle.cartridge_spec.specs.Formatting.{IsLabel, clearing_steps, format_steps}
+use Rattle.cartridge_spec.specs.Appending.{Content}
+use Rattle.cartridge_spec.specs.Formatting.{clearing_steps, format_steps}
 use Rattle.cartridge_spec.specs.Header.{Header}
 use Rattle.cartridge_spec.specs.Mounting.{Mounts, settled}
 use Rattle.cartridge_spec.specs.Settling.{changed_by}
 use Rattle.cartridge_spec.specs.Table.{Entry}
 use Rattle.cartridge_spec.specs.Volumes.{volume_length}
+use Rattle.command_laws.proofs.CommandAppends.{can_append}
 use Rattle.command_laws.proofs.CommandClean.{GoesLeaving, Leaves, acts_leave, leaves_by, leaves_done, none_leaves, refused_leaves}
 use Rattle.command_laws.proofs.CommandClean.{wear_leaves}
 use Rattle.command_laws.proofs.MadeOutcomes.{CanDo, CanRun, can_make, made_behind}
-use Rattle.command_laws.proofs.MadeStops.{made_content, made_label, sum_in_no_step}
+use Rattle.command_laws.proofs.MadeStops.{made_label, sum_in_no_step, made_one, made_named}
 use Rattle.command_laws.proofs.MountedListed.{append_listed, mounted_listed, scrub_listed, wear_listed}
 use Rattle.command_laws.proofs.RestoreCounts.{framed_in_no_step, restores_in_no_step}
 use Rattle.command_laws.proofs.ScriptOutcomes.{given_listed, listed_by, replied, taken_listed}
@@ -25,7 +27,7 @@ use Rattle.command_laws.specs.ScriptStanding.{HaveBytes, LineHasBytes}
 use Rattle.command_spec.specs.Append.{AppendOutcome, Fits, Kept, Taking, TooLong, TooShort, append_acts, kept_over, room_in, taking}
 use Rattle.command_spec.specs.Single.{FormatOutcome}
 use Rattle.command_laws.specs.MadeTerms.{made_acts}
-use Rattle.command_laws.specs.AppendTerms.{silently}
+use Rattle.command_laws.specs.AppendTerms.{silently, content_with}
 use Rattle.command_spec.specs.Make.{made_bytes, made_length, AppendMade, Making, MakeStep, Runs, ScrubAll, StepDoes, SumVolume, WearSector}
 use Rattle.command_spec.specs.Make.{after_item, made_name, making}
 use Rattle.command_spec.specs.Input.{AtEnd, AtFault, AtStop, Ending, Item}
@@ -50,6 +52,7 @@ use Rattle.cartridge_spec.specs.Mounting as mounting
 use Rattle.command_spec.specs.declared.line.Line.TheVariants as line
 use Rattle.command_spec.specs.declared.refusal.Refusal.TheVariants as why
 use Rattle.command_spec.specs.declared.status.Status.TheVariants as status
+use Rattle.cartridge_laws.specs.AppendLaws.{IsAppendable}
 
 abbrev Whole : Cartridge → List Step → Type 0
 Whole c steps = Leaves IsCartridge c steps
@@ -131,31 +134,28 @@ taken_whole c kept name date acts (TooLong need have) leaves =
     leaves_by IsCartridge c (steps_of (line_refused acts kept.entries (why.Full need have)).acts) (steps_of acts) (replied acts _) leaves
 taken_whole c kept name date acts (TooShort promised read) leaves = leaves
 
-acts_on_whole : (c : Cartridge) (ws : List ℕ) (entries : List Entry) (name : List ℕ) (promised date : ℕ) (bytes : List ℕ)
-    (meeting : Meeting) → IsCartridge c → IsListed c ws entries →
-    IsLabel name → date < 2 ^ 32 → All (λ b. b < 256) bytes → Meets c meeting →
-    Whole c (steps_of (acts_on c ws entries name promised date bytes meeting))
-acts_on_whole c ws entries name promised date bytes (Refuses refusal) whole listed label word content meets = still_whole c [] whole refl
-acts_on_whole c ws entries name promised date bytes (Finds table) whole listed label word content meets =
-    append_leaves c ws entries table listed meets.0 meets.1 whole name date (Some promised)
-    (reply_behind (length entries)) bytes label word content
+acts_on_whole : (c : Cartridge) (ws : List ℕ) (entries : List Entry) (content : Content) (promised : ℕ) (meeting : Meeting) →
+    IsCartridge c → IsListed c ws entries → IsAppendable content → Meets c meeting →
+    Whole c (steps_of (acts_on c ws entries content.name promised content.date content.bytes meeting))
+acts_on_whole c ws entries content promised (Refuses refusal) whole listed may meets = still_whole c [] whole refl
+acts_on_whole c ws entries content promised (Finds table) whole listed may meets =
+    append_leaves c ws entries table listed meets.0 meets.1 whole content may (Some promised) (reply_behind (length entries))
 
-append_line : (c : Cartridge) (ws : List ℕ) (entries : List Entry) (name : List ℕ) (promised date : ℕ) (bytes : List ℕ)
-    (meeting : Meeting) → IsCartridge c → IsListed c ws entries →
-    IsLabel name → date < 2 ^ 32 → All (λ b. b < 256) bytes → Meets c meeting →
-    LineLeaves c ws (append_did c ws entries name promised date bytes meeting)
-append_line c ws entries name promised date bytes (Refuses refusal) whole listed label word content meets =
+append_line : (c : Cartridge) (ws : List ℕ) (entries : List Entry) (content : Content) (promised : ℕ) (meeting : Meeting) →
+    IsCartridge c → IsListed c ws entries → IsAppendable content → Meets c meeting →
+    LineLeaves c ws (append_did c ws entries content.name promised content.date content.bytes meeting)
+append_line c ws entries content promised (Refuses refusal) whole listed may meets =
     line_still c ws entries ([] ++ reply (refusal_line refusal) ∷ []) whole listed refl
-append_line c ws entries name promised date bytes (Finds table) whole listed label word content meets =
+append_line c ws entries content promised (Finds table) whole listed may meets =
     let kept : Kept = kept_over c ws entries table in
-    let acts : List Act = acts_on c ws entries name promised date bytes (Finds table) in
-    let took : Taking = taking (room_in kept) (Some promised) bytes in
+    let acts : List Act = acts_on c ws entries content.name promised content.date content.bytes (Finds table) in
+    let took : Taking = taking (room_in kept) (Some promised) content.bytes in
     record {
-      leaves = taken_whole c kept name date acts took
-          (acts_on_whole c ws entries name promised date bytes (Finds table) whole listed label word content meets);
-      listed = taken_listed c ws kept name date acts took
-          (append_listed c ws entries table name date (Some promised) (reply_behind (length entries)) bytes listed meets.0 meets.1 label
-          word);
+      leaves = taken_whole c kept content.name content.date acts took
+          (acts_on_whole c ws entries content promised (Finds table) whole listed may meets);
+      listed = taken_listed c ws kept content.name content.date acts took
+          (append_listed c ws entries table content.name content.date (Some promised) (reply_behind (length entries)) content.bytes listed
+          meets.0 meets.1 may.label may.word);
     }
 
 given_steps : (ws : List ℕ) (entries : List Entry) (number : ℕ) (e : Entry) (parts : List Act) (ending : GivingEnd) → steps_of parts ≡ [] →
@@ -165,11 +165,9 @@ given_steps ws entries number e parts (LostIn segment lost) none = replied parts
 given_steps ws entries number e parts (MismatchIn segment) none = replied parts _ ∙ none
 
 line_leaves : (c : Cartridge) (ws : List ℕ) (entries : List Entry) (asked : Line) (bytes : List ℕ) (did : Did) → IsCartridge c →
-    IsListed c ws entries → LineHasBytes asked bytes →
-    LineDoes c ws entries asked bytes did → LineLeaves c ws did
+    IsListed c ws entries → LineHasBytes asked bytes → LineDoes c ws entries asked bytes did → LineLeaves c ws did
 line_leaves c ws entries (line.Append name promised date) bytes did whole listed has (meeting, meets, is) =
-    line_by c ws did _ is (append_line c ws entries name promised date bytes meeting whole listed has.0.label has.0.word has.0.content
-    meets)
+    line_by c ws did _ is (append_line c ws entries (content_with name date bytes) promised meeting whole listed has.0 meets)
 line_leaves c ws entries line.List bytes did whole listed has is = line_by c ws did _ is (line_still c ws entries _ whole listed refl)
 line_leaves c ws entries (line.Restore number) bytes did whole listed has (inl is) = line_by c ws did _ is.1
     (line_still c ws entries _ whole listed refl)
@@ -208,8 +206,8 @@ items_leave c ws entries [] [] rest (AtFault number place) last whole listed has
     let values = append_values early.text early.name early.promised early.date early.lined in
     leaves_by IsCartridge c (steps_of last) (steps_of (acts_on c ws entries early.name early.promised early.date early.bytes meeting))
     (ap steps_of is)
-    (acts_on_whole c ws entries early.name early.promised early.date early.bytes meeting whole listed values.0 values.1
-    (all_right (λ b. b < 256) early.text early.bytes (subst (All (λ b. b < 256)) early.parts content)) meets)
+    (acts_on_whole c ws entries (content_with early.name early.date early.bytes) early.promised meeting whole listed
+    (can_append values (all_right (λ b. b < 256) early.text early.bytes (subst (All (λ b. b < 256)) early.parts content))) meets)
 items_leave c ws entries [] [] rest (AtFault number place) last whole listed has content done (inr (never, is)) =
     still_whole c (steps_of last) whole (ap steps_of is)
 items_leave c ws entries [] (did ∷ dids) rest ending last whole listed has content done ends = absurd done
@@ -237,46 +235,39 @@ scripting_whole input content c header ws table entries outcome mounts found who
 
 -- ---- an append
 
-appends_whole : (name : List ℕ) (date : ℕ) (input : List ℕ) → IsLabel name → date < 2 ^ 32 → All (λ b. b < 256) input →
-    (c : Cartridge) (m : mounting.Mounting) (outcome : CommandOutcome) →
-    c.info.protected ≡ false → Mounts c m → Opened (Appends name date input) c m outcome → IsCartridge c → Whole c (steps_of outcome.acts)
-appends_whole name date input label word content c mounting.NotFormatted outcome free mounts is whole =
-    refused_leaves IsCartridge c outcome _ is refl whole
-appends_whole name date input label word content c (mounting.Foreign fault) outcome free mounts is whole =
-    refused_leaves IsCartridge c outcome _ is refl whole
-appends_whole name date input label word content c (mounting.TableLost lost) outcome free mounts is whole =
-    refused_leaves IsCartridge c outcome _ is refl whole
-appends_whole name date input label word content c mounting.TableMismatch outcome free mounts is whole =
-    refused_leaves IsCartridge c outcome _ is refl whole
-appends_whole name date input label word content c (mounting.Mounted header ws table entries) outcome free mounts is whole =
+appends_whole : (content : Content) → IsAppendable content → (c : Cartridge) (m : mounting.Mounting) (outcome : CommandOutcome) →
+    c.info.protected ≡ false → Mounts c m → Opened (Appends content.name content.date content.bytes) c m outcome → IsCartridge c →
+    Whole c (steps_of outcome.acts)
+appends_whole content may c mounting.NotFormatted outcome free mounts is whole = refused_leaves IsCartridge c outcome _ is refl whole
+appends_whole content may c (mounting.Foreign fault) outcome free mounts is whole = refused_leaves IsCartridge c outcome _ is refl whole
+appends_whole content may c (mounting.TableLost lost) outcome free mounts is whole = refused_leaves IsCartridge c outcome _ is refl whole
+appends_whole content may c mounting.TableMismatch outcome free mounts is whole = refused_leaves IsCartridge c outcome _ is refl whole
+appends_whole content may c (mounting.Mounted header ws table entries) outcome free mounts is whole =
     let s : Cartridge = settled table c in
     let known = settled_keeps_table c table mounts.reads in
-    let acts : List Act = append_acts (kept_over s ws entries table) name date None (reply_behind (length entries)) input in
+    let kept : Kept = kept_over s ws entries table in
+    let acts : List Act = append_acts kept content.name content.date None (reply_behind (length entries)) content.bytes in
     whole_outcome c outcome _ is
     (behind_leave c table (steps_of acts) whole mounts.reads (λ still.
     append_leaves s ws entries table (listed_still c header ws table entries whole mounts)
-    (ap (λ (i : TapeInfo). i.protected) known.info ∙ free) known.table still
-    name date None (reply_behind (length entries)) input label word content))
+    (ap (λ (i : TapeInfo). i.protected) known.info ∙ free) known.table still content may None (reply_behind (length entries))))
 
-pub append_whole : (name : List ℕ) (date : ℕ) (input : List ℕ) → IsLabel name → date < 2 ^ 32 → All (λ b. b < 256) input →
-    (c : Cartridge) (outcome : CommandOutcome) →
-    AppendOutcome name date (Some c) input outcome → IsCartridge c → Whole c (steps_of outcome.acts)
-append_whole name date input label word content c outcome (inl is) whole = refused_leaves IsCartridge c outcome _ is.1 refl whole
-append_whole name date input label word content c outcome (inr (free, (m, mounts, opened))) whole =
-    appends_whole name date input label word content c m outcome free mounts opened whole
+pub append_whole : (content : Content) → IsAppendable content → (c : Cartridge) (outcome : CommandOutcome) →
+    AppendOutcome content.name content.date (Some c) content.bytes outcome → IsCartridge c → Whole c (steps_of outcome.acts)
+append_whole content may c outcome (inl is) whole = refused_leaves IsCartridge c outcome _ is.1 refl whole
+append_whole content may c outcome (inr (free, (m, mounts, opened))) whole =
+    appends_whole content may c m outcome free mounts opened whole
 
 -- ---- a generated run
 
 step_leaves : (seed : ℕ) (c : Cartridge) (ws : List ℕ) (entries : List Entry) (item : MakeStep) (acts : List Act) (answer : Status) →
-    IsCartridge c → IsListed c ws entries → CanDo entries item →
-    StepDoes seed c ws entries item acts answer → Whole c (steps_of acts)
+    IsCartridge c → IsListed c ws entries → CanDo entries item → StepDoes seed c ws entries item acts answer → Whole c (steps_of acts)
 step_leaves seed c ws entries (AppendMade volume) acts answer whole listed can (inl refused) = still_whole c (steps_of acts) whole
     (ap steps_of refused.1)
 step_leaves seed c ws entries (AppendMade volume) acts answer whole listed can (inr (free, inl appended)) =
     leaves_by IsCartridge c (steps_of acts) (steps_of (made_acts seed c ws entries appended.table volume)) (ap steps_of appended.does)
-    (append_leaves c ws entries appended.table listed free appended.reads whole (made_name volume) 0
-    (Some (made_length seed volume)) silently (made_bytes seed volume)
-    (made_label volume can) (omega arith) (made_content seed volume))
+    (append_leaves c ws entries appended.table listed free appended.reads whole (made_one seed volume) (made_named seed volume can)
+    (Some (made_length seed volume)) silently)
 step_leaves seed c ws entries (AppendMade volume) acts answer whole listed can (inr (free, inr lost)) = still_whole c (steps_of acts) whole
     (ap steps_of lost.2)
 step_leaves seed c ws entries (WearSector segment sector) acts answer whole listed can worn =

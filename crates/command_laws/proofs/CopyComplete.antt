@@ -24,7 +24,7 @@ use Rattle.command_laws.proofs.MountedSaying.{restores_anyway}
 use Rattle.command_laws.specs.CopyLaws.{CopyWithRoomIsDone}
 use Rattle.command_laws.specs.MountedKept.{IsOpen}
 use Rattle.command_spec.specs.Command.{ReadsAs}
-use Rattle.command_spec.specs.Copied.{contents_of}
+use Rattle.command_spec.specs.Copied.{content_of, contents_of}
 use Rattle.command_spec.specs.Copying.{Compares, Copies, CopiesVolume, FromMounted, Side, ToMounted, giving_status, has_room_for, missing}
 use Rattle.command_spec.specs.Outcome.{settling_act}
 use Rattle.command_spec.specs.Restore.{GivingEnd, LosesFew, LostIn, MismatchIn, Restored, Restores, ending_status, pieces_in, HasNumber}
@@ -33,6 +33,7 @@ use Rattle.qic_base.specs.Acts.{Act, steps_of}
 use Rattle.qic_base.specs.Cartridge.{Cartridge}
 use Rattle.command_spec.specs.declared.copy_status.CopyStatus.TheVariants as status
 use Rattle.command_spec.specs.declared.status.Status.TheVariants as answers
+use Rattle.cartridge_laws.specs.AppendLaws.{with_content}
 
 -- ---- the source
 
@@ -96,7 +97,7 @@ volume_goes c one volume original d p held acts answer gives room (inr (table, r
 -- ---- volumes one after the other
 
 abbrev with_volume : (one : Plain) → Plain → Volume → Plain
-with_volume one p volume = with_bytes p volume.entry.name volume.entry.date (volume_bytes one.words volume)
+with_volume one p volume = with_content p (content_of one.words volume)
 
 -- each has room when its turn comes
 abbrev HaveRoom : (one : Plain) → List Volume → Plain → Type 0

@@ -1,19 +1,20 @@
 -- The bytes that the source of a copy gives of a volume, whatever its sectors hold: they can be appended to another cartridge.
 use Rattle.std.proofs.Common.{◌≡◌, ℕ, ◌-◌, ◌<◌, List, [], ◌∷◌, ◌++◌, All, length, refl, sym, ap, ◌∙◌, subst, append-nil, arith}
 use Rattle.std.proofs.lemmas.List.Elements.{All-append, All-nil, All-replicate, All-take}
-use Rattle.cartridge_spec.specs.Appending.{Content, with_bytes}
+use Rattle.cartridge_spec.specs.Appending.{Content}
 use Rattle.cartridge_spec.specs.Says.{Data, LostSectors, Mismatch, Saying, Says}
 use Rattle.cartridge_spec.specs.Table.{Entry}
 use Rattle.cartridge_spec.specs.Volumes.{Plain, bytes_in}
 use Rattle.command_laws.proofs.CopyValues.{HasValues, sectors_bytes}
 use Rattle.command_laws.proofs.RestoreGiven.{given_always, given_begins_restored, given_is_function, given_is_long}
-use Rattle.command_laws.specs.MountedKept.{IsAppendable}
 use Rattle.command_spec.specs.CopyGiven.{GivenBack}
 use Rattle.command_spec.specs.Copying.{GivenBytes, Side, bytes_said, length_on}
 use Rattle.command_spec.specs.Restore.{Piece, Restored, Restores, piece_cells, pieces}
 use Rattle.qic_base.specs.Acts.{Act, text_of}
 use Rattle.qic_base.specs.Cartridge.{Cartridge, IsSector}
 use Rattle.qic_base.specs.Disk.{AreBytes}
+use Rattle.cartridge_laws.specs.AppendLaws.{with_content, IsAppendable}
+use Rattle.command_laws.specs.AppendTerms.{content_with}
 
 -- ---- what is given
 
@@ -49,21 +50,21 @@ given_small c words (piece ∷ needed) bytes (saying, rest, says, given, is) =
     subst AreBytes (sym is) (All-append (λ b. b < 256) (bytes_said piece saying) rest (said_small piece saying c words says)
     (given_small c words needed rest given))
 
-pub given_may : (from : Side) (e : Entry) → HasValues e → IsAppendable e.name e.date (given_of from e)
-given_may from e values = record {
-  label = values.label;
-  word = values.word;
-  content = given_small from.cartridge from.words (pieces from.words e) (given_of from e) (given_so from e);
-}
-
 -- ---- a volume
 
 abbrev pub content_of : Side → Entry → Content
-content_of from e = record { name = e.name; date = e.date; bytes = given_of from e }
+content_of from e = content_with e.name e.date (given_of from e)
+
+pub given_may : (from : Side) (e : Entry) → HasValues e → IsAppendable (content_of from e)
+given_may from e values = record {
+  label = values.label;
+  word = values.word;
+  bytes = given_small from.cartridge from.words (pieces from.words e) (given_of from e) (given_so from e);
+}
 
 -- a plain cartridge with it
 abbrev pub with_entry : (from : Side) → Plain → Entry → Plain
-with_entry from p e = with_bytes p e.name e.date (given_of from e)
+with_entry from p e = with_content p (content_of from e)
 
 -- all of it reads
 abbrev pub GivesAll : Side → Entry → Type 0

@@ -5,14 +5,13 @@ use Rattle.std.specs.Str.{bytes_eq}
 use Rattle.std.proofs.lemmas.List.{length-map, length-take-le, map-append}
 use Rattle.std.proofs.lemmas.Slice.Eq.{bytes_eq-Decides}
 use Rattle.cartridge_laws.proofs.AppendBytes.{done_bytes}
-use Rattle.cartridge_laws.specs.AppendSettled.{MayAppendTo}
-use Rattle.cartridge_spec.specs.Appending.{Content, appended_volume, has_room, with_all, with_bytes}
+use Rattle.cartridge_laws.specs.AppendLaws.{new_volume, with_content, MayAppendTo}
+use Rattle.cartridge_spec.specs.Appending.{Content, has_room, with_all}
 use Rattle.cartridge_spec.specs.Volumes.{Plain, Stands, Volume, entries_of, volume_length}
 use Rattle.cartridge_spec.specs.Table.{Entry}
-use Rattle.command_laws.proofs.CopyGiven.{given_long, given_may, given_of, with_entry}
+use Rattle.command_laws.proofs.CopyGiven.{content_of, given_long, given_may, given_of, with_entry}
 use Rattle.command_laws.proofs.CopyValues.{HasValues}
 use Rattle.command_laws.specs.CopyLaws.{CopyGoesOn}
-use Rattle.command_laws.specs.MountedKept.{IsAppendable}
 use Rattle.command_spec.specs.Copied.{contents_of, copied, missing_contents}
 use Rattle.command_spec.specs.CopyGiven.{ListsLike, missing_on}
 use Rattle.command_spec.specs.Copying.{Side, difference, is_alike}
@@ -75,39 +74,32 @@ module _ (from : Side) (e : Entry) (values : HasValues e) (p : Plain) where
 
   pub next_missing : (rest : List Entry) → missing_on from p ≡ e ∷ rest → missing_on from next ≡ rest
   next_missing rest is =
-      ap (λ (n : ℕ). drop n from.entries) (length-append p.volumes (appended_volume p e.name e.date bytes ∷ []))
+      ap (λ (n : ℕ). drop n from.entries) (length-append p.volumes (new_volume p (content_of from e) ∷ []))
       ∙ drop_next (length p.volumes) from.entries e rest is
 
   same_name : bytes_eq e.name e.name ≡ true
   same_name = (bytes_eq-Decides e.name e.name).1 refl
 
   next_alike : (d : Cartridge) → IsCartridge d → Stands d p → has_room p (length bytes) ≡ true →
-      is_alike from.words e p.words (appended_volume p e.name e.date bytes).entry ≡ true
+      is_alike from.words e p.words (new_volume p (content_of from e)).entry ≡ true
   next_alike d whole stands room =
-      let can : IsAppendable e.name e.date bytes = given_may from e values in
-      let may : MayAppendTo d p e.name e.date bytes = record {
-        cartridge = whole;
-        stands = stands;
-        room = room;
-        label = can.label;
-        word = can.word;
-        content = can.content;
-      } in
-      let new : volume_length p.words (appended_volume p e.name e.date bytes).entry ≡ length bytes =
-      (done_bytes d p e.name e.date bytes may).0 in
+      let may : MayAppendTo d p (content_of from e) =
+      record { cartridge = whole; stands = stands; room = room; appendable = given_may from e values } in
+      let new : volume_length p.words (new_volume p (content_of from e)).entry ≡ length bytes =
+      (done_bytes d p (content_of from e) may).0 in
       let old : length bytes ≡ volume_length from.words e = given_long from e in
       ap (λ (b : Bool). b && (e.date == e.date && volume_length from.words e == volume_length p.words
-      (appended_volume p e.name e.date bytes).entry)) same_name
+      (new_volume p (content_of from e)).entry)) same_name
       ∙ ap (λ (b : Bool). b && volume_length from.words e == volume_length p.words
-      (appended_volume p e.name e.date bytes).entry) (eq-eqb e.date e.date refl)
+      (new_volume p (content_of from e)).entry) (eq-eqb e.date e.date refl)
       ∙ eq-eqb _ _ (sym (new ∙ old))
 
   pub next_like : (d : Cartridge) (rest : List Entry) → IsCartridge d → Stands d p → has_room p (length bytes) ≡ true → ListsLike from p →
       missing_on from p ≡ e ∷ rest → ListsLike from next
   next_like d rest whole stands room like is =
-      let new : Entry = (appended_volume p e.name e.date bytes).entry in
+      let new : Entry = (new_volume p (content_of from e)).entry in
       let list : entries_of next ≡ entries_of p ++ new ∷ [] =
-      map-append (λ (v : Volume). v.entry) p.volumes (appended_volume p e.name e.date bytes ∷ []) in
+      map-append (λ (v : Volume). v.entry) p.volumes (new_volume p (content_of from e) ∷ []) in
       let there : drop (length (entries_of p)) from.entries ≡ e ∷ rest =
       ap (λ (n : ℕ). drop n from.entries) (length-map p.volumes (λ (v : Volume). v.entry)) ∙ is in
       ap (λ (fs : List Entry). difference from.words from.entries p.words fs 1) list
@@ -118,15 +110,15 @@ module _ (from : Side) (e : Entry) (values : HasValues e) (p : Plain) where
 
 pub with_all-append : (plain : Plain) (xs ys : List Content) → with_all plain (xs ++ ys) ≡ with_all (with_all plain xs) ys
 with_all-append plain [] ys = refl
-with_all-append plain (x ∷ xs) ys = with_all-append (with_bytes plain x.name x.date x.bytes) xs ys
+with_all-append plain (x ∷ xs) ys = with_all-append (with_content plain x) xs ys
 
 with_all-count : (plain : Plain) (xs : List Content) → length (with_all plain xs).volumes ≡ length plain.volumes + length xs
 with_all-count plain [] = omega arith
 with_all-count plain (x ∷ xs) =
-    let more : length (with_all plain (x ∷ xs)).volumes ≡ length (with_bytes plain x.name x.date x.bytes).volumes + length xs =
-    with_all-count (with_bytes plain x.name x.date x.bytes) xs in
-    let one : length (with_bytes plain x.name x.date x.bytes).volumes ≡ length plain.volumes + 1 =
-    length-append plain.volumes (appended_volume plain x.name x.date x.bytes ∷ []) in
+    let more : length (with_all plain (x ∷ xs)).volumes ≡ length (with_content plain x).volumes + length xs =
+    with_all-count (with_content plain x) xs in
+    let one : length (with_content plain x).volumes ≡ length plain.volumes + 1 =
+    length-append plain.volumes (new_volume plain x ∷ []) in
     omega arith
 
 -- two pieces of a list

@@ -59,8 +59,8 @@ module _ (from : Side) (e : Entry) (values : HasValues e) (d : Cartridge) (p : P
   no_steps : settling_steps p.table_area d ≡ []
   no_steps = whole_needs_no_steps d p.table_area intact.table intact.kept.unprotected
 
-  leaves : has_room p (length (given_of from e)) ≡ true → AppendLeavesIntact d p e.name e.date (given_of from e)
-  leaves enough = appends_leave_intact d p e.name e.date (given_of from e) intact (given_may from e values) enough
+  leaves : has_room p (length (given_of from e)) ≡ true → AppendLeavesIntact d p (content_of from e)
+  leaves enough = appends_leave_intact d p (content_of from e) intact (given_may from e values) enough
 
   intact_behind : (acts : List Act) → CopiesVolume from e (side_for d p) acts status.Done →
       IsIntact (changed_by (steps_of acts) d) (with_entry from p e)

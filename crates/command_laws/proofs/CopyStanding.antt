@@ -10,8 +10,9 @@ use Rattle.cartridge_laws.proofs.MountKeeping.{stopped_stands}
 use Rattle.cartridge_laws.proofs.MountSettled.{settled_stands}
 use Rattle.cartridge_laws.proofs.MountStanding.{standing_data}
 use Rattle.cartridge_laws.proofs.MountWhole.{settling_effects}
+use Rattle.cartridge_laws.specs.AppendLaws.{new_volume, IsAppendable}
 use Rattle.cartridge_laws.specs.AppendWrites.{AreWrites, IsFree}
-use Rattle.cartridge_spec.specs.Appending.{Content, appended_volume, free_segments, has_room, new_entry, taken_by, with_all}
+use Rattle.cartridge_spec.specs.Appending.{Content, free_segments, has_room, new_entry, taken_by, with_all}
 use Rattle.cartridge_spec.specs.Volumes.{Plain, Stands, Volume, entries_of}
 use Rattle.cartridge_laws.specs.Table.{last_end}
 use Rattle.cartridge_spec.specs.Mounting.{settled}
@@ -24,7 +25,7 @@ use Rattle.command_laws.proofs.InputActLaws.{input_is_free}
 use Rattle.command_laws.proofs.MountedKeeping.{acts_stopped, changed_by_acts, kept_open}
 use Rattle.command_laws.proofs.MountedStanding.{all_writes, kept_appended, open_appended, stopped_appended, same_less}
 use Rattle.command_laws.proofs.ScriptActs.{fits_acts, front_acts, full_acts, input_texts, last_act, replied_steps, replied_text}
-use Rattle.command_laws.specs.MountedKept.{IsAppendable, IsKept, IsOpen, settle_and_append}
+use Rattle.command_laws.specs.MountedKept.{IsKept, IsOpen, settle_and_append}
 use Rattle.command_spec.specs.Append.{Fits, Kept, TooLong, TooShort, append_acts, has_promised_room, input_acts, input_writes, kept_over}
 use Rattle.command_spec.specs.Append.{room_in, taking}
 use Rattle.command_laws.specs.AppendTerms.{free_in}
@@ -71,7 +72,7 @@ module _ (from : Side) (e : Entry) (values : HasValues e) (d : Cartridge) (p : P
   abbrev pub more : Plain
   more = with_entry from p e
 
-  can : IsAppendable e.name e.date bytes
+  can : IsAppendable (content_of from e)
   can = given_may from e values
 
   abbrev kept : Kept
@@ -104,13 +105,13 @@ module _ (from : Side) (e : Entry) (values : HasValues e) (d : Cartridge) (p : P
   its_acts = append_acts kept e.name e.date (Some (length bytes)) replies bytes
 
   abbrev all_steps : List Step
-  all_steps = settle_and_append d p e.name e.date bytes
+  all_steps = settle_and_append d p (content_of from e)
 
   pub steps_are : has_room p (length bytes) ≡ true → steps_of its_acts ≡ all_steps
   steps_are enough =
       sym (replied_steps kept e.name e.date (length bytes) bytes bytes (fits enough) replies)
       ∙ ap (λ (rest : List Step). settling_steps p.table_area d ++ rest)
-      (all_writes p e.name e.date bytes (settling_steps p.table_area d) enough)
+      (all_writes p (content_of from e) (settling_steps p.table_area d) enough)
 
   -- where it was carried out there was room, and all its acts were done
   pub done_given : (table : List (List ℕ)) (acts : List Act) (ending : GivingEnd) (given : List ℕ) → table ≡ p.table_area →
@@ -173,16 +174,16 @@ module _ (from : Side) (e : Entry) (values : HasValues e) (d : Cartridge) (p : P
   open_behind acts does =
       let did = done_volume acts does in
       subst (λ (steps : List Step). IsOpen (changed_by steps d) more) (sym did.1)
-      (open_appended d p e.name e.date bytes held can did.0)
+      (open_appended d p (content_of from e) held can did.0)
 
   -- the target as the next volume finds it
   pub side_behind : (acts : List Act) → behind_copy from e to acts ≡ side_for (changed_by (steps_of acts) d) more
   side_behind acts =
-      let entry : copied_entry from e to ≡ (appended_volume p e.name e.date bytes).entry =
+      let entry : copied_entry from e to ≡ (new_volume p (content_of from e)).entry =
       ap (λ (n : ℕ). new_entry (taken_by p.words n (free_segments p.words (entries_of p))) e.name e.date n) (sym long) in
       let list : entries_of p ++ copied_entry from e to ∷ [] ≡ entries_of more =
       ap (λ (x : Entry). entries_of p ++ x ∷ []) entry
-      ∙ sym (map-append (λ (v : Volume). v.entry) p.volumes (appended_volume p e.name e.date bytes ∷ [])) in
+      ∙ sym (map-append (λ (v : Volume). v.entry) p.volumes (new_volume p (content_of from e) ∷ [])) in
       ap (λ (es : List Entry). record { cartridge = changed_by (steps_of acts) d; words = p.words; entries = es }) list
 
   -- ---- stopped
@@ -235,26 +236,23 @@ module _ (from : Side) (e : Entry) (values : HasValues e) (d : Cartridge) (p : P
   abbrev next : Plain
   next = with_entry from p e
 
-  abbrev content : List ℕ
-  content = given_of from e
-
-  may : IsAppendable e.name e.date content
+  may : IsAppendable (content_of from e)
   may = given_may from e values
 
   pub kept_behind : (acts : List Act) → CopiesVolume from e (side_for d p) acts status.Done → IsKept (changed_by (steps_of acts) d) next
   kept_behind acts does =
       let did = done_volume from e values d p opened acts does in
       subst (λ (steps : List Step). IsKept (changed_by steps d) next) (sym did.1)
-      (kept_appended e.name e.date content may.label may.word may.content d p held did.0)
+      (kept_appended (content_of from e) may d p held did.0)
 
   stopped_given : (table : List (List ℕ)) (acts : List Act) (given : List ℕ) (read : List Act) (ending : GivingEnd)
-      (left : Option Cartridge) → table ≡ p.table_area → has_room_for from e (side_for d p) ≡ true → given ≡ content →
+      (left : Option Cartridge) → table ≡ p.table_area → has_room_for from e (side_for d p) ≡ true → given ≡ given_of from e →
       Restores from.cartridge from.words (pieces from.words e) read ending → DoneOf from e (side_for d p) table given ending acts →
       Torn (steps_of acts) (Some d) left → StoppedIn from e p left
   stopped_given table acts given read Restored left area room same restores does torn =
       let did = done_given from e values d p opened table acts Restored given area room refl same does in
       stopped_in from e p left did.0 (read, restores)
-      (stopped_appended e.name e.date content may.label may.word may.content d p held left did.0
+      (stopped_appended (content_of from e) may d p held left did.0
       (subst (λ (steps : List Step). Torn steps (Some d) left) (ap steps_of did.1 ∙ steps_are from e values d p opened did.0) torn))
   stopped_given table acts given read (LostIn segment lost) left area room same restores does torn =
       Before (begun_stands from e values d p opened table given acts left area does torn)

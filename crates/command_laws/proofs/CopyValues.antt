@@ -11,13 +11,14 @@ use Rattle.cartridge_spec.specs.Formatting.{IsLabel}
 use Rattle.cartridge_spec.specs.Shape.{IsArea, sector_at}
 use Rattle.cartridge_spec.specs.Table.{Entry, Shows, entry_in, slot}
 use Rattle.command_laws.proofs.RestoreStanding.{few_or_first_lost, restores_byte_for_byte, restores_front}
-use Rattle.command_laws.specs.MountedKept.{IsAppendable}
 use Rattle.command_laws.specs.RestoreLaws.{HasVolume}
+use Rattle.command_spec.specs.Copied.{content_of}
 use Rattle.command_spec.specs.Restore.{Restored, Restores, pieces_in}
 use Rattle.qic_base.specs.Acts.{Act, text_of}
 use Rattle.qic_base.specs.Cartridge.{Cartridge, IsSector}
 use Rattle.qic_base.specs.Field.{number_at}
 use Rattle.cartridge_laws.proofs.FreshMarks.{little_endian-below}
+use Rattle.cartridge_laws.specs.AppendLaws.{IsAppendable}
 
 -- ---- a slot of the table's data
 
@@ -85,7 +86,7 @@ sectors_bytes (sector ∷ sectors) are =
 -- one of them, which can be appended
 pub record IsOriginal (c : Cartridge) (one : Plain) (volume : Volume) : Type 0 where
   pub has : HasVolume c one volume
-  pub may : IsAppendable volume.entry.name volume.entry.date (volume_bytes one.words volume)
+  pub may : IsAppendable (content_of one.words volume)
 
 module _ (c : Cartridge) (one : Plain) (stands : Stands c one) where
   values : (i : ℕ) (d : Volume) → i < length one.volumes → HasValues (get_or one.volumes i d).entry
@@ -109,7 +110,7 @@ module _ (c : Cartridge) (one : Plain) (stands : Stands c one) where
         may = record {
           label = has.label;
           word = has.word;
-          content = All-take (λ b. b < 256) (volume_length one.words volume.entry) (bytes_in volume.area)
+          bytes = All-take (λ b. b < 256) (volume_length one.words volume.entry) (bytes_in volume.area)
               (sectors_bytes volume.area (All-contains (λ (v : Volume). All IsSector v.area) one.volumes volume stands.whole.areas among));
         };
       }

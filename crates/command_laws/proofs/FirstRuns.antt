@@ -6,11 +6,12 @@ use Rattle.cartridge_spec.specs.Mounting.{settled}
 use Rattle.cartridge_spec.specs.Settling.{settling_steps}
 use Rattle.cartridge_spec.specs.Volumes.{Plain, Stands, Volume, entries_of, volume_bytes}
 use Rattle.cartridge_spec.specs.Appending.{with_bytes}
-use Rattle.command_laws.proofs.CommandAppends.{append_done, append_refused}
+use Rattle.command_laws.proofs.CommandAppends.{append_done, append_refused, can_append}
 use Rattle.command_laws.proofs.CommandEnds.{told_weaker}
 use Rattle.command_laws.proofs.CommandGivenBack.{GivesSo, IsGivenSo, gives_back_so, stands_gives}
 use Rattle.command_laws.proofs.CommandOneLoss.{nothing_torn}
 use Rattle.command_laws.proofs.RestoreGivenBack.{few_alike, lost_alike, pieces_elsewhere}
+use Rattle.command_laws.specs.AppendTerms.{content_with}
 use Rattle.command_laws.specs.RestoreTerms.{bytes_held}
 use Rattle.cartridge_laws.proofs.MountSettled.{settled_keeps_table}
 use Rattle.command_spec.specs.Restore.{HasNumber, Piece, piece_cells, pieces_in, volume_at}
@@ -41,6 +42,7 @@ use Rattle.qic_base.specs.Source as sources
 use Rattle.qic_base.specs.Tape as tapes
 use Rattle.command_spec.specs.declared.status.Status.TheVariants as status
 use Rattle.command_spec.specs.declared.words.Words.TheVariants as commands
+use Rattle.cartridge_laws.specs.AppendLaws.{with_content}
 
 module _ (words : List (List ℕ)) (command : Words) (c : Cartridge) (plain : Plain) (spelled : Spells words command)
     (settles : SettlesFirst command) (back : IsBackNow c plain) where
@@ -161,9 +163,9 @@ module _ (words : List (List ℕ)) (command : Words) (c : Cartridge) (plain : Pl
       let whole : IsCartridge over = settled_is_cartridge c plain.table_area back.whole back.comes.mounts.reads in
       let stood : Stands over plain = back.comes.stands back.free in (
         λ done bytes. subst (λ (o : Option Cartridge). IsSomeAnd o (λ d. Stands d (with_bytes plain name date input))) (sym is_left)
-            (append_done name date input over plain outcome values.0 values.1 bytes whole stood does (sym is ∙ done)),
+            (append_done (content_with name date input) over plain outcome (can_append values bytes) whole stood does (sym is ∙ done)),
         λ not_done. subst (λ (o : Option Cartridge). IsSomeAnd o (λ d. Stands d plain)) (sym is_left)
-            (append_refused name date input over plain outcome whole stood does (λ done. not_done (is ∙ done))),
+            (append_refused (content_with name date input) over plain outcome whole stood does (λ done. not_done (is ∙ done))),
       )
 
 pub first_runs_over_settled : {T S K : Type 0} (t : tapes.Meaning T) (s : sources.Meaning S) (k : sinks.Meaning K) →
@@ -210,13 +212,13 @@ first_runs_over_settled t s k words old new answer command c plain promises spel
           gives_back_so t s k words old new answer promises.carried promises.cut number c plain volume spells told
           (gives_over words command c plain spelled settles back number volume (one_command words command (commands.Restore number) spelled
           spells) at);
-      appended = λ name date input spells tells bytes done.
+      appended = λ content spells tells bytes done.
           let so = step (ap is_fault done) (λ none. let no = sym done ∙ none in absurd (cc)) in
-          let same : so.0 ≡ input = subst (λ (o : Option (List ℕ)). IsInput o so.0) tells so.1 in
-          told_so (Some so.2.held') (λ left. IsSomeAnd left (λ d. Stands d (with_bytes plain name date input))) so.2.tape
-          (subst (λ (i : List ℕ). IsSomeAnd so.2.held' (λ d. Stands d (with_bytes plain name date i))) same
-          ((append_over words command c plain spelled settles back name date so.0 so.2.output so.2.taken answer so.2.held' spells
-          so.2.step).0
+          let same : so.0 ≡ content.bytes = subst (λ (o : Option (List ℕ)). IsInput o so.0) tells so.1 in
+          told_so (Some so.2.held') (λ left. IsSomeAnd left (λ d. Stands d (with_content plain content))) so.2.tape
+          (subst (λ (i : List ℕ). IsSomeAnd so.2.held' (λ d. Stands d (with_bytes plain content.name content.date i))) same
+          ((append_over words command c plain spelled settles back content.name content.date so.0 so.2.output so.2.taken answer
+          so.2.held' spells so.2.step).0
           done (subst (λ (i : List ℕ). All (λ b. b < 256) i) (sym same) bytes)));
       unchanged = λ name date spells no_fault memory not_done.
           let so = step no_fault memory in

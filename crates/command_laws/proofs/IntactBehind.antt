@@ -16,6 +16,7 @@ use Rattle.command_laws.proofs.ScriptActs.{line_spares}
 use Rattle.command_laws.proofs.ScriptAnswered.{Tears, first_do, first_have, long}
 use Rattle.command_laws.proofs.ScriptReached.{AllLeave, leave_weaker}
 use Rattle.command_laws.proofs.ScriptStanding.{ItemLeaves, SettlesLeaves, append_settles, item_leaves, items_have_bytes, next_do, next_is}
+use Rattle.command_laws.specs.AppendTerms.{content_with}
 use Rattle.command_laws.specs.Intact.{AnsweredBehindAppend, DoneBehindAppend, IsIntact, StoppedBehindAppend}
 use Rattle.command_laws.specs.MountedHeld.{IsHeld}
 use Rattle.command_laws.specs.ScriptStanding.{HasBytes, HaveBytes, plain_after}
@@ -61,7 +62,7 @@ settles_of : (c : Cartridge) (plain : Plain) (table : List (List ℕ)) (asked : 
     HasBytes (record { line = asked; bytes = bytes }) → LineDoes c plain.words (entries_of plain) asked bytes did →
     SettlesLeaves c plain (plain_after plain (record { line = asked; bytes = bytes }) did) table did
 settles_of c plain table (line.Append name n date) bytes did other promised day held live is meets has (m, met, does) =
-    append_settles c plain name date bytes held n did table has.0 has.1 live meets
+    append_settles c plain (content_with name date bytes) held n did table has.0 has.1 live meets
     (does ∙ ap (λ (k : Meeting). append_did c plain.words (entries_of plain) name n date bytes k) (sym (meets_one c m
     (Finds table) met meets)))
 settles_of c plain table line.List bytes did name promised date held live is meets has does = absurd (cc)

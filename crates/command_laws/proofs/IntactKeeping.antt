@@ -11,10 +11,10 @@ use Rattle.cartridge_laws.proofs.MountSettled.{settled_is_whole, settled_keeps_t
 use Rattle.cartridge_laws.proofs.MountWhole.{settled_is_cartridge}
 use Rattle.cartridge_laws.proofs.OneLossComesBack.{whole_comes_back}
 use Rattle.cartridge_laws.specs.AppendBetween.{IsWhole}
-use Rattle.cartridge_spec.specs.Appending.{with_bytes}
 use Rattle.cartridge_spec.specs.HeaderCopies.{last_segment}
 use Rattle.cartridge_spec.specs.Says.{with_parity}
 use Rattle.cartridge_spec.specs.Settling.{block_writes, changed_by, settling_places, settling_steps}
+use Rattle.cartridge_laws.specs.AppendLaws.{with_content}
 use Rattle.cartridge_laws.specs.TableCells.{is_left_out, is_unsettled}
 use Rattle.cartridge_laws.specs.Segment.{places_where}
 use Rattle.cartridge_spec.specs.Shape.{sector_at}
@@ -124,14 +124,14 @@ settled_is_intact c plain kept =
 -- ---- what keeps it
 
 pub appends_leave_intact : AppendsLeaveIntact
-appends_leave_intact c plain name date bytes intact may enough = record {
+appends_leave_intact c plain content intact may enough = record {
   done = record {
-    kept = kept_appended name date bytes may.label may.word may.content c plain intact.kept enough;
-    table = whole_appended name date bytes may.label may.word may.content c plain intact.kept enough;
+    kept = kept_appended content may c plain intact.kept enough;
+    table = whole_appended content may c plain intact.kept enough;
   };
-  stopped = λ left torn. elim (appends_survive c plain name date bytes left intact.kept may enough torn) [
+  stopped = λ left torn. elim (appends_survive c plain content left intact.kept may enough torn) [
     | inl settling ↦
-        intact_is_one c plain (with_bytes plain name date bytes) left intact
+        intact_is_one c plain (with_content plain content) left intact
         (subst (λ (ss : List Step). Torn ss (Some c) left) (whole_needs_no_steps c plain.table_area intact.table intact.kept.unprotected)
         settling)
     | inr comes ↦ comes

@@ -2,7 +2,7 @@
 use Rattle.std.proofs.Common.{◌≡◌, ◌∙◌, ◌++◌, ◌+◌, ◌≤◌, zero, suc, ℕ, List, [], ◌∷◌, Option, Some, IsSomeAnd, inl, inr, ap, sym, subst}
 use Rattle.std.proofs.Common.{refl, arith, length, drop, true, ◌≢◌}
 use Rattle.std.proofs.lemmas.Bool.{cases_Bool}
-use Rattle.cartridge_spec.specs.Appending.{has_room, with_all, with_bytes}
+use Rattle.cartridge_spec.specs.Appending.{has_room, with_all}
 use Rattle.cartridge_spec.specs.Settling.{changed_by}
 use Rattle.cartridge_spec.specs.Table.{Entry}
 use Rattle.cartridge_spec.specs.Volumes.{Plain, entries_of, volume_length, worn}
@@ -10,12 +10,12 @@ use Rattle.command_laws.proofs.IntactKeeping.{appends_leave_intact, intact_is_on
 use Rattle.command_laws.proofs.IntactKeeping.{whole_needs_no_steps, less_comes, next_comes, one_comes}
 use Rattle.command_laws.proofs.MadeAnswered.{append_prints_nothing, quiet_front, torn_behind, two_fronts}
 use Rattle.command_laws.proofs.MadeMachineLaws.{never_unlocked}
-use Rattle.command_laws.proofs.MadeStops.{AreStill, IsStill, StillBehind, append_is, behind_is_still, behind_next, done_append}
+use Rattle.command_laws.proofs.MadeStops.{AreStill, IsStill, StillBehind, append_is, behind_is_still, behind_next, done_append, made_one}
 use Rattle.command_laws.proofs.MadeStops.{entries_more, made_named, only_settled, still_after, steps_are, sum_in_no_step}
 use Rattle.command_laws.proofs.MountedKeeping.{acts_stopped, changed_by_acts, kept_open, lies_apart}
 use Rattle.command_laws.specs.Intact.{AppendLeavesIntact, DoneMakeIsIntact, IsIntact, StoppedMakeComesBack, PrintedMakeComesBack}
 use Rattle.command_spec.specs.Make.{made_bytes, AppendMade, MakeStep, Runs, ScrubAll, StepDoes, SumVolume, WearSector, appending, made_list}
-use Rattle.command_spec.specs.Make.{made_name, summing, wearing_volumes, made_contents}
+use Rattle.command_spec.specs.Make.{summing, wearing_volumes, made_contents}
 use Rattle.command_spec.specs.OneLoss.{ComesBackAsOneOf, SomeComeBack}
 use Rattle.qic_base.proofs.Joins.{text_of-append}
 use Rattle.qic_base.specs.Acts.{Act, steps_of, text_of, next_steps}
@@ -23,16 +23,16 @@ use Rattle.qic_base.specs.Cartridge.{Cartridge}
 use Rattle.qic_base.specs.Step.{Step, Wear, Torn}
 use Rattle.command_spec.specs.declared.status.Status.{Status}
 use Rattle.command_spec.specs.declared.status.Status.TheVariants as status
+use Rattle.cartridge_laws.specs.AppendLaws.{with_content}
 
 -- ---- an append
 
 module _ (seed : ℕ) (c : Cartridge) (plain : Plain) (intact : IsIntact c plain) (volume : ℕ) (small : volume ≤ 200) where
   abbrev more : Plain
-  more = with_bytes plain (made_name volume) 0 (made_bytes seed volume)
+  more = with_content plain (made_one seed volume)
 
-  leaves : has_room plain (length (made_bytes seed volume)) ≡ true → AppendLeavesIntact c plain (made_name volume) 0
-      (made_bytes seed volume)
-  leaves enough = appends_leave_intact c plain (made_name volume) 0 (made_bytes seed volume) intact (made_named seed volume small) enough
+  leaves : has_room plain (length (made_bytes seed volume)) ≡ true → AppendLeavesIntact c plain (made_one seed volume)
+  leaves enough = appends_leave_intact c plain (made_one seed volume) intact (made_named seed volume small) enough
 
   done_append_intact : (acts : List Act) → StepDoes seed c plain.words (entries_of plain) (AppendMade volume) acts status.Done →
       IsIntact (changed_by (steps_of acts) c) more
@@ -133,7 +133,7 @@ module _ (seed : ℕ) (rest : List MakeStep) where
   standing plain volume n = with_all plain (made_contents seed volume n)
 
   in_append : (plain : Plain) (volume n : ℕ) (left : Option Cartridge) →
-      IsSomeAnd left (ComesBackAsOneOf plain (with_bytes plain (made_name volume) 0 (made_bytes seed volume))) →
+      IsSomeAnd left (ComesBackAsOneOf plain (with_content plain (made_one seed volume))) →
       SomeComeBack (standing plain volume) 0 (suc n) left
   in_append plain volume n left comes = record {
     one = 0;
@@ -145,7 +145,7 @@ module _ (seed : ℕ) (rest : List MakeStep) where
   }
 
   comes_next : (plain : Plain) (volume least n : ℕ) (left : Option Cartridge) →
-      SomeComeBack (standing (with_bytes plain (made_name volume) 0 (made_bytes seed volume)) (volume + 1)) least n left →
+      SomeComeBack (standing (with_content plain (made_one seed volume)) (volume + 1)) least n left →
       SomeComeBack (standing plain volume) (suc least) (suc n) left
   comes_next plain volume least n left back = next_comes (standing plain volume) least n left back
 
@@ -168,7 +168,7 @@ module _ (seed : ℕ) (rest : List MakeStep) where
   appends_come_back (suc n) c plain volume acts answer left few intact still (inl (other, does)) torn =
       in_append plain volume n left (stopped_append_comes seed c plain intact volume (omega arith) acts answer left does torn)
   appends_come_back (suc n) c plain volume acts answer left few intact still (inr (first, rear, parts, does, more)) torn =
-      let next : Plain = with_bytes plain (made_name volume) 0 (made_bytes seed volume) in
+      let next : Plain = with_content plain (made_one seed volume) in
       let small : volume ≤ 200 = omega arith in
       elim (acts_stopped first rear acts c left parts torn) [
         | inl here ↦ in_append plain volume n left (stopped_append_comes seed c plain intact volume small first status.Done left does here)
@@ -195,7 +195,7 @@ module _ (seed : ℕ) (rest : List MakeStep) where
       (append_prints_nothing seed c plain.words (entries_of plain) volume acts answer does)))
   appends_printed (suc n) c plain volume acts front rear answer left few intact still
       (inr (first, behind, joined, does, more)) parts printed torn =
-      let next : Plain = with_bytes plain (made_name volume) 0 (made_bytes seed volume) in
+      let next : Plain = with_content plain (made_one seed volume) in
       let quiet : text_of first ≡ [] = append_prints_nothing seed c plain.words (entries_of plain) volume first status.Done does in
       elim (two_fronts front rear first behind (parts ∙ sym joined)) [
         | inl (some, is) ↦ absurd (printed (quiet_front front some first is quiet))
@@ -220,7 +220,7 @@ module _ (seed : ℕ) (rest : List MakeStep) where
       (still c plain intact.kept.stands refl refl) intact runs
   appends_intact (suc n) c plain volume acts few intact still (inl (other, does)) = absurd (other refl)
   appends_intact (suc n) c plain volume acts few intact still (inr (first, rear, parts, does, more)) =
-      let next : Plain = with_bytes plain (made_name volume) 0 (made_bytes seed volume) in
+      let next : Plain = with_content plain (made_one seed volume) in
       let d : Cartridge = changed_by (steps_of first) c in
       let now : IsIntact (changed_by (steps_of rear) d) (standing next (volume + 1) n) =
       appends_intact n d next (volume + 1) rear (omega arith) (done_append_intact seed c plain intact volume (omega arith) first does)

@@ -5,8 +5,8 @@ use Rattle.std.proofs.lemmas.List.{get_or_append_left, length-append}
 use Rattle.std.proofs.lemmas.Option.{slice_get-get_or, slice_get_within}
 use Rattle.std.proofs.Math.Seq.{get_or-append_seam}
 use Rattle.cartridge_laws.proofs.AppendBytes.{done_bytes}
-use Rattle.cartridge_laws.specs.AppendSettled.{MayAppendTo}
-use Rattle.cartridge_spec.specs.Appending.{Content, appended_volume, with_all, with_bytes}
+use Rattle.cartridge_laws.specs.AppendLaws.{new_volume, with_content, MayAppendTo}
+use Rattle.cartridge_spec.specs.Appending.{Content, with_all}
 use Rattle.cartridge_spec.specs.Volumes.{volume_bytes, Plain, Stands, Volume, entries_of}
 use Rattle.cartridge_spec.specs.Formatting.{fresh_plain, StandsCleanly}
 use Rattle.command_laws.proofs.CommandLeft.{leaves_whole}
@@ -17,6 +17,7 @@ use Rattle.command_laws.proofs.CommandVolumes.{formatted_fresh, renewed_effect}
 use Rattle.command_laws.proofs.LifeFormats.{torn_by}
 use Rattle.command_laws.proofs.LifeLaws.{event_makes}
 use Rattle.command_laws.proofs.WholeSteps.{new_whole}
+use Rattle.command_laws.specs.AppendTerms.{content_with}
 use Rattle.command_laws.specs.Life.{Answered, Becomes, Ended, Event, Happens, IsEmptied, IsSound, Lives, Loses, Runs, Stopped, begun_behind}
 use Rattle.command_laws.specs.LifeLaws.{AnsweredRuns, AreKeeping, BackupsAreGivenBack, FormatBegins, GivesBytes, HasGrown, IsKeeping}
 use Rattle.command_laws.specs.LifeLaws.{NewAndFormatBegin, StoppedRuns, VolumesAreGivenBack, VolumesAreKept, run_of}
@@ -100,11 +101,11 @@ new_and_format_begin segments label date answer input other printed text begun h
 pub grown_none : (plain : Plain) → HasGrown plain plain
 grown_none plain = record { header_area = refl; words = refl; more = []; volumes = sym (append-nil plain.volumes) }
 
-grown_one : (plain : Plain) (name : List ℕ) (date : ℕ) (bytes : List ℕ) → HasGrown plain (with_bytes plain name date bytes)
-grown_one plain name date bytes = record {
+grown_one : (plain : Plain) (content : Content) → HasGrown plain (with_content plain content)
+grown_one plain content = record {
   header_area = refl;
   words = refl;
-  more = appended_volume plain name date bytes ∷ [];
+  more = new_volume plain content ∷ [];
   volumes = refl;
 }
 
@@ -119,8 +120,8 @@ grown_both a b c one other = record {
 all_grow : (plain : Plain) (contents : List Content) → HasGrown plain (with_all plain contents)
 all_grow plain [] = grown_none plain
 all_grow plain (content ∷ more) =
-    let next : Plain = with_bytes plain content.name content.date content.bytes in
-    grown_both plain next (with_all next more) (grown_one plain content.name content.date content.bytes) (all_grow next more)
+    let next : Plain = with_content plain content in
+    grown_both plain next (with_all next more) (grown_one plain content) (all_grow next more)
 
 pub record GrownTo (plain : Plain) (after : Option Plain) : Type 0 where
   pub later : Plain
@@ -133,11 +134,11 @@ same_list plain after is = record { later = plain; is = is; grown = grown_none p
 append_grows : (name : List ℕ) (date : ℕ) (c : Cartridge) (input : List ℕ) (ended : Ended) (plain : Plain) (after : Option Plain) →
     Becomes (words.Append name date) (Some c) input ended (Some plain) after → GrownTo plain after
 append_grows name date c input (Answered answer printed) plain after (inl (done, is)) =
-    record { later = _; is = is; grown = grown_one plain name date input }
+    record { later = _; is = is; grown = grown_one plain (content_with name date input) }
 append_grows name date c input (Answered answer printed) plain after (inr (other, is)) = same_list plain after is
 append_grows name date c input (Stopped printed) plain after (inl is) = same_list plain after is
 append_grows name date c input (Stopped printed) plain after (inr is) =
-    record { later = _; is = is; grown = grown_one plain name date input }
+    record { later = _; is = is; grown = grown_one plain (content_with name date input) }
 
 pub command_grows : (command : Words) (c : Cartridge) (input : List ℕ) (ended : Ended) (plain : Plain) (after : Option Plain) →
     IsKeeping command →
@@ -229,55 +230,53 @@ volumes_are_given_back events begun held c plain place volume keeping sound at l
 -- ---- a backup, given back
 
 -- an append that was carried out had room
-had_room : (name : List ℕ) (date : ℕ) (bytes : List ℕ) (b : Cartridge) (plain : Plain) (outcome : CommandOutcome) → Stands b plain →
-    Yields (words.Append name date) (Some b) bytes outcome → outcome.status ≡ status.Done → fits plain bytes ≡ true
-had_room name date bytes b plain outcome stood yields done =
-    elim (course name date bytes b plain outcome stood yields) [
+had_room : (content : Content) (b : Cartridge) (plain : Plain) (outcome : CommandOutcome) → Stands b plain →
+    Yields (words.Append content.name content.date) (Some b) content.bytes outcome → outcome.status ≡ status.Done →
+    fits plain content.bytes ≡ true
+had_room content b plain outcome stood yields done =
+    elim (course content b plain outcome stood yields) [
       | inl none ↦ absurd (none.not_done (sym (ap (λ (o : CommandOutcome). o.status) none.is) ∙ done))
       | inr run ↦
-          done_fits (fits plain bytes) (min (length bytes) (room_in (kept_of b plain) + 1)) (room_in (kept_of b plain))
+          done_fits (fits plain content.bytes) (min (length content.bytes) (room_in (kept_of b plain) + 1)) (room_in (kept_of b plain))
           (sym (ap (λ (o : CommandOutcome). o.status) run.is) ∙ done)
     ]
 
 -- the bytes of its volume are those that were appended
-its_bytes : (name : List ℕ) (date : ℕ) (bytes : List ℕ) (b : Cartridge) (plain : Plain) → MayAppendTo b plain name date bytes →
-    volume_bytes plain.words (appended_volume plain name date bytes) ≡ bytes
-its_bytes name date bytes b plain may =
-    (done_bytes b plain name date bytes may).1
+its_bytes : (content : Content) (b : Cartridge) (plain : Plain) → MayAppendTo b plain content →
+    volume_bytes plain.words (new_volume plain content) ≡ content.bytes
+its_bytes content b plain may = (done_bytes b plain content may).1
 
-done_sound : (name : List ℕ) (date : ℕ) (bytes printed : List ℕ) (begun : Bool) (b : Cartridge) (plain : Plain) (next : Option Cartridge) →
+done_sound : (content : Content) (printed : List ℕ) (begun : Bool) (b : Cartridge) (plain : Plain) (next : Option Cartridge) →
     IsSound begun (Some b) (Some plain) →
-    Happens (Runs (run_of (words.Append name date) bytes (Answered status.Done printed))) begun (Some b) next →
-    IsSound begun next (Some (with_bytes plain name date bytes))
-done_sound name date bytes printed begun b plain next sound happens =
-    let made = event_makes (Runs (run_of (words.Append name date) bytes (Answered status.Done printed))) begun (Some b) next
-    (Some plain) sound happens in
+    Happens (Runs (run_of (words.Append content.name content.date) content.bytes (Answered status.Done printed))) begun (Some b) next →
+    IsSound begun next (Some (with_content plain content))
+done_sound content printed begun b plain next sound happens =
+    let made = event_makes (Runs (run_of (words.Append content.name content.date) content.bytes (Answered status.Done printed))) begun
+    (Some b) next (Some plain) sound happens in
     elim made.1 [
       | inl done ↦ subst (λ (o : Option Plain). IsSound begun next o) done.1 made.2
       | inr other ↦ absurd (other.0 refl)
     ]
 
 pub backups_are_given_back : BackupsAreGivenBack
-backups_are_given_back name date bytes printed events begun None c plain keeping sound life = absurd sound
-backups_are_given_back name date bytes printed events begun (Some b) c plain keeping sound life =
+backups_are_given_back content printed events begun None c plain keeping sound life = absurd sound
+backups_are_given_back content printed events begun (Some b) c plain keeping sound life =
     let did = life.1.0 in
     let within = life.1.1 in
-    let may : MayAppendTo b plain name date bytes = record {
+    let may : MayAppendTo b plain content = record {
       cartridge = sound.whole;
       stands = sound.stands;
-      room = had_room name date bytes b plain did.outcome sound.stands did.plain did.leaves.0;
-      label = did.values.0;
-      word = did.values.1;
-      content = within.bytes;
+      room = had_room content b plain did.outcome sound.stands did.plain did.leaves.0;
+      appendable = record { label = did.values.0; word = did.values.1; bytes = within.bytes };
     } in
-    let volume : Volume = appended_volume plain name date bytes in
+    let volume : Volume = new_volume plain content in
     let kept =
-    volumes_are_given_back events begun life.0 c (with_bytes plain name date bytes) (length plain.volumes) volume keeping
-    (done_sound name date bytes printed begun b plain life.0 sound life.1) (behind_get plain.volumes [] volume) life.2 in (
+    volumes_are_given_back events begun life.0 c (with_content plain content) (length plain.volumes) volume keeping
+    (done_sound content printed begun b plain life.0 sound life.1) (behind_get plain.volumes [] volume) life.2 in (
       kept.0,
       kept.1,
       kept.2,
       λ input outcome reads few yields.
           let gives = kept.3 input outcome reads few yields in
-          (gives.0, gives.1 ∙ its_bytes name date bytes b plain may),
+          (gives.0, gives.1 ∙ its_bytes content b plain may),
     )

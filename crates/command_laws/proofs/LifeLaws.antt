@@ -5,12 +5,14 @@ use Rattle.cartridge_laws.proofs.ChangeLive.{steps_keep_live}
 use Rattle.cartridge_laws.proofs.ChangeStanding.{worn_stands}
 use Rattle.cartridge_laws.proofs.ChangeViews.{worn_reads_no_more}
 use Rattle.cartridge_spec.specs.Volumes.{Plain, worn}
+use Rattle.command_laws.proofs.CommandAppends.{can_append}
 use Rattle.command_laws.proofs.CommandLeft.{leaves_whole}
 use Rattle.command_laws.proofs.CommandTable.{only_new_renews}
 use Rattle.command_laws.proofs.LifeFormats.{Makes, format_makes, new_makes, torn_by}
 use Rattle.command_laws.proofs.LifeRuns.{append_makes, keeping, make_makes, none_of_none, script_makes, without_stays, others_keep_live}
 use Rattle.command_laws.proofs.CommandUnread.{worn_neither}
 use Rattle.command_laws.proofs.WholeSteps.{worn_whole}
+use Rattle.command_laws.specs.AppendTerms.{content_with}
 use Rattle.command_laws.specs.Life.{ALife, CommandSpares, Ended, Event, EventBecomes, Happens, IsSound, Leaves, LossSpares, Loses, MayEnd}
 use Rattle.command_laws.specs.Life.{Runs, begun_behind, begun_by}
 use Rattle.command_spec.specs.Machine.{HasValues}
@@ -49,7 +51,7 @@ command_makes command input ended begun (Some c) left None outcome sound values 
 )
 command_makes (words.Append name date) input ended begun (Some c) left (Some plain) outcome sound values bytes yields leaves whole spares
     may =
-    append_makes name date c input begun plain left outcome values bytes sound yields whole ended leaves
+    append_makes (content_with name date input) c begun plain left outcome (can_append values bytes) sound yields whole ended leaves
 command_makes (words.Make seed count) input ended begun (Some c) left (Some plain) outcome sound values bytes yields leaves whole spares
     may =
     make_makes seed count c input begun plain left outcome values sound yields whole ended leaves

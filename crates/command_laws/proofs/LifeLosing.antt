@@ -3,11 +3,12 @@ use Rattle.std.proofs.Common.{◌≡◌, ◌≢◌, ◌∙◌, ◌⊎◌, ◌<�
 use Rattle.std.proofs.Common.{inl, inr, ap, arith, length, refl, subst, sym, take}
 use Rattle.std.proofs.lemmas.Bool.{cases_lt}
 use Rattle.std.specs.Prelude.{codes}
-use Rattle.cartridge_spec.specs.Appending.{with_all, with_bytes}
+use Rattle.cartridge_spec.specs.Appending.{with_all, Content}
 use Rattle.cartridge_spec.specs.Mounting.{ComesBackAs, settled}
 use Rattle.cartridge_spec.specs.Settling.{changed_by, settling_steps}
 use Rattle.cartridge_spec.specs.TableSegment.{LosesOneAlone}
 use Rattle.cartridge_spec.specs.Volumes.{Plain, entries_of}
+use Rattle.command_laws.proofs.CommandAppends.{can_append}
 use Rattle.command_laws.proofs.CommandComesBack.{make_comes_back, make_comes_done, make_comes_printed, script_comes_answered}
 use Rattle.command_laws.proofs.CommandComesBack.{script_comes_back}
 use Rattle.command_laws.proofs.CommandComplete.{GoesOn}
@@ -21,6 +22,7 @@ use Rattle.command_laws.proofs.LifeReopening.{AmongLines, among_lines}
 use Rattle.command_laws.proofs.LifeRuns.{all_header, all_went, as_scripted, never_heard, never_said}
 use Rattle.command_laws.proofs.MadeMachineLaws.{done_or_not}
 use Rattle.command_laws.proofs.ScriptAnswered.{more_printed}
+use Rattle.command_laws.specs.AppendTerms.{content_with}
 use Rattle.command_laws.specs.CommandFields.{Yields}
 use Rattle.command_laws.specs.Intact.{IsIntact}
 use Rattle.command_laws.specs.Life.{Adds, Answered, AnsweredAmong, CommandSpares, Ended, HasPrinted, Leaves, LinesSpare, Stopped, WasDone}
@@ -45,6 +47,7 @@ use Rattle.command_spec.specs.declared.status.Status.{Status}
 use Rattle.command_spec.specs.declared.status.Status.TheVariants as status
 use Rattle.command_spec.specs.declared.words.Words.{Words}
 use Rattle.command_spec.specs.declared.words.Words.TheVariants as words
+use Rattle.cartridge_laws.specs.AppendLaws.{with_content}
 
 -- ---- which of several comes back
 
@@ -165,6 +168,13 @@ module _ (begun : Bool) (s : Cartridge) (plain : Plain) (known : IsSettledSound 
 
   module _ (name : List ℕ) (date : ℕ) (outcome : CommandOutcome) (values : HasValues (words.Append name date))
       (bytes : All (λ b. b < 256) input) (yields : Yields (words.Append name date) (Some s) input outcome) where
+    abbrev content : Content
+    content = content_with name date input
+
+    -- the plain cartridge with the volume
+    abbrev more : Plain
+    more = with_content plain content
+
     abbrev AppendLoses : Ended → Type 0
     AppendLoses ended = LossMakes (words.Append name date) s input plain ended f
 
@@ -177,16 +187,16 @@ module _ (begun : Bool) (s : Cartridge) (plain : Plain) (known : IsSettledSound 
         torn_by (Answered answer printed) outcome (Some s) (Some next) (is, said, all) in
         elim (done_or_not answer) [
           | inl done ↦
-              let back = subst (λ (o : Option Cartridge). IsSomeAnd o (λ d. (g : Cartridge) (i : ℕ) → LosesOneAlone d g i →
-              ComesBackAs g (with_bytes plain name date input))) (sym all)
-              (done_comes_back name date input s plain outcome values.0 values.1 bytes known.sound.whole known.sound.stands
+              let back = subst (λ (o : Option Cartridge).
+              IsSomeAnd o (λ d. (g : Cartridge) (i : ℕ) → LosesOneAlone d g i → ComesBackAs g more)) (sym all)
+              (done_comes_back content s plain outcome (can_append values bytes) known.sound.whole known.sound.stands
               known.sound.live yields (is ∙ done)) in
-              (with_bytes plain name date input, inl (done, refl), refl, back f lost loses)
+              (more, inl (done, refl), refl, back f lost loses)
           | inr other ↦ (
             plain,
             inr (other, refl),
             refl,
-            elim (refused_comes_back name date input s plain outcome (Some next) values.0 values.1 bytes known.sound.whole
+            elim (refused_comes_back content s plain outcome (Some next) (can_append values bytes) known.sound.whole
                 known.sound.stands known.sound.live yields (λ done. other (sym is ∙ done)) torn) [
                   | inl settling ↦ still_comes settling
                   | inr comes ↦ elim (one_of plain comes) [ inl one ↦ one | inr same ↦ same ]
@@ -195,12 +205,12 @@ module _ (begun : Bool) (s : Cartridge) (plain : Plain) (known : IsSettledSound 
         ]
     append_loses (Stopped printed) leaves =
         let torn : Torn (steps_of outcome.acts) (Some s) (Some next) = torn_by (Stopped printed) outcome (Some s) (Some next) leaves in
-        elim (append_comes_back name date input s plain outcome (Some next) values.0 values.1 bytes known.sound.whole known.sound.stands
+        elim (append_comes_back content s plain outcome (Some next) (can_append values bytes) known.sound.whole known.sound.stands
         known.sound.live yields torn) [
           | inl settling ↦ (plain, inl refl, refl, still_comes settling)
-          | inr comes ↦ elim (one_of (with_bytes plain name date input) comes) [
+          | inr comes ↦ elim (one_of more comes) [
             | inl one ↦ (plain, inl refl, refl, one)
-            | inr other ↦ (with_bytes plain name date input, inr refl, refl, other)
+            | inr other ↦ (more, inr refl, refl, other)
           ]
         ]
 

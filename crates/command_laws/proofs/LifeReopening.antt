@@ -11,12 +11,12 @@ use Rattle.cartridge_laws.proofs.MountKeeping.{stopped_mounts}
 use Rattle.cartridge_laws.proofs.MountOnce.{not_unformatted}
 use Rattle.cartridge_laws.proofs.MountSettled.{settled_keeps_table}
 use Rattle.cartridge_laws.proofs.MountStanding.{can_be_read, standing_mounts}
-use Rattle.cartridge_spec.specs.Appending.{with_bytes}
 use Rattle.cartridge_spec.specs.Formatting.{HasNoHeader}
 use Rattle.cartridge_spec.specs.HeaderCopies.{IsUnformatted}
 use Rattle.cartridge_spec.specs.Mounting.{settled}
 use Rattle.cartridge_spec.specs.TableSegment.{CanBeRead, IsTableLive}
 use Rattle.cartridge_spec.specs.Volumes.{Plain, Stands, entries_of, worn}
+use Rattle.command_laws.proofs.CommandAppends.{can_append}
 use Rattle.command_laws.proofs.CommandComesBack.{make_comes_back, script_comes_answered, script_comes_back}
 use Rattle.command_laws.proofs.CommandComplete.{GoesOn}
 use Rattle.command_laws.proofs.CommandOneLoss.{append_comes_back}
@@ -30,6 +30,7 @@ use Rattle.command_laws.proofs.LifeRuns.{others_keep_live}
 use Rattle.command_laws.proofs.ReadableProtected.{protected_script_reads, worn_reads}
 use Rattle.command_laws.proofs.ReadableRuns.{ReadableOrNot, format_left_readable, format_reads, left_can_be_read, some_read}
 use Rattle.command_laws.proofs.ScriptSpeaking.{as_many}
+use Rattle.command_laws.specs.AppendTerms.{content_with}
 use Rattle.command_laws.specs.CommandFields.{Yields}
 use Rattle.command_laws.specs.Life.{Answered, CommandSpares, Ended, IsSound, IsSoundWith, Leaves, LinesSpare, MayEnd, Stopped, StopsAmong}
 use Rattle.command_laws.specs.LifeReopens.{CanReopen, LinesSpareTable, SparesTable}
@@ -49,6 +50,7 @@ use Rattle.qic_base.specs.Cartridge.{Cartridge, new_cartridge}
 use Rattle.qic_base.specs.CartridgeTerms.{IsCartridge}
 use Rattle.qic_base.specs.Step.{Renew, Wear, effects, Torn}
 use Rattle.qic_base.specs.declared.tape.TapeInfo.{TapeInfo}
+use Rattle.cartridge_laws.specs.AppendLaws.{with_content}
 use Rattle.cartridge_laws.specs.HeaderTerms.{IsBare}
 use Rattle.command_spec.specs.declared.words.Words.TheVariants as words
 
@@ -191,12 +193,13 @@ append_reads : (name : List ℕ) (date : ℕ) (c : Cartridge) (input : List ℕ)
     Yields (words.Append name date) (Some c) input outcome → Torn (steps_of outcome.acts) (Some c) left → IsSomeAnd left CanBeRead
 append_reads name date c input begun plain left outcome values bytes ready reads yields torn =
     let live = left_live (words.Append name date) c input begun plain left outcome ready reads yields torn (λ segments is. cc) in
-    elim (append_comes_back name date input c plain outcome left values.0 values.1 bytes ready.whole ready.stands ready.live yields torn) [
+    elim (append_comes_back (content_with name date input) c plain outcome left (can_append values bytes) ready.whole ready.stands
+    ready.live yields torn) [
       | inl settling ↦
           some_weaker left (λ d mounts. can_be_read d plain.table_area mounts.reads)
           (stopped_mounts c plain.header plain.words plain.table_area (entries_of plain) left
           (standing_mounts c plain ready.stands reads) settling)
-      | inr comes ↦ some_read plain (with_bytes plain name date input) left live comes
+      | inr comes ↦ some_read plain (with_content plain (content_with name date input)) left live comes
     ]
 
 -- a generated run

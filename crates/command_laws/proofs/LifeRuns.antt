@@ -5,8 +5,9 @@ use Rattle.std.proofs.lemmas.List.{take_all}
 use Rattle.std.specs.Prelude.{codes}
 use Rattle.cartridge_laws.proofs.ChangeLive.{steps_keep_live}
 use Rattle.cartridge_laws.proofs.FormatWriting.{some_and}
+use Rattle.cartridge_laws.specs.AppendLaws.{with_content, IsAppendable}
 use Rattle.cartridge_laws.specs.ChangeSteps.{HasNoRenew, IsNoRenew}
-use Rattle.cartridge_spec.specs.Appending.{Content, with_all, with_bytes}
+use Rattle.cartridge_spec.specs.Appending.{Content, with_all}
 use Rattle.cartridge_spec.specs.Formatting.{HasCleanCopies, HasNoHeader}
 use Rattle.cartridge_spec.specs.TableSegment.{IsTableLive}
 use Rattle.cartridge_spec.specs.Mounting.{settled}
@@ -52,7 +53,7 @@ use Rattle.command_spec.specs.declared.words.Words.TheVariants as words
 -- appended volumes leave the header data
 pub all_header : (plain : Plain) (contents : List Content) → (with_all plain contents).header_area ≡ plain.header_area
 all_header plain [] = refl
-all_header plain (content ∷ more) = all_header (with_bytes plain content.name content.date content.bytes) more
+all_header plain (content ∷ more) = all_header (with_content plain content) more
 
 -- ---- commands but `new`
 
@@ -140,20 +141,24 @@ none_of_none (s ∷ ss) left none (inr (inr torn)) = none_of_none ss left none.1
 
 -- ---- append
 
-module _ (name : List ℕ) (date : ℕ) (c : Cartridge) (input : List ℕ) (begun : Bool) (plain : Plain) (left : Option Cartridge)
-    (outcome : CommandOutcome) (values : HasValues (words.Append name date)) (bytes : All (λ b. b < 256) input)
-    (ready : IsSoundWith begun c plain) (yields : Yields (words.Append name date) (Some c) input outcome)
-    (whole : IfSome left IsCartridge) where
+module _ (content : Content) (c : Cartridge) (begun : Bool) (plain : Plain) (left : Option Cartridge) (outcome : CommandOutcome)
+    (may : IsAppendable content) (ready : IsSoundWith begun c plain)
+    (yields : Yields (words.Append content.name content.date) (Some c) content.bytes outcome) (whole : IfSome left IsCartridge) where
+  -- the plain cartridge with the volume
+  abbrev more : Plain
+  more = with_content plain content
+
   abbrev AppendMakes : Ended → Type 0
-  AppendMakes ended = Makes (words.Append name date) input ended begun (Some c) left (Some plain)
+  AppendMakes ended = Makes (words.Append content.name content.date) content.bytes ended begun (Some c) left (Some plain)
 
   append_sound : (after : Plain) → after.header_area ≡ plain.header_area → Torn (steps_of outcome.acts) (Some c) left →
       IsSomeAnd left (λ d. Stands d after) → IsSound begun left (Some after)
   append_sound after same torn stands =
-      ready_after (words.Append name date) c input begun plain left outcome after same (λ segments is. cc) tt ready yields torn whole stands
+      ready_after (words.Append content.name content.date) c content.bytes begun plain left outcome after same (λ segments is. cc) tt ready
+      yields torn whole stands
 
-  either_list : (l : Option Cartridge) → IsSomeAnd l (λ d. Stands d plain ⊎ Stands d (with_bytes plain name date input)) →
-      IsSomeAnd l (λ d. Stands d plain) ⊎ IsSomeAnd l (λ d. Stands d (with_bytes plain name date input))
+  either_list : (l : Option Cartridge) → IsSomeAnd l (λ d. Stands d plain ⊎ Stands d more) →
+      IsSomeAnd l (λ d. Stands d plain) ⊎ IsSomeAnd l (λ d. Stands d more)
   either_list None is = absurd is
   either_list (Some d) (inl old) = inl old
   either_list (Some d) (inr new) = inr new
@@ -163,26 +168,25 @@ module _ (name : List ℕ) (date : ℕ) (c : Cartridge) (input : List ℕ) (begu
       let torn : Torn (steps_of outcome.acts) (Some c) left = torn_by (Answered answer printed) outcome (Some c) left (is, said, all) in
       elim (done_or_not answer) [
         | inl done ↦ (
-          Some (with_bytes plain name date input),
+          Some more,
           inl (done, refl),
-          append_sound (with_bytes plain name date input) refl torn
-              (subst (λ (o : Option Cartridge). IsSomeAnd o (λ d. Stands d (with_bytes plain name date input))) (sym all)
-              (append_done name date input c plain outcome values.0 values.1 bytes ready.whole ready.stands yields (is ∙ done))),
+          append_sound more refl torn
+              (subst (λ (o : Option Cartridge). IsSomeAnd o (λ d. Stands d more)) (sym all)
+              (append_done content c plain outcome may ready.whole ready.stands yields (is ∙ done))),
         )
         | inr other ↦ (
           Some plain,
           inr (other, refl),
           append_sound plain refl torn
               (subst (λ (o : Option Cartridge). IsSomeAnd o (λ d. Stands d plain)) (sym all)
-              (append_refused name date input c plain outcome ready.whole ready.stands yields (λ done. other (sym is ∙ done)))),
+              (append_refused content c plain outcome ready.whole ready.stands yields (λ done. other (sym is ∙ done)))),
         )
       ]
   append_makes (Stopped printed) leaves =
       let torn : Torn (steps_of outcome.acts) (Some c) left = torn_by (Stopped printed) outcome (Some c) left leaves in
-      elim (either_list left (append_stopped name date input c plain outcome left values.0 values.1 bytes ready.whole ready.stands
-      ready.live yields torn)) [
+      elim (either_list left (append_stopped content c plain outcome left may ready.whole ready.stands ready.live yields torn)) [
         | inl old ↦ (Some plain, inl refl, append_sound plain refl torn old)
-        | inr new ↦ (Some (with_bytes plain name date input), inr refl, append_sound (with_bytes plain name date input) refl torn new)
+        | inr new ↦ (Some more, inr refl, append_sound more refl torn new)
       ]
 
 -- all acts went

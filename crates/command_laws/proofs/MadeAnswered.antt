@@ -2,10 +2,11 @@
 use Rattle.std.proofs.Common.{◌≡◌, ℕ, ◌+◌, List, [], ◌∷◌, ◌++◌, refl, sym, ap, ◌∙◌, Option, inl, inr, Some, subst, ◌⊎◌, ◌≢◌, zero, suc, ◌≤◌}
 use Rattle.std.proofs.Common.{IsSomeAnd, arith, length, drop}
 use Rattle.cartridge_laws.proofs.FormatWriting.{effects-some}
-use Rattle.cartridge_spec.specs.Appending.{with_all, with_bytes}
+use Rattle.cartridge_spec.specs.Appending.{with_all}
 use Rattle.cartridge_spec.specs.Settling.{changed_by}
 use Rattle.cartridge_spec.specs.Table.{Entry}
 use Rattle.cartridge_spec.specs.Volumes.{Plain, Stands, entries_of}
+use Rattle.command_laws.proofs.MadeStops.{made_one}
 use Rattle.command_laws.proofs.MadeStops.{StillBehind, behind_next, done_append_kept, entries_more, stills_stopped, behind_is_still}
 use Rattle.command_laws.proofs.MountedKeeping.{changed_by_acts, kept_open}
 use Rattle.command_laws.specs.MadeLaws.{MadeAreAnswered}
@@ -23,6 +24,7 @@ use Rattle.qic_base.specs.Step.{Step, Torn}
 use Rattle.command_spec.specs.declared.status.Status.{Status}
 use Rattle.command_laws.proofs.ScriptActs.{input_texts}
 use Rattle.command_spec.specs.declared.status.Status.TheVariants as status
+use Rattle.cartridge_laws.specs.AppendLaws.{with_content}
 
 -- ---- what is printed
 
@@ -100,7 +102,7 @@ module _ (seed : ℕ) (rest : List MakeStep) where
       (append_prints_nothing seed c plain.words (entries_of plain) volume acts answer does)))
   appends_answered (suc n) c plain volume acts front rear answer left few held still
       (inr (first, behind, joined, does, more)) parts printed torn =
-      let next : Plain = with_bytes plain (made_name volume) 0 (made_bytes seed volume) in
+      let next : Plain = with_content plain (made_one seed volume) in
       let quiet : text_of first ≡ [] = append_prints_nothing seed c plain.words (entries_of plain) volume first status.Done does in
       elim (two_fronts front rear first behind (parts ∙ sym joined)) [
         | inl (some, is) ↦ absurd (printed (quiet_front front some first is quiet))

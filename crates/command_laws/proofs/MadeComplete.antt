@@ -4,19 +4,19 @@ use Rattle.std.proofs.Common.{ap, arith, zero, ◌≤◌, sym, Contains, slice_g
 use Rattle.std.specs.Option.{option_map}
 use Rattle.std.proofs.lemmas.List.Elements.{Contains-get_or}
 use Rattle.std.proofs.lemmas.Option.{slice_get-map, slice_get_within, get_or_from_slice_get, same_Some, none-some}
-use Rattle.cartridge_spec.specs.Appending.{with_all, with_bytes}
+use Rattle.cartridge_spec.specs.Appending.{with_all}
 use Rattle.cartridge_spec.specs.Settling.{changed_by}
 use Rattle.cartridge_spec.specs.Table.{Entry}
 use Rattle.cartridge_spec.specs.Volumes.{carrying_segments, Plain, entries_of, Volume, Stands, volume_length}
 use Rattle.command_laws.proofs.MadeMachineLaws.{never_unlocked, RunsBehind, RunsFront, after_items-append, runs_behind, runs_front}
 use Rattle.command_laws.proofs.MadeStops.{AreStill, still_after, still_done, entries_more, StillBehind, behind_next, done_append_open}
-use Rattle.command_laws.proofs.MadeStops.{sum_in_no_step, appends_done, behind_is_still}
+use Rattle.command_laws.proofs.MadeStops.{sum_in_no_step, appends_done, behind_is_still, made_one}
 use Rattle.command_laws.proofs.RestoreStanding.{restores_byte_for_byte}
 use Rattle.command_laws.specs.MadeLaws.{MadeWhereThereIsRoom}
 use Rattle.command_laws.specs.MountedKept.{IsOpen}
 use Rattle.command_laws.specs.RestoreLaws.{HasVolume}
-use Rattle.command_spec.specs.Make.{made_bytes, made_contents, MakeStep, AppendMade, WearSector, ScrubAll, SumVolume, wearing_in}
-use Rattle.command_spec.specs.Make.{wearing_volumes, StepDoes, Runs, made_answer, appending, summing, made_list, making, made_name}
+use Rattle.command_spec.specs.Make.{made_contents, MakeStep, AppendMade, WearSector, ScrubAll, SumVolume, wearing_in}
+use Rattle.command_spec.specs.Make.{wearing_volumes, StepDoes, Runs, made_answer, appending, summing, made_list, making}
 use Rattle.command_spec.specs.Make.{with_made}
 use Rattle.command_laws.specs.MadeTerms.{before_sums, first_two, IsSummed, after_items, wearing}
 use Rattle.command_spec.specs.Restore.{volume_at, LosesFew, pieces, Restores, ending_status}
@@ -26,6 +26,7 @@ use Rattle.qic_base.specs.Step.{Step}
 use Rattle.command_spec.specs.declared.status.Status.{Status}
 use Rattle.cartridge_laws.proofs.MountOnce.{not_lost}
 use Rattle.command_spec.specs.declared.status.Status.TheVariants as status
+use Rattle.cartridge_laws.specs.AppendLaws.{with_content}
 
 -- ---- worn sectors, and a scrub
 
@@ -114,7 +115,7 @@ room_here seed words es volume n room =
     ap (λ (v : ℕ). made_answer seed words es v) same ∙ room 0 (omega arith)
 
 room_next : (seed : ℕ) (plain : Plain) (volume n : ℕ) → HaveRoomFrom seed plain.words (entries_of plain) volume (suc n) →
-    HaveRoomFrom seed plain.words (entries_of (with_bytes plain (made_name volume) 0 (made_bytes seed volume))) (volume + 1) n
+    HaveRoomFrom seed plain.words (entries_of (with_content plain (made_one seed volume))) (volume + 1) n
 room_next seed plain volume n room k small =
     let same : volume + 1 + k ≡ volume + suc k = omega arith in
     ap (λ (es : List Entry). made_answer seed plain.words (after_items seed plain.words es (appending (volume + 1) k)) (volume + 1 + k))
@@ -125,14 +126,13 @@ room_next seed plain volume n room k small =
 front_goes : (seed : ℕ) (rest : List MakeStep) (n : ℕ) (c : Cartridge) (plain : Plain) (volume : ℕ) (acts : List Act) (answer : Status) →
     volume + n ≤ 201 → IsOpen c plain →
     HaveRoomFrom seed plain.words (entries_of plain) volume n → StillBehind seed plain.words (entries_of plain) volume n rest →
-    AreMending rest →
-    Runs seed c plain.words (entries_of plain) (appending volume n ++ rest) acts answer → answer ≡ status.Done
+    AreMending rest → Runs seed c plain.words (entries_of plain) (appending volume n ++ rest) acts answer → answer ≡ status.Done
 front_goes seed rest zero c plain volume acts answer few held room still mends runs =
     all_mending_go seed rest c plain acts answer (still c plain held.stands refl refl) mends held runs
 front_goes seed rest (suc n) c plain volume acts answer few held room still mends (inl (other, does)) =
     absurd (other (append_goes seed c plain volume acts answer held (room_here seed plain.words (entries_of plain) volume n room) does))
 front_goes seed rest (suc n) c plain volume acts answer few held room still mends (inr (first, rear, parts, does, more)) =
-    front_goes seed rest n (changed_by (steps_of first) c) (with_bytes plain (made_name volume) 0 (made_bytes seed volume))
+    front_goes seed rest n (changed_by (steps_of first) c) (with_content plain (made_one seed volume))
     (volume + 1) rear answer (omega arith)
     (done_append_open seed c plain held volume (omega arith) first does) (room_next seed plain volume n room)
     (behind_next seed rest plain volume n still) mends
@@ -193,13 +193,13 @@ sums_go seed (suc n) d plain number acts answer stands few (inr (first, rest, pa
 
 made_words : (seed n : ℕ) (plain : Plain) (volume : ℕ) → (with_all plain (made_contents seed volume n)).words ≡ plain.words
 made_words seed zero plain volume = refl
-made_words seed (suc n) plain volume = made_words seed n (with_bytes plain (made_name volume) 0 (made_bytes seed volume)) (volume + 1)
+made_words seed (suc n) plain volume = made_words seed n (with_content plain (made_one seed volume)) (volume + 1)
 
 made_entries : (seed n : ℕ) (plain : Plain) (volume : ℕ) →
     entries_of (with_all plain (made_contents seed volume n)) ≡ after_items seed plain.words (entries_of plain) (appending volume n)
 made_entries seed zero plain volume = refl
 made_entries seed (suc n) plain volume =
-    made_entries seed n (with_bytes plain (made_name volume) 0 (made_bytes seed volume)) (volume + 1)
+    made_entries seed n (with_content plain (made_one seed volume)) (volume + 1)
     ∙ ap (λ (es : List Entry). after_items seed plain.words es (appending (volume + 1) n)) (entries_more seed plain volume)
 
 stills_front : (xs ys : List MakeStep) → AreStill (xs ++ ys) → AreStill xs

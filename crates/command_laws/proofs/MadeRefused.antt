@@ -4,12 +4,12 @@ use Rattle.std.proofs.Common.{◌∙◌, subst, arith, drop, length}
 use Rattle.std.proofs.lemmas.Bool.{cases_Bool}
 use Rattle.cartridge_laws.proofs.FormatWriting.{effects-some}
 use Rattle.cartridge_laws.proofs.MountKeeping.{stopped_stands}
-use Rattle.cartridge_spec.specs.Appending.{has_room, with_all, with_bytes, room}
+use Rattle.cartridge_spec.specs.Appending.{has_room, with_all, room}
 use Rattle.cartridge_spec.specs.Settling.{changed_by}
 use Rattle.cartridge_spec.specs.Table.{Entry}
 use Rattle.cartridge_spec.specs.Volumes.{Plain, Stands, entries_of}
 use Rattle.command_laws.proofs.MadeCounting.{counts_behind, counts_more, counts_refused}
-use Rattle.command_laws.proofs.MadeStops.{StillBehind, append_is, behind_is_still, behind_next, done_append_open, entries_more}
+use Rattle.command_laws.proofs.MadeStops.{StillBehind, append_is, behind_is_still, behind_next, done_append_open, entries_more, made_one}
 use Rattle.command_laws.proofs.MadeStops.{only_settled, same_room, stills_stopped}
 use Rattle.command_laws.proofs.MountedKeeping.{changed_by_acts}
 use Rattle.command_laws.specs.MadeLaws.{AnsweredMakeStands}
@@ -17,13 +17,14 @@ use Rattle.command_laws.specs.MountedKept.{IsOpen}
 use Rattle.command_spec.specs.Append.{has_promised_room}
 use Rattle.command_laws.specs.MadeTerms.{AppendedFrom}
 use Rattle.command_spec.specs.Make.{made_bytes, made_length, made_contents, AppendMade, MakeStep, Runs, ScrubAll, StepDoes, appending}
-use Rattle.command_spec.specs.Make.{made_list, made_name, summing, wearing_volumes}
+use Rattle.command_spec.specs.Make.{made_list, summing, wearing_volumes}
 use Rattle.qic_base.proofs.Steps.{Torn-all}
 use Rattle.qic_base.specs.Acts.{Act, steps_of}
 use Rattle.qic_base.specs.Cartridge.{Cartridge}
 use Rattle.qic_base.specs.Step.{Step, Torn}
 use Rattle.command_spec.specs.declared.status.Status.{Status}
 use Rattle.command_spec.specs.declared.status.Status.TheVariants as status
+use Rattle.cartridge_laws.specs.AppendLaws.{with_content}
 
 -- all steps done are a stop behind the last
 all_done : (steps : List Step) (c : Cartridge) → Torn steps (Some c) (Some (changed_by steps c))
@@ -86,7 +87,7 @@ module _ (seed : ℕ) (rest : List MakeStep) where
     stands = refused_append_stands seed c plain held volume acts answer other does;
   }
   appends_answered (suc n) c plain volume acts answer few held still (inr (first, rear, parts, does, more)) =
-      let next : Plain = with_bytes plain (made_name volume) 0 (made_bytes seed volume) in
+      let next : Plain = with_content plain (made_one seed volume) in
       let d : Cartridge = changed_by (steps_of first) c in
       let r : StandsAppended seed next (volume + 1) n answer (changed_by (steps_of rear) d) =
       appends_answered n d next (volume + 1) rear answer (omega arith) (done_append_open seed c plain held volume (omega arith) first does)

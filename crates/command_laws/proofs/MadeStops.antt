@@ -14,8 +14,9 @@ use Rattle.cartridge_laws.proofs.FormatWriting.{some_weaker, some_and, effects-s
 use Rattle.cartridge_laws.proofs.MountKeeping.{stopped_stands}
 use Rattle.cartridge_laws.proofs.MountStanding.{standing_data}
 use Rattle.cartridge_laws.proofs.Places.{usable_small}
+use Rattle.cartridge_laws.specs.AppendLaws.{with_content, IsAppendable, new_volume}
 use Rattle.cartridge_laws.specs.Table.{LieBehind}
-use Rattle.cartridge_spec.specs.Appending.{has_room, with_all, with_bytes, appended_volume, room}
+use Rattle.cartridge_spec.specs.Appending.{has_room, with_all, room, Content}
 use Rattle.cartridge_spec.specs.Formatting.{IsLabel}
 use Rattle.cartridge_spec.specs.TableSegment.{TableIs}
 use Rattle.cartridge_spec.specs.HeaderCopies.{last_segment}
@@ -29,10 +30,10 @@ use Rattle.command_laws.proofs.MountedKeeping.{kept_open, scrubbed_open, worn_op
 use Rattle.command_laws.proofs.MountedStanding.{all_writes, no_writes, open_appended, kept_appended, stopped_appended}
 use Rattle.command_laws.proofs.ScrubMounted.{stopped_scrub_stands}
 use Rattle.command_laws.specs.MadeLaws.{StoppedMakeStands, DoneMakeStands, StopsInStep, StopsAreInSteps, MakesOneThing}
-use Rattle.command_laws.specs.MountedKept.{IsAppendable, IsOpen, settle_and_append, IsKept}
+use Rattle.command_laws.specs.MountedKept.{IsOpen, settle_and_append, IsKept}
 use Rattle.command_spec.specs.Append.{Kept, append_acts, room_in, has_promised_room, kept_over}
 use Rattle.command_laws.specs.MadeTerms.{made_byte, made_acts, first_two, made_entry, after_items, wearing}
-use Rattle.command_laws.specs.AppendTerms.{silently}
+use Rattle.command_laws.specs.AppendTerms.{silently, content_with}
 use Rattle.command_spec.specs.Make.{made_length, made_bytes, made_contents, made_name, AppendMade, StepDoes, IsAppended, made_answer}
 use Rattle.command_spec.specs.Make.{MakeStep, WearSector, ScrubAll, SumVolume, after_item, sum_acts, Runs, wearing_in, wearing_volumes}
 use Rattle.command_spec.specs.Make.{summing, appending, made_list, making}
@@ -93,8 +94,11 @@ unfolding made_bytes
 made_content seed volume = All-map (λ b. b < 256) (made_byte seed volume) (range_with_len 0 (made_length seed volume))
     (λ k d h. omega arith)
 
-pub made_named : (seed volume : ℕ) → volume ≤ 200 → IsAppendable (made_name volume) 0 (made_bytes seed volume)
-made_named seed volume few = record { label = made_label volume few; word = omega arith; content = made_content seed volume }
+abbrev pub made_one : (seed volume : ℕ) → Content
+made_one seed volume = content_with (made_name volume) 0 (made_bytes seed volume)
+
+pub made_named : (seed volume : ℕ) → volume ≤ 200 → IsAppendable (made_one seed volume)
+made_named seed volume few = record { label = made_label volume few; word = omega arith; bytes = made_content seed volume }
 
 -- ---- an append, as a step
 
@@ -129,19 +133,19 @@ module _ (seed : ℕ) (c : Cartridge) (plain : Plain) (held : IsOpen c plain) (v
 
   -- all its steps, where there is room, or none of the volume
   abbrev all_steps : List Step
-  all_steps = settle_and_append c plain (made_name volume) 0 bytes
+  all_steps = settle_and_append c plain (made_one seed volume)
 
   pub steps_are : (table : List (List ℕ)) → TableIs c table → has_room plain (length bytes) ≡ true →
       steps_of (made_acts seed c plain.words (entries_of plain) table volume) ≡ all_steps
   steps_are table reads enough =
       ap steps_of (same_acts table reads)
-      ∙ ap (λ (rest : List Step). settling ++ rest) (all_writes plain (made_name volume) 0 bytes settling enough)
+      ∙ ap (λ (rest : List Step). settling ++ rest) (all_writes plain (made_one seed volume) settling enough)
 
   pub only_settled : (table : List (List ℕ)) → TableIs c table → has_room plain (length bytes) ≡ false →
       steps_of (made_acts seed c plain.words (entries_of plain) table volume) ≡ settling
   only_settled table reads short =
       ap steps_of (same_acts table reads)
-      ∙ ap (λ (rest : List Step). settling ++ rest) (no_writes plain (made_name volume) 0 bytes settling short)
+      ∙ ap (λ (rest : List Step). settling ++ rest) (no_writes plain (made_one seed volume) settling short)
       ∙ append-nil settling
 
   -- what the step is: the table reads, and there is room or not
@@ -171,18 +175,18 @@ module _ (seed : ℕ) (c : Cartridge) (plain : Plain) (held : IsOpen c plain) (v
 -- what it leaves, done
 pub done_append_open : (seed : ℕ) (c : Cartridge) (plain : Plain) → IsOpen c plain → (volume : ℕ) → volume ≤ 200 → (acts : List Act) →
     StepDoes seed c plain.words (entries_of plain) (AppendMade volume) acts status.Done → IsOpen (changed_by (steps_of acts) c)
-    (with_bytes plain (made_name volume) 0 (made_bytes seed volume))
+    (with_content plain (made_one seed volume))
 done_append_open seed c plain held volume small acts does =
     let did = done_append seed c plain held volume acts does in
-    subst (λ (steps : List Step). IsOpen (changed_by steps c) (with_bytes plain (made_name volume) 0 (made_bytes seed volume))) (sym did.1)
-    (open_appended c plain (made_name volume) 0 (made_bytes seed volume) held (made_named seed volume small) did.0)
+    subst (λ (steps : List Step). IsOpen (changed_by steps c) (with_content plain (made_one seed volume))) (sym did.1)
+    (open_appended c plain (made_one seed volume) held (made_named seed volume small) did.0)
 
 -- where each sector of the table's segment takes a write, done or stopped
 module _ (seed : ℕ) (c : Cartridge) (plain : Plain) (held : IsKept c plain) (volume : ℕ) (small : volume ≤ 200) where
   abbrev more : Plain
-  more = with_bytes plain (made_name volume) 0 (made_bytes seed volume)
+  more = with_content plain (made_one seed volume)
 
-  named : IsAppendable (made_name volume) 0 (made_bytes seed volume)
+  named : IsAppendable (made_one seed volume)
   named = made_named seed volume small
 
   pub done_append_kept : (acts : List Act) → StepDoes seed c plain.words (entries_of plain) (AppendMade volume) acts status.Done →
@@ -190,7 +194,7 @@ module _ (seed : ℕ) (c : Cartridge) (plain : Plain) (held : IsKept c plain) (v
   done_append_kept acts does =
       let did = done_append seed c plain (kept_open c plain held) volume acts does in
       subst (λ (steps : List Step). IsKept (changed_by steps c) more) (sym did.1)
-      (kept_appended (made_name volume) 0 (made_bytes seed volume) named.label named.word named.content c plain held did.0)
+      (kept_appended (made_one seed volume) named c plain held did.0)
 
   pub stopped_append_stands : (acts : List Act) (answer : Status) (left : Option Cartridge) → StepDoes seed c plain.words (entries_of plain)
       (AppendMade volume) acts answer →
@@ -199,8 +203,7 @@ module _ (seed : ℕ) (c : Cartridge) (plain : Plain) (held : IsKept c plain) (v
       let here : IsOpen c plain = kept_open c plain held in
       let is = append_is seed c plain here volume acts answer does in
       elim (cases_Bool (has_room plain (length (made_bytes seed volume)))) [
-        | inl enough ↦ stopped_appended (made_name volume) 0 (made_bytes seed volume) named.label named.word named.content c plain held left
-            enough
+        | inl enough ↦ stopped_appended (made_one seed volume) named c plain held left enough
             (subst (λ (steps : List Step). Torn steps (Some c) left)
             (ap steps_of is.does ∙ steps_are seed c plain here volume is.table is.reads enough) torn)
         | inr short ↦ some_weaker left (λ d stands. inl stands)
@@ -364,10 +367,10 @@ still_summing number (suc count) = (tt, still_summing (number + 1) count)
 
 -- the entries of the plain cartridge with a made volume
 pub entries_more : (seed : ℕ) (plain : Plain) (volume : ℕ) →
-    entries_of (with_bytes plain (made_name volume) 0 (made_bytes seed volume)) ≡ entries_of plain ++ made_entry seed plain.words
+    entries_of (with_content plain (made_one seed volume)) ≡ entries_of plain ++ made_entry seed plain.words
     (entries_of plain) volume ∷ []
 entries_more seed plain volume = map-append (λ (v : Volume). v.entry) plain.volumes
-    (appended_volume plain (made_name volume) 0 (made_bytes seed volume) ∷ [])
+    (new_volume plain (made_one seed volume) ∷ [])
 
 -- what comes behind the appends is still where they all stand
 abbrev pub StillBehind : (seed : ℕ) (words : List ℕ) (es : List Entry) (volume n : ℕ) (rest : List MakeStep) → Type 0
@@ -378,7 +381,7 @@ StillBehind seed words es volume n rest =
 module _ (seed : ℕ) (rest : List MakeStep) where
   -- with one volume more the same comes behind
   pub behind_next : (plain : Plain) (volume n : ℕ) → StillBehind seed plain.words (entries_of plain) volume (suc n) rest →
-      StillBehind seed plain.words (entries_of (with_bytes plain (made_name volume) 0 (made_bytes seed volume))) (volume + 1) n rest
+      StillBehind seed plain.words (entries_of (with_content plain (made_one seed volume))) (volume + 1) n rest
   behind_next plain volume n still d p stands words es =
       still d p stands words (es ∙ ap (λ (now : List Entry). after_items seed plain.words now (appending (volume + 1) n))
       (entries_more seed plain volume))
@@ -390,8 +393,7 @@ module _ (seed : ℕ) (rest : List MakeStep) where
     pub stands : IsSomeAnd left (λ d. Stands d (with_all plain (made_contents seed volume appended)))
 
   from_next : (plain : Plain) (volume n : ℕ) (left : Option Cartridge) →
-      StandsFrom (with_bytes plain (made_name volume) 0 (made_bytes seed volume)) (volume + 1) n left →
-      StandsFrom plain volume (suc n) left
+      StandsFrom (with_content plain (made_one seed volume)) (volume + 1) n left → StandsFrom plain volume (suc n) left
   from_next plain volume n left from = record {
     appended = suc from.appended;
     within = (let few = from.within in omega arith);
@@ -409,20 +411,19 @@ module _ (seed : ℕ) (rest : List MakeStep) where
     stands = stills_stopped seed rest c plain acts answer left (still c plain held.stands refl refl) (kept_open c plain held) runs torn;
   }
   appends_stopped (suc n) c plain volume acts answer left few held still (inl (other, does)) torn =
-      by_stop (some_split (λ d. Stands d plain) (λ d. Stands d (with_bytes plain (made_name volume) 0 (made_bytes seed volume))) left
+      by_stop (some_split (λ d. Stands d plain) (λ d. Stands d (with_content plain (made_one seed volume))) left
       (stopped_append_stands seed c plain held volume (omega arith) acts answer left does torn))
     where
       by_stop : IsSomeAnd left (λ d. Stands d plain)
-          ⊎ IsSomeAnd left (λ d. Stands d (with_bytes plain (made_name volume) 0 (made_bytes seed volume))) →
-          StandsFrom plain volume (suc n) left
+          ⊎ IsSomeAnd left (λ d. Stands d (with_content plain (made_one seed volume))) → StandsFrom plain volume (suc n) left
       by_stop (inl stands) = record { appended = 0; within = omega arith; stands = stands }
       by_stop (inr stands) = record { appended = 1; within = omega arith; stands = stands }
   appends_stopped (suc n) c plain volume acts answer left few held still (inr (first, rear, parts, does, more)) torn =
-      let next : Plain = with_bytes plain (made_name volume) 0 (made_bytes seed volume) in
+      let next : Plain = with_content plain (made_one seed volume) in
       let small : volume ≤ 200 = omega arith in
       elim (acts_stopped first rear acts c left parts torn) [
         | inl here ↦ by_stop (some_split (λ d. Stands d plain)
-            (λ d. Stands d (with_bytes plain (made_name volume) 0 (made_bytes seed volume))) left
+            (λ d. Stands d (with_content plain (made_one seed volume))) left
             (stopped_append_stands seed c plain held volume small first status.Done left does here))
         | inr behind ↦ from_next plain volume n left
             (appends_stopped n (changed_by (steps_of first) c) next (volume + 1) rear answer left (omega arith)
@@ -433,8 +434,7 @@ module _ (seed : ℕ) (rest : List MakeStep) where
       ]
     where
       by_stop : IsSomeAnd left (λ d. Stands d plain)
-          ⊎ IsSomeAnd left (λ d. Stands d (with_bytes plain (made_name volume) 0 (made_bytes seed volume))) →
-          StandsFrom plain volume (suc n) left
+          ⊎ IsSomeAnd left (λ d. Stands d (with_content plain (made_one seed volume))) → StandsFrom plain volume (suc n) left
       by_stop (inl stands) = record { appended = 0; within = omega arith; stands = stands }
       by_stop (inr stands) = record { appended = 1; within = omega arith; stands = stands }
 
@@ -446,7 +446,7 @@ module _ (seed : ℕ) (rest : List MakeStep) where
       (still c plain held.stands refl refl) held runs
   appends_done (suc n) c plain volume acts few held still (inl (other, does)) = absurd (other refl)
   appends_done (suc n) c plain volume acts few held still (inr (first, rear, parts, does, more)) =
-      let next : Plain = with_bytes plain (made_name volume) 0 (made_bytes seed volume) in
+      let next : Plain = with_content plain (made_one seed volume) in
       let d : Cartridge = changed_by (steps_of first) c in
       let now : IsOpen (changed_by (steps_of rear) d) (with_all next (made_contents seed (volume + 1) n)) =
       appends_done n d next (volume + 1) rear (omega arith) (done_append_open seed c plain held volume (omega arith) first does)

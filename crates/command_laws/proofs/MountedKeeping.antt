@@ -1,12 +1,14 @@
 -- What worn sectors and scrubs leave of a cartridge that stands for a plain one, and a stop between acts.
-use Rattle.std.proofs.Common.{◌≡◌, List, ◌++◌, ap, ◌∙◌, ◌⊎◌, inl, inr, Option, Some, sym, subst, arith, ℕ, ◌<◌, ◌≤◌, ◌≢◌}
+use Rattle.std.proofs.Common.{◌≡◌, List, ◌++◌, ap, ◌∙◌, ◌⊎◌, inl, inr, Option, Some, sym, subst, arith, ℕ, ◌<◌, ◌≤◌, ◌≢◌, length, true}
 use Rattle.cartridge_laws.proofs.AppendVolume.{old_order}
 use Rattle.cartridge_laws.proofs.ChangeStanding.{other_cells, worn_stands}
 use Rattle.cartridge_laws.proofs.ChangeViews.{view_of_other}
 use Rattle.cartridge_laws.proofs.FormatWriting.{changed_by-append, effects-some}
 use Rattle.cartridge_laws.proofs.Segments.{view_of_cartridge}
 use Rattle.cartridge_laws.proofs.Whole.{with_view_whole, worn_is_view}
+use Rattle.cartridge_laws.specs.AppendLaws.{IsAppendable, MayAppend}
 use Rattle.cartridge_laws.specs.Table.{IsSoundList}
+use Rattle.cartridge_spec.specs.Appending.{Content, has_room}
 use Rattle.cartridge_spec.specs.HeaderCopies.{last_segment}
 use Rattle.cartridge_spec.specs.TableSegment.{IsTableLive}
 use Rattle.cartridge_spec.specs.Says.{Data, AsRead, ByCode, TableSays}
@@ -63,6 +65,16 @@ live_kept c plain held live = record {
   stands = held.stands;
   table = held.table;
   live = live;
+  unprotected = held.unprotected;
+}
+
+-- what has room may be appended
+pub kept_may : {c : Cartridge} {plain : Plain} {content : Content} → IsKept c plain → has_room plain (length content.bytes) ≡ true →
+    IsAppendable content → MayAppend c plain content
+kept_may held room named = record {
+  may = record { cartridge = held.cartridge; stands = held.stands; room = room; appendable = named };
+  table = held.table;
+  live = held.live;
   unprotected = held.unprotected;
 }
 

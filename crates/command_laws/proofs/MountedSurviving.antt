@@ -13,21 +13,19 @@ use Rattle.qic_base.specs.Step.{Torn}
 use Rattle.cartridge_laws.specs.AppendLaws as appends
 
 pub appends_survive : AppendsSurvive
-appends_survive c plain name date bytes left kept may enough torn =
-    elim (Torn-append (settling_steps plain.table_area c) (appends.append_steps_of plain name date bytes) (Some c) left torn) [
+appends_survive c plain content left kept may enough torn =
+    elim (Torn-append (settling_steps plain.table_area c) (appends.append_steps_of plain content) (Some c) left torn) [
       | inl settling ↦ inl settling
       | inr behind ↦
-          inr (append_survives name date bytes c plain may.label may.word may.content kept.cartridge kept.stands kept.live kept.unprotected
-          kept.table enough left
-          (subst (λ (held : Option Cartridge). Torn (appends.append_steps_of plain name date bytes) held left)
+          inr (append_survives content c plain may kept enough left
+          (subst (λ (held : Option Cartridge). Torn (appends.append_steps_of plain content) held left)
           (settling_effects c plain.table_area kept.table) behind))
     ]
 
 pub appended_survive : AppendedSurvive
-appended_survive c plain name date bytes f lost kept may enough loses =
-    let steps = appends.append_steps_of plain name date bytes in
-    done_survives name date bytes c plain may.label may.word may.content kept.cartridge kept.stands kept.live kept.unprotected kept.table
-    enough f lost
+appended_survive c plain content f lost kept may enough loses =
+    let steps = appends.append_steps_of plain content in
+    done_survives content c plain may kept enough f lost
     (subst (λ (d : Cartridge). LosesOneAlone d f lost)
     (changed_by-append (settling_steps plain.table_area c) steps c ∙ ap (λ (d : Cartridge). changed_by steps d)
     (settling_settles c plain.table_area kept.table)) loses)

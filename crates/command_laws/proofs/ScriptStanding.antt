@@ -10,7 +10,7 @@ use Rattle.cartridge_laws.proofs.MountSettled.{settled_stands}
 use Rattle.cartridge_laws.proofs.MountSettles.{settling_settles}
 use Rattle.cartridge_laws.proofs.MountStanding.{standing_data}
 use Rattle.cartridge_laws.proofs.MountWhole.{settling_effects}
-use Rattle.cartridge_spec.specs.Appending.{appended_volume, has_room, with_bytes, with_all}
+use Rattle.cartridge_spec.specs.Appending.{has_room, with_all, Content}
 use Rattle.cartridge_spec.specs.TableSegment.{IsTableLive}
 use Rattle.cartridge_spec.specs.Mounting.{settled}
 use Rattle.cartridge_spec.specs.Settling.{changed_by, settling_steps}
@@ -30,14 +30,14 @@ use Rattle.command_laws.proofs.ScrubMounted.{stopped_scrub_stands}
 use Rattle.command_laws.proofs.ScrubPlain.{as_plain}
 use Rattle.command_laws.specs.Intact.{IsIntact}
 use Rattle.command_laws.specs.MountedHeld.{IsHeld}
-use Rattle.command_laws.specs.MountedKept.{IsAppendable, IsKept, IsOpen}
+use Rattle.command_laws.specs.MountedKept.{IsKept, IsOpen, settle_and_append}
 use Rattle.command_laws.specs.ScriptStanding.{LineHasBytes, HaveBytes, ItemsHaveBytes, HasBytes, StoppedItemStands, ItemsStand, FaultStands}
 use Rattle.command_laws.specs.ScriptStanding.{plain_after}
 use Rattle.command_spec.specs.Append.{Kept, Taking, Fits, TooLong, TooShort, append_acts, room_in, taking, entry_acts, has_promised_room}
 use Rattle.command_spec.specs.Append.{input_writes, kept_over}
 use Rattle.command_laws.specs.ScriptTerms.{ItemDoes, LineSpares, LineSparesTable}
 use Rattle.command_laws.specs.RestoreTerms.{RestoreDoes}
-use Rattle.command_laws.specs.AppendTerms.{entry_for}
+use Rattle.command_laws.specs.AppendTerms.{entry_for, content_with}
 use Rattle.command_laws.specs.Inputs.{IsLine}
 use Rattle.command_spec.specs.Input.{IsLined, promised, Item, IsItem, Ending, HasItems}
 use Rattle.command_spec.specs.Lines.{reply_behind, lost_line}
@@ -58,7 +58,7 @@ use Rattle.qic_base.specs.Step.{Step, Wear, Torn}
 use Rattle.command_laws.proofs.CopyGoing.{with_all-append}
 use Rattle.command_laws.proofs.CopyStanding.{behind_last}
 use Rattle.command_spec.specs.declared.line.Line.TheVariants as line
-use Rattle.cartridge_laws.specs.AppendLaws as appends
+use Rattle.cartridge_laws.specs.AppendLaws.{new_volume, with_content, IsAppendable}
 use Rattle.command_spec.specs.declared.refusal.Refusal.TheVariants as why
 use Rattle.command_spec.specs.Restore as restoring
 
@@ -68,7 +68,7 @@ line_has : (l : Line) (front bytes : List ℕ) → IsLined (λ before. IsLine be
     All (λ b. b < 256) bytes → LineHasBytes l bytes
 line_has (line.Append name count date) front bytes lined long content =
     let values = append_values front name count date lined in
-    (record { label = values.0; word = values.1; content = content }, long)
+    (record { label = values.0; word = values.1; bytes = content }, long)
 line_has line.List front bytes lined long content = tt
 line_has (line.Restore number) front bytes lined long content = tt
 line_has line.Scrub front bytes lined long content = tt
@@ -169,9 +169,9 @@ more_after plain item did e more =
     (ap (λ (es : List Entry). length es) more ∙ length-append (entries_of plain) (e ∷ [])))
 
 -- of just as many bytes as are promised
-module _ (c : Cartridge) (plain : Plain) (name : List ℕ) (date : ℕ) (bytes : List ℕ) (held : IsHeld c plain) where
+module _ (c : Cartridge) (plain : Plain) (content : Content) (held : IsHeld c plain) where
   abbrev size : ℕ
-  size = length bytes
+  size = length content.bytes
 
   -- what it goes by, with these data of the table
   abbrev kept_at : (table : List (List ℕ)) → Kept
@@ -183,88 +183,97 @@ module _ (c : Cartridge) (plain : Plain) (name : List ℕ) (date : ℕ) (bytes :
   abbrev replies : Entry → List ℕ
   replies = reply_behind (length (entries_of plain))
 
+  -- its entry, and its line where so many bytes are promised
+  abbrev its_entry : Entry
+  its_entry = entry_for kept_now content.name content.date content.bytes
+
+  abbrev its_item : (n : ℕ) → Item
+  its_item n = record { line = line.Append content.name n content.date; bytes = content.bytes }
+
+  abbrev acts_by : (table : List (List ℕ)) (n : ℕ) → List Act
+  acts_by table n = append_acts (kept_at table) content.name content.date (Some n) replies content.bytes
+
   abbrev its_acts : List Act
-  its_acts = append_acts kept_now name date (Some size) replies bytes
+  its_acts = acts_by plain.table_area size
 
   -- what it does, where so many bytes are promised
   abbrev does_by : (table : List (List ℕ)) (n : ℕ) → Did
   does_by table n =
-      taken_as (kept_at table) name date (append_acts (kept_at table) name date (Some n) replies bytes)
-      (taking (room_in (kept_at table)) (Some n) bytes)
+      taken_as (kept_at table) content.name content.date (acts_by table n) (taking (room_in (kept_at table)) (Some n) content.bytes)
+
+  -- with room for them, and without
+  abbrev with_room : Did
+  with_room = record { acts = its_acts; entries = entries_of plain ++ its_entry ∷ [] }
+
+  abbrev with_none : Did
+  with_none = line_refused its_acts (entries_of plain) (why.Full size (room_in kept_now))
 
   same_doing : (table : List (List ℕ)) (n : ℕ) → table ≡ plain.table_area → size ≡ n →
-      append_did c plain.words (entries_of plain) name n date bytes (Finds table) ≡ does_by plain.table_area size
+      append_did c plain.words (entries_of plain) content.name n content.date content.bytes (Finds table) ≡ does_by plain.table_area size
   same_doing table n area long = ap (λ (t : List (List ℕ)). does_by t n) area ∙ ap (does_by plain.table_area) (sym long)
 
   -- where there is room for them
   module _ (enough : has_room plain size ≡ true) where
-    fits_taking : taking (room_in kept_now) (Some size) bytes ≡ Fits bytes
+    fits_taking : taking (room_in kept_now) (Some size) content.bytes ≡ Fits content.bytes
     fits_taking =
-        ap (λ (b : Bool). cond b (cond (nat_lt size size) (TooShort size size) (Fits (take size bytes))) (TooLong size (room_in kept_now)))
-        enough
-        ∙ ap (λ (b : Bool). cond b (TooShort size size) (Fits (take size bytes))) (same_less size)
-        ∙ ap (λ (xs : List ℕ). Fits xs) (take_all size bytes (omega arith))
+        ap (λ (b : Bool). cond b (cond (nat_lt size size) (TooShort size size) (Fits (take size content.bytes)))
+        (TooLong size (room_in kept_now))) enough
+        ∙ ap (λ (b : Bool). cond b (TooShort size size) (Fits (take size content.bytes))) (same_less size)
+        ∙ ap (λ (xs : List ℕ). Fits xs) (take_all size content.bytes (omega arith))
 
-    fits_doing : does_by plain.table_area size ≡ record {
-      acts = its_acts;
-      entries = entries_of plain ++ entry_for kept_now name date bytes ∷ [];
-    }
-    fits_doing = ap (λ (became : Taking). taken_as kept_now name date its_acts became) fits_taking
+    fits_doing : does_by plain.table_area size ≡ with_room
+    fits_doing = ap (λ (became : Taking). taken_as kept_now content.name content.date its_acts became) fits_taking
 
-    fits_steps : steps_of its_acts ≡ settling_steps plain.table_area c ++ appends.append_steps_of plain name date bytes
+    fits_steps : steps_of its_acts ≡ settle_and_append c plain content
     fits_steps =
-        sym (replied_steps kept_now name date size bytes bytes fits_taking replies)
+        sym (replied_steps kept_now content.name content.date size content.bytes content.bytes fits_taking replies)
         ∙ ap (λ (rest : List Step). settling_steps plain.table_area c ++ rest)
-        (all_writes plain name date bytes (settling_steps plain.table_area c) enough)
+        (all_writes plain content (settling_steps plain.table_area c) enough)
 
-    entries_more : entries_of (with_bytes plain name date bytes) ≡ entries_of plain ++ entry_for kept_now name date bytes ∷ []
-    entries_more = map-append (λ (v : Volume). v.entry) plain.volumes (appended_volume plain name date bytes ∷ [])
+    entries_more : entries_of (with_content plain content) ≡ entries_of plain ++ its_entry ∷ []
+    entries_more = map-append (λ (v : Volume). v.entry) plain.volumes (new_volume plain content ∷ [])
 
-    fits_leaves : (n : ℕ) (did : Did) → IsOpen c plain → IsAppendable name date bytes →
-        did ≡ record { acts = its_acts; entries = entries_of plain ++ entry_for kept_now name date bytes ∷ [] } →
-        ItemLeaves c plain (record { line = line.Append name n date; bytes = bytes }) did
+    fits_leaves : (n : ℕ) (did : Did) → IsOpen c plain → IsAppendable content → did ≡ with_room → ItemLeaves c plain (its_item n) did
     fits_leaves n did ready may is =
-        let item : Item = record { line = line.Append name n date; bytes = bytes } in
-        let list : did.entries ≡ entries_of plain ++ entry_for kept_now name date bytes ∷ [] = ap (λ (d : Did). d.entries) is in
-        let more : plain_after plain item did ≡ with_bytes plain name date bytes = more_after plain item did
-        (entry_for kept_now name date bytes) list in
-        let steps : steps_of did.acts ≡ settling_steps plain.table_area c ++ appends.append_steps_of plain name date bytes =
-        ap (λ (d : Did). steps_of d.acts) is ∙ fits_steps in
+        let item : Item = its_item n in
+        let list : did.entries ≡ entries_of plain ++ its_entry ∷ [] = ap (λ (d : Did). d.entries) is in
+        let more : plain_after plain item did ≡ with_content plain content = more_after plain item did its_entry list in
+        let steps : steps_of did.acts ≡ settle_and_append c plain content = ap (λ (d : Did). steps_of d.acts) is ∙ fits_steps in
         let kept : IsTableLive c → IsKept c plain = live_kept c plain ready in
         record {
           done = subst (λ (p : Plain). IsHeld (changed_by (steps_of did.acts) c) p) (sym more)
-              (subst (λ (ss : List Step). IsHeld (changed_by ss c) (with_bytes plain name date bytes)) (sym steps)
-              (open_held _ (with_bytes plain name date bytes) (open_appended c plain name date bytes ready may enough)));
+              (subst (λ (ss : List Step). IsHeld (changed_by ss c) (with_content plain content)) (sym steps)
+              (open_held _ (with_content plain content) (open_appended c plain content ready may enough)));
           live = λ live. subst (λ (ss : List Step). IsTableLive (changed_by ss c)) (sym steps)
-              (kept_appended name date bytes may.label may.word may.content c plain (kept live) enough).live;
+              (kept_appended content may c plain (kept live) enough).live;
           entries = ap (λ (p : Plain). entries_of p) more ∙ entries_more ∙ sym list;
           words = ap (λ (p : Plain). p.words) more;
           stopped = λ live left torn. subst (λ (p : Plain). IsSomeAnd left (λ d. Stands d plain ⊎ Stands d p)) (sym more)
-              (stopped_appended name date bytes may.label may.word may.content c plain (kept live) left enough
+              (stopped_appended content may c plain (kept live) left enough
               (subst (λ (ss : List Step). Torn ss (Some c) left) steps torn));
           intact = λ behind intact.
-              let now = appends_leave_intact c plain name date bytes intact may enough in
+              let now = appends_leave_intact c plain content intact may enough in
               subst (λ (p : Plain). LeavesIntact c plain p did) (sym more) (record {
-                done = subst (λ (ss : List Step). IsIntact (changed_by ss c) (with_bytes plain name date bytes)) (sym steps) now.done;
+                done = subst (λ (ss : List Step). IsIntact (changed_by ss c) (with_content plain content)) (sym steps) now.done;
                 stopped = λ left torn. now.stopped left (subst (λ (ss : List Step). Torn ss (Some c) left) steps torn);
               });
         }
 
   -- where there is none, the table is settled alone
   module _ (small : has_room plain size ≡ false) where
-    full_doing : does_by plain.table_area size ≡ line_refused its_acts (entries_of plain) (why.Full size (room_in kept_now))
-    full_doing = ap (λ (became : Taking). taken_as kept_now name date its_acts became) (full_taking kept_now name date size small bytes)
+    full_doing : does_by plain.table_area size ≡ with_none
+    full_doing =
+        ap (λ (became : Taking). taken_as kept_now content.name content.date its_acts became)
+        (full_taking kept_now content.name content.date size small content.bytes)
 
-    full_steps : (did : Did) → did ≡ line_refused its_acts (entries_of plain) (why.Full size (room_in kept_now)) →
-        steps_of did.acts ≡ settling_steps plain.table_area c
+    full_steps : (did : Did) → did ≡ with_none → steps_of did.acts ≡ settling_steps plain.table_area c
     full_steps did is =
         ap (λ (d : Did). steps_of d.acts) is
         ∙ ap (λ (xs : List Act). steps_of (line_refused xs (entries_of plain) (why.Full size (room_in kept_now))).acts)
-        (full_acts kept_now name date size small replies bytes)
+        (full_acts kept_now content.name content.date size small replies content.bytes)
         ∙ append-nil (settling_steps plain.table_area c)
 
-    full_stills : (did : Did) → IsOpen c plain → did ≡ line_refused its_acts (entries_of plain) (why.Full size (room_in kept_now)) →
-        Stills (Unit {0}) c plain did
+    full_stills : (did : Did) → IsOpen c plain → did ≡ with_none → Stills (Unit {0}) c plain did
     full_stills did ready is =
         let steps : steps_of did.acts ≡ settling_steps plain.table_area c = full_steps did is in
         record {
@@ -282,27 +291,26 @@ module _ (c : Cartridge) (plain : Plain) (name : List ℕ) (date : ℕ) (bytes :
               };
         }
 
-  pub append_leaves : (n : ℕ) (did : Did) → IsAppendable name date bytes → size ≡ n → (m : Meeting) → Meets c m →
-      did ≡ append_did c plain.words (entries_of plain) name n date bytes m →
-      ItemLeaves c plain (record { line = line.Append name n date; bytes = bytes }) did
+  pub append_leaves : (n : ℕ) (did : Did) → IsAppendable content → size ≡ n → (m : Meeting) → Meets c m →
+      did ≡ append_did c plain.words (entries_of plain) content.name n content.date content.bytes m →
+      ItemLeaves c plain (its_item n) did
   append_leaves n did may long (Refuses w) meets is =
-      leaves_still c plain (record { line = line.Append name n date; bytes = bytes }) did
+      leaves_still c plain (its_item n) did
       (no_steps c plain did held (ap (λ (d : Did). steps_of d.acts) is) (ap (λ (d : Did). d.entries) is))
   append_leaves n did may long (Finds table) meets is =
       let ready : IsOpen c plain = held_open c plain table held meets.1 meets.0 in
       let does : did ≡ does_by plain.table_area size = is ∙ same_doing table n (standing_data c plain table held.stands meets.1) long in
       elim (cases_Bool (has_room plain size)) [
         | inl enough ↦ fits_leaves enough n did ready may (does ∙ fits_doing enough)
-        | inr small ↦ leaves_still c plain (record { line = line.Append name n date; bytes = bytes }) did
-            (full_stills small did ready (does ∙ full_doing small))
+        | inr small ↦ leaves_still c plain (its_item n) did (full_stills small did ready (does ∙ full_doing small))
       ]
 
   -- one that finds its table: done it leaves that whole, and stopped, while it isn't settled yet, or what comes back
-  pub append_settles : (n : ℕ) (did : Did) (table : List (List ℕ)) → IsAppendable name date bytes → size ≡ n → IsTableLive c →
-      Meets c (Finds table) → did ≡ append_did c plain.words (entries_of plain) name n date bytes (Finds table) →
-      SettlesLeaves c plain (plain_after plain (record { line = line.Append name n date; bytes = bytes }) did) table did
+  pub append_settles : (n : ℕ) (did : Did) (table : List (List ℕ)) → IsAppendable content → size ≡ n → IsTableLive c →
+      Meets c (Finds table) → did ≡ append_did c plain.words (entries_of plain) content.name n content.date content.bytes (Finds table) →
+      SettlesLeaves c plain (plain_after plain (its_item n) did) table did
   append_settles n did table may long live meets is =
-      let item : Item = record { line = line.Append name n date; bytes = bytes } in
+      let item : Item = its_item n in
       let ready : IsOpen c plain = held_open c plain table held meets.1 meets.0 in
       let kept : IsKept c plain = live_kept c plain ready live in
       let area : table ≡ plain.table_area = standing_data c plain table held.stands meets.1 in
@@ -310,25 +318,21 @@ module _ (c : Cartridge) (plain : Plain) (name : List ℕ) (date : ℕ) (bytes :
       subst (λ (t : List (List ℕ)). SettlesLeaves c plain (plain_after plain item did) t did) (sym area)
       (elim (cases_Bool (has_room plain size)) [
         | inl enough ↦
-            let all : did ≡ record {
-              acts = its_acts;
-              entries = entries_of plain ++ entry_for kept_now name date bytes ∷ [];
-            } = does ∙ fits_doing enough in
-            let list : did.entries ≡ entries_of plain ++ entry_for kept_now name date bytes ∷ [] = ap (λ (d : Did). d.entries) all in
-            let more : plain_after plain item did ≡ with_bytes plain name date bytes = more_after plain item did
-            (entry_for kept_now name date bytes) list in
-            let steps : steps_of did.acts ≡ settling_steps plain.table_area c ++ appends.append_steps_of plain name date bytes =
+            let all : did ≡ with_room = does ∙ fits_doing enough in
+            let list : did.entries ≡ entries_of plain ++ its_entry ∷ [] = ap (λ (d : Did). d.entries) all in
+            let more : plain_after plain item did ≡ with_content plain content = more_after plain item did its_entry list in
+            let steps : steps_of did.acts ≡ settle_and_append c plain content =
             ap (λ (d : Did). steps_of d.acts) all ∙ fits_steps enough in
             subst (λ (p : Plain). SettlesLeaves c plain p plain.table_area did) (sym more) (record {
-              done = subst (λ (ss : List Step). IsIntact (changed_by ss c) (with_bytes plain name date bytes)) (sym steps) (record {
-                kept = kept_appended name date bytes may.label may.word may.content c plain kept enough;
-                table = whole_appended name date bytes may.label may.word may.content c plain kept enough;
+              done = subst (λ (ss : List Step). IsIntact (changed_by ss c) (with_content plain content)) (sym steps) (record {
+                kept = kept_appended content may c plain kept enough;
+                table = whole_appended content may c plain kept enough;
               });
-              stopped = λ left torn. appends_survive c plain name date bytes left kept may enough
+              stopped = λ left torn. appends_survive c plain content left kept may enough
                   (subst (λ (ss : List Step). Torn ss (Some c) left) steps torn);
             })
         | inr small ↦
-            let full : did ≡ line_refused its_acts (entries_of plain) (why.Full size (room_in kept_now)) = does ∙ full_doing small in
+            let full : did ≡ with_none = does ∙ full_doing small in
             let same : plain_after plain item did ≡ plain = same_after plain item did (ap (λ (d : Did). d.entries) full) in
             let steps : steps_of did.acts ≡ settling_steps plain.table_area c = full_steps small did full in
             subst (λ (p : Plain). SettlesLeaves c plain p plain.table_area did) (sym same) (record {
@@ -420,7 +424,7 @@ line_leaves : (c : Cartridge) (plain : Plain) (asked : Line) (bytes : List ℕ) 
     LineSpares c plain asked →
     LineDoes c plain.words (entries_of plain) asked bytes did → ItemLeaves c plain (record { line = asked; bytes = bytes }) did
 line_leaves c plain (line.Append name n date) bytes did held has spares (m, meets, is) =
-    append_leaves c plain name date bytes held n did has.0 has.1 m meets is
+    append_leaves c plain (content_with name date bytes) held n did has.0 has.1 m meets is
 line_leaves c plain line.List bytes did held has spares is =
     leaves_still c plain (record { line = line.List; bytes = bytes }) did
     (no_steps c plain did held (ap (λ (d : Did). steps_of d.acts) is) (ap (λ (d : Did). d.entries) is))

@@ -1,6 +1,6 @@
 -- Which lists of steps leave a whole cartridge, done or stopped.
 use Rattle.std.proofs.Common.{◌≡◌, ℕ, ◌+◌, ◌*◌, ◌<◌, List, [], ◌∷◌, ◌++◌, All, Option, Some, None, IsSomeAnd, inl, inr, refl, sym, ap, ◌∙◌}
-use Rattle.std.proofs.Common.{subst, arith, map, take, drop, length, slice_get, length-append, length-take, length-drop, ◌-◌, ◌^◌, Bool}
+use Rattle.std.proofs.Common.{subst, arith, map, take, drop, length, slice_get, length-append, length-take, length-drop, ◌-◌, Bool}
 use Rattle.std.proofs.Common.{true, false, cond, is_some}
 use Rattle.std.specs.Prelude.{unwrap_or}
 use Rattle.std.proofs.lemmas.Bool.{cases_lt}
@@ -14,9 +14,10 @@ use Rattle.cartridge_laws.proofs.MountSettles.{settling_settles}
 use Rattle.cartridge_laws.proofs.MountWhole.{settled_is_cartridge, stopped_is_cartridge, block_sectors}
 use Rattle.cartridge_laws.proofs.Segments.{view_of_cartridge}
 use Rattle.cartridge_laws.proofs.Whole.{with_view_whole, worn_is_view}
+use Rattle.cartridge_laws.specs.AppendLaws.{IsAppendable}
 use Rattle.cartridge_laws.specs.AppendWrites.{AreWrites, IsOfSector}
-use Rattle.cartridge_spec.specs.Appending.{table_writes}
-use Rattle.cartridge_spec.specs.Formatting.{IsLabel, clearing_steps, copy_writes, format_steps}
+use Rattle.cartridge_spec.specs.Appending.{table_writes, Content}
+use Rattle.cartridge_spec.specs.Formatting.{clearing_steps, copy_writes, format_steps}
 use Rattle.cartridge_spec.specs.Shape.{IsArea}
 use Rattle.cartridge_spec.specs.TableSegment.{TableIs}
 use Rattle.cartridge_spec.specs.Mounting.{settled}
@@ -234,34 +235,35 @@ where_whole false xs are = tt
 
 module _ (c : Cartridge) (words : List ℕ) (entries : List Entry) (table : List (List ℕ)) (listed : IsListed c words entries)
     (mark : c.info.protected ≡ false) (reads : TableIs c table) (whole : IsCartridge c)
-    (name : List ℕ) (date : ℕ) (promised : Option ℕ) (reply : Entry → List ℕ) (input : List ℕ) (label : IsLabel name) (word : date < 2 ^ 32)
-    (content : All (λ b. b < 256) input) where
+    (content : Content) (may : IsAppendable content) (promised : Option ℕ) (reply : Entry → List ℕ) where
   abbrev kept : Kept
   kept = kept_over c words entries table
 
-  entry_whole : (became : Taking) → taking (room_in kept) promised input ≡ became →
-      AreWrites IsOfSector (steps_of (entry_acts kept name date reply became))
+  entry_whole : (became : Taking) → taking (room_in kept) promised content.bytes ≡ became →
+      AreWrites IsOfSector (steps_of (entry_acts kept content.name content.date reply became))
   entry_whole (Fits bytes) took =
-      let e : Entry = entry_for kept name date bytes in
+      let e : Entry = entry_for kept content.name content.date bytes in
       let new : List (List ℕ) = with_slot table (length entries) (slot_bytes e) in
       writes_more (table_writes (slot_sector (length entries)) new) []
-      (table_whole (length entries) new (slot_free c words entries table listed mark reads name date promised reply input label word bytes
-      took)
-      (entry_area c words entries table listed mark reads name date promised reply input label word bytes took)) tt
+      (table_whole (length entries) new
+      (slot_free c words entries table listed mark reads content.name content.date promised reply content.bytes may.label may.word
+      bytes took)
+      (entry_area c words entries table listed mark reads content.name content.date promised reply content.bytes may.label may.word
+      bytes took)) tt
   entry_whole (TooLong need have) took = tt
   entry_whole (TooShort asked read) took = tt
 
-  pub append_leaves : Leaves IsCartridge c (steps_of (append_acts kept name date promised reply input))
+  pub append_leaves : Leaves IsCartridge c (steps_of (append_acts kept content.name content.date promised reply content.bytes))
   append_leaves =
-      let became : Taking = taking (room_in kept) promised input in
-      let ins : List Act = input_writes kept.words kept.entries promised input in
-      let entry : List Act = entry_acts kept name date reply became in
+      let became : Taking = taking (room_in kept) promised content.bytes in
+      let ins : List Act = input_writes kept.words kept.entries promised content.bytes in
+      let entry : List Act = entry_acts kept content.name content.date reply became in
       let are : AreWrites IsOfSector (steps_of (ins ++ entry)) =
       subst (λ (ss : List Step). AreWrites IsOfSector ss) (sym (steps_of-append ins entry))
       (writes_more (steps_of ins) (steps_of entry)
       (where_whole (has_promised_room (room_in kept) promised)
-      (input_acts words (free_in kept) (most_written (room_in kept) promised) (is_some promised) input)
-      (input_is_of_sectors words (free_in kept) (most_written (room_in kept) promised) (is_some promised) input content))
+      (input_acts words (free_in kept) (most_written (room_in kept) promised) (is_some promised) content.bytes)
+      (input_is_of_sectors words (free_in kept) (most_written (room_in kept) promised) (is_some promised) content.bytes may.bytes))
       (entry_whole became refl)) in
       behind_leave c table (steps_of (ins ++ entry)) whole reads
       (λ still. writes_leave (settled table c) (steps_of (ins ++ entry)) are still)

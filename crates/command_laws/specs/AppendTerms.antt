@@ -1,6 +1,6 @@
 -- Parts of an append: the bytes that it takes, its entry, and its answer (this project's own).
 use Rattle.std.specs.Prelude.{ℕ, ◌+◌, List, [], length, min, Option, None, Some, unwrap_or, nat_le, ◌&&◌, if◌then◌else◌}
-use Rattle.cartridge_spec.specs.Appending.{free_segments, entry_behind}
+use Rattle.cartridge_spec.specs.Appending.{Content, free_segments, entry_behind}
 use Rattle.cartridge_spec.specs.Table.{Entry}
 use Rattle.command_spec.specs.Append.{Kept, Taking, Fits, TooLong, TooShort}
 use Rattle.command_spec.specs.declared.status.Status.{Status}
@@ -24,6 +24,10 @@ free_in kept = free_segments kept.words kept.entries
 -- the entry of a volume of these bytes
 abbrev pub entry_for : Kept → (name : List ℕ) → (date : ℕ) → (bytes : List ℕ) → Entry
 entry_for kept name date bytes = entry_behind kept.words kept.entries name date bytes
+
+-- what is appended, by its parts
+abbrev pub content_with : (name : List ℕ) → (date : ℕ) → (bytes : List ℕ) → Content
+content_with name date bytes = record { name = name; date = date; bytes = bytes }
 
 -- no reply
 abbrev pub silently : Entry → List ℕ

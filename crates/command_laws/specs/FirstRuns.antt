@@ -1,13 +1,13 @@
 -- The first run over a cartridge that comes back is one over the settled cartridge: what the promises say of such a run, as facts
 -- (this project's own).
 use Rattle.std.specs.Prelude.{◌≡◌, ◌≢◌, ◌⊎◌, ◌<◌, ℕ, All, List, Option, Some, IsSomeAnd, false}
+use Rattle.cartridge_spec.specs.Appending.{Content, with_bytes}
 use Rattle.cartridge_spec.specs.Mounting.{ComesBackAs, Mounts, mounted_as, settled}
 use Rattle.cartridge_spec.specs.Settling.{settling_steps}
 use Rattle.cartridge_spec.specs.TableSegment.{IsTableLive}
 use Rattle.cartridge_spec.specs.Volumes.{Plain, Stands, Volume}
 use Rattle.command_laws.specs.ScriptTerms.{SomeScripted}
 use Rattle.command_laws.specs.SettledRuns.{SettlesFirst}
-use Rattle.cartridge_spec.specs.Appending.{with_bytes}
 use Rattle.command_spec.specs.Headline.{EachLeft, Stepped, ToldNow, WordsLeave}
 use Rattle.command_spec.specs.Machine.{Spells, is_fault}
 use Rattle.command_spec.specs.OneLoss.{StoppedComesBack}
@@ -63,9 +63,9 @@ pub record FirstRun {T S K : Type 0} (t : tapes.Meaning T) (s : sources.Meaning 
       ⊎ Stepped t s k words (Some (settled plain.table_area c)) input old new answer)
   pub restores : (number : ℕ) (volume : Volume) → Spells words (commands.Restore number) → volume_at plain.volumes number ≡ Some volume →
       GivesBack k c plain volume old.sink new.sink answer
-  pub appended : (name : List ℕ) (date : ℕ) (input : List ℕ) → Spells words (commands.Append name date) →
-      s.left old.source ≡ Some input → All (λ b. b < 256) input → answer ≡ status.Done →
-      ToldNow t new.tape (λ left. IsSomeAnd left (λ d. Stands d (with_bytes plain name date input)))
+  pub appended : (content : Content) → Spells words (commands.Append content.name content.date) →
+      s.left old.source ≡ Some content.bytes → All (λ b. b < 256) content.bytes → answer ≡ status.Done →
+      ToldNow t new.tape (λ left. IsSomeAnd left (λ d. Stands d (with_bytes plain content.name content.date content.bytes)))
   pub unchanged : (name : List ℕ) (date : ℕ) → Spells words (commands.Append name date) → is_fault answer ≡ false →
       answer ≢ status.NoMemory → answer ≢ status.Done → ToldNow t new.tape (λ left. IsSomeAnd left (λ d. Stands d plain))
 

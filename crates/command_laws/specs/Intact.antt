@@ -2,13 +2,14 @@
 -- generated runs and scripts leave of it, as facts (this project's own).
 use Rattle.std.specs.Prelude.{◌≡◌, ◌⊎◌, ◌<◌, ◌≤◌, ℕ, List, All, Option, Some, IsSomeAnd, length, take, drop, true, ◌≢◌, ◌++◌, []}
 use Rattle.cartridge_laws.specs.AppendBetween.{IsWhole}
-use Rattle.cartridge_spec.specs.Appending.{has_room, with_bytes}
+use Rattle.cartridge_laws.specs.AppendLaws.{IsAppendable, with_content}
+use Rattle.cartridge_spec.specs.Appending.{Content, has_room}
 use Rattle.cartridge_spec.specs.Mounting.{settled, ComesBackAs}
 use Rattle.cartridge_spec.specs.TableSegment.{LosesOneAlone}
 use Rattle.cartridge_spec.specs.Settling.{changed_by}
 use Rattle.cartridge_spec.specs.Volumes.{Plain, entries_of, worn, WearSpares}
 use Rattle.command_laws.specs.ActStops.{IsLeftBy}
-use Rattle.command_laws.specs.MountedKept.{IsAppendable, IsKept, settle_and_append}
+use Rattle.command_laws.specs.MountedKept.{IsKept, settle_and_append}
 use Rattle.command_laws.specs.MadeTerms.{Makes}
 use Rattle.command_spec.specs.OneLoss.{ComesBackAsOneOf, SettlingAppend, SomeComeBack, steps_until}
 use Rattle.command_spec.specs.Script.{ScriptDoes}
@@ -38,15 +39,15 @@ IntactComesBack =
     (c : Cartridge) (plain : Plain) (f : Cartridge) (lost : ℕ) → IsIntact c plain → LosesOneAlone c f lost → ComesBackAs f plain
 
 -- an append leaves it so with the volume; where it is stopped, it comes back as one of the two
-pub record AppendLeavesIntact (c : Cartridge) (plain : Plain) (name : List ℕ) (date : ℕ) (bytes : List ℕ) : Type 0 where
-  pub done : IsIntact (changed_by (settle_and_append c plain name date bytes) c) (with_bytes plain name date bytes)
-  pub stopped : (left : Option Cartridge) → Torn (settle_and_append c plain name date bytes) (Some c) left →
-      IsSomeAnd left (ComesBackAsOneOf plain (with_bytes plain name date bytes))
+pub record AppendLeavesIntact (c : Cartridge) (plain : Plain) (content : Content) : Type 0 where
+  pub done : IsIntact (changed_by (settle_and_append c plain content) c) (with_content plain content)
+  pub stopped : (left : Option Cartridge) → Torn (settle_and_append c plain content) (Some c) left →
+      IsSomeAnd left (ComesBackAsOneOf plain (with_content plain content))
 
 abbrev pub AppendsLeaveIntact : Type 0
 AppendsLeaveIntact =
-    (c : Cartridge) (plain : Plain) (name : List ℕ) (date : ℕ) (bytes : List ℕ) → IsIntact c plain → IsAppendable name date bytes →
-    has_room plain (length bytes) ≡ true → AppendLeavesIntact c plain name date bytes
+    (c : Cartridge) (plain : Plain) (content : Content) → IsIntact c plain → IsAppendable content →
+    has_room plain (length content.bytes) ≡ true → AppendLeavesIntact c plain content
 
 -- so does a sector that is worn in no sector of the table's segment, and spares the header, and a scrub, stopped or not
 abbrev pub WearsLeaveIntact : Type 0

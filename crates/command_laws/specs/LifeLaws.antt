@@ -1,6 +1,6 @@
 -- What follows of lives, and which runs are runs of a life (this project's own).
 use Rattle.std.specs.Prelude.{◌≡◌, ◌⊎◌, ◌++◌, ℕ, suc, All, Bool, false, List, [], ◌∷◌, Option, Some, None, length, slice_get}
-use Rattle.cartridge_spec.specs.Appending.{appended_volume, with_bytes}
+use Rattle.cartridge_spec.specs.Appending.{Content, appended_volume, with_bytes}
 use Rattle.cartridge_spec.specs.Volumes.{volume_bytes, Plain, Volume}
 use Rattle.cartridge_spec.specs.TableSegment.{CanBeRead}
 use Rattle.command_laws.specs.Life.{Answered, Ended, Event, HasRun, IsEmptied, IsSound, Lives, Loses, Run, Runs, Stopped, begun_behind_all}
@@ -105,9 +105,10 @@ VolumesAreGivenBack =
 -- an append is answered Done, and whatever runs come behind it, and wherever they are stopped, its bytes are given back
 abbrev pub BackupsAreGivenBack : Type 0
 BackupsAreGivenBack =
-    (name : List ℕ) (date : ℕ) (bytes printed : List ℕ) (events : List Event) (begun : Bool) (held : Option Cartridge) (c : Cartridge)
-    (plain : Plain) →
-    AreKeeping events → IsSound begun held (Some plain) →
-    Lives (Runs (run_of (commands.Append name date) bytes (Answered status.Done printed)) ∷ events) begun held (Some c) →
-    (later : Plain) × HasGrown (with_bytes plain name date bytes) later × IsSound (begun_behind_all events begun) (Some c) (Some later)
-    × GivesBytes c later (suc (length plain.volumes)) (appended_volume plain name date bytes) bytes
+    (content : Content) (printed : List ℕ) (events : List Event) (begun : Bool) (held : Option Cartridge) (c : Cartridge)
+    (plain : Plain) → AreKeeping events → IsSound begun held (Some plain) →
+    Lives (Runs (run_of (commands.Append content.name content.date) content.bytes (Answered status.Done printed)) ∷ events) begun held
+    (Some c) →
+    (later : Plain) × HasGrown (with_bytes plain content.name content.date content.bytes) later
+    × IsSound (begun_behind_all events begun) (Some c) (Some later)
+    × GivesBytes c later (suc (length plain.volumes)) (appended_volume plain content.name content.date content.bytes) content.bytes

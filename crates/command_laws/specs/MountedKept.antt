@@ -1,7 +1,7 @@
 -- A mounted cartridge that takes volumes, and what appends, worn sectors and scrubs leave of it, as facts (this project's own).
-use Rattle.std.specs.Prelude.{◌≡◌, false, length, ℕ, ◌^◌, ◌<◌, List, All, ◌++◌, ◌⊎◌, Option, Some, IsSomeAnd, true, ◌≤◌}
-use Rattle.cartridge_spec.specs.Appending.{with_bytes, has_room}
-use Rattle.cartridge_spec.specs.Formatting.{IsLabel}
+use Rattle.std.specs.Prelude.{◌≡◌, false, length, ℕ, ◌<◌, List, ◌++◌, ◌⊎◌, Option, Some, IsSomeAnd, true, ◌≤◌}
+use Rattle.cartridge_laws.specs.AppendLaws.{IsAppendable, with_content}
+use Rattle.cartridge_spec.specs.Appending.{Content, has_room}
 use Rattle.cartridge_spec.specs.TableSegment.{TableIs, IsTableLive, LosesOneAlone}
 use Rattle.cartridge_spec.specs.Mounting.{ComesBackAs}
 use Rattle.cartridge_spec.specs.Settling.{settling_steps, changed_by}
@@ -29,44 +29,38 @@ pub record IsKept (c : Cartridge) (plain : Plain) : Type 0 where
   pub live : IsTableLive c
   pub unprotected : c.info.protected ≡ false
 
--- a name of 44 bytes, a date word, and bytes
-pub record IsAppendable (name : List ℕ) (date : ℕ) (bytes : List ℕ) : Type 0 where
-  pub label : IsLabel name
-  pub word : date < 2 ^ 32
-  pub content : All (λ b. b < 256) bytes
-
 -- the steps that settle the table, and those that append the bytes behind them
-abbrev pub settle_and_append : Cartridge → Plain → (name : List ℕ) → (date : ℕ) → (bytes : List ℕ) → List Step
-settle_and_append c plain name date bytes = settling_steps plain.table_area c ++ appends.append_steps_of plain name date bytes
+abbrev pub settle_and_append : Cartridge → Plain → Content → List Step
+settle_and_append c plain content = settling_steps plain.table_area c ++ appends.append_steps_of plain content
 
 -- all of them done, the plain cartridge with the volume stands, and may be appended to again; a stop in them leaves that, or
 -- what stood
-pub record AppendKeeps (c : Cartridge) (plain : Plain) (name : List ℕ) (date : ℕ) (bytes : List ℕ) : Type 0 where
-  pub done : IsKept (changed_by (settle_and_append c plain name date bytes) c) (with_bytes plain name date bytes)
-  pub stopped : (left : Option Cartridge) → Torn (settle_and_append c plain name date bytes) (Some c) left →
-      IsSomeAnd left (λ d. Stands d plain ⊎ Stands d (with_bytes plain name date bytes))
+pub record AppendKeeps (c : Cartridge) (plain : Plain) (content : Content) : Type 0 where
+  pub done : IsKept (changed_by (settle_and_append c plain content) c) (with_content plain content)
+  pub stopped : (left : Option Cartridge) → Torn (settle_and_append c plain content) (Some c) left →
+      IsSomeAnd left (λ d. Stands d plain ⊎ Stands d (with_content plain content))
 
 abbrev pub AppendsKeep : Type 0
 AppendsKeep =
-    (c : Cartridge) (plain : Plain) (name : List ℕ) (date : ℕ) (bytes : List ℕ) → IsKept c plain → IsAppendable name date bytes →
-    has_room plain (length bytes) ≡ true → AppendKeeps c plain name date bytes
+    (c : Cartridge) (plain : Plain) (content : Content) → IsKept c plain → IsAppendable content →
+    has_room plain (length content.bytes) ≡ true → AppendKeeps c plain content
 
 -- .. and a stop in them comes in the settling, or what it leaves is one of the two also where one sector of the table's segment is
 -- lost besides, whichever it is, and nothing else
 abbrev pub AppendsSurvive : Type 0
 AppendsSurvive =
-    (c : Cartridge) (plain : Plain) (name : List ℕ) (date : ℕ) (bytes : List ℕ) (left : Option Cartridge) → IsKept c plain →
-    IsAppendable name date bytes → has_room plain (length bytes) ≡ true → Torn (settle_and_append c plain name date bytes) (Some c) left →
+    (c : Cartridge) (plain : Plain) (content : Content) (left : Option Cartridge) → IsKept c plain →
+    IsAppendable content → has_room plain (length content.bytes) ≡ true → Torn (settle_and_append c plain content) (Some c) left →
     Torn (settling_steps plain.table_area c) (Some c) left
     ⊎ IsSomeAnd left (λ d. (f : Cartridge) (lost : ℕ) → LosesOneAlone d f lost → ComesBackAs f plain
-    ⊎ ComesBackAs f (with_bytes plain name date bytes))
+    ⊎ ComesBackAs f (with_content plain content))
 
 -- .. and all of them done, it comes back so with the volume
 abbrev pub AppendedSurvive : Type 0
 AppendedSurvive =
-    (c : Cartridge) (plain : Plain) (name : List ℕ) (date : ℕ) (bytes : List ℕ) (f : Cartridge) (lost : ℕ) → IsKept c plain →
-    IsAppendable name date bytes → has_room plain (length bytes) ≡ true →
-    LosesOneAlone (changed_by (settle_and_append c plain name date bytes) c) f lost → ComesBackAs f (with_bytes plain name date bytes)
+    (c : Cartridge) (plain : Plain) (content : Content) (f : Cartridge) (lost : ℕ) → IsKept c plain →
+    IsAppendable content → has_room plain (length content.bytes) ≡ true →
+    LosesOneAlone (changed_by (settle_and_append c plain content) c) f lost → ComesBackAs f (with_content plain content)
 
 -- ---- a worn sector, and a scrub
 
@@ -85,9 +79,9 @@ ScrubsKeep =
 -- an append, all of it done
 abbrev pub AppendsLeaveOpen : Type 0
 AppendsLeaveOpen =
-    (c : Cartridge) (plain : Plain) (name : List ℕ) (date : ℕ) (bytes : List ℕ) → IsOpen c plain → IsAppendable name date bytes →
-    has_room plain (length bytes) ≡ true →
-    IsOpen (changed_by (settle_and_append c plain name date bytes) c) (with_bytes plain name date bytes)
+    (c : Cartridge) (plain : Plain) (content : Content) → IsOpen c plain → IsAppendable content →
+    has_room plain (length content.bytes) ≡ true →
+    IsOpen (changed_by (settle_and_append c plain content) c) (with_content plain content)
 
 -- a sector that is worn behind the table
 abbrev pub WearsLeaveOpen : Type 0

@@ -1,8 +1,9 @@
 -- What the restoring of a volume gives, as facts.
 use Rattle.std.specs.Prelude.{◌≡◌, ℕ, List, [], ◌++◌, length, ◌≤◌, All, take, Contains, ◌⊎◌, Option, Some, None, slice_get}
-use Rattle.cartridge_laws.specs.AppendSettled.{MayAppendTo, IsSettledFor}
+use Rattle.cartridge_laws.specs.AppendLaws.{append_steps_of, new_volume, with_content, MayAppendTo}
+use Rattle.cartridge_laws.specs.AppendSettled.{IsSettledFor}
 use Rattle.cartridge_spec.specs.Volumes.{volume_bytes, volume_length, Plain, Volume, Stands}
-use Rattle.cartridge_spec.specs.Appending.{with_bytes, appended_volume}
+use Rattle.cartridge_spec.specs.Appending.{Content}
 use Rattle.cartridge_spec.specs.Says.{unreadable_count}
 use Rattle.cartridge_spec.specs.Settling.{changed_by}
 use Rattle.cartridge_spec.specs.Table.{Entry}
@@ -13,7 +14,6 @@ use Rattle.command_spec.specs.Copying.{GivenBytes}
 use Rattle.qic_base.specs.Acts.{Act, steps_of, text_of}
 use Rattle.qic_base.specs.Cartridge.{Cartridge}
 use Rattle.qic_base.specs.CartridgeTerms.{IsCartridge}
-use Rattle.cartridge_laws.specs.AppendLaws as appends
 
 -- ---- over any cartridge
 
@@ -168,18 +168,16 @@ StandingRestores =
 -- after an append the new volume is one of what the cartridge stands for
 abbrev pub AppendedIsAmong : Type 0
 AppendedIsAmong =
-    (c : Cartridge) (plain : Plain) (name : List ℕ) (date : ℕ) (bytes : List ℕ) → MayAppendTo c plain name date bytes →
-    IsSettledFor c plain.table_area →
-    HasVolume (changed_by (appends.append_steps_of plain name date bytes) c) (with_bytes plain name date bytes)
-    (appended_volume plain name date bytes)
+    (c : Cartridge) (plain : Plain) (content : Content) → MayAppendTo c plain content → IsSettledFor c plain.table_area →
+    HasVolume (changed_by (append_steps_of plain content) c) (with_content plain content) (new_volume plain content)
 
 -- as long as it is, on the same map, and each of its segments has at most three unreadable sectors, a restore gives just the
 -- bytes that were appended
 abbrev pub AppendedIsRestored : Type 0
 AppendedIsRestored =
-    (c : Cartridge) (plain : Plain) (name : List ℕ) (date : ℕ) (bytes : List ℕ) → MayAppendTo c plain name date bytes →
+    (c : Cartridge) (plain : Plain) (content : Content) → MayAppendTo c plain content →
     (later : Cartridge) (stood : Plain) (acts : List Act) (ending : GivingEnd) → stood.words ≡ plain.words →
-    HasVolume later stood (appended_volume plain name date bytes) →
-    All (LosesFew later stood.words) (pieces_in stood (appended_volume plain name date bytes)) →
-    Restores later stood.words (pieces_in stood (appended_volume plain name date bytes)) acts ending →
-    (ending ≡ Restored) × (text_of acts ≡ bytes)
+    HasVolume later stood (new_volume plain content) →
+    All (LosesFew later stood.words) (pieces_in stood (new_volume plain content)) →
+    Restores later stood.words (pieces_in stood (new_volume plain content)) acts ending →
+    (ending ≡ Restored) × (text_of acts ≡ content.bytes)

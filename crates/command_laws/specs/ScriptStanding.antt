@@ -1,11 +1,12 @@
 -- What a script, done or stopped, leaves of a cartridge that stands for a plain one, as facts (this project's own).
 use Rattle.std.specs.Prelude.{◌≡◌, ℕ, List, length, [], ◌∷◌, ◌<◌, All, ◌⊎◌, Option, Some, IsSomeAnd, ◌≤◌, take, ◌+◌, ◌++◌}
+use Rattle.cartridge_laws.specs.AppendLaws.{IsAppendable}
 use Rattle.cartridge_spec.specs.Appending.{with_all}
 use Rattle.cartridge_spec.specs.TableSegment.{IsTableLive}
 use Rattle.cartridge_spec.specs.Settling.{changed_by}
 use Rattle.cartridge_spec.specs.Volumes.{Plain, entries_of, Stands}
 use Rattle.command_laws.specs.MountedHeld.{IsHeld}
-use Rattle.command_laws.specs.MountedKept.{IsAppendable}
+use Rattle.command_laws.specs.AppendTerms.{content_with}
 use Rattle.command_spec.specs.Input.{Item, Ending, IsScript}
 use Rattle.command_spec.specs.Script.{Did, ItemsDo, entries_behind, cartridge_behind, ScriptDoes}
 use Rattle.command_laws.specs.ScriptTerms.{ItemDoes, FaultDoes, LineSpares}
@@ -19,7 +20,7 @@ use Rattle.command_spec.specs.declared.line.Line.TheVariants as line
 
 -- a line's name is a label, its date a date word, and the bytes that follow it are bytes, as many as it promises
 abbrev pub LineHasBytes : Line → (bytes : List ℕ) → Type 0
-LineHasBytes (line.Append name promised date) bytes = IsAppendable name date bytes × (length bytes ≡ promised)
+LineHasBytes (line.Append name promised date) bytes = IsAppendable (content_with name date bytes) × (length bytes ≡ promised)
 LineHasBytes other bytes = Unit {0}
 
 abbrev pub HasBytes : Item → Type 0

@@ -9,13 +9,13 @@ use Rattle.std.specs.Prelude.{slice_index}
 use Rattle.cartridge_laws.proofs.FreshSpelled.{sector_is}
 use Rattle.cartridge_laws.proofs.MapAreaLaws.{sector_at-set_other, sector_at-set_same}
 use Rattle.cartridge_laws.proofs.SlotBytes.{length-slot_bytes}
-use Rattle.cartridge_spec.specs.Appending.{appended_volume, with_bytes}
 use Rattle.cartridge_spec.specs.Shape.{IsArea, sector_at}
 use Rattle.cartridge_spec.specs.Table.{Entry, slot, slot_bytes, table_with}
 use Rattle.cartridge_spec.specs.Volumes.{Volume, entries_of}
 use Rattle.qic_base.proofs.FieldLaws.{get_or-overwritten, get_or-overwritten_below}
 use Rattle.qic_base.specs.Field.{little_endian_bytes, overwritten}
 use Rattle.salvage_laws.specs.UncompressedLaws.{AppendAddsNone, EmptyHasNone}
+use Rattle.cartridge_laws.specs.AppendLaws.{new_volume, with_content}
 
 -- ---- the flag's byte
 
@@ -85,10 +85,10 @@ empty_has_none plain none i within =
     omega arith)
 
 pub append_adds_none : AppendAddsNone
-append_adds_none plain name date bytes is few size none i within =
+append_adds_none plain content is few size none i within =
     let n : ℕ = length plain.volumes in
-    let volume : Volume = appended_volume plain name date bytes in
-    let all : length (entries_of (with_bytes plain name date bytes)) ≡ length (plain.volumes ++ volume ∷ []) =
+    let volume : Volume = new_volume plain content in
+    let all : length (entries_of (with_content plain content)) ≡ length (plain.volumes ++ volume ∷ []) =
     length-map (plain.volumes ++ volume ∷ []) (λ (v : Volume). v.entry) in
     let more : length (plain.volumes ++ volume ∷ []) ≡ n + 1 = length-append plain.volumes (volume ∷ []) in
     let old : length (entries_of plain) ≡ n = length-map plain.volumes (λ (v : Volume). v.entry) in

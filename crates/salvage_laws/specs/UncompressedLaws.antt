@@ -1,8 +1,9 @@
 -- The laws of tables that have no compressed volume, as facts (this project's own).
-use Rattle.std.specs.Prelude.{ℕ, ◌≡◌, ◌<◌, List, [], length}
-use Rattle.cartridge_spec.specs.Appending.{with_bytes}
+use Rattle.std.specs.Prelude.{◌≡◌, ◌<◌, [], length}
+use Rattle.cartridge_spec.specs.Appending.{Content}
 use Rattle.cartridge_spec.specs.Volumes.{IsPlain, Plain, entries_of}
 use Rattle.salvage_laws.specs.Exported.{IsUncompressed}
+use Rattle.cartridge_laws.specs.AppendLaws.{with_content}
 
 -- a plain cartridge has none
 abbrev pub HasNoneCompressed : Plain → Type 0
@@ -15,5 +16,5 @@ EmptyHasNone = (plain : Plain) → plain.volumes ≡ [] → HasNoneCompressed pl
 -- An append adds none: so a cartridge on which `tape` alone appended has none.
 abbrev pub AppendAddsNone : Type 0
 AppendAddsNone =
-    (plain : Plain) (name : List ℕ) (date : ℕ) (bytes : List ℕ) → IsPlain plain → length plain.volumes < 232 → length name ≡ 44 →
-    HasNoneCompressed plain → HasNoneCompressed (with_bytes plain name date bytes)
+    (plain : Plain) (content : Content) → IsPlain plain → length plain.volumes < 232 → length content.name ≡ 44 →
+    HasNoneCompressed plain → HasNoneCompressed (with_content plain content)

@@ -2,6 +2,7 @@
 use Rattle.std.proofs.Common.{◌≡◌, ℕ, List, Some, refl, codes, inl, inr, arith, [], ◌∷◌, ap, ◌∙◌, sym}
 use Rattle.cartridge_laws.proofs.FormatWriting.{some_and}
 use Rattle.cartridge_spec.specs.Mounting.{Mounted, Mounts}
+use Rattle.command_laws.proofs.CommandAppends.{can_append}
 use Rattle.command_laws.proofs.CommandClean.{bare_writable, Clean, writable_leaves, appends_leave}
 use Rattle.command_laws.proofs.CommandComplete.{where_some, append_goes}
 use Rattle.command_laws.proofs.CommandKeeping.{same_stands}
@@ -14,6 +15,7 @@ use Rattle.command_laws.proofs.CommandUnread.{writable_unread}
 use Rattle.command_laws.proofs.CommandWhole.{append_whole, some_whole}
 use Rattle.command_laws.proofs.TextCommands.{dated_cases, two_words, three_words, dated_length, IsDateWord-value, IsRead, Reading, word_at}
 use Rattle.command_laws.proofs.TextCommands.{date_behind, named, date_value}
+use Rattle.command_laws.specs.AppendTerms.{content_with}
 use Rattle.command_laws.specs.CommandRecord.{CommandLaws}
 use Rattle.command_laws.specs.Outcomes.{Appends}
 use Rattle.command_spec.specs.Append.{AppendOutcome, append_command}
@@ -71,6 +73,6 @@ append_laws name date = record {
   bare = λ c keeps bare input outcome left does torn. bare_writable (Appends name date input) c outcome does bare left torn;
   unread = λ c copies keeps none input outcome left does torn. writable_unread (Appends name date input) c outcome left none does torn;
   whole = λ c input outcome left values content whole does torn.
-      some_whole left (append_whole name date input values.0 values.1 content c outcome does whole left torn);
+      some_whole left (append_whole (content_with name date input) (can_append values content) c outcome does whole left torn);
   live = λ held input outcome keeps does. writable_none (Appends name date input) (appends_none name date input) held outcome does;
 }

@@ -3,9 +3,9 @@ use Rattle.command_laws.proofs.MountedSurviving.{appended_survive, appends_survi
 use Rattle.command_laws.proofs.mounted.an_append_keeps_what_stands.Goals as goal
 
 pub returns-clause-keeps : goal.returns-clause-keeps
-returns-clause-keeps c = λ cartridge plain name date bytes held may room. record {
-  done = kept_appended name date bytes may.label may.word may.content cartridge plain held room;
-  stopped = λ left torn. stopped_appended name date bytes may.label may.word may.content cartridge plain held left room torn;
+returns-clause-keeps c = λ cartridge plain content held may room. record {
+  done = kept_appended content may cartridge plain held room;
+  stopped = λ left torn. stopped_appended content may cartridge plain held left room torn;
 }
 
 pub returns-clause-survives : goal.returns-clause-survives
